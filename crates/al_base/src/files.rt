@@ -1,0 +1,156 @@
+// A finite map from file names to texts.
+ghost use Rattle.std.specs.Prelude.{◌≡◌, [], length, OnOk, OnErr, slice_get};
+ghost use Rattle.std.specs.Option.{option_copied, option_map};
+ghost use Rattle.al_base.specs.Files.{text_of, with_file, without_file, with_renamed, put_refusal, delete_refusal, rename_refusal, AnswersRefusal, AnswersFirst};
+
+use crate::errors::{FilesError, Refusal};
+use crate::is_name;
+use std::alloc::{AllocError, Global};
+use std::collections::BTreeMap;
+use std::marker::Model;
+
+pub const MAX_FILES: usize = 4096;
+
+pub const MAX_TEXT: usize = 1_048_576;
+
+/// A finite map from file names to texts, in the order of the names' bytes.
+#[derive(Drop)]
+pub struct Files {
+    alloc: Global,
+    texts: BTreeMap<Vec<u8>, Vec<u8>>,
+}
+
+impl Model for Files {
+    ghost use Rattle.al_base.specs.Files.{Texts};
+    ghost use Rattle.al_base.specs.Pairs.{pairs_of};
+
+    ghost Value = { Texts };
+
+    ghost view = { λ f. pairs_of f.texts.entries };
+}
+
+impl Files {
+    pub fn new(alloc: Global) -> Self
+        ensures { result ≡ [] }
+    {
+        Files {
+            alloc,
+            texts: BTreeMap::new(alloc),
+        }
+    }
+
+    /// How many files there are.
+    pub fn len(&self) -> usize
+        ensures { result ≡ length self.now }
+    {
+        self.texts.len()
+    }
+
+    /// The text of a file.
+    pub fn get(&self, name: &[u8]) -> Option<&Vec<u8>>
+        ensures { option_map (λ text. text.now.items) result ≡ text_of self.now name.now }
+    {
+        self.texts.get(name)
+    }
+
+    /// The i-th file by name, from 0.
+    pub fn at(&self, i: usize) -> Option<(&Vec<u8>, &Vec<u8>)>
+        ensures { option_map (λ file. (file.0.now.items, file.1.now.items)) result ≡ slice_get self.now i }
+    {
+        self.texts.iter().nth(i)
+    }
+
+    /// The refusal that a put of so many bytes under the name would meet.
+    #[tactic(auto, unfolding(crate::specs::Files::put_refusal))]
+    pub fn check_put(&self, name: &[u8], len: usize) -> Result<(), Refusal>
+        ensures { AnswersRefusal result (put_refusal self.now name.now len) }
+    {
+        if !is_name(name) {
+            return Err(Refusal::BadName);
+        }
+        if len > MAX_TEXT {
+            return Err(Refusal::TextTooLong);
+        }
+        if self.texts.get(name).is_none() && self.texts.len() >= MAX_FILES {
+            return Err(Refusal::TooManyFiles);
+        }
+        Ok(())
+    }
+
+    /// Sets the text of a file, a new one too.
+    #[tactic(auto, unfolding(crate::specs::Files::put_refusal))]
+    pub fn put(&mut self, name: &[u8], text: Vec<u8>) -> Result<(), FilesError>
+        ensures answer { AnswersFirst result (put_refusal self.old name.now (length text.items)) }
+        ensures ok { OnOk result (self.new ≡ with_file self.old name.now text.items) }
+        ensures err { OnErr result (self.new ≡ self.old) }
+    {
+        if let Err(refusal) = self.check_put(name, text.len()) {
+            return Err(FilesError::Refused(refusal));
+        }
+        let Ok(name) = Vec::from_slice(self.alloc, name) else {
+            return Err(FilesError::NoMemory);
+        };
+        match self.texts.insert(name, text) {
+            Ok(_) => Ok(()),
+            Err(_) => Err(FilesError::NoMemory),
+        }
+    }
+
+    /// Takes a file away. It takes no memory.
+    #[tactic(auto, unfolding(crate::specs::Files::delete_refusal))]
+    pub fn delete(&mut self, name: &[u8]) -> Result<(), Refusal>
+        ensures answer { AnswersRefusal result (delete_refusal self.old name.now) }
+        ensures ok { OnOk result (self.new ≡ without_file self.old name.now) }
+        ensures err { OnErr result (self.new ≡ self.old) }
+    {
+        if !is_name(name) {
+            return Err(Refusal::BadName);
+        }
+        match self.texts.remove(name) {
+            Some(_) => Ok(()),
+            None => Err(Refusal::NoFile),
+        }
+    }
+
+    /// Gives a file another name, which no file has. The step that can fail for memory comes first.
+    pub fn rename(&mut self, old: &[u8], new: &[u8]) -> Result<(), FilesError>
+        ensures answer { AnswersFirst result (rename_refusal self.old old.now new.now) }
+        ensures ok { OnOk result (self.new ≡ with_renamed self.old old.now new.now) }
+        ensures err { OnErr result (self.new ≡ self.old) }
+    {
+        if let Err(refusal) = self.check_rename(old, new) {
+            return Err(FilesError::Refused(refusal));
+        }
+        let Ok(name) = Vec::from_slice(self.alloc, new) else {
+            return Err(FilesError::NoMemory);
+        };
+        let Ok(again) = Vec::from_slice(self.alloc, new) else {
+            return Err(FilesError::NoMemory);
+        };
+        let Ok(_) = self.texts.insert(name, Vec::new(self.alloc)) else {
+            return Err(FilesError::NoMemory);
+        };
+        let text = self.texts.remove(old).unwrap();
+        match self.texts.insert(again, text) {
+            Ok(_) => Ok(()),
+            // The name is there, so this takes no memory.
+            Err(_) => unreachable!(),
+        }
+    }
+
+    /// The refusal that a rename would meet.
+    pub fn check_rename(&self, old: &[u8], new: &[u8]) -> Result<(), Refusal>
+        ensures { AnswersRefusal result (rename_refusal self.now old.now new.now) }
+    {
+        if !is_name(old) || !is_name(new) {
+            return Err(Refusal::BadName);
+        }
+        if self.texts.get(old).is_none() {
+            return Err(Refusal::NoFile);
+        }
+        if self.texts.get(new).is_some() {
+            return Err(Refusal::FileExists);
+        }
+        Ok(())
+    }
+}
