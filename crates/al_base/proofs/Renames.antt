@@ -10,7 +10,7 @@ use Rattle.std.specs.List.Sorted.{IsStrictlySortedBy}
 use Rattle.std.specs.Map.{keys_of}
 use Rattle.std.proofs.lemmas.Map.Keys.{sorted_head, sorted_tail}
 use Rattle.al_base.specs.Files.{Texts, name_cmp, text_of, with_file, without_file, rename_refusal}
-use Rattle.al_base.specs.declared.errors.Refusal.TheVariants.{BadName, NoFile, FileExists}
+use Rattle.al_base.specs.declared.refusal.Refusal.TheVariants.{BadName, NoFile, FileExists}
 use Rattle.al_base.specs.Names.{is_name}
 use Rattle.al_base.specs.Pairs.{pairs_of}
 

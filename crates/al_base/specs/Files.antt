@@ -1,15 +1,13 @@
 -- A finite map from file names to texts: the list of its pairs, in the order of the names' bytes.
-use Rattle.std.specs.Prelude.{◌≡◌, ℕ, ◌&&◌, not, nat_lt, nat_le, List, length, Option, Some, None, is_some, Result, Ok, Err, if◌then◌else◌}
+use Rattle.std.specs.Prelude.{◌≡◌, ◌⊎◌, ℕ, ◌&&◌, not, nat_lt, nat_le, List, length, Option, Some, None, is_some, Result, Ok, Err, if◌then◌else◌}
 use Rattle.std.specs.Ordering.{nat_cmp}
 use Rattle.std.specs.declared.cmp.Ordering.{Ordering}
 use Rattle.std.specs.Cmp.Lexicographic.{slice_cmp}
 use Rattle.std.specs.Map.{lookup, remove_entry}
 use Rattle.std.specs.BTreeMap.{insert_entry, is_at}
 use Rattle.al_base.specs.Names.{is_name}
-use Rattle.al_base.specs.declared.errors.Refusal.{Refusal}
-use Rattle.al_base.specs.declared.errors.Refusal.TheVariants.{BadName, NoFile, FileExists, TooManyFiles, TextTooLong}
-use Rattle.al_base.specs.declared.errors.FilesError.{FilesError}
-use Rattle.al_base.specs.declared.errors.FilesError.TheVariants.{Refused, NoMemory}
+use Rattle.al_base.specs.declared.refusal.Refusal.{Refusal}
+use Rattle.al_base.specs.declared.refusal.Refusal.TheVariants.{BadName, NoFile, FileExists, TooManyFiles, TextTooLong, NoMemory}
 
 -- a name and its text, for each file
 abbrev pub Texts : Type 0
@@ -68,7 +66,6 @@ AnswersRefusal (Ok x) first = first ≡ None
 AnswersRefusal (Err e) first = first ≡ Some e
 
 -- the call answers this refusal; where there is none it may answer that there is no memory
-abbrev pub AnswersFirst : {T : Type 0} → Result T FilesError → Option Refusal → Type 0
+abbrev pub AnswersFirst : {T : Type 0} → Result T Refusal → Option Refusal → Type 0
 AnswersFirst (Ok x) first = first ≡ None
-AnswersFirst (Err NoMemory) first = first ≡ None
-AnswersFirst (Err (Refused e)) first = first ≡ Some e
+AnswersFirst (Err e) first = (first ≡ Some e) ⊎ ((first ≡ None) × (e ≡ NoMemory))

@@ -3,8 +3,8 @@ ghost use Rattle.std.specs.Prelude.{◌≡◌, [], length, OnOk, OnErr, slice_ge
 ghost use Rattle.std.specs.Option.{option_copied, option_map};
 ghost use Rattle.al_base.specs.Files.{text_of, with_file, without_file, with_renamed, put_refusal, delete_refusal, rename_refusal, AnswersRefusal, AnswersFirst};
 
-use crate::errors::{FilesError, Refusal};
 use crate::is_name;
+use crate::refusal::Refusal;
 use std::alloc::{AllocError, Global};
 use std::collections::BTreeMap;
 use std::marker::Model;
@@ -79,20 +79,20 @@ impl Files {
 
     /// Sets the text of a file, a new one too.
     #[tactic(auto, unfolding(crate::specs::Files::put_refusal))]
-    pub fn put(&mut self, name: &[u8], text: Vec<u8>) -> Result<(), FilesError>
+    pub fn put(&mut self, name: &[u8], text: Vec<u8>) -> Result<(), Refusal>
         ensures answer { AnswersFirst result (put_refusal self.old name.now (length text.items)) }
         ensures ok { OnOk result (self.new ≡ with_file self.old name.now text.items) }
         ensures err { OnErr result (self.new ≡ self.old) }
     {
         if let Err(refusal) = self.check_put(name, text.len()) {
-            return Err(FilesError::Refused(refusal));
+            return Err(refusal);
         }
         let Ok(name) = Vec::from_slice(self.alloc, name) else {
-            return Err(FilesError::NoMemory);
+            return Err(Refusal::NoMemory);
         };
         match self.texts.insert(name, text) {
             Ok(_) => Ok(()),
-            Err(_) => Err(FilesError::NoMemory),
+            Err(_) => Err(Refusal::NoMemory),
         }
     }
 
@@ -113,22 +113,22 @@ impl Files {
     }
 
     /// Gives a file another name, which no file has. The step that can fail for memory comes first.
-    pub fn rename(&mut self, old: &[u8], new: &[u8]) -> Result<(), FilesError>
+    pub fn rename(&mut self, old: &[u8], new: &[u8]) -> Result<(), Refusal>
         ensures answer { AnswersFirst result (rename_refusal self.old old.now new.now) }
         ensures ok { OnOk result (self.new ≡ with_renamed self.old old.now new.now) }
         ensures err { OnErr result (self.new ≡ self.old) }
     {
         if let Err(refusal) = self.check_rename(old, new) {
-            return Err(FilesError::Refused(refusal));
+            return Err(refusal);
         }
         let Ok(name) = Vec::from_slice(self.alloc, new) else {
-            return Err(FilesError::NoMemory);
+            return Err(Refusal::NoMemory);
         };
         let Ok(again) = Vec::from_slice(self.alloc, new) else {
-            return Err(FilesError::NoMemory);
+            return Err(Refusal::NoMemory);
         };
         let Ok(_) = self.texts.insert(name, Vec::new(self.alloc)) else {
-            return Err(FilesError::NoMemory);
+            return Err(Refusal::NoMemory);
         };
         let text = self.texts.remove(old).unwrap();
         match self.texts.insert(again, text) {

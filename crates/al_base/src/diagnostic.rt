@@ -1,0 +1,13 @@
+// What a build says of a file.
+use crate::name::Name;
+use crate::place::Place;
+
+/// One line of what a build says of the files.
+#[derive(Debug, Drop)]
+pub struct Diagnostic {
+    /// The name of the file.
+    pub file: Name,
+    pub place: Place,
+    /// The number of the rule that is broken: 401 is shown as E401.
+    pub code: u16,
+}

@@ -1,0 +1,20 @@
+// Which unit of a library is meant.
+use crate::name::Name;
+
+/// Which part of a program unit a file holds (ARM 10.1.1, 10.1.3).
+#[derive(Clone, Copy, Debug, PartialEq, Eq, PartialOrd, Ord)]
+pub enum UnitKind {
+    /// A library declaration.
+    Decl,
+    /// A library body.
+    Body,
+    /// A subunit.
+    Sub,
+}
+
+/// A unit of a library: its full name in lower case, and which part it is.
+#[derive(Debug, Drop)]
+pub struct UnitKey {
+    pub name: Name,
+    pub kind: UnitKind,
+}
