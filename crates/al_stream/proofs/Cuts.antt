@@ -1,0 +1,36 @@
+-- Bytes before the first place of one of them, as they are read in turn.
+use Rattle.std.proofs.Common.{◌≡◌, ◌≢◌, ℕ, zero, suc, cond, eqb, true, false, List, [], ◌∷◌, ◌++◌, take, Option, Some, None, refl, ap, arith}
+use Rattle.std.proofs.lemmas.Bool.Decides.{nat_tests}
+use Rattle.al_stream.specs.Cuts.{onto, cut_at}
+
+-- a byte that isn't looked for, at the end of bytes that aren't
+pub cut_at_push : (byte b : ℕ) (bs : List ℕ) → cut_at byte bs ≡ None → b ≢ byte → cut_at byte (bs ++ b ∷ []) ≡ None
+cut_at_push byte b [] none differs = grind (arith, nat_tests)
+cut_at_push byte b (x ∷ bs) none differs =
+    elim (eqb x byte) as (λ t. cond t (Some ([], bs)) (onto x (cut_at byte bs)) ≡ None → cond t (Some ([], bs ++ b ∷ [])) (onto x (cut_at byte (bs ++ b ∷ []))) ≡ None) [
+      | true ↦ λ e. cc
+      | false ↦ λ e. ap (onto x) (cut_at_push byte b bs (onto_none x (cut_at byte bs) e) differs)
+    ] none
+  where
+    onto_none : (x : ℕ) (cut : Option (List ℕ × List ℕ)) → onto x cut ≡ None → cut ≡ None
+    onto_none x None e = refl
+    onto_none x (Some cut) e = cc
+
+-- the byte that is looked for, behind bytes that aren't
+pub cut_at_found : (byte : ℕ) (bs more : List ℕ) → cut_at byte bs ≡ None → cut_at byte (bs ++ byte ∷ more) ≡ Some (bs, more)
+cut_at_found byte [] more none = grind (arith, nat_tests)
+cut_at_found byte (x ∷ bs) more none =
+    elim (eqb x byte) as (λ t. cond t (Some ([], bs)) (onto x (cut_at byte bs)) ≡ None → cond t (Some ([], bs ++ byte ∷ more)) (onto x (cut_at byte (bs ++ byte ∷ more))) ≡ Some (x ∷ bs, more)) [
+      | true ↦ λ e. cc
+      | false ↦ λ e. ap (onto x) (cut_at_found byte bs more (onto_none x (cut_at byte bs) e))
+    ] none
+  where
+    onto_none : (x : ℕ) (cut : Option (List ℕ × List ℕ)) → onto x cut ≡ None → cut ≡ None
+    onto_none x None e = refl
+    onto_none x (Some cut) e = cc
+
+-- what is kept of bytes that are kept in turn
+pub take_push_kept : (n : ℕ) (bs : List ℕ) (b : ℕ) → take n (take n bs ++ b ∷ []) ≡ take n (bs ++ b ∷ [])
+take_push_kept zero bs b = refl
+take_push_kept (suc n) [] b = refl
+take_push_kept (suc n) (x ∷ bs) b = ap (λ r. x ∷ r) (take_push_kept n bs b)

@@ -1,0 +1,52 @@
+-- What is read in turn is read as a whole.
+use Rattle.std.proofs.Common.{ℕ, ◌+◌, List, [], ◌∷◌, ◌++◌, Option, Some, None, refl, ap, sym, ◌∙◌, append_assoc, append-nil, inl, inr}
+use Rattle.std.specs.Io.KnownBytes.{Consumes, Appends, Keeps, prepend_known}
+use Rattle.al_stream.specs.Input.{Moment, Reads, Stops}
+
+pub consumes_none : (x : Option (List ℕ)) → Consumes x x []
+consumes_none None = tt
+consumes_none (Some xs) = refl
+
+pub consumes_then : (x y z : Option (List ℕ)) (bs cs : List ℕ) → Consumes x y bs → Consumes y z cs → Consumes x z (bs ++ cs)
+consumes_then None y z bs cs h k = tt
+consumes_then (Some xs) None z bs cs h k = absurd h
+consumes_then (Some xs) (Some ys) None bs cs h k = absurd k
+consumes_then (Some xs) (Some ys) (Some zs) bs cs h k = h ∙ ap (λ r. bs ++ r) k ∙ sym (append_assoc bs cs zs)
+
+pub consumes_one : (b : ℕ) (bs : List ℕ) (x : Option (List ℕ)) → Consumes (prepend_known (b ∷ bs) x) (prepend_known bs x) (b ∷ [])
+consumes_one b bs None = tt
+consumes_one b bs (Some xs) = refl
+
+pub appends_none : (x : Option (List ℕ)) → Appends x x []
+appends_none None = tt
+appends_none (Some xs) = sym (append-nil xs)
+
+pub appends_then : (x y z : Option (List ℕ)) (bs cs : List ℕ) → Appends x y bs → Appends y z cs → Appends x z (bs ++ cs)
+appends_then None y z bs cs h k = tt
+appends_then (Some xs) None z bs cs h k = absurd h
+appends_then (Some xs) (Some ys) None bs cs h k = absurd k
+appends_then (Some xs) (Some ys) (Some zs) bs cs h k = k ∙ ap (λ r. r ++ cs) h ∙ append_assoc xs bs cs
+
+pub appends_keeps : (x y z : Option (List ℕ)) (bs : List ℕ) → Appends x y bs → Keeps y z → Appends x z bs
+appends_keeps None y z bs h k = tt
+appends_keeps (Some xs) None z bs h k = absurd h
+appends_keeps (Some xs) (Some ys) None bs h k = absurd k
+appends_keeps (Some xs) (Some ys) (Some zs) bs h k = k ∙ h
+
+pub reads_none : (m : Moment) → Reads m m []
+reads_none m = record { told = consumes_none m.ahead; no_fault = refl; counted = refl }
+
+pub reads_then : {a b c : Moment} {xs ys : List ℕ} → Reads a b xs → Reads b c ys → Reads a c (xs ++ ys)
+reads_then {a} {b} {c} {xs} {ys} h k = record {
+  told = consumes_then a.ahead b.ahead c.ahead xs ys h.told k.told;
+  no_fault = k.no_fault ∙ h.no_fault;
+  counted = k.counted ∙ h.counted;
+}
+
+pub stops_then : {a b c : Moment} {xs ys : List ℕ} → Reads a b xs → Stops b c ys → Stops a c (xs ++ ys)
+stops_then {a} {b} {c} {xs} {ys} h k = record {
+  told = consumes_then a.ahead b.ahead c.ahead xs ys h.told k.told;
+  none_held = k.none_held;
+  cause = elim k.cause [ inl e ↦ inl (e ∙ ap (λ n. n + 1) h.no_fault) | inr e ↦ inr e ];
+  counted = k.counted ∙ h.counted;
+}

@@ -1,0 +1,14 @@
+use Rattle.std.proofs.Common.{◌≡◌, ◌-◌, ◌≤◌, length, take}
+use Rattle.std.specs.Io.KnownBytes.{Appends}
+use Rattle.al_stream.proofs.writing.write_all.Given as goal
+
+-- so much is written
+abbrev pub invariant-loop-done : goal.invariant-loop-done
+invariant-loop-done g l = record {
+  in_range : l.done ≤ length l.reply;
+  told : Appends (g.K.Sink.written l.fn.writer) (g.K.Sink.written l.writer) (take l.done l.reply);
+  faults : g.K.Sink.faults l.writer ≡ g.K.Sink.faults l.fn.writer;
+}
+
+abbrev pub decreases-loop-done : goal.decreases-loop-done
+decreases-loop-done g l = length l.reply - l.done

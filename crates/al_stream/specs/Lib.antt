@@ -1,0 +1,5 @@
+pub mod Device
+pub mod Cuts
+pub mod Input
+pub mod Reading
+pub mod Output

@@ -1,0 +1,40 @@
+// Writing in pieces, which takes no memory.
+ghost use Rattle.std.specs.Prelude.{◌≡◌, ℕ, ◌-◌, ◌^◌, ◌<◌, ◌++◌, List, Option, IsOk, decimal};
+ghost use Rattle.al_stream.specs.Output.{WritesReply};
+
+use crate::device::{Device, Sink};
+use crate::writing::write_all;
+use itoa::Buffer;
+
+/// Writes one more piece, unless an earlier piece failed: then nothing more is written.
+///
+/// `so_far` is the result of the pieces before it, so a caller chains the calls and looks at the last result alone.
+/// Whatever was written before, this is a whole or a front of all pieces in a row.
+pub fn emit<K: Sink>(so_far: Result<(), Device>, writer: &mut K, piece: &[u8]) -> Result<(), Device>
+    requires { IsOk so_far → K.faults writer.old < 2 ^ 64 - 1 }
+    ensures faults { IsOk result → IsOk so_far × (K.faults writer.new ≡ K.faults writer.old) }
+    ensures told { (start : Option (List ℕ)) (faults : ℕ) (before : List ℕ) →
+        WritesReply start (K.written writer.old) faults (K.faults writer.old) before so_far →
+        WritesReply start (K.written writer.new) faults (K.faults writer.new) (before ++ piece.now) result }
+{
+    if so_far.is_err() {
+        return so_far;
+    }
+    write_all(writer, piece)
+}
+
+/// Writes a number in decimal digits, as [`emit`] writes a piece.
+pub fn emit_number<K: Sink>(
+    so_far: Result<(), Device>,
+    writer: &mut K,
+    number: usize,
+) -> Result<(), Device>
+    requires { IsOk so_far → K.faults writer.old < 2 ^ 64 - 1 }
+    ensures faults { IsOk result → IsOk so_far × (K.faults writer.new ≡ K.faults writer.old) }
+    ensures told { (start : Option (List ℕ)) (faults : ℕ) (before : List ℕ) →
+        WritesReply start (K.written writer.old) faults (K.faults writer.old) before so_far →
+        WritesReply start (K.written writer.new) faults (K.faults writer.new) (before ++ decimal number) result }
+{
+    let mut digits = Buffer::new();
+    emit(so_far, writer, digits.format(number).as_bytes())
+}

@@ -1,0 +1,24 @@
+//! Streams of bytes: devices that may fail, a buffer before a reader, lines and texts, and writing piece by piece.
+//! Nothing here knows a command.
+//!
+//! - [`Source`] and [`Sink`] are a reader and a writer whose bytes, calls and failures a contract can name;
+//!   [`Counted`] makes them of std's `Read` and `Write`. A failed call is a [`Fault`], and a caller is told only
+//!   which [`Device`] failed.
+//! - [`Buffer`] gives the bytes of a source in turn, within a bound on the number of pulls.
+//! - [`read_line`] reads a line into a [`KeptLine`], [`read_text`] reads a text of known length into a [`Text`].
+//! - [`write_all`] writes all of some bytes, [`emit`] and [`emit_number`] do so piece by piece and take no memory.
+#![tactic(auto)]
+
+mod buffer;
+mod device;
+mod emitting;
+mod kept;
+mod reading;
+mod writing;
+
+pub use buffer::Buffer;
+pub use device::{Counted, Device, Fault, Sink, Source};
+pub use emitting::{emit, emit_number};
+pub use kept::KeptLine;
+pub use reading::{Text, read_line, read_text};
+pub use writing::write_all;
