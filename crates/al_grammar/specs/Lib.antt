@@ -1,0 +1,5 @@
+pub mod Grammar
+pub mod Reading
+pub mod Place
+pub mod Growing
+pub mod Laws
