@@ -1,5 +1,6 @@
 -- A file under another name.
 use Rattle.std.proofs.Common.{◌≡◌, ℕ, Bool, true, false, cond, List, [], ◌∷◌, Some, None, Vec, is_some, not, refl, sym, ap, ◌∙◌}
+use Rattle.std.specs.declared.rc.Rc.{Rc}
 use Rattle.std.specs.Ordering.{nat_cmp, is_eq}
 use Rattle.std.specs.declared.cmp.Ordering.{Ordering}
 use Rattle.std.specs.declared.cmp.Ordering.TheVariants.{Less, Equal, Greater}
@@ -11,7 +12,7 @@ use Rattle.std.specs.Map.{keys_of}
 use Rattle.std.proofs.lemmas.Map.Keys.{sorted_head, sorted_tail}
 use Rattle.al_base.specs.Files.{Texts, name_cmp, text_of, with_file, without_file, rename_refusal}
 use Rattle.al_base.specs.declared.refusal.Refusal.TheVariants.{BadName, NoFile, FileExists}
-use Rattle.al_base.specs.Names.{is_name}
+use Rattle.al_base.specs.Names.{is_file_name}
 use Rattle.al_base.specs.Pairs.{pairs_of}
 
 -- the text of another file stays
@@ -43,16 +44,6 @@ text_of-with_file (e ∷ es) k v = step (name_cmp k e.0) refl (text_of-with_file
     step Equal is rest = rw (is, is) refl
     step Greater is rest = rw (is, is) rest
 
--- putting twice
-put_twice : (es : Texts) (k v w : List ℕ) → with_file (with_file es k v) k w ≡ with_file es k w
-put_twice [] k v w = rw (tied_itself nat_list_cmp_total k) refl
-put_twice (e ∷ es) k v w = step (name_cmp k e.0) refl (put_twice es k v w)
-  where
-    step : (o : Ordering) → name_cmp k e.0 ≡ o → with_file (with_file es k v) k w ≡ with_file es k w → with_file (with_file (e ∷ es) k v) k w ≡ with_file (e ∷ es) k w
-    step Less is rest = rw is (rw (tied_itself nat_list_cmp_total k) refl)
-    step Equal is rest = rw (is, is) refl
-    step Greater is rest = rw (is, is) (ap (λ fs. e ∷ fs) rest)
-
 -- a name below all others goes to the front
 put_front : (es : Texts) (k v : List ℕ) → AllByRecursion (λ n. name_cmp k n ≡ Less) (keys_of es) → with_file es k v ≡ (k, v) ∷ es
 put_front [] k v below = refl
@@ -62,23 +53,23 @@ all_above : (names : List (List ℕ)) (k m : List ℕ) → name_cmp k m ≡ Less
 all_above [] k m below h = tt
 all_above (n ∷ names) k m below h = (nat_list_cmp_total.trans k m n below h.0, all_above names k m below h.1)
 
--- the empty file that stands in for a moment leaves no trace
-pub rename_steps : (es : Texts) (old new x text : List ℕ) → IsStrictlySortedBy name_cmp (keys_of es) → is_eq (name_cmp old new) ≡ false → with_file (without_file (with_file es new x) old) new text ≡ with_file (without_file es old) new text
-rename_steps [] old new x text sorted apart = rw apart (rw (tied_itself nat_list_cmp_total new) refl)
-rename_steps (e ∷ es) old new x text sorted apart = step (name_cmp new e.0) refl (name_cmp old e.0) refl (rename_steps es old new x text (sorted_tail name_cmp e.0 (keys_of es) sorted) apart)
+-- first the new name and then without the old one, or the other way round
+pub rename_steps : (es : Texts) (old new text : List ℕ) → IsStrictlySortedBy name_cmp (keys_of es) → is_eq (name_cmp old new) ≡ false → without_file (with_file es new text) old ≡ with_file (without_file es old) new text
+rename_steps [] old new text sorted apart = rw apart refl
+rename_steps (e ∷ es) old new text sorted apart = step (name_cmp new e.0) refl (name_cmp old e.0) refl (rename_steps es old new text (sorted_tail name_cmp e.0 (keys_of es) sorted) apart)
   where
     front : name_cmp new e.0 ≡ Less → with_file es new text ≡ (new, text) ∷ es
     front below = put_front es new text (all_above (keys_of es) new e.0 below (sorted_head name_cmp e.0 (keys_of es) sorted))
 
-    step : (o : Ordering) → name_cmp new e.0 ≡ o → (p : Ordering) → name_cmp old e.0 ≡ p → with_file (without_file (with_file es new x) old) new text ≡ with_file (without_file es old) new text → with_file (without_file (with_file (e ∷ es) new x) old) new text ≡ with_file (without_file (e ∷ es) old) new text
-    step Less is Less was rest = rw (is, apart, was) (rw (tied_itself nat_list_cmp_total new, is) refl)
-    step Less is Equal was rest = rw (is, apart, was) (rw (tied_itself nat_list_cmp_total new) (sym (front is)))
-    step Less is Greater was rest = rw (is, apart, was) (rw (tied_itself nat_list_cmp_total new, is) refl)
+    step : (o : Ordering) → name_cmp new e.0 ≡ o → (p : Ordering) → name_cmp old e.0 ≡ p → without_file (with_file es new text) old ≡ with_file (without_file es old) new text → without_file (with_file (e ∷ es) new text) old ≡ with_file (without_file (e ∷ es) old) new text
+    step Less is Less was rest = rw (is, apart, was) (rw is refl)
+    step Less is Equal was rest = rw (is, apart, was) (sym (front is))
+    step Less is Greater was rest = rw (is, apart, was) (rw is refl)
     step Equal is Less was rest = rw (is, was) (rw is refl)
     step Equal is Equal was rest = let same : is_eq (name_cmp old new) ≡ true = ap is_eq (alike_right nat_list_cmp_total new e.0 old is ∙ was) in cc
     step Equal is Greater was rest = rw (is, was) (rw is refl)
     step Greater is Less was rest = rw (is, was) (rw is (ap (λ fs. e ∷ fs) rest))
-    step Greater is Equal was rest = rw (is, was) (put_twice es new x text)
+    step Greater is Equal was rest = rw (is, was) refl
     step Greater is Greater was rest = rw (is, was) (rw is (ap (λ fs. e ∷ fs) rest))
 
 -- a text has one name
@@ -95,7 +86,7 @@ pub record MayRename (es : Texts) (old new : List ℕ) : Type 0 where
 
 pub may_rename : (es : Texts) (old new : List ℕ) → rename_refusal es old new ≡ None → MayRename es old new
 unfolding rename_refusal
-may_rename es old new none = tests (is_name old) (is_name new) (is_some (text_of es old)) refl (is_some (text_of es new)) refl none
+may_rename es old new none = tests (is_file_name old) (is_file_name new) (is_some (text_of es old)) refl (is_some (text_of es new)) refl none
   where
     tests : (a b s : Bool) → is_some (text_of es old) ≡ s → (t : Bool) → is_some (text_of es new) ≡ t → cond (not a) (Some BadName) (cond (not b) (Some BadName) (cond (not s) (Some NoFile) (cond t (Some FileExists) None))) ≡ None → MayRename es old new
     tests false b s is t free e = cc
@@ -115,11 +106,11 @@ may_rename es old new none = tests (is_name old) (is_name new) (is_some (text_of
         untied_back Greater same = refl
 
 -- the names ascend
-pub sorted_pairs : {Y Z : Type 0} (es : List (Vec ℕ Y × Vec ℕ Z)) → IsStrictlySortedBy (λ x y. slice_cmp nat_cmp x.items y.items) (keys_of es) → IsStrictlySortedBy name_cmp (keys_of (pairs_of es))
+pub sorted_pairs : {Y Z W : Type 0} (es : List (Vec ℕ Y × Rc (Vec ℕ Z) W)) → IsStrictlySortedBy (λ x y. slice_cmp nat_cmp x.items y.items) (keys_of es) → IsStrictlySortedBy name_cmp (keys_of (pairs_of es))
 unfolding IsStrictlySortedBy
-sorted_pairs [] h = tt
-sorted_pairs (e ∷ es) h = (all e es h.0, sorted_pairs es h.1)
+sorted_pairs {Y = Y} {Z = Z} {W = W} [] h = tt
+sorted_pairs {Y = Y} {Z = Z} {W = W} (e ∷ es) h = (all e es h.0, sorted_pairs es h.1)
   where
-    all : {Y Z : Type 0} (e : Vec ℕ Y × Vec ℕ Z) (es : List (Vec ℕ Y × Vec ℕ Z)) → AllByRecursion (λ y. slice_cmp nat_cmp e.0.items y.items ≡ Less) (keys_of es) → AllByRecursion (λ n. name_cmp e.0.items n ≡ Less) (keys_of (pairs_of es))
+    all : (e : Vec ℕ Y × Rc (Vec ℕ Z) W) (es : List (Vec ℕ Y × Rc (Vec ℕ Z) W)) → AllByRecursion (λ y. slice_cmp nat_cmp e.0.items y.items ≡ Less) (keys_of es) → AllByRecursion (λ n. name_cmp e.0.items n ≡ Less) (keys_of (pairs_of es))
     all e [] h = tt
     all e (f ∷ es) h = (h.0, all e es h.1)

@@ -5,7 +5,7 @@ use Rattle.std.specs.declared.cmp.Ordering.{Ordering}
 use Rattle.std.specs.Cmp.Lexicographic.{slice_cmp}
 use Rattle.std.specs.Map.{lookup, remove_entry}
 use Rattle.std.specs.BTreeMap.{insert_entry, is_at}
-use Rattle.al_base.specs.Names.{is_name}
+use Rattle.al_base.specs.Names.{is_file_name}
 use Rattle.al_base.specs.declared.refusal.Refusal.{Refusal}
 use Rattle.al_base.specs.declared.refusal.Refusal.TheVariants.{BadName, NoFile, FileExists, TooManyFiles, TextTooLong, NoMemory}
 
@@ -41,21 +41,21 @@ with_renamed files old new = with_text (text_of files old) (without_file files o
 -- the first refusal of a put, of a text of so many bytes, that holds
 unfoldable pub put_refusal : Texts → List ℕ → ℕ → Option Refusal
 put_refusal files name len =
-    if not (is_name name) then Some BadName
+    if not (is_file_name name) then Some BadName
     else if nat_lt 1048576 len then Some TextTooLong
     else if not (is_some (text_of files name)) && nat_le 4096 (length files) then Some TooManyFiles
     else None
 
 unfoldable pub delete_refusal : Texts → List ℕ → Option Refusal
 delete_refusal files name =
-    if not (is_name name) then Some BadName
+    if not (is_file_name name) then Some BadName
     else if not (is_some (text_of files name)) then Some NoFile
     else None
 
 unfoldable pub rename_refusal : Texts → List ℕ → List ℕ → Option Refusal
 rename_refusal files old new =
-    if not (is_name old) then Some BadName
-    else if not (is_name new) then Some BadName
+    if not (is_file_name old) then Some BadName
+    else if not (is_file_name new) then Some BadName
     else if not (is_some (text_of files old)) then Some NoFile
     else if is_some (text_of files new) then Some FileExists
     else None

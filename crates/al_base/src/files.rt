@@ -1,23 +1,24 @@
 // A finite map from file names to texts.
-ghost use Rattle.std.specs.Prelude.{◌≡◌, [], length, OnOk, OnErr, slice_get};
+ghost use Rattle.std.specs.Prelude.{◌≡◌, [], length, IfOk, OnOk, OnErr, slice_get};
 ghost use Rattle.std.specs.Option.{option_copied, option_map};
 ghost use Rattle.al_base.specs.Files.{text_of, with_file, without_file, with_renamed, put_refusal, delete_refusal, rename_refusal, AnswersRefusal, AnswersFirst};
 
-use crate::is_name;
-use crate::refusal::Refusal;
+use crate::is_file_name;
+use crate::refusal::{NoMemory, Refusal};
 use std::alloc::{AllocError, Global};
 use std::collections::BTreeMap;
 use std::marker::Model;
+use std::rc::Rc;
 
 pub const MAX_FILES: usize = 4096;
 
 pub const MAX_TEXT: usize = 1_048_576;
 
-/// A finite map from file names to texts, in the order of the names' bytes.
+/// A finite map from file names to texts, in the order of the names' bytes. Copies share the texts.
 #[derive(Drop)]
 pub struct Files {
     alloc: Global,
-    texts: BTreeMap<Vec<u8>, Vec<u8>>,
+    texts: BTreeMap<Vec<u8>, Rc<Vec<u8>>>,
 }
 
 impl Model for Files {
@@ -46,18 +47,32 @@ impl Files {
         self.texts.len()
     }
 
-    /// The text of a file.
-    pub fn get(&self, name: &[u8]) -> Option<&Vec<u8>>
-        ensures { option_map (λ text. text.now.items) result ≡ text_of self.now name.now }
+    /// A map with the same files. The texts aren't copied.
+    pub fn copy(&self) -> Result<Files, NoMemory>
+        ensures { IfOk result (λ files. files ≡ self.now) }
     {
-        self.texts.get(name)
+        match self.texts.clone() {
+            Ok(texts) => Ok(Files {
+                alloc: self.alloc,
+                texts,
+            }),
+            Err(_) => Err(NoMemory),
+        }
     }
 
-    /// The i-th file by name, from 0.
-    pub fn at(&self, i: usize) -> Option<(&Vec<u8>, &Vec<u8>)>
-        ensures { option_map (λ file. (file.0.now.items, file.1.now.items)) result ≡ slice_get self.now i }
+    /// The text of a file.
+    pub fn get(&self, name: &[u8]) -> Option<&[u8]>
+        ensures { option_map (λ text. text.now) result ≡ text_of self.now name.now }
     {
-        self.texts.iter().nth(i)
+        Some(self.texts.get(name)?.as_slice())
+    }
+
+    /// The i-th file by name, from 0: its name and its text.
+    pub fn at(&self, i: usize) -> Option<(&[u8], &[u8])>
+        ensures { option_map (λ file. (file.0.now, file.1.now)) result ≡ slice_get self.now i }
+    {
+        let (name, text) = self.texts.iter().nth(i)?;
+        Some((name.as_slice(), text.as_slice()))
     }
 
     /// The refusal that a put of so many bytes under the name would meet.
@@ -65,7 +80,7 @@ impl Files {
     pub fn check_put(&self, name: &[u8], len: usize) -> Result<(), Refusal>
         ensures { AnswersRefusal result (put_refusal self.now name.now len) }
     {
-        if !is_name(name) {
+        if !is_file_name(name) {
             return Err(Refusal::BadName);
         }
         if len > MAX_TEXT {
@@ -90,6 +105,9 @@ impl Files {
         let Ok(name) = Vec::from_slice(self.alloc, name) else {
             return Err(Refusal::NoMemory);
         };
+        let Ok(text) = Rc::new(self.alloc, text) else {
+            return Err(Refusal::NoMemory);
+        };
         match self.texts.insert(name, text) {
             Ok(_) => Ok(()),
             Err(_) => Err(Refusal::NoMemory),
@@ -103,7 +121,7 @@ impl Files {
         ensures ok { OnOk result (self.new ≡ without_file self.old name.now) }
         ensures err { OnErr result (self.new ≡ self.old) }
     {
-        if !is_name(name) {
+        if !is_file_name(name) {
             return Err(Refusal::BadName);
         }
         match self.texts.remove(name) {
@@ -112,7 +130,7 @@ impl Files {
         }
     }
 
-    /// Gives a file another name, which no file has. The step that can fail for memory comes first.
+    /// Gives a file another name, which no file has. The text isn't copied, and the steps that can fail for memory come first.
     pub fn rename(&mut self, old: &[u8], new: &[u8]) -> Result<(), Refusal>
         ensures answer { AnswersFirst result (rename_refusal self.old old.now new.now) }
         ensures ok { OnOk result (self.new ≡ with_renamed self.old old.now new.now) }
@@ -121,28 +139,24 @@ impl Files {
         if let Err(refusal) = self.check_rename(old, new) {
             return Err(refusal);
         }
+        let Ok(text) = self.texts.get(old).unwrap().clone() else {
+            return Err(Refusal::NoMemory);
+        };
         let Ok(name) = Vec::from_slice(self.alloc, new) else {
             return Err(Refusal::NoMemory);
         };
-        let Ok(again) = Vec::from_slice(self.alloc, new) else {
+        let Ok(_) = self.texts.insert(name, text) else {
             return Err(Refusal::NoMemory);
         };
-        let Ok(_) = self.texts.insert(name, Vec::new(self.alloc)) else {
-            return Err(Refusal::NoMemory);
-        };
-        let text = self.texts.remove(old).unwrap();
-        match self.texts.insert(again, text) {
-            Ok(_) => Ok(()),
-            // The name is there, so this takes no memory.
-            Err(_) => unreachable!(),
-        }
+        self.texts.remove(old);
+        Ok(())
     }
 
     /// The refusal that a rename would meet.
     pub fn check_rename(&self, old: &[u8], new: &[u8]) -> Result<(), Refusal>
         ensures { AnswersRefusal result (rename_refusal self.now old.now new.now) }
     {
-        if !is_name(old) || !is_name(new) {
+        if !is_file_name(old) || !is_file_name(new) {
             return Err(Refusal::BadName);
         }
         if self.texts.get(old).is_none() {

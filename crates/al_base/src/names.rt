@@ -1,12 +1,12 @@
 // Which texts are names of files.
 ghost use Rattle.std.specs.Prelude.{◌≡◌};
 ghost use Rattle.std.specs.List.{list_all};
-ghost use Rattle.al_base.specs.Names.{is_name_byte, is_name};
+ghost use Rattle.al_base.specs.Names.{is_name_byte, is_file_name};
 
-#[tactic(auto, unfolding(crate::specs::Names::is_name))]
+#[tactic(auto, unfolding(crate::specs::Names::is_file_name))]
 /// Whether the bytes are the name of a file.
-pub fn is_name(bytes: &[u8]) -> bool
-    ensures { result ≡ is_name bytes.now }
+pub fn is_file_name(bytes: &[u8]) -> bool
+    ensures { result ≡ is_file_name bytes.now }
 {
     if bytes.len() <= 4 || bytes.len() > 255 {
         return false;

@@ -3,13 +3,13 @@ use Rattle.std.proofs.lemmas.Bool.Decides.{nat_tests}
 use Rattle.al_base.specs.Files.{rename_refusal}
 use Rattle.al_base.proofs.PairLemmas.{is_text_of-pairs_of}
 use Rattle.al_base.proofs.files.Files.check_rename.Goals as goal
-use Rattle.al_base.proofs.files.Files.check_rename.Goals.{then-not-is_name-via-then-not-is_name, then-not-is_name-via-else-not-is_name+then-not-is_name-2}
+use Rattle.al_base.proofs.files.Files.check_rename.Goals.{then-not-is_file_name-via-then-not-is_file_name, then-not-is_file_name-via-else-not-is_file_name+then-not-is_file_name-2}
 
-pub returns-then-not-is_name : goal.returns-then-not-is_name
+pub returns-then-not-is_file_name : goal.returns-then-not-is_file_name
 unfolding rename_refusal
-returns-then-not-is_name c = elim c.then-not-is_name.branch [
-  | then-not-is_name-via-then-not-is_name w ↦ grind (arith, nat_tests, w.if-not-is_name.true, c.is_name.ensures)
-  | then-not-is_name-via-else-not-is_name+then-not-is_name-2 w ↦ grind (arith, nat_tests, w.if-not-is_name.false, c.is_name.ensures, w.is_name-else-not-is_name.ensures, w.if-not-is_name-2.true)
+returns-then-not-is_file_name c = elim c.then-not-is_file_name.branch [
+  | then-not-is_file_name-via-then-not-is_file_name w ↦ grind (arith, nat_tests, w.if-not-is_file_name.true, c.is_file_name.ensures)
+  | then-not-is_file_name-via-else-not-is_file_name+then-not-is_file_name-2 w ↦ grind (arith, nat_tests, w.if-not-is_file_name.false, c.is_file_name.ensures, w.is_file_name-else-not-is_file_name.ensures, w.if-not-is_file_name-2.true)
 ]
 
 pub returns-then-is_none : goal.returns-then-is_none
