@@ -1,0 +1,27 @@
+// Kinds of bytes.
+ghost use Rattle.std.specs.Prelude.{◌≡◌};
+ghost use Rattle.al_lex.specs.Bytes.{is_line_end, is_blank, is_printable, is_word_byte};
+
+pub(crate) fn is_line_end(b: u8) -> bool
+    ensures { result ≡ is_line_end b }
+{
+    (10..=13).contains(&b)
+}
+
+pub(crate) fn is_blank(b: u8) -> bool
+    ensures { result ≡ is_blank b }
+{
+    b == b' ' || b == b'\t'
+}
+
+pub(crate) fn is_printable(b: u8) -> bool
+    ensures { result ≡ is_printable b }
+{
+    (32..=126).contains(&b)
+}
+
+pub(crate) fn is_word_byte(b: u8) -> bool
+    ensures { result ≡ is_word_byte b }
+{
+    b.is_ascii_alphabetic() || b.is_ascii_digit() || b == b'_'
+}

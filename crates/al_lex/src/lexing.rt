@@ -1,0 +1,103 @@
+// The tokens of a text.
+ghost use Rattle.std.specs.Prelude.{◌≡◌, ◌≤◌, ◌<◌, ◌+◌, ◌^◌, ◌++◌, [], length, Ok, IfOk, IfErr, OnOk};
+ghost use Rattle.al_lex.specs.Lexing.{FaultOf, behind, end_place_of, lexed, mark_len, with_token};
+
+use crate::pieces::front_piece;
+use crate::token::{LexError, LexFault, Piece, Sort, Token};
+use al_base::{Place, Span};
+use std::alloc::{AllocError, Global};
+
+/// Where a text begins.
+const FIRST_PLACE: Place = Place { line: 1, col: 1 };
+
+/// How many bytes the mark EF BB BF takes at the front.
+fn mark_len(text: &[u8]) -> usize
+    ensures exact { result ≡ mark_len text.now }
+    ensures within { result ≤ length text.now }
+{
+    match text {
+        [0xEF, 0xBB, 0xBF, ..] => 3,
+        _ => 0,
+    }
+}
+
+/// The place behind a piece that stands at `place`.
+fn behind(place: Place, piece: Piece) -> Place
+    requires line { place.line + 1 < 2 ^ 64 }
+    requires column { place.col + piece.len < 2 ^ 64 }
+    ensures { result ≡ behind piece.sort piece.len place }
+{
+    match piece.sort {
+        Sort::LineEnd => Place {
+            line: place.line + 1,
+            col: 1,
+        },
+        Sort::Gap | Sort::Lexeme(_) => Place {
+            line: place.line,
+            col: place.col + piece.len,
+        },
+    }
+}
+
+/// Adds the token, where the piece is a lexeme.
+fn note(tokens: &mut Vec<Token>, piece: Piece, start: usize, place: Place) -> Result<(), AllocError>
+    ensures { OnOk result (tokens.new.items ≡ tokens.old.items ++ with_token piece.sort start piece.len place []) }
+{
+    if let Sort::Lexeme(kind) = piece.sort {
+        tokens.push(Token {
+            kind,
+            span: Span {
+                start,
+                len: piece.len,
+                place,
+            },
+        })?;
+    }
+    Ok(())
+}
+
+/// The lexemes of the text, or its first fault (ARM 2.1 to 2.9).
+///
+/// Each lexeme is the longest that begins where the one before and the separators behind it end. The mark EF BB BF is
+/// skipped at the front. Lines and columns count from 1, columns in bytes, the mark uncounted.
+///
+/// # Errors
+///
+/// `Fault` names the first lexeme that is malformed, or the first byte that begins none; `NoMemory` that there was no
+/// room for the tokens.
+pub fn lex(alloc: Global, text: &[u8]) -> Result<Vec<Token>, LexError>
+    ensures tokens { IfOk result (λ tokens. lexed text.now ≡ Ok tokens.items) }
+    ensures fault { IfErr result (λ e. FaultOf e text.now) }
+{
+    let mut tokens = Vec::new(alloc);
+    let mut place = FIRST_PLACE;
+    let mut start = mark_len(text);
+    let (_, mut rest) = text.split_at(start);
+    while !rest.is_empty() {
+        let piece = match front_piece(rest) {
+            Ok(piece) => piece,
+            Err(code) => return Err(LexError::Fault(LexFault { place, code })),
+        };
+        note(&mut tokens, piece, start, place)?;
+        place = behind(place, piece);
+        start += piece.len;
+        (_, rest) = rest.split_at(piece.len);
+    }
+    Ok(tokens)
+}
+
+/// The place behind the last byte of a text, or of its first lexical fault.
+pub fn end_place(text: &[u8]) -> Place
+    ensures { result ≡ end_place_of text.now }
+{
+    let mut place = FIRST_PLACE;
+    let (_, mut rest) = text.split_at(mark_len(text));
+    while !rest.is_empty() {
+        let Ok(piece) = front_piece(rest) else {
+            return place;
+        };
+        place = behind(place, piece);
+        (_, rest) = rest.split_at(piece.len);
+    }
+    place
+}

@@ -1,0 +1,105 @@
+// What a text is cut into.
+ghost use Rattle.std.specs.Prelude.{◌≡◌};
+ghost use Rattle.al_lex.specs.declared.token.LexError.TheVariants.{NoMemory};
+ghost use Rattle.al_lex.specs.Codes.{number_of};
+
+use crate::delimiter::Delimiter;
+use al_base::{Place, Span};
+use std::alloc::{AllocError, AllocFailed};
+
+/// What a lexeme is.
+#[derive(Clone, Copy, Debug, PartialEq, Eq)]
+pub enum Kind {
+    Identifier,
+    /// A string with its quotes.
+    Str,
+    Delimiter(Delimiter),
+}
+
+/// A lexeme. Its text is the slice of the source that the span names.
+#[derive(Clone, Copy, Debug, PartialEq, Eq)]
+pub struct Token {
+    pub kind: Kind,
+    pub span: Span,
+}
+
+/// Which lexical rule is broken.
+#[derive(Clone, Copy, Debug, PartialEq, Eq)]
+pub enum LexCode {
+    /// No lexeme begins with the byte.
+    IllegalCharacter,
+    /// Two underscores stand together in a word, or one at its end.
+    BadIdentifier,
+    /// A number isn't well formed.
+    BadNumber,
+    /// A number is above 2^63-1.
+    NumberTooLarge,
+    /// A string isn't ended on its line, or holds a byte that no string may hold.
+    BadString,
+    /// A word has more than 200 bytes, and no other fault.
+    IdentifierTooLong,
+}
+
+impl LexCode {
+    /// The number of the rule, from 1 to 6.
+    pub fn number(self) -> u16
+        ensures { result ≡ number_of self }
+    {
+        match self {
+            LexCode::IllegalCharacter => 1,
+            LexCode::BadIdentifier => 2,
+            LexCode::BadNumber => 3,
+            LexCode::NumberTooLarge => 4,
+            LexCode::BadString => 5,
+            LexCode::IdentifierTooLong => 6,
+        }
+    }
+}
+
+/// The first lexical fault of a text.
+#[derive(Clone, Copy, Debug, PartialEq, Eq)]
+pub struct LexFault {
+    /// Where the faulty lexeme begins.
+    pub place: Place,
+    pub code: LexCode,
+}
+
+/// Why a text has no tokens.
+#[derive(Debug, Drop)]
+pub enum LexError {
+    Fault(LexFault),
+    /// Memory was wanted and not given.
+    NoMemory,
+}
+
+impl From<AllocError> for LexError {
+    ghost from_gives = { λ _ e. e ≡ NoMemory };
+
+    fn from(_e: AllocError) -> LexError {
+        LexError::NoMemory
+    }
+}
+
+impl<T: Drop> From<AllocFailed<T>> for LexError {
+    ghost from_gives = { λ _ e. e ≡ NoMemory };
+
+    fn from(_e: AllocFailed<T>) -> LexError {
+        LexError::NoMemory
+    }
+}
+
+/// What a piece of a text is.
+#[derive(Clone, Copy, Debug, PartialEq, Eq)]
+pub(crate) enum Sort {
+    /// A space, a tab or a comment.
+    Gap,
+    LineEnd,
+    Lexeme(Kind),
+}
+
+/// The piece at the front of a text.
+#[derive(Clone, Copy, Debug, PartialEq, Eq)]
+pub(crate) struct Piece {
+    pub(crate) sort: Sort,
+    pub(crate) len: usize,
+}
