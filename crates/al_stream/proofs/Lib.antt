@@ -1,3 +1,4 @@
 pub mod Moments
 pub mod Cuts
 pub mod Emits
+pub mod HexLines

@@ -3,3 +3,4 @@ pub mod Cuts
 pub mod Input
 pub mod Reading
 pub mod Output
+pub mod Hexadecimal

@@ -1,5 +1,6 @@
 // Writing in pieces, which takes no memory.
-ghost use Rattle.std.specs.Prelude.{◌≡◌, ℕ, ◌-◌, ◌^◌, ◌<◌, ◌++◌, List, Option, IsOk, decimal};
+ghost use Rattle.std.specs.Prelude.{◌≡◌, ℕ, ◌-◌, ◌^◌, ◌<◌, ◌≤◌, ◌++◌, List, Option, IsOk, length, decimal};
+ghost use Rattle.al_stream.specs.Hexadecimal.{hex_line, hex_lines};
 ghost use Rattle.al_stream.specs.Output.{WritesReply};
 
 use crate::device::{Device, Sink};
@@ -37,4 +38,48 @@ pub fn emit_number<K: Sink>(
 {
     let mut digits = Buffer::new();
     emit(so_far, writer, digits.format(number).as_bytes())
+}
+
+const HEX_DIGITS: [u8; 16] = *b"0123456789abcdef";
+
+// Writes the digits of one line, at most 32 bytes, and its line end, in one piece.
+fn emit_hex_line<K: Sink>(
+    so_far: Result<(), Device>,
+    writer: &mut K,
+    bytes: &[u8],
+) -> Result<(), Device>
+    requires room { IsOk so_far → K.faults writer.old < 2 ^ 64 - 1 }
+    requires short { length bytes.now ≤ 32 }
+    ensures faults { IsOk result → IsOk so_far × (K.faults writer.new ≡ K.faults writer.old) }
+    ensures told { (start : Option (List ℕ)) (faults : ℕ) (before : List ℕ) →
+        WritesReply start (K.written writer.old) faults (K.faults writer.old) before so_far →
+        WritesReply start (K.written writer.new) faults (K.faults writer.new) (before ++ hex_line bytes.now) result }
+{
+    let mut text = [0; 65];
+    for (i, byte) in bytes.iter().enumerate() {
+        text[2 * i] = HEX_DIGITS[(*byte / 16) as usize];
+        text[2 * i + 1] = HEX_DIGITS[(*byte % 16) as usize];
+    }
+    let end = 2 * bytes.len();
+    text[end] = b'\n';
+    emit(so_far, writer, &text[..end + 1])
+}
+
+/// Writes bytes in hexadecimal digits of lower case, 32 bytes on a line, as [`emit`] writes a piece. Each line has a
+/// line end, and no bytes give no line.
+pub fn emit_hex<K: Sink>(
+    mut so_far: Result<(), Device>,
+    writer: &mut K,
+    bytes: &[u8],
+) -> Result<(), Device>
+    requires { IsOk so_far → K.faults writer.old < 2 ^ 64 - 1 }
+    ensures faults { IsOk result → IsOk so_far × (K.faults writer.new ≡ K.faults writer.old) }
+    ensures told { (start : Option (List ℕ)) (faults : ℕ) (before : List ℕ) →
+        WritesReply start (K.written writer.old) faults (K.faults writer.old) before so_far →
+        WritesReply start (K.written writer.new) faults (K.faults writer.new) (before ++ hex_lines bytes.now) result }
+{
+    for line in bytes.chunks(32) {
+        so_far = emit_hex_line(so_far, writer, line);
+    }
+    so_far
 }

@@ -6,19 +6,25 @@
 //!   which [`Device`] failed.
 //! - [`Buffer`] gives the bytes of a source in turn, within a bound on the number of pulls.
 //! - [`read_line`] reads a line into a [`KeptLine`], [`read_text`] reads a text of known length into a [`Text`].
-//! - [`write_all`] writes all of some bytes, [`emit`] and [`emit_number`] do so piece by piece and take no memory.
+//! - [`write_all`] writes all of some bytes, [`emit`], [`emit_number`] and [`emit_hex`] do so piece by piece and
+//!   take no memory.
 #![tactic(auto)]
 
 mod buffer;
 mod device;
 mod emitting;
 mod kept;
+mod laws;
 mod reading;
 mod writing;
 
 pub use buffer::Buffer;
 pub use device::{Counted, Device, Fault, Sink, Source};
-pub use emitting::{emit, emit_number};
+pub use emitting::{emit, emit_hex, emit_number};
 pub use kept::KeptLine;
+pub use laws::cut_is_first;
 pub use reading::{Text, read_line, read_text};
 pub use writing::write_all;
+
+#[cfg(test)]
+mod tests;

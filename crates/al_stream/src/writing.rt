@@ -1,18 +1,21 @@
-// Writing of replies.
+// Writing of bytes.
 ghost use Rattle.std.specs.Prelude.{◌-◌, ◌^◌, ◌<◌};
 ghost use Rattle.al_stream.specs.Output.{WritesReply};
 
 use crate::device::{Device, Sink};
 
-/// Writes all of the bytes.
-pub fn write_all<K: Sink>(writer: &mut K, reply: &[u8]) -> Result<(), Device>
+/// Writes all of the bytes, by as many pushes as it takes.
+///
+/// # Errors
+/// [`Device::Write`] where a push fails: a front of the bytes is written then.
+pub fn write_all<K: Sink>(writer: &mut K, bytes: &[u8]) -> Result<(), Device>
     requires { K.faults writer.old < 2 ^ 64 - 1 }
     ensures { WritesReply (K.written writer.old) (K.written writer.new) (K.faults writer.old) (K.faults writer.new)
-        reply.now result }
+        bytes.now result }
 {
     let mut done = 0;
-    while done < reply.len() {
-        match writer.push(&reply[done..]) {
+    while done < bytes.len() {
+        match writer.push(&bytes[done..]) {
             Ok(count) => done += count,
             Err(_) => return Err(Device::Write),
         }

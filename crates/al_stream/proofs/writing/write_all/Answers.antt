@@ -8,19 +8,19 @@ use Rattle.al_stream.proofs.writing.write_all.Goals as goal
 pub loop-done-preserved : goal.loop-done-preserved
 loop-done-preserved g c =
     let so_far = c.loop-done.invariant in
-    let rest = take_rest c.args.reply.now c.loop-done.done in
+    let rest = take_rest c.args.bytes.now c.loop-done.done in
     let told = rw rest at c.in-Ok.ensures.bytes in
     record {
-      in_range = omega (arith, rw rest at c.in-Ok.ensures.bound, length-drop c.loop-done.done c.args.reply.now, so_far.in_range);
-      told = rw (take-add c.loop-done.done c.in-Ok.count c.args.reply.now) (appends_then (g.K.Sink.written c.args.writer.now) (g.K.Sink.written c.loop-done.writer) (g.K.Sink.written c.push.new.self) _ _ so_far.told told);
+      in_range = omega (arith, rw rest at c.in-Ok.ensures.bound, length-drop c.loop-done.done c.args.bytes.now, so_far.in_range);
+      told = rw (take-add c.loop-done.done c.in-Ok.count c.args.bytes.now) (appends_then (g.K.Sink.written c.args.writer.now) (g.K.Sink.written c.loop-done.writer) (g.K.Sink.written c.push.new.self) _ _ so_far.told told);
       faults = c.in-Ok.ensures.fault ∙ so_far.faults;
     }
 
 pub returns-in-Err : goal.returns-in-Err
 returns-in-Err g c =
     let so_far = c.loop-done.invariant in (
-      take c.loop-done.done c.args.reply.now,
-      (drop c.loop-done.done c.args.reply.now, sym (lists.take-append-drop c.loop-done.done c.args.reply.now)),
+      take c.loop-done.done c.args.bytes.now,
+      (drop c.loop-done.done c.args.bytes.now, sym (lists.take-append-drop c.loop-done.done c.args.bytes.now)),
       appends_keeps (g.K.Sink.written c.args.writer.now) (g.K.Sink.written c.loop-done.writer) (g.K.Sink.written c.push.new.self) _ so_far.told c.in-Err.ensures.bytes,
       c.in-Err.ensures.fault ∙ ap (λ n. n + 1) so_far.faults,
       refl,

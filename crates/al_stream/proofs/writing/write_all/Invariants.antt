@@ -5,10 +5,10 @@ use Rattle.al_stream.proofs.writing.write_all.Given as goal
 -- so much is written
 abbrev pub invariant-loop-done : goal.invariant-loop-done
 invariant-loop-done g l = record {
-  in_range : l.done ≤ length l.reply;
-  told : Appends (g.K.Sink.written l.fn.writer) (g.K.Sink.written l.writer) (take l.done l.reply);
+  in_range : l.done ≤ length l.bytes;
+  told : Appends (g.K.Sink.written l.fn.writer) (g.K.Sink.written l.writer) (take l.done l.bytes);
   faults : g.K.Sink.faults l.writer ≡ g.K.Sink.faults l.fn.writer;
 }
 
 abbrev pub decreases-loop-done : goal.decreases-loop-done
-decreases-loop-done g l = length l.reply - l.done
+decreases-loop-done g l = length l.bytes - l.done
