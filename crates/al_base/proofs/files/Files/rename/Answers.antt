@@ -1,4 +1,4 @@
-use Rattle.std.proofs.Common.{arith, ◌≡◌, Some, None, is_some, sym, ap, ◌∙◌, rules}
+use Rattle.std.proofs.Common.{arith, ◌≡◌, Some, None, sym, ap, ◌∙◌, rules}
 use Rattle.std.specs.Option.{option_copied, option_map}
 use Rattle.al_base.specs.Files.{text_of, with_file, without_file, with_text, rename_refusal}
 use Rattle.al_base.specs.Pairs.{pairs_of}

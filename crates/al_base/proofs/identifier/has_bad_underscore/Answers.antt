@@ -1,0 +1,8 @@
+use Rattle.std.proofs.Common.{◌==◌, rules, tests}
+use Rattle.std.proofs.lemmas.Iterator.Search.{any_from_yields_List}
+use Rattle.std.proofs.lemmas.Iterator.Splits.{YieldsList-from_slice_split}
+use Rattle.al_base.specs.Identifiers.{is_empty}
+use Rattle.al_base.proofs.identifier.has_bad_underscore.Goals as goal
+
+pub returns : goal.returns
+returns c = any_from_yields_List is_empty _ _ c.any.result c.any.ensures.ran (YieldsList-from_slice_split _ (λ b. b == 95) c.args.word.now c.split.ensures.rest c.split.ensures.done c.split.ensures.closure (λ x b q k. search (rules, tests))) (λ x b q k. search (rules, tests))
