@@ -1,0 +1,6 @@
+pub mod Instructions
+pub mod Images
+pub mod Machine
+pub mod Runs
+pub mod Effects
+pub mod Limits

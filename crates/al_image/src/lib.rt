@@ -1,0 +1,17 @@
+//! The instructions of compiled programs, the images that hold them, and the machine that runs an image.
+#![tactic(auto)]
+
+mod code;
+mod image;
+mod instruction;
+mod linking;
+mod running;
+mod text;
+mod world;
+
+pub use image::{Image, ImageObject};
+pub use instruction::{Instruction, MAX_CODE, code_len};
+pub use linking::{ProgramError, program};
+pub use running::run;
+pub use text::Text;
+pub use world::{Event, Status, World};
