@@ -49,7 +49,7 @@ put_front : (es : Texts) (k v : List ℕ) → AllByRecursion (λ n. name_cmp k n
 put_front [] k v below = refl
 put_front (e ∷ es) k v below = rw below.0 refl
 
-all_above : (names : List (List ℕ)) (k m : List ℕ) → name_cmp k m ≡ Less → AllByRecursion (λ n. name_cmp m n ≡ Less) names → AllByRecursion (λ n. name_cmp k n ≡ Less) names
+pub all_above : (names : List (List ℕ)) (k m : List ℕ) → name_cmp k m ≡ Less → AllByRecursion (λ n. name_cmp m n ≡ Less) names → AllByRecursion (λ n. name_cmp k n ≡ Less) names
 all_above [] k m below h = tt
 all_above (n ∷ names) k m below h = (nat_list_cmp_total.trans k m n below h.0, all_above names k m below h.1)
 
