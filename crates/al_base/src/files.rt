@@ -1,5 +1,5 @@
 // A finite map from file names to texts.
-ghost use Rattle.std.specs.Prelude.{◌≡◌, [], length, IfOk, OnOk, OnErr, slice_get};
+ghost use Rattle.std.specs.Prelude.{◌≡◌, [], length, map, IfOk, OnOk, OnErr, slice_get};
 ghost use Rattle.std.specs.Option.{option_copied, option_map};
 ghost use Rattle.al_base.specs.Files.{text_of, with_file, without_file, with_renamed, put_refusal, delete_refusal, rename_refusal, AnswersRefusal, AnswersFirst};
 
@@ -73,6 +73,17 @@ impl Files {
     {
         let (name, text) = self.texts.iter().nth(i)?;
         Some((name.as_slice(), text.as_slice()))
+    }
+
+    /// The names and texts of all files, by name.
+    pub fn list(&self) -> Result<Vec<(&[u8], &[u8])>, NoMemory>
+        ensures { IfOk result (λ list. map (λ f. (f.0.now, f.1.now)) list.items ≡ self.now) }
+    {
+        let mut list = Vec::with_capacity(self.alloc, self.texts.len())?;
+        for (name, text) in self.texts.iter() {
+            list.push((name.as_slice(), text.as_slice()))?;
+        }
+        Ok(list)
     }
 
     /// The refusal that a put of so many bytes under the name would meet.
