@@ -1,0 +1,25 @@
+-- Replies that speak of the last build.
+use Rattle.std.proofs.Common.{◌≡◌, ℕ, List, [], Option, Some, None, option_map, refl, sym, ap}
+use Rattle.al_base.specs.Files.{Texts}
+use Rattle.al_base.specs.Batch.{Batch}
+use Rattle.al_base.specs.declared.refusal.Refusal.TheVariants.{NotBuilt}
+use Rattle.al_serve.specs.declared.subject.Subject.{Subject}
+use Rattle.al_serve.specs.Library.{LastBuild, last_batch}
+use Rattle.al_serve.specs.Replies.{refused, build_reply, report_reply, report_of, build_reply_of}
+
+module _ (batch : Texts → List ℕ → Batch) where
+  pub build_reply_some : (built : Option LastBuild) (b : List ℕ × Batch) → Some b ≡ option_map (last_batch batch) built → build_reply_of batch built ≡ build_reply b.0 b.1
+  build_reply_some None b e = cc
+  build_reply_some (Some last) b e = let same : last_batch batch last ≡ b = cc in ap (λ (x : List ℕ × Batch). build_reply x.0 x.1) same
+
+  pub build_reply_none : (built : Option LastBuild) → None ≡ option_map (last_batch batch) built → build_reply_of batch built ≡ []
+  build_reply_none None e = refl
+  build_reply_none (Some last) e = cc
+
+  pub report_some : (subject : Subject) (built : Option LastBuild) (b : List ℕ × Batch) → Some b ≡ option_map (last_batch batch) built → report_of batch subject built ≡ report_reply subject b.1
+  report_some subject None b e = cc
+  report_some subject (Some last) b e = let same : last_batch batch last ≡ b = cc in ap (λ (x : List ℕ × Batch). report_reply subject x.1) same
+
+  pub report_none : (subject : Subject) (built : Option LastBuild) → None ≡ option_map (last_batch batch) built → report_of batch subject built ≡ refused NotBuilt
+  report_none subject None e = refl
+  report_none subject (Some last) e = cc

@@ -1,0 +1,114 @@
+-- The session, turn by turn.
+use Rattle.std.proofs.Common.{◌≡◌, ℕ, zero, suc, ◌+◌, Bool, true, false, List, [], ◌∷◌, ◌++◌, Option, Some, None, unwrap_or, refl, sym, ap, ◌∙◌, append_assoc, arith, zero-add}
+use Rattle.std.specs.Io.KnownBytes.{Consumes, IsAtEnd, prepend_known}
+use Rattle.al_serve.specs.Library.{State, Meaning}
+use Rattle.al_serve.specs.declared.serving.Ended.{Ended}
+use Rattle.al_serve.specs.declared.serving.Ended.TheVariants as ended
+use Rattle.al_serve.specs.Lines.{Command, Put, Delete, Rename, Build, Run, Report, Quit, Bad, BadLength, first}
+use Rattle.al_serve.specs.Session.{Outcome, answer, over, prepend, after_answer, turn, session}
+use Rattle.al_serve.specs.Acting.{AnswersAndEnds, left_by, MayFollow, IsCommand}
+use Rattle.al_serve.specs.Serving.{IsInput}
+
+pub session-zero : (m : Meaning) (at_end : Bool) (files : State) (marks : List Bool) (bytes : List ℕ) → session m at_end 0 files marks bytes ≡ over files
+unfolding session
+session-zero m at_end files marks bytes = refl
+
+session-suc : (m : Meaning) (at_end : Bool) (n : ℕ) (files : State) (marked : Bool) (marks : List Bool) (bytes : List ℕ) → session m at_end (suc n) files (marked ∷ marks) bytes ≡ turn m (λ after rest. session m at_end n after marks rest) files marked (first at_end bytes)
+unfolding session
+session-suc m at_end n files marked marks bytes = refl
+
+-- where no command is left, the session is over
+pub session_over : (m : Meaning) (at_end : Bool) (n : ℕ) (files : State) (marks : List Bool) (bytes : List ℕ) → first at_end bytes ≡ None → session m at_end n files marks bytes ≡ over files
+unfolding session
+session_over m at_end zero files marks bytes none = refl
+session_over m at_end (suc n) files marks bytes none = rw none refl
+
+pub first-nil : (at_end : Bool) → first at_end [] ≡ None
+unfolding first
+first-nil true = refl
+first-nil false = refl
+
+module _ (m : Meaning) (before after : State) (reply : List ℕ) where
+  pub record Goes (command : Command) : Type 0 where
+    pub marked : Bool
+    pub goes : (go : State → List ℕ → Outcome) (more : List ℕ) → after_answer go command (answer m marked before command) (left_by command more) ≡ prepend reply (go after more)
+
+  answer_goes : (command : Command) (ends : Option Ended) → AnswersAndEnds m before after reply ends command → ends ≡ None → Goes command
+  answer_goes (Put name text) ends a none = record { marked = a.1.0; goes = λ go more. rw (a.1.1, a.1.2) refl }
+  answer_goes (Delete name) ends a none = record { marked = a.1.0; goes = λ go more. rw (a.1.1, a.1.2) refl }
+  answer_goes (Rename old new) ends a none = record { marked = a.1.0; goes = λ go more. rw (a.1.1, a.1.2) refl }
+  answer_goes (Build unit) ends a none = record { marked = a.1.0; goes = λ go more. rw (a.1.1, a.1.2) refl }
+  answer_goes (Run steps) ends a none = record { marked = a.1.0; goes = λ go more. rw (a.1.1, a.1.2) refl }
+  answer_goes (Report subject) ends a none = record { marked = a.1.0; goes = λ go more. rw (a.1.1, a.1.2) refl }
+  answer_goes Bad ends a none = record { marked = a.1.0; goes = λ go more. rw (a.1.1, a.1.2) refl }
+  answer_goes Quit ends a none = let e = a.0 in cc
+  answer_goes BadLength ends a none = let e = a.0 in cc
+
+  answer_ends : (command : Command) (ends : Option Ended) (e : Ended) → AnswersAndEnds m before after reply ends command → ends ≡ Some e → (go : State → List ℕ → Outcome) (rest : List ℕ) → after_answer go command (answer m false before command) rest ≡ record { replies = reply; state = after; ended = e }
+  answer_ends Quit ends e a some go rest = let same : ended.Quit ≡ e = cc (a.0, some) in rw (a.1, a.2, ← same) refl
+  answer_ends BadLength ends e a some go rest = let same : ended.BadLength ≡ e = cc (a.0, some) in rw (a.1, a.2, ← same) refl
+  answer_ends (Put name text) ends e a some go rest = let n = a.0 in cc
+  answer_ends (Delete name) ends e a some go rest = let n = a.0 in cc
+  answer_ends (Rename old new) ends e a some go rest = let n = a.0 in cc
+  answer_ends (Build unit) ends e a some go rest = let n = a.0 in cc
+  answer_ends (Run steps) ends e a some go rest = let n = a.0 in cc
+  answer_ends (Report subject) ends e a some go rest = let n = a.0 in cc
+  answer_ends Bad ends e a some go rest = let n = a.0 in cc
+
+-- one turn, whatever may follow
+pub record Turned (m : Meaning) (before after : State) (reply : List ℕ) (ends : Option Ended) (bytes : List ℕ) (last marked : Bool) : Type 0 where
+  pub goes : ends ≡ None → (at_end : Bool) (n : ℕ) (marks : List Bool) (more : List ℕ) → MayFollow last at_end more → session m at_end (suc n) before (marked ∷ marks) (bytes ++ more) ≡ prepend reply (session m at_end n after marks more)
+  pub stops : (e : Ended) → ends ≡ Some e → (at_end : Bool) (n : ℕ) (marks : List Bool) (more : List ℕ) → MayFollow last at_end more → session m at_end (suc n) before (marked ∷ marks) (bytes ++ more) ≡ record { replies = reply; state = after; ended = e }
+
+pub turned : (m : Meaning) (before after : State) (reply : List ℕ) (ends : Option Ended) (bytes : List ℕ) (last : Bool) (command : Command) → IsCommand bytes command last → AnswersAndEnds m before after reply ends command → (marked : Bool) × Turned m before after reply ends bytes last marked
+turned m before after reply None bytes last command is a =
+    let one = answer_goes m before after reply command None a refl in (
+      one.marked,
+      record {
+        goes = λ none at_end n marks more follows. session-suc m at_end n before one.marked marks (bytes ++ more) ∙ ap (turn m (λ fs rest. session m at_end n fs marks rest) before one.marked) (is.is_first at_end more follows) ∙ one.goes (λ fs rest. session m at_end n fs marks rest) more;
+        stops = λ e some. cc;
+      },
+    )
+turned m before after reply (Some e) bytes last command is a = (
+  false,
+  record {
+    goes = λ none. cc;
+    stops = λ f some at_end n marks more follows. session-suc m at_end n before false marks (bytes ++ more) ∙ ap (turn m (λ fs rest. session m at_end n fs marks rest) before false) (is.is_first at_end more follows) ∙ answer_ends m before after reply command (Some e) f a some (λ fs rest. session m at_end n fs marks rest) (left_by command more);
+  },
+)
+
+-- After so many turns, the session over what was taken and whatever comes is what was replied, and then the session over what comes.
+pub record Reached (m : Meaning) (start now : State) (taken done : List ℕ) (count : ℕ) : Type 0 where
+  pub marks : List Bool
+  pub step : (at_end : Bool) (n : ℕ) (later : List Bool) (more : List ℕ) → session m at_end (count + n) start (marks ++ later) (taken ++ more) ≡ prepend done (session m at_end n now later more)
+
+pub reached_start : (m : Meaning) (files : State) → Reached m files files [] [] 0
+reached_start m files = record { marks = []; step = λ at_end n later more. ap (λ k. session m at_end k files later more) (zero-add n) }
+
+pub reached_more : {m : Meaning} {start now next : State} {taken done : List ℕ} (bytes reply : List ℕ) {count : ℕ} (marked : Bool) → Reached m start now taken done count → ((at_end : Bool) (n : ℕ) (marks : List Bool) (more : List ℕ) → session m at_end (suc n) now (marked ∷ marks) (bytes ++ more) ≡ prepend reply (session m at_end n next marks more)) → Reached m start next (taken ++ bytes) (done ++ reply) (count + 1)
+reached_more {m} {start} {now} {next} {taken} {done} bytes reply {count} marked reached one = record {
+  marks = reached.marks ++ marked ∷ [];
+  step = λ at_end n later more.
+      let k : (count + 1) + n ≡ count + suc n = omega arith in
+      rw (k, append_assoc reached.marks (marked ∷ []) later, append_assoc taken bytes more)
+      (reached.step at_end (suc n) (marked ∷ later) (bytes ++ more)
+      ∙ ap (prepend done) (one at_end n later more)
+      ∙ prepend_twice done reply (session m at_end n next later more));
+}
+  where
+    prepend_twice : (xs ys : List ℕ) (o : Outcome) → prepend xs (prepend ys o) ≡ prepend (xs ++ ys) o
+    prepend_twice xs ys o = ap (λ r. record o { replies = r }) (sym (append_assoc xs ys o.replies))
+
+-- what a reader that tells its bytes has given and has left are all of them
+pub is_input : (old new : Option (List ℕ)) (bytes : List ℕ) → Consumes old new bytes → IsInput old (bytes ++ unwrap_or new [])
+is_input None new bytes h = tt
+is_input (Some xs) None bytes h = absurd h
+is_input (Some xs) (Some ys) bytes h = h
+
+pub none_left : (new : Option (List ℕ)) → IsAtEnd new → unwrap_or new [] ≡ []
+none_left None h = refl
+none_left (Some xs) h = h
+
+pub known-nil : (x : Option (List ℕ)) → prepend_known [] x ≡ x
+known-nil None = refl
+known-nil (Some xs) = refl

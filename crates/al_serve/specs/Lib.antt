@@ -1,0 +1,11 @@
+pub mod Lines
+pub mod LineSeen
+pub mod Library
+pub mod Ran
+pub mod Replies
+pub mod Session
+pub mod Outcomes
+pub mod ReplySeen
+pub mod Pieces
+pub mod Acting
+pub mod Serving

@@ -1,0 +1,15 @@
+//! From the bytes of commands to the bytes of replies, over any library that keeps the contract of `UnitLibrary`.
+#![tactic(auto)]
+
+mod act;
+mod answering;
+mod library;
+mod line;
+mod pieces;
+mod reply;
+mod reports;
+mod serving;
+mod subject;
+
+pub use library::{Built, Outcome, UnitLibrary};
+pub use serving::{Ended, MAX_COMMANDS, MAX_PULLS, serve, serve_within};

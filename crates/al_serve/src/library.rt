@@ -1,0 +1,83 @@
+// What a session needs of a library.
+ghost use Rattle.std.specs.Prelude.{◌≡◌, ℕ, ◌≤◌, List, Option, OnOk, OnErr, length, option_map};
+ghost use Rattle.al_base.specs.Files.{Texts, with_file, without_file, with_renamed, put_refusal, delete_refusal, rename_refusal, AnswersRefusal, AnswersFirst};
+ghost use Rattle.al_base.specs.Batch.{Batch, Run};
+ghost use Rattle.al_serve.specs.Library.{State, with_now, after_build, run_refusal, last_batch};
+ghost use Rattle.al_serve.specs.Outcomes.{built_seen};
+ghost use Rattle.al_serve.specs.Ran.{AnswersRun};
+
+use al_base::{Diagnostic, NoMemory, Ran, Refusal, UnitKey};
+
+/// What the last build gave.
+#[derive(Clone, Copy)]
+pub enum Outcome<'a> {
+    /// Diagnostics, by file, place and code.
+    Faulty(&'a [Diagnostic]),
+    /// No parameterless procedure of the library has the name of the main unit.
+    NoMain,
+    /// An elaboration order whose image would pass a limit.
+    TooLarge(&'a [UnitKey]),
+    /// An elaboration order, and the bytes of the image.
+    Made(&'a [UnitKey], &'a [u8]),
+}
+
+/// The last build.
+#[derive(Clone, Copy)]
+pub struct Built<'a> {
+    /// Its main unit, in lower case.
+    pub main: &'a [u8],
+    pub outcome: Outcome<'a>,
+}
+
+/// A library of compilation units that is edited, built and run.
+pub trait UnitLibrary {
+    /// What compiling files from an empty library gives for a main unit.
+    ghost batch: { Texts → List ℕ → Batch };
+
+    /// What the image of these files puts out for a main unit, with so many instructions between two ticks, in at
+    /// most so many events.
+    ghost run_of: { Texts → List ℕ → ℕ → ℕ → Run };
+
+    /// The files, and those of the last build.
+    ghost state: { Self → State };
+
+    /// The refusal that a put of so many bytes under the name would meet.
+    fn check_put(&self, name: &[u8], len: usize) -> Result<(), Refusal>
+        ensures { AnswersRefusal result (put_refusal (state self.now).now name.now len) };
+
+    /// Sets the text of a file, a new one too.
+    fn put(&mut self, name: &[u8], text: Vec<u8>) -> Result<(), Refusal>
+        ensures answer { AnswersFirst result (put_refusal (state self.old).now name.now (length text.items)) }
+        ensures ok { OnOk result (state self.new ≡ with_now (state self.old) (with_file (state self.old).now name.now text.items)) }
+        ensures err { OnErr result (state self.new ≡ state self.old) };
+
+    /// Takes a file away. It takes no memory.
+    fn delete(&mut self, name: &[u8]) -> Result<(), Refusal>
+        ensures answer { AnswersRefusal result (delete_refusal (state self.old).now name.now) }
+        ensures ok { OnOk result (state self.new ≡ with_now (state self.old) (without_file (state self.old).now name.now)) }
+        ensures err { OnErr result (state self.new ≡ state self.old) };
+
+    /// Gives a file another name, which no file has.
+    fn rename(&mut self, old: &[u8], new: &[u8]) -> Result<(), Refusal>
+        ensures answer { AnswersFirst result (rename_refusal (state self.old).now old.now new.now) }
+        ensures ok { OnOk result (state self.new ≡ with_now (state self.old) (with_renamed (state self.old).now old.now new.now)) }
+        ensures err { OnErr result (state self.new ≡ state self.old) };
+
+    /// Compiles the files, with this main unit in lower case. After a build that finds no memory the last build is as
+    /// it was.
+    fn build(&mut self, unit: &[u8]) -> Result<(), NoMemory>
+        ensures ok { OnOk result (state self.new ≡ after_build (state self.old) unit.now) }
+        ensures err { OnErr result (state self.new ≡ state self.old) };
+
+    /// The last build, if there was one. It takes no memory.
+    fn last(&self) -> Option<Built<'_>>
+        ensures { option_map built_seen result ≡ option_map (last_batch batch) (state self.now).built };
+
+    /// Runs the image of the last build from its start, for at most so many events, with a tick of the clock after
+    /// each `tick` instructions.
+    fn run(&self, tick: u32, steps: u64) -> Result<Ran, Refusal>
+        requires some { 1 ≤ tick }
+        requires few { tick ≤ 10000 }
+        requires steps { steps ≤ 1000000000 }
+        ensures { AnswersRun result batch run_of tick steps (state self.now).built };
+}

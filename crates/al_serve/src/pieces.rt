@@ -1,0 +1,162 @@
+// The lines of replies, which are written piece by piece and take no memory.
+ghost use Rattle.std.specs.Prelude.{◌≡◌, ℕ, ◌-◌, ◌^◌, ◌<◌, ◌++◌, List, Option, IsOk, map, length};
+ghost use Rattle.std.specs.List.{flat_map};
+ghost use Rattle.al_base.specs.Batch.{finding_of, key_of, run_of};
+ghost use Rattle.al_stream.specs.Output.{WritesReply};
+ghost use Rattle.al_serve.specs.Pieces.{Adds};
+ghost use Rattle.al_serve.specs.Replies.{refused, message_of, finding_line, kind_word, key_line, end_word, run_reply};
+
+use al_base::{Diagnostic, Ran, Refusal, RunEnd, UnitKey, UnitKind};
+use al_stream::{Device, Sink, emit, emit_number};
+
+/// Writes that a command is refused, with the number and the word of the refusal.
+pub fn emit_refusal<K: Sink>(
+    so_far: Result<(), Device>,
+    writer: &mut K,
+    refusal: Refusal,
+) -> Result<(), Device>
+    requires { IsOk so_far → K.faults writer.old < 2 ^ 64 - 1 }
+    ensures faults { IsOk result → IsOk so_far × (K.faults writer.new ≡ K.faults writer.old) }
+    ensures told { Adds so_far result (K.written writer.old) (K.written writer.new) (K.faults writer.old) (K.faults writer.new)
+        (refused refusal) }
+{
+    let so_far = emit(so_far, writer, b"refused ");
+    let so_far = emit_number(so_far, writer, usize::from(refusal.number()));
+    let so_far = emit(so_far, writer, b" ");
+    let so_far = emit(so_far, writer, refusal.word());
+    emit(so_far, writer, b"\n")
+}
+
+fn message_of(code: u16) -> &'static [u8]
+    ensures { result.now ≡ message_of code }
+{
+    match code {
+        1 => b"E001 illegal character",
+        2 => b"E002 bad identifier",
+        3 => b"E003 bad number",
+        4 => b"E004 number too large",
+        5 => b"E005 bad string",
+        6 => b"E006 identifier too long",
+        101 => b"E101 syntax",
+        201 => b"E201 file name",
+        207 => b"E207 reserved unit",
+        208 => b"E208 depends on faults",
+        308 => b"E308 end name",
+        401 => b"E401 not visible",
+        _ => b"E700 not yet",
+    }
+}
+
+// Writes FILE:LINE:COL: CODE TEXT.
+fn emit_finding<K: Sink>(
+    so_far: Result<(), Device>,
+    writer: &mut K,
+    diagnostic: &Diagnostic,
+) -> Result<(), Device>
+    requires { IsOk so_far → K.faults writer.old < 2 ^ 64 - 1 }
+    ensures faults { IsOk result → IsOk so_far × (K.faults writer.new ≡ K.faults writer.old) }
+    ensures told { Adds so_far result (K.written writer.old) (K.written writer.new) (K.faults writer.old) (K.faults writer.new)
+        (finding_line (finding_of diagnostic.now)) }
+{
+    let so_far = emit(so_far, writer, diagnostic.file.as_slice());
+    let so_far = emit(so_far, writer, b":");
+    let so_far = emit_number(so_far, writer, diagnostic.place.line);
+    let so_far = emit(so_far, writer, b":");
+    let so_far = emit_number(so_far, writer, diagnostic.place.col);
+    let so_far = emit(so_far, writer, b": ");
+    let so_far = emit(so_far, writer, message_of(diagnostic.code));
+    emit(so_far, writer, b"\n")
+}
+
+/// Writes a line for each diagnostic.
+pub fn emit_findings<K: Sink>(
+    mut so_far: Result<(), Device>,
+    writer: &mut K,
+    diagnostics: &[Diagnostic],
+) -> Result<(), Device>
+    requires { IsOk so_far → K.faults writer.old < 2 ^ 64 - 1 }
+    ensures faults { IsOk result → IsOk so_far × (K.faults writer.new ≡ K.faults writer.old) }
+    ensures told { Adds so_far result (K.written writer.old) (K.written writer.new) (K.faults writer.old) (K.faults writer.new)
+        (flat_map finding_line (map finding_of diagnostics.now)) }
+{
+    for diagnostic in diagnostics {
+        so_far = emit_finding(so_far, writer, diagnostic);
+    }
+    so_far
+}
+
+fn kind_word(kind: UnitKind) -> &'static [u8]
+    ensures { result.now ≡ kind_word kind }
+{
+    match kind {
+        UnitKind::Decl => b"decl",
+        UnitKind::Body => b"body",
+        UnitKind::Sub => b"sub",
+    }
+}
+
+// Writes UNIT KIND.
+fn emit_key<K: Sink>(
+    so_far: Result<(), Device>,
+    writer: &mut K,
+    key: &UnitKey,
+) -> Result<(), Device>
+    requires { IsOk so_far → K.faults writer.old < 2 ^ 64 - 1 }
+    ensures faults { IsOk result → IsOk so_far × (K.faults writer.new ≡ K.faults writer.old) }
+    ensures told { Adds so_far result (K.written writer.old) (K.written writer.new) (K.faults writer.old) (K.faults writer.new)
+        (key_line (key_of key.now)) }
+{
+    let so_far = emit(so_far, writer, key.name.as_slice());
+    let so_far = emit(so_far, writer, b" ");
+    let so_far = emit(so_far, writer, kind_word(key.kind));
+    emit(so_far, writer, b"\n")
+}
+
+/// Writes a line for each unit.
+pub fn emit_keys<K: Sink>(
+    mut so_far: Result<(), Device>,
+    writer: &mut K,
+    keys: &[UnitKey],
+) -> Result<(), Device>
+    requires { IsOk so_far → K.faults writer.old < 2 ^ 64 - 1 }
+    ensures faults { IsOk result → IsOk so_far × (K.faults writer.new ≡ K.faults writer.old) }
+    ensures told { Adds so_far result (K.written writer.old) (K.written writer.new) (K.faults writer.old) (K.faults writer.new)
+        (flat_map key_line (map key_of keys.now)) }
+{
+    for key in keys {
+        so_far = emit_key(so_far, writer, key);
+    }
+    so_far
+}
+
+fn end_word(end: RunEnd) -> &'static [u8]
+    ensures { result.now ≡ end_word end }
+{
+    match end {
+        RunEnd::Finished => b"finished",
+        RunEnd::Idle => b"idle",
+        RunEnd::Spent => b"spent",
+        RunEnd::Stuck => b"stuck",
+    }
+}
+
+/// Writes what a run put out, and how it ended.
+pub fn emit_ran<K: Sink>(
+    so_far: Result<(), Device>,
+    writer: &mut K,
+    ran: &Ran,
+) -> Result<(), Device>
+    requires { IsOk so_far → K.faults writer.old < 2 ^ 64 - 1 }
+    ensures faults { IsOk result → IsOk so_far × (K.faults writer.new ≡ K.faults writer.old) }
+    ensures told { Adds so_far result (K.written writer.old) (K.written writer.new) (K.faults writer.old) (K.faults writer.new)
+        (run_reply (run_of ran.now)) }
+{
+    let so_far = emit(so_far, writer, b"output ");
+    let output = ran.output.as_slice();
+    let so_far = emit_number(so_far, writer, output.len());
+    let so_far = emit(so_far, writer, b"\n");
+    let so_far = emit(so_far, writer, output);
+    let so_far = emit(so_far, writer, b"\nend ");
+    let so_far = emit(so_far, writer, end_word(ran.ended));
+    emit(so_far, writer, b"\n")
+}

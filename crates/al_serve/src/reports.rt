@@ -1,0 +1,224 @@
+// The replies to builds and reports, as the last build gives them.
+ghost use Rattle.std.specs.Prelude.{◌≡◌, ℕ, ◌-◌, ◌^◌, ◌<◌, ◌++◌, List, [], Option, IsOk, map, codes, length};
+ghost use Rattle.al_base.specs.Batch.{finding_of, key_of};
+ghost use Rattle.al_stream.specs.Output.{WritesReply};
+ghost use Rattle.al_serve.specs.Pieces.{Adds};
+ghost use Rattle.al_serve.specs.Outcomes.{outcome_seen};
+ghost use Rattle.al_serve.specs.ReplySeen.{reply_seen};
+ghost use Rattle.al_serve.specs.Replies.{listing, finding_line, key_line, build_reply, report_reply, order_reply, image_reply, report_of, build_reply_of, built_line, no_main_line, image_text};
+
+use crate::library::{Outcome, UnitLibrary};
+use crate::pieces::{emit_findings, emit_keys, emit_ran, emit_refusal};
+use crate::reply::Reply;
+use crate::subject::Subject;
+use al_base::{Diagnostic, Refusal, UnitKey};
+use al_stream::{Device, Sink, emit, emit_hex, emit_number};
+
+// A word and the number of diagnostics, and a line for each.
+fn emit_diagnostics<K: Sink>(
+    so_far: Result<(), Device>,
+    writer: &mut K,
+    word: &[u8],
+    diagnostics: &[Diagnostic],
+) -> Result<(), Device>
+    requires { IsOk so_far → K.faults writer.old < 2 ^ 64 - 1 }
+    ensures faults { IsOk result → IsOk so_far × (K.faults writer.new ≡ K.faults writer.old) }
+    ensures told { Adds so_far result (K.written writer.old) (K.written writer.new) (K.faults writer.old) (K.faults writer.new)
+        (listing word.now finding_line (map finding_of diagnostics.now)) }
+{
+    let so_far = emit(so_far, writer, word);
+    let so_far = emit_number(so_far, writer, diagnostics.len());
+    let so_far = emit(so_far, writer, b"\n");
+    emit_findings(so_far, writer, diagnostics)
+}
+
+// A word and the number of units, and a line for each.
+fn emit_order<K: Sink>(
+    so_far: Result<(), Device>,
+    writer: &mut K,
+    word: &[u8],
+    order: &[UnitKey],
+) -> Result<(), Device>
+    requires { IsOk so_far → K.faults writer.old < 2 ^ 64 - 1 }
+    ensures faults { IsOk result → IsOk so_far × (K.faults writer.new ≡ K.faults writer.old) }
+    ensures told { Adds so_far result (K.written writer.old) (K.written writer.new) (K.faults writer.old) (K.faults writer.new)
+        (listing word.now key_line (map key_of order.now)) }
+{
+    let so_far = emit(so_far, writer, word);
+    let so_far = emit_number(so_far, writer, order.len());
+    let so_far = emit(so_far, writer, b"\n");
+    emit_keys(so_far, writer, order)
+}
+
+fn emit_image<K: Sink>(
+    so_far: Result<(), Device>,
+    writer: &mut K,
+    image: &[u8],
+) -> Result<(), Device>
+    requires { IsOk so_far → K.faults writer.old < 2 ^ 64 - 1 }
+    ensures faults { IsOk result → IsOk so_far × (K.faults writer.new ≡ K.faults writer.old) }
+    ensures told { Adds so_far result (K.written writer.old) (K.written writer.new) (K.faults writer.old) (K.faults writer.new)
+        (image_text image.now) }
+{
+    let so_far = emit(so_far, writer, b"image ");
+    let so_far = emit_number(so_far, writer, image.len());
+    let so_far = emit(so_far, writer, b"\n");
+    emit_hex(so_far, writer, image)
+}
+
+fn emit_built<K: Sink>(
+    so_far: Result<(), Device>,
+    writer: &mut K,
+    items: usize,
+    bytes: usize,
+) -> Result<(), Device>
+    requires { IsOk so_far → K.faults writer.old < 2 ^ 64 - 1 }
+    ensures faults { IsOk result → IsOk so_far × (K.faults writer.new ≡ K.faults writer.old) }
+    ensures told { Adds so_far result (K.written writer.old) (K.written writer.new) (K.faults writer.old) (K.faults writer.new)
+        (built_line items bytes) }
+{
+    let so_far = emit(so_far, writer, b"built ");
+    let so_far = emit_number(so_far, writer, items);
+    let so_far = emit(so_far, writer, b" ");
+    let so_far = emit_number(so_far, writer, bytes);
+    emit(so_far, writer, b"\n")
+}
+
+fn emit_no_main<K: Sink>(
+    so_far: Result<(), Device>,
+    writer: &mut K,
+    main: &[u8],
+) -> Result<(), Device>
+    requires { IsOk so_far → K.faults writer.old < 2 ^ 64 - 1 }
+    ensures faults { IsOk result → IsOk so_far × (K.faults writer.new ≡ K.faults writer.old) }
+    ensures told { Adds so_far result (K.written writer.old) (K.written writer.new) (K.faults writer.old) (K.faults writer.new)
+        (no_main_line main.now) }
+{
+    let so_far = emit(so_far, writer, b"failed B1 main ");
+    let so_far = emit(so_far, writer, main);
+    emit(so_far, writer, b"\n")
+}
+
+// The reply to the build that gave this.
+fn emit_outcome<K: Sink>(
+    so_far: Result<(), Device>,
+    writer: &mut K,
+    main: &[u8],
+    outcome: &Outcome<'_>,
+) -> Result<(), Device>
+    requires { IsOk so_far → K.faults writer.old < 2 ^ 64 - 1 }
+    ensures faults { IsOk result → IsOk so_far × (K.faults writer.new ≡ K.faults writer.old) }
+    ensures told { Adds so_far result (K.written writer.old) (K.written writer.new) (K.faults writer.old) (K.faults writer.new)
+        (build_reply main.now (outcome_seen outcome.now)) }
+{
+    match outcome {
+        Outcome::Faulty(diagnostics) => emit_diagnostics(so_far, writer, b"failed ", diagnostics),
+        Outcome::NoMain => emit_no_main(so_far, writer, main),
+        Outcome::TooLarge(_) => emit(so_far, writer, b"failed L1 image too large\n"),
+        Outcome::Made(order, image) => emit_built(so_far, writer, order.len(), image.len()),
+    }
+}
+
+// The diagnostics of the build that gave this.
+fn report_diagnostics<K: Sink>(
+    so_far: Result<(), Device>,
+    writer: &mut K,
+    outcome: &Outcome<'_>,
+) -> Result<(), Device>
+    requires { IsOk so_far → K.faults writer.old < 2 ^ 64 - 1 }
+    ensures faults { IsOk result → IsOk so_far × (K.faults writer.new ≡ K.faults writer.old) }
+    ensures told { Adds so_far result (K.written writer.old) (K.written writer.new) (K.faults writer.old) (K.faults writer.new)
+        (report_reply Subject.Diagnostics (outcome_seen outcome.now)) }
+{
+    match outcome {
+        Outcome::Faulty(diagnostics) => {
+            emit_diagnostics(so_far, writer, b"diagnostics ", diagnostics)
+        }
+        Outcome::NoMain => emit_diagnostics(so_far, writer, b"diagnostics ", &[]),
+        Outcome::TooLarge(_) => emit_diagnostics(so_far, writer, b"diagnostics ", &[]),
+        Outcome::Made(_, _) => emit_diagnostics(so_far, writer, b"diagnostics ", &[]),
+    }
+}
+
+// The order of the build that gave this.
+fn report_order<K: Sink>(
+    so_far: Result<(), Device>,
+    writer: &mut K,
+    outcome: &Outcome<'_>,
+) -> Result<(), Device>
+    requires { IsOk so_far → K.faults writer.old < 2 ^ 64 - 1 }
+    ensures faults { IsOk result → IsOk so_far × (K.faults writer.new ≡ K.faults writer.old) }
+    ensures told { Adds so_far result (K.written writer.old) (K.written writer.new) (K.faults writer.old) (K.faults writer.new)
+        (order_reply (outcome_seen outcome.now)) }
+{
+    match outcome {
+        Outcome::Faulty(_) => emit_refusal(so_far, writer, Refusal::NoImage),
+        Outcome::NoMain => emit_refusal(so_far, writer, Refusal::NoImage),
+        Outcome::TooLarge(order) => emit_order(so_far, writer, b"order ", order),
+        Outcome::Made(order, _) => emit_order(so_far, writer, b"order ", order),
+    }
+}
+
+// The image of the build that gave this.
+fn report_image<K: Sink>(
+    so_far: Result<(), Device>,
+    writer: &mut K,
+    outcome: &Outcome<'_>,
+) -> Result<(), Device>
+    requires { IsOk so_far → K.faults writer.old < 2 ^ 64 - 1 }
+    ensures faults { IsOk result → IsOk so_far × (K.faults writer.new ≡ K.faults writer.old) }
+    ensures told { Adds so_far result (K.written writer.old) (K.written writer.new) (K.faults writer.old) (K.faults writer.new)
+        (image_reply (outcome_seen outcome.now)) }
+{
+    match outcome {
+        Outcome::Faulty(_) => emit_refusal(so_far, writer, Refusal::NoImage),
+        Outcome::NoMain => emit_refusal(so_far, writer, Refusal::NoImage),
+        Outcome::TooLarge(_) => emit_refusal(so_far, writer, Refusal::NoImage),
+        Outcome::Made(_, image) => emit_image(so_far, writer, image),
+    }
+}
+
+// A report of the build that gave this.
+fn emit_report<K: Sink>(
+    so_far: Result<(), Device>,
+    writer: &mut K,
+    subject: Subject,
+    outcome: &Outcome<'_>,
+) -> Result<(), Device>
+    requires { IsOk so_far → K.faults writer.old < 2 ^ 64 - 1 }
+    ensures faults { IsOk result → IsOk so_far × (K.faults writer.new ≡ K.faults writer.old) }
+    ensures told { Adds so_far result (K.written writer.old) (K.written writer.new) (K.faults writer.old) (K.faults writer.new)
+        (report_reply subject (outcome_seen outcome.now)) }
+{
+    match subject {
+        Subject::Diagnostics => report_diagnostics(so_far, writer, outcome),
+        Subject::Order => report_order(so_far, writer, outcome),
+        Subject::Image => report_image(so_far, writer, outcome),
+    }
+}
+
+/// Writes a reply. What it tells of the library is written as the library holds it.
+pub fn write_reply<K: Sink, L: UnitLibrary>(
+    writer: &mut K,
+    library: &L,
+    reply: &Reply,
+) -> Result<(), Device>
+    requires { K.faults writer.old < 2 ^ 64 - 1 }
+    ensures { WritesReply (K.written writer.old) (K.written writer.new) (K.faults writer.old) (K.faults writer.new)
+        (reply_seen L.batch (L.state library.now) reply.now) result }
+{
+    match reply {
+        Reply::Nothing => Ok(()),
+        Reply::Done => emit(Ok(()), writer, b"ok\n"),
+        Reply::Refused(refusal) => emit_refusal(Ok(()), writer, *refusal),
+        Reply::LastBuild => match library.last() {
+            None => Ok(()),
+            Some(last) => emit_outcome(Ok(()), writer, last.main, &last.outcome),
+        },
+        Reply::Report(subject) => match library.last() {
+            None => emit_refusal(Ok(()), writer, Refusal::NotBuilt),
+            Some(last) => emit_report(Ok(()), writer, *subject, &last.outcome),
+        },
+        Reply::Ran(ran) => emit_ran(Ok(()), writer, ran),
+    }
+}
