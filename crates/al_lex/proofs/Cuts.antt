@@ -7,8 +7,8 @@ use Rattle.al_lex.specs.declared.token.Sort.{Sort}
 use Rattle.al_lex.specs.declared.token.Sort.TheVariants.{Gap, LineEnd, Lexeme}
 use Rattle.al_lex.specs.declared.token.LexCode.{LexCode}
 use Rattle.al_lex.specs.Pieces.{front_piece}
-use Rattle.al_lex.specs.Lexing.{Pieces, behind, with_token, with_piece, cut_from, cut, lexed, tokens_of, ending_place, end_place_of, mark_len, first_place}
-use Rattle.al_lex.specs.Lexing.Ending.{Whole, Broken}
+use Rattle.al_lex.specs.Tokens.{Pieces, behind, with_token, with_piece, cut_from, cut, lexed, tokens_of, ending_place, end_place_of, mark_len, first_place}
+use Rattle.al_lex.specs.Tokens.Ending.{Whole, Broken}
 
 -- tokens in front of those of the rest
 abbrev pub preceded : List Token → Pieces → Pieces
@@ -28,7 +28,7 @@ pass (suc k) at p b bs l =
     ap (λ (n : ℕ). cut_from n (at + 1) p bs) (let e : suc k - 1 ≡ k = omega arith in e)
     ∙ passed k (at + 1) p bs ∙ ap (λ (n : ℕ). cut_from 0 n p (drop k bs)) (omega arith)
 
-in_front : (s : Sort) (at n : ℕ) (p : Place) (c d : Pieces) → c ≡ d → record { tokens = with_token s at n p c.tokens; ending = c.ending } ≡ preceded (with_token s at n p []) d
+pub in_front : (s : Sort) (at n : ℕ) (p : Place) (c d : Pieces) → c ≡ d → record { tokens = with_token s at n p c.tokens; ending = c.ending } ≡ preceded (with_token s at n p []) d
 in_front Gap at n p c d e = e
 in_front LineEnd at n p c d e = e
 in_front (Lexeme k) at n p c d e = ap (preceded (with_token (Lexeme k) at n p [])) e

@@ -1,6 +1,5 @@
 -- Kinds of bytes.
 use Rattle.std.specs.Prelude.{ℕ, ◌==◌, Bool, not, ◌&&◌, ◌||◌, nat_le}
-use Rattle.std.specs.Char.{is_ascii_alphabetic, is_ascii_digit}
 
 -- LF, VT, FF and CR each end a line (ARM 2.2(2))
 abbrev pub is_line_end : ℕ → Bool
@@ -16,7 +15,3 @@ is_blank b = b == 32 || b == 9
 -- what may stand in a string
 abbrev pub is_printable : ℕ → Bool
 is_printable b = nat_le 32 b && nat_le b 126
-
--- a letter, a digit or an underscore
-abbrev pub is_word_byte : ℕ → Bool
-is_word_byte b = is_ascii_alphabetic b || (is_ascii_digit b || b == 95)

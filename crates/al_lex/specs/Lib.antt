@@ -3,5 +3,7 @@ pub mod Codes
 pub mod Delimiters
 pub mod Words
 pub mod Strings
+pub mod Numbers
 pub mod Pieces
-pub mod Lexing
+pub mod Tokens
+pub mod Laws

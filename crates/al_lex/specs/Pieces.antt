@@ -1,7 +1,7 @@
 -- The longest piece at the front of a text.
 use Rattle.std.specs.Prelude.{ℕ, ◌==◌, ◌&&◌, List, [], ◌∷◌, drop, Option, Some, None, Result, Ok, Err, if◌then◌else◌, slice_index}
 use Rattle.std.specs.List.{prefix_len}
-use Rattle.std.specs.Char.{is_ascii_alphabetic}
+use Rattle.std.specs.Char.{is_ascii_alphabetic, is_ascii_digit}
 use Rattle.al_lex.specs.declared.token.Kind.TheVariants.{Delimiter}
 use Rattle.al_lex.specs.declared.delimiter.Delimiter.{Delimiter as Delim}
 use Rattle.al_lex.specs.declared.token.Sort.{Sort}
@@ -12,6 +12,7 @@ use Rattle.al_lex.specs.declared.token.Piece.{Piece}
 use Rattle.al_lex.specs.Bytes.{is_line_end, is_inside_line, is_blank}
 use Rattle.al_lex.specs.Delimiters.{double, single}
 use Rattle.al_lex.specs.Words.{word}
+use Rattle.al_lex.specs.Numbers.{number}
 use Rattle.al_lex.specs.Strings.{body_len, string_piece}
 
 abbrev pub piece : Sort → ℕ → Result Piece LexCode
@@ -43,4 +44,5 @@ front_piece bs =
     else (if b == 45 && c == 45 then piece Gap (prefix_len is_inside_line bs)
     else (if is_ascii_alphabetic b then word bs
     else (if b == 34 then string_piece (body_len (drop 1 bs))
-    else delimiter bs)))))
+    else (if is_ascii_digit b then number bs
+    else delimiter bs))))))

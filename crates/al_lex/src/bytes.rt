@@ -1,6 +1,6 @@
 // Kinds of bytes.
 ghost use Rattle.std.specs.Prelude.{◌≡◌};
-ghost use Rattle.al_lex.specs.Bytes.{is_line_end, is_blank, is_printable, is_word_byte};
+ghost use Rattle.al_lex.specs.Bytes.{is_line_end, is_blank, is_printable};
 
 pub(crate) fn is_line_end(b: u8) -> bool
     ensures { result ≡ is_line_end b }
@@ -18,10 +18,4 @@ pub(crate) fn is_printable(b: u8) -> bool
     ensures { result ≡ is_printable b }
 {
     (32..=126).contains(&b)
-}
-
-pub(crate) fn is_word_byte(b: u8) -> bool
-    ensures { result ≡ is_word_byte b }
-{
-    b.is_ascii_alphabetic() || b.is_ascii_digit() || b == b'_'
 }

@@ -1,6 +1,6 @@
 // The tokens of a text.
 ghost use Rattle.std.specs.Prelude.{◌≡◌, ◌≤◌, ◌<◌, ◌+◌, ◌^◌, ◌++◌, [], length, Ok, IfOk, IfErr, OnOk};
-ghost use Rattle.al_lex.specs.Lexing.{FaultOf, behind, end_place_of, lexed, mark_len, with_token};
+ghost use Rattle.al_lex.specs.Tokens.{FaultOf, behind, end_place_of, lexed, mark_len, with_token};
 
 use crate::pieces::front_piece;
 use crate::token::{LexError, LexFault, Piece, Sort, Token};

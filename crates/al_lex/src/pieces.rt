@@ -7,6 +7,7 @@ ghost use Rattle.al_lex.specs.Delimiters.{single};
 
 use crate::bytes::{is_blank, is_line_end};
 use crate::delimiter::{double, single};
+use crate::numbers::number;
 use crate::strings::body_len;
 use crate::token::{Kind, LexCode, Piece, Sort};
 use crate::words::word;
@@ -83,6 +84,7 @@ pub(crate) fn front_piece(bytes: &[u8]) -> Result<Piece, LexCode>
                 len: 1 + len,
             }),
         },
+        [b, ..] if b.is_ascii_digit() => number(bytes),
         _ => delimiter(bytes),
     }
 }

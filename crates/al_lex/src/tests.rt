@@ -1,6 +1,6 @@
 // Worked values.
-use crate::{Delimiter, Kind, LexCode, LexError, LexFault, Token, end_place, lex};
-use al_base::{Place, Span};
+use crate::{Delimiter, Kind, LexCode, LexError, LexFault, Token, end_place, lex, number_value};
+use al_base::{Place, ReservedWord, Span};
 use std::process::Abort;
 use std::test::Fail;
 
@@ -79,6 +79,13 @@ fn faults_have_places(rt: HostRuntime) {
         LexCode::IllegalCharacter,
     );
     expect_fault(&rt, lex(rt.alloc(), b"a__b"), 1, 1, LexCode::BadIdentifier);
+    expect_fault(
+        &rt,
+        lex(rt.alloc(), b"1\xE9"),
+        1,
+        2,
+        LexCode::IllegalCharacter,
+    );
 }
 
 #[test]
@@ -89,4 +96,69 @@ fn texts_end_behind_their_last_byte(rt: HostRuntime) {
     );
     assert_eq!(rt; end_place(b"\xEF\xBB\xBF"), Place { line: 1, col: 1 });
     assert_eq!(rt; LexCode::IdentifierTooLong.number(), 6);
+}
+
+#[test]
+fn words_are_reserved_in_any_case(rt: HostRuntime) -> Result<(), Fail> {
+    let tokens = lex(rt.alloc(), b"BEGIN 1.E5")?;
+    assert_eq!(rt; tokens.len(), 4);
+    assert_eq!(rt; tokens[0].kind, Kind::Reserved(ReservedWord::Begin));
+    assert_eq!(rt; tokens[1].kind, Kind::Number);
+    assert_eq!(rt; tokens[2].kind, Kind::Delimiter(Delimiter::Dot));
+    assert_eq!(rt; tokens[3].kind, Kind::Identifier);
+    Ok(())
+}
+
+#[test]
+fn numbers_have_values(rt: HostRuntime) {
+    assert_eq!(rt; number_value(b"1e3"), Some(1000));
+    assert_eq!(rt; number_value(b"16#ff#e1"), Some(4080));
+    assert_eq!(rt; number_value(b"0_2#1#"), Some(1));
+    assert_eq!(rt; number_value(b"00000000000000000000016#F#"), Some(15));
+    assert_eq!(rt; number_value(b"1E0_1"), Some(10));
+    assert_eq!(rt; number_value(b"1E000000000000000000000001"), Some(10));
+    assert_eq!(rt; number_value(b"0E99999999999999999999"), Some(0));
+    assert_eq!(rt;
+        number_value(b"9_223_372_036_854_775_807"),
+        Some(9_223_372_036_854_775_807)
+    );
+    assert_eq!(rt; number_value(b"1E+2"), Some(100));
+}
+
+#[test]
+fn numbers_are_malformed_before_they_are_too_large(rt: HostRuntime) {
+    expect_fault(
+        &rt,
+        lex(rt.alloc(), b" 9223372036854775808"),
+        1,
+        2,
+        LexCode::NumberTooLarge,
+    );
+    expect_fault(
+        &rt,
+        lex(rt.alloc(), b"2#1#E63"),
+        1,
+        1,
+        LexCode::NumberTooLarge,
+    );
+    expect_fault(
+        &rt,
+        lex(rt.alloc(), b"30#FFFFFFFFFFFFFFFFFFFFFFFF#"),
+        1,
+        1,
+        LexCode::BadNumber,
+    );
+    expect_fault(
+        &rt,
+        lex(rt.alloc(), b"99999999999999999999x"),
+        1,
+        1,
+        LexCode::BadNumber,
+    );
+    expect_fault(&rt, lex(rt.alloc(), b"16#F#.5"), 1, 1, LexCode::BadNumber);
+    expect_fault(&rt, lex(rt.alloc(), b"1E5.5"), 1, 1, LexCode::BadNumber);
+    expect_fault(&rt, lex(rt.alloc(), b"1__0"), 1, 1, LexCode::BadNumber);
+    expect_fault(&rt, lex(rt.alloc(), b"1E"), 1, 1, LexCode::BadNumber);
+    expect_fault(&rt, lex(rt.alloc(), b"16#FF"), 1, 1, LexCode::BadNumber);
+    expect_fault(&rt, lex(rt.alloc(), b"2#12#"), 1, 1, LexCode::BadNumber);
 }

@@ -4,13 +4,16 @@ ghost use Rattle.al_lex.specs.declared.token.LexError.TheVariants.{NoMemory};
 ghost use Rattle.al_lex.specs.Codes.{number_of};
 
 use crate::delimiter::Delimiter;
-use al_base::{Place, Span};
+use al_base::{Place, ReservedWord, Span};
 use std::alloc::{AllocError, AllocFailed};
 
 /// What a lexeme is.
 #[derive(Clone, Copy, Debug, PartialEq, Eq)]
 pub enum Kind {
     Identifier,
+    Reserved(ReservedWord),
+    /// A number; `number_value` gives its value.
+    Number,
     /// A string with its quotes.
     Str,
     Delimiter(Delimiter),

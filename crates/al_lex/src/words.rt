@@ -2,14 +2,11 @@
 ghost use Rattle.std.specs.Prelude.{◌≡◌, ◌≤◌, ◌<◌, IfOk, length, slice_index, true};
 ghost use Rattle.std.specs.Char.{is_ascii_alphabetic};
 ghost use Rattle.std.specs.List.{prefix_len};
-ghost use Rattle.al_lex.specs.Bytes.{is_word_byte};
-ghost use Rattle.al_lex.specs.Words.{has_bad_underscore, word};
+ghost use Rattle.al_base.specs.Identifiers.{is_word_byte};
+ghost use Rattle.al_lex.specs.Words.{word, word_kind};
 
-use crate::bytes::is_word_byte;
 use crate::token::{Kind, LexCode, Piece, Sort};
-
-/// The most bytes that a word may have.
-const LONGEST_WORD: usize = 200;
+use al_base::{MAX_IDENTIFIER, has_bad_underscore, is_word_byte, reserved_word};
 
 fn word_len(bytes: &[u8]) -> usize
     ensures exact { result ≡ prefix_len is_word_byte bytes.now }
@@ -18,13 +15,12 @@ fn word_len(bytes: &[u8]) -> usize
     bytes.iter().take_while(|b| is_word_byte(**b)).count()
 }
 
-fn has_bad_underscore(word: &[u8]) -> bool
-    ensures { result ≡ has_bad_underscore word.now }
+fn word_kind(word: &[u8]) -> Kind
+    ensures { result ≡ word_kind word.now }
 {
-    match word {
-        [] => false,
-        [b] => *b == b'_',
-        [b, c, ..] => (*b == b'_' && *c == b'_') || has_bad_underscore(&word[1..]),
+    match reserved_word(word) {
+        Some(reserved) => Kind::Reserved(reserved),
+        None => Kind::Identifier,
     }
 }
 
@@ -41,11 +37,11 @@ pub(crate) fn word(bytes: &[u8]) -> Result<Piece, LexCode>
     if has_bad_underscore(text) {
         return Err(LexCode::BadIdentifier);
     }
-    if len > LONGEST_WORD {
+    if len > MAX_IDENTIFIER {
         return Err(LexCode::IdentifierTooLong);
     }
     Ok(Piece {
-        sort: Sort::Lexeme(Kind::Identifier),
+        sort: Sort::Lexeme(word_kind(text)),
         len,
     })
 }

@@ -1,7 +1,7 @@
 use Rattle.std.proofs.Common.{ℕ, ◌≡◌, ◌+◌, ◌-◌, ◌<◌, ◌++◌, [], List, length, drop, refl, sym, ap, subst, ◌∙◌, arith, eqb-true}
 use Rattle.std.proofs.lemmas.Bool.{eqb-false}
 use Rattle.al_base.specs.declared.place.Place.{Place}
-use Rattle.al_lex.specs.Lexing.{behind, with_token, first_place, mark_len}
+use Rattle.al_lex.specs.Tokens.{behind, with_token, first_place, mark_len}
 use Rattle.al_lex.proofs.Cuts.{Completes, starts, goes_on, is_over, is_fault, end_place_lem, IsNear, moved}
 use Rattle.al_lex.proofs.lexing.end_place.Goals as goal
 

@@ -2,7 +2,7 @@ use Rattle.std.proofs.Common.{ℕ, ◌≡◌, ◌+◌, ◌<◌, [], List, length
 use Rattle.std.proofs.lemmas.Bool.{eqb-false}
 use Rattle.al_base.specs.declared.place.Place.{Place}
 use Rattle.al_lex.specs.declared.token.Token.{Token}
-use Rattle.al_lex.specs.Lexing.{behind, first_place, mark_len}
+use Rattle.al_lex.specs.Tokens.{behind, first_place, mark_len}
 use Rattle.al_lex.proofs.Cuts.{Completes, starts, goes_on, is_over, is_fault, lexed_of, IsNear, moved}
 use Rattle.al_lex.proofs.lexing.lex.Goals as goal
 
