@@ -47,6 +47,7 @@ impl Name {
     pub fn into_vec(self) -> Vec<u8>
         ensures { result.items ≡ self }
     {
-        self.bytes
+        let Name { bytes } = self;
+        bytes
     }
 }
