@@ -1,9 +1,12 @@
 // The words that are no identifiers.
 ghost use Rattle.std.specs.Prelude.{◌≡◌, ◌≢◌, map, IfSome, IfNone};
 ghost use Rattle.std.specs.Char.{to_ascii_lowercase};
-ghost use Rattle.std.specs.Str.{bytes_eq};
+ghost use Rattle.std.specs.Ordering.{nat_cmp};
+ghost use Rattle.std.specs.Cmp.Lexicographic.{slice_cmp};
 ghost use Rattle.al_base.specs.ReservedWords.{spelling, reserved_words, reserved_at};
 ghost use Rattle.al_base.specs.declared.reserved.ReservedWord.{ReservedWord};
+
+use std::cmp::Ordering;
 
 /// The reserved words (ARM 2.9), by the alphabet.
 #[derive(Clone, Copy, Debug, PartialEq, Eq, PartialOrd, Ord)]
@@ -241,12 +244,6 @@ impl ReservedWord {
             ReservedWord::Xor => b"xor",
         }
     }
-
-    fn is_spelled(self, word: &[u8]) -> bool
-        ensures { result ≡ bytes_eq (spelling self) (map to_ascii_lowercase word.now) }
-    {
-        self.spelling().eq_ignore_ascii_case(word)
-    }
 }
 
 #[tactic(auto, unfolding(crate::specs::ReservedWords::reserved_words))]
@@ -263,8 +260,17 @@ pub fn reserved_word(word: &[u8]) -> Option<ReservedWord>
     ensures found { IfSome result (λ w. spelling w ≡ map to_ascii_lowercase word.now) }
     ensures none { IfNone result ((w : ReservedWord) → spelling w ≢ map to_ascii_lowercase word.now) }
 {
-    reserved_words()
-        .iter()
-        .find(|w| w.is_spelled(word))
-        .copied()
+    let words = reserved_words();
+    match words.binary_search_by(|w| cmp_lowercase(w.spelling(), word)) {
+        Ok(i) => Some(words[i]),
+        Err(_) => None,
+    }
+}
+
+/// Compares a spelling with the word in lower case, by bytes.
+fn cmp_lowercase(spelling: &[u8], word: &[u8]) -> Ordering
+    ensures { result ≡ slice_cmp nat_cmp spelling.now (map to_ascii_lowercase word.now) }
+{
+    let lowercase = word.iter().map(|b| b.to_ascii_lowercase());
+    spelling.iter().copied().cmp(lowercase)
 }

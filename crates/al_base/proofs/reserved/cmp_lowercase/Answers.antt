@@ -1,0 +1,10 @@
+use Rattle.std.proofs.Common.{◌≡◌, refl, rules, tests}
+use Rattle.std.specs.Ordering.{nat_cmp}
+use Rattle.std.specs.Char.{to_ascii_lowercase}
+use Rattle.std.proofs.lemmas.Iterator.{YieldsList-from_slice, YieldsList-from_map}
+use Rattle.std.proofs.lemmas.Iterator.Consumers.{YieldsList-from_copied}
+use Rattle.std.proofs.lemmas.Iterator.Search.{cmp_from_yields_List}
+use Rattle.al_base.proofs.reserved.cmp_lowercase.Goals as goal
+
+pub returns : goal.returns
+returns c = cmp_from_yields_List (λ x y. y ≡ x) _ nat_cmp _ c.cmp.ensures.ran (YieldsList-from_copied (YieldsList-from_slice c.args.spelling.now cc)) (λ it e. rw e (YieldsList-from_map _ to_ascii_lowercase (YieldsList-from_slice c.args.word.now cc) c.map-lowercase.ensures.closure (λ x r q k. search (rules, tests)))) (λ x y. refl)
