@@ -1,3 +1,4 @@
 pub mod CodeLemmas
 pub mod ProgramLemmas
 pub mod RunLemmas
+pub mod LawLemmas

@@ -4,3 +4,4 @@ pub mod Machine
 pub mod Runs
 pub mod Effects
 pub mod Limits
+pub mod Laws

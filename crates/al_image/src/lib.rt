@@ -4,6 +4,7 @@
 mod code;
 mod image;
 mod instruction;
+mod laws;
 mod linking;
 mod running;
 mod text;
@@ -11,7 +12,11 @@ mod world;
 
 pub use image::{Image, ImageObject};
 pub use instruction::{Instruction, MAX_CODE, code_len};
+pub use laws::{finds_what_stands, stays_ended, ticks_in_rounds};
 pub use linking::{ProgramError, program};
 pub use running::run;
 pub use text::Text;
 pub use world::{Event, Status, World};
+
+#[cfg(test)]
+mod tests;
