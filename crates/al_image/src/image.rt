@@ -2,10 +2,11 @@
 ghost use Rattle.std.specs.Prelude.{◌≡◌, ◌<◌, ◌≤◌, ◌++◌, length, IfOk, OnOk, All};
 ghost use Rattle.std.specs.List.{flat_map};
 ghost use Rattle.al_image.specs.Instructions.{code_size};
-ghost use Rattle.al_image.specs.Images.{IsWithinLimits, kind_number, object_bytes, image_bytes};
+ghost use Rattle.al_image.specs.Images.{IsWithinLimits, kind_number, version_bytes, object_bytes, image_bytes};
 
 use crate::instruction::{Instruction, push_byte, push_bytes, push_code, push_word};
 use al_base::{Name, NoMemory, UnitKind};
+use byteorder::{BigEndian, ByteOrder};
 use std::alloc::Global;
 use std::marker::Model;
 
@@ -74,7 +75,7 @@ impl Image {
     {
         let mut out = Vec::new(alloc);
         push_bytes(&mut out, b"ADLI")?;
-        push_bytes(&mut out, &1u16.to_be_bytes())?;
+        push_version(&mut out, 1)?;
         push_word(&mut out, 0)?;
         push_word(&mut out, 0)?;
         push_word(&mut out, 0)?;
@@ -84,6 +85,15 @@ impl Image {
         push_code(&mut out, &self.code)?;
         Ok(out)
     }
+}
+
+// Appends a version in two bytes.
+fn push_version(out: &mut Vec<u8>, version: u16) -> Result<(), NoMemory>
+    ensures { OnOk result (out.new.items ≡ out.old.items ++ version_bytes version) }
+{
+    let mut bytes = [0; 2];
+    BigEndian::write_u16(&mut bytes, version);
+    push_bytes(out, &bytes)
 }
 
 fn push_objects(out: &mut Vec<u8>, objects: &[ImageObject]) -> Result<(), NoMemory>

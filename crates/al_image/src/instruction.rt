@@ -5,6 +5,7 @@ ghost use Rattle.al_image.specs.Instructions.{word_bytes, encoded, size_of, code
 
 use crate::text::Text;
 use al_base::NoMemory;
+use byteorder::{BigEndian, ByteOrder};
 
 /// The most bytes that an image's code has.
 pub const MAX_CODE: usize = 16_777_216;
@@ -97,8 +98,9 @@ pub(crate) fn push_bytes(out: &mut Vec<u8>, bytes: &[u8]) -> Result<(), NoMemory
 pub(crate) fn push_word(out: &mut Vec<u8>, number: u32) -> Result<(), NoMemory>
     ensures { OnOk result (out.new.items ≡ out.old.items ++ word_bytes number) }
 {
-    out.extend_from_slice(&number.to_be_bytes())?;
-    Ok(())
+    let mut bytes = [0; 4];
+    BigEndian::write_u32(&mut bytes, number);
+    push_bytes(out, &bytes)
 }
 
 /// How many bytes the code takes, where an image may have so many.
