@@ -1,5 +1,5 @@
 // Laws of the definitions, each a function that does nothing and whose contract is the law.
-ghost use Rattle.al_image.specs.Laws.{FindsWhatStands, TicksInRounds, TakesAllEvents, StaysEnded};
+ghost use Rattle.al_image.specs.Laws.{FindsWhatStands, TicksInRounds, TakesAllEvents, StaysEnded, PutsItsText};
 
 /// An instruction is found at a place exactly where the instructions in front of it take so many bytes.
 pub fn finds_what_stands()
@@ -18,4 +18,10 @@ pub fn ticks_in_rounds()
 #[tactic(auto, using(crate::proofs::LawLemmas::stays_ended))]
 pub fn stays_ended()
     ensures { StaysEnded }
+{}
+
+/// A main procedure whose statements only put text puts out just that, and finishes, in a run of steps enough.
+#[tactic(auto, using(crate::proofs::TextLemmas::puts_its_text))]
+pub fn puts_its_text()
+    ensures { PutsItsText }
 {}

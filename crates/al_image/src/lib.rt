@@ -12,7 +12,7 @@ mod world;
 
 pub use image::{Image, ImageObject};
 pub use instruction::{Instruction, MAX_CODE, code_len};
-pub use laws::{finds_what_stands, stays_ended, ticks_in_rounds};
+pub use laws::{finds_what_stands, puts_its_text, stays_ended, ticks_in_rounds};
 pub use linking::{ProgramError, program};
 pub use running::run;
 pub use text::Text;

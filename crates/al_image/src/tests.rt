@@ -1,4 +1,7 @@
-use crate::{Event, Image, Instruction, ProgramError, Status, Text, World, program, run};
+use crate::{
+    Event, Image, Instruction, ProgramError, Status, Text, World, finds_what_stands, program,
+    puts_its_text, run, stays_ended, ticks_in_rounds,
+};
 use al_base::RunEnd;
 use std::alloc::Global;
 use std::test::Fail;
@@ -67,6 +70,10 @@ fn events_one_by_one(rt: HostRuntime) -> Result<(), Fail> {
     assert_eq!(rt; world.status(), Status::Finished);
     world.step(Event::Tick)?;
     assert_eq!(rt; world.clock(), 1);
+    finds_what_stands();
+    ticks_in_rounds();
+    stays_ended();
+    puts_its_text();
     assert_eq!(rt; world.output(), b"hi\n".as_slice());
     Ok(())
 }
