@@ -1,10 +1,9 @@
 -- The files are a finite map: what each change does to the text under a name.
-use Rattle.std.proofs.Common.{◌≡◌, ◌≢◌, ℕ, Bool, true, false, cond, List, [], ◌∷◌, Option, Some, None, is_some, refl, sym, ap, ◌∙◌, map}
-use Rattle.std.specs.Ordering.{nat_cmp, is_eq, ordering_reverse}
+use Rattle.std.proofs.Common.{◌≡◌, ◌≢◌, ℕ, Bool, true, false, List, [], ◌∷◌, Option, Some, None, refl, sym, ap, ◌∙◌}
+use Rattle.std.specs.Ordering.{is_eq, ordering_reverse}
 use Rattle.std.specs.declared.cmp.Ordering.{Ordering}
 use Rattle.std.specs.declared.cmp.Ordering.TheVariants.{Less, Equal, Greater}
-use Rattle.std.specs.Cmp.{tied_itself, alike_right}
-use Rattle.std.specs.Cmp.Lexicographic.{slice_cmp, nat_list_cmp_total}
+use Rattle.std.specs.Cmp.Lexicographic.{nat_list_cmp_total}
 use Rattle.std.specs.List.{AllByRecursion}
 use Rattle.std.specs.List.Sorted.{IsStrictlySortedBy}
 use Rattle.std.specs.Map.{keys_of}
@@ -12,8 +11,8 @@ use Rattle.std.proofs.lemmas.Map.Keys.{sorted_head, sorted_tail}
 use Rattle.std.proofs.lemmas.Map.Text.{is_eq-slice_cmp}
 use Rattle.std.proofs.lemmas.Slice.Eq.{bytes_eq-Decides}
 use Rattle.std.specs.Str.{bytes_eq}
-use Rattle.al_base.specs.Files.{Texts, name_cmp, text_of, with_file, without_file, with_text, with_renamed, rename_refusal}
-use Rattle.al_base.specs.FileLaws.{Ascend, Changes, Moves, PutChangesOne, DeleteChangesOne, RenameMovesOne}
+use Rattle.al_base.specs.Files.{Texts, name_cmp, text_of, with_file, without_file, with_text}
+use Rattle.al_base.specs.FileLaws.{Ascend, Moves, PutChangesOne, DeleteChangesOne, RenameMovesOne}
 use Rattle.al_base.proofs.Renames.{text_of-with_file, text_of-with_file_other, text_of-without_file_other, all_above, MayRename, may_rename}
 
 -- two names that differ don't tie

@@ -23,6 +23,7 @@ fn files_are_kept_by_name(rt: HostRuntime) -> Result<(), Fail> {
     assert_eq!(rt; copy.at(0), Some((b"a.ads".as_slice(), b"one".as_slice())));
     assert_eq!(rt; copy.at(1), Some((b"b.adb".as_slice(), b"two".as_slice())));
     assert_eq!(rt; copy.at(2), None);
+    assert_eq!(rt; copy.list()?.len(), 2);
     put_changes_one();
     delete_changes_one();
     rename_moves_one();
