@@ -37,7 +37,7 @@ module _ (g : Grammar) (closed : IsClosed g) (d : ℕ) (a : Rule) (clear : is_cl
           let s : None ≡ Some x = ap (λ (m : Grown (Tree g d a)). whole m) (sym ((grows g d a).fault xs u h)) ∙ e in
           absurd (cc)
 
-  fault_at : (xs : List Lexeme) (n : ℕ) → Tree g d a → fault_of g d a xs ≡ Some n → IsFaultAt g d a xs n
+  pub fault_at : (xs : List Lexeme) (n : ℕ) → Tree g d a → fault_of g d a xs ≡ Some n → IsFaultAt g d a xs n
   unfolding fault_of
   fault_at xs n x e = go (read g d a xs) refl (ap (fault_before (length xs)) refl ∙ e)
     where
@@ -52,7 +52,7 @@ module _ (g : Grammar) (closed : IsClosed g) (d : ℕ) (a : Rule) (clear : is_cl
           let same : length xs - length u ≡ n = cc in
           subst (λ (k : ℕ). IsFaultAt g d a xs k) same (is_fault g closed d a clear xs u x h)
 
-  none_sentence : (xs : List Lexeme) → fault_of g d a xs ≡ None → Sentence g d a xs
+  pub none_sentence : (xs : List Lexeme) → fault_of g d a xs ≡ None → Sentence g d a xs
   unfolding fault_of
   none_sentence xs e = go (read g d a xs) refl e
     where
@@ -61,7 +61,7 @@ module _ (g : Grammar) (closed : IsClosed g) (d : ℕ) (a : Rule) (clear : is_cl
       go (Ok (c ∷ u)) h q = let s : Some (length xs - length (c ∷ u)) ≡ None = ap (fault_before (length xs)) (sym h) ∙ q in absurd (cc)
       go (Err u) h q = let s : Some (length xs - length u) ≡ None = ap (fault_before (length xs)) (sym h) ∙ q in absurd (cc)
 
-  sentence_none : (xs : List Lexeme) → Sentence g d a xs → fault_of g d a xs ≡ None
+  pub sentence_none : (xs : List Lexeme) → Sentence g d a xs → fault_of g d a xs ≡ None
   unfolding fault_of
   sentence_none xs s = ap (fault_before (length xs)) (sentence_again g closed d a clear xs s)
 
