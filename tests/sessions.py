@@ -1,0 +1,126 @@
+#!/usr/bin/env python3
+"""sessions.py PROGRAM: runs the stored sessions and command lines against a built program.
+
+A session NAME is NAME.in, the bytes of its commands (or NAME.gen, which writes them), NAME.out, the bytes of its
+replies, NAME.exit, its exit status where that isn't 0, and NAME.args, the program's words, one a line. NAME.cuts is
+what comes of the session NAME cut to its first n bytes, for each n. command-lines.json lists words of the program with
+the exit status and what it writes. Prints each failure, and last `N passed, M failed`.
+"""
+import json
+import pathlib
+import subprocess
+import sys
+import tempfile
+
+TESTS = pathlib.Path(__file__).resolve().parent
+SESSIONS = TESTS / "sessions"
+
+
+class Count:
+    def __init__(self):
+        self.passed = 0
+        self.failed = 0
+
+    def check(self, name, got, wanted):
+        """Counts one run, where `got` and `wanted` are exit status, standard output and standard error."""
+        if got == wanted:
+            self.passed += 1
+            return
+        self.failed += 1
+        print(f"{name}: failed")
+        for what, is_, should in zip(("exit status", "output", "error output"), got, wanted):
+            if is_ != should:
+                print(f"  {what}: {shown(is_)}\n  wanted: {shown(should)}")
+
+
+def shown(value):
+    if isinstance(value, int):
+        return value
+    return f"{len(value)} bytes, {value[-300:]!r}" if len(value) > 300 else repr(value)
+
+
+def run(program, words, given, output=subprocess.PIPE):
+    """The exit status, output and error output; `given` is the standard input, as bytes or as an open file."""
+    source = {"input": given} if isinstance(given, bytes) else {"stdin": given}
+    with tempfile.TemporaryDirectory() as folder:
+        try:
+            done = subprocess.run(
+                [program, *words], stdout=output, stderr=subprocess.PIPE, cwd=folder, timeout=120, **source
+            )
+        except subprocess.TimeoutExpired:
+            return (-1, b"", b"no end within 120 seconds")
+    return (done.returncode, done.stdout or b"", done.stderr)
+
+
+def input_of(name):
+    made = SESSIONS / f"{name}.gen"
+    if made.exists():
+        return subprocess.run([sys.executable, made], stdout=subprocess.PIPE, check=True).stdout
+    return (SESSIONS / f"{name}.in").read_bytes()
+
+
+def run_sessions(program, count):
+    for out in sorted(SESSIONS.glob("*.out")):
+        name = out.stem
+        status = SESSIONS / f"{name}.exit"
+        args = SESSIONS / f"{name}.args"
+        words = args.read_text().split("\n")[:-1] if args.exists() else []
+        wanted = (int(status.read_text()) if status.exists() else 0, out.read_bytes(), b"")
+        count.check(name, run(program, words, input_of(name)), wanted)
+
+
+def run_cuts(program, count):
+    for table in sorted(SESSIONS.glob("*.cuts")):
+        whole = input_of(table.stem)
+        told = set()
+        for row in table.read_text().splitlines():
+            if row.startswith("#"):
+                continue
+            first, last, status, replies = (row.split(" ", 3) + [""])[:4]
+            wanted = (int(status), replies.replace("\\n", "\n").encode(), b"")
+            for size in range(int(first), int(last) + 1):
+                told.add(size)
+                count.check(f"{table.stem} cut to {size} bytes", run(program, [], whole[:size]), wanted)
+        if told != set(range(len(whole) + 1)):
+            count.check(f"{table.name} has a row for each cut", (1,), (0,))
+
+
+def run_command_lines(program, count):
+    """Each line's words may name {hello}, a file with the session hello, {none}, a file that isn't there, and {folder}."""
+    hello = input_of("hello")
+    replies = (SESSIONS / "hello.out").read_bytes()
+    with tempfile.TemporaryDirectory() as folder:
+        path = pathlib.Path(folder)
+        (path / "hello.in").write_bytes(hello)
+        places = {"{hello}": str(path / "hello.in"), "{none}": str(path / "none.in"), "{folder}": folder}
+        for line in json.loads((TESTS / "command-lines.json").read_text()):
+            words = [places.get(word, word) for word in line["words"]]
+            output = {"hello": replies, "nothing": b""}[line["output"]]
+            error = (line["error"] + "\n").encode() if "error" in line else b""
+            given = b"" if any(word in places for word in line["words"]) else hello
+            got = run(program, words, given)
+            count.check(f"adalib {' '.join(line['words'])}", got, (line["exit"], output, error))
+
+
+def run_faults(program, count):
+    """Devices that fail: then the exit status is 1, and nothing more is written."""
+    hello = input_of("hello")
+    with open("/dev/full", "wb") as full:
+        count.check("output to a full device", run(program, [], hello, full), (1, b"", b""))
+    with tempfile.NamedTemporaryFile("wb") as sink, open(sink.name, "wb") as write_only:
+        count.check("input that can't be read", run(program, [], write_only), (1, b"", b""))
+
+
+def main():
+    program = str(pathlib.Path(sys.argv[1]).resolve())
+    count = Count()
+    run_sessions(program, count)
+    run_cuts(program, count)
+    run_command_lines(program, count)
+    run_faults(program, count)
+    print(f"{count.passed} passed, {count.failed} failed")
+    return count.failed != 0
+
+
+if __name__ == "__main__":
+    sys.exit(main())
