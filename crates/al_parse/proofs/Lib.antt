@@ -1,0 +1,4 @@
+pub mod Inside
+pub mod Identifiers
+pub mod Loops
+pub mod Texts

@@ -1,0 +1,62 @@
+// Whole texts.
+ghost use Rattle.std.specs.Prelude.{◌≡◌, IfErr, IfOk, Some};
+ghost use Rattle.al_tree.specs.Lexemes.{lexemes};
+ghost use Rattle.al_tree.specs.Trees.{tokens_of};
+ghost use Rattle.al_tree.specs.Units.{unit_of};
+ghost use Rattle.al_tree.specs.Views.{unit_seen};
+ghost use Rattle.al_parse.specs.Faults.{FaultOf};
+ghost use Rattle.al_parse.specs.Parses.{Refuses};
+
+use crate::stop::Stop;
+use crate::unit::unit;
+use al_lex::Token;
+use al_tree::CompilationUnit;
+use std::alloc::Global;
+
+/// Constructs that may be open at once: a body from its `is`, an argument from its parenthesis.
+const MOST_OPEN: u32 = 64;
+
+/// The place of a syntax fault.
+#[derive(Clone, Copy, Debug, PartialEq, Eq)]
+pub struct SyntaxFault {
+    /// How many tokens are before the first that can't stand where it stands; all of them, where the text ends too soon.
+    pub at: usize,
+}
+
+/// Why tokens have no tree.
+#[derive(Debug, Drop)]
+pub enum ParseError {
+    Syntax(SyntaxFault),
+    /// Memory was wanted and not given.
+    NoMemory,
+}
+
+fn whole(alloc: Global, source: &[u8], tokens: &[Token]) -> Result<CompilationUnit, Stop>
+    ensures found { IfOk result (λ u. unit_of (lexemes source.now tokens.now) ≡ Some (unit_seen u)) }
+    ensures tokens { IfOk result (λ u. tokens_of (unit_seen u) ≡ lexemes source.now tokens.now) }
+    ensures fault { IfErr result (λ e. Refuses e (lexemes source.now tokens.now)) }
+{
+    let (unit, rest) = unit(alloc, source, MOST_OPEN, tokens)?;
+    if !rest.is_empty() {
+        return Err(Stop::Fault(rest.len()));
+    }
+    Ok(unit)
+}
+
+/// The one tree of the tokens of a text, or where they stop being the front of a compilation unit.
+///
+/// # Errors
+/// `Syntax` where the tokens are no compilation unit; `NoMemory` where memory is wanted and not given.
+pub fn parse(alloc: Global, source: &[u8], tokens: &[Token]) -> Result<CompilationUnit, ParseError>
+    ensures found { IfOk result (λ u. unit_of (lexemes source.now tokens.now) ≡ Some (unit_seen u)) }
+    ensures tokens { IfOk result (λ u. tokens_of (unit_seen u) ≡ lexemes source.now tokens.now) }
+    ensures fault { IfErr result (λ e. FaultOf e (lexemes source.now tokens.now)) }
+{
+    match whole(alloc, source, tokens) {
+        Ok(unit) => Ok(unit),
+        Err(Stop::Memory) => Err(ParseError::NoMemory),
+        Err(Stop::Fault(left)) => Err(ParseError::Syntax(SyntaxFault {
+            at: tokens.len() - left,
+        })),
+    }
+}
