@@ -11,21 +11,21 @@ pub farther-farther : (i j : ℕ) (o : Option ℕ) → farther i (farther j o) �
 farther-farther i j None = refl
 farther-farther i j (Some n) = ap (λ (k : ℕ). Some k) (omega arith)
 
-plain : (b : ℕ) (rest : List ℕ) → (b ≡ 34 → ⊥) → is_printable b ≡ true → body_len (b ∷ rest) ≡ farther 1 (body_len rest)
+pub plain : (b : ℕ) (rest : List ℕ) → (b ≡ 34 → ⊥) → is_printable b ≡ true → body_len (b ∷ rest) ≡ farther 1 (body_len rest)
 unfolding body_len
 plain b [] q h = rw (ne_eqb b 34 q) refl
 plain b (c ∷ cs) q h = rw (ne_eqb b 34 q, h) refl
 
-bad : (b : ℕ) (rest : List ℕ) → (b ≡ 34 → ⊥) → is_printable b ≡ false → body_len (b ∷ rest) ≡ None
+pub bad : (b : ℕ) (rest : List ℕ) → (b ≡ 34 → ⊥) → is_printable b ≡ false → body_len (b ∷ rest) ≡ None
 unfolding body_len
 bad b [] q h = rw (ne_eqb b 34 q) refl
 bad b (c ∷ cs) q h = rw (ne_eqb b 34 q, h) refl
 
-twice : (rest : List ℕ) → body_len (34 ∷ 34 ∷ rest) ≡ farther 2 (body_len rest)
+pub twice : (rest : List ℕ) → body_len (34 ∷ 34 ∷ rest) ≡ farther 2 (body_len rest)
 unfolding body_len
 twice rest = refl
 
-last : (rest : List ℕ) → (0 < length rest → get_or rest 0 0 ≡ 34 → ⊥) → body_len (34 ∷ rest) ≡ Some 1
+pub last : (rest : List ℕ) → (0 < length rest → get_or rest 0 0 ≡ 34 → ⊥) → body_len (34 ∷ rest) ≡ Some 1
 unfolding body_len
 last [] h = refl
 last (c ∷ cs) h = rw (ne_eqb c 34 (h (omega arith))) refl

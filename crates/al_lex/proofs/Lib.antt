@@ -5,3 +5,12 @@ pub mod Bodies
 pub mod Cuts
 pub mod Positive
 pub mod Cutting
+pub mod Written
+pub mod Longest
+pub mod Fronts
+pub mod Prefixes
+pub mod Elements
+pub mod LongestNumbers
+pub mod Found
+pub mod Across
+pub mod Order

@@ -10,11 +10,11 @@ use Rattle.al_lex.specs.declared.numbers.Digits.TheVariants.{Decimal, Hexadecima
 use Rattle.al_lex.specs.declared.numbers.Parts.{Parts}
 use Rattle.al_lex.specs.Numbers.{is_digit, goes_on, run_len, numeral_len, numeral_value, with_byte, digit_value, number_len, parts_of}
 
-goes : (d : Digits) (b : ℕ) (bs : List ℕ) → goes_on d b (get_or bs 0 0) ≡ true → run_len d (b ∷ bs) ≡ 1 + run_len d bs
+pub goes : (d : Digits) (b : ℕ) (bs : List ℕ) → goes_on d b (get_or bs 0 0) ≡ true → run_len d (b ∷ bs) ≡ 1 + run_len d bs
 unfolding run_len
 goes d b bs h = rw h refl
 
-ends : (d : Digits) (b : ℕ) (bs : List ℕ) → goes_on d b (get_or bs 0 0) ≡ false → run_len d (b ∷ bs) ≡ 0
+pub ends : (d : Digits) (b : ℕ) (bs : List ℕ) → goes_on d b (get_or bs 0 0) ≡ false → run_len d (b ∷ bs) ≡ 0
 unfolding run_len
 ends d b bs h = rw h refl
 

@@ -20,7 +20,7 @@ use Rattle.al_lex.proofs.Numerals.{some_number}
 use Rattle.al_lex.proofs.Runs.{some_word, some_comment}
 
 -- in each branch, where its test holds
-choose : {X : Type 0} (P : X → Type 0) (b : Bool) (x y : X) → (b ≡ true → P x) → (b ≡ false → P y) → P (if b then x else y)
+pub choose : {X : Type 0} (P : X → Type 0) (b : Bool) (x y : X) → (b ≡ true → P x) → (b ≡ false → P y) → P (if b then x else y)
 choose P true x y f g = f refl
 choose P false x y f g = g refl
 

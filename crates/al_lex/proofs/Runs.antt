@@ -12,10 +12,13 @@ ors : (p q r : Bool) → (q || r) ≡ true → ((p || q) || r) ≡ true
 ors true q r h = refl
 ors false q r h = h
 
+pub letter_in_word : (b : ℕ) → is_ascii_alphabetic b ≡ true → is_word_byte b ≡ true
+letter_in_word b h = or_left (is_ascii_alphanumeric b) (b == 95) (ors (is_in_range 48 57 b) (is_in_range 65 90 b) (is_in_range 97 122 b) h)
+
 -- a word has a byte at least
 pub some_word : (bs : List ℕ) → is_ascii_alphabetic (get_or bs 0 0) ≡ true → 0 < prefix_len is_word_byte bs
 some_word [] h = absurd (cc)
-some_word (b ∷ bs) h = let w : is_word_byte b ≡ true = or_left (is_ascii_alphanumeric b) (b == 95) (ors (is_in_range 48 57 b) (is_in_range 65 90 b) (is_in_range 97 122 b) h) in rw w (omega arith)
+some_word (b ∷ bs) h = let w : is_word_byte b ≡ true = letter_in_word b h in rw w (omega arith)
 
 -- a comment too
 pub some_comment : (bs : List ℕ) → (get_or bs 0 0 == 45 && get_or bs 1 0 == 45) ≡ true → 0 < prefix_len is_inside_line bs

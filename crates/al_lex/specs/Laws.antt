@@ -1,8 +1,10 @@
 -- What the tokens of a text are, without computing them.
-use Rattle.std.specs.Prelude.{ℕ, ◌≡◌, ◌↔◌, List, Ok, Err}
+use Rattle.std.specs.Prelude.{ℕ, ◌≡◌, ◌↔◌, ◌+◌, ◌<◌, ◌≤◌, List, [], ◌∷◌, length, Ok, Err}
 use Rattle.al_base.specs.declared.place.Place.{Place}
 use Rattle.al_lex.specs.declared.token.Token.{Token}
 use Rattle.al_lex.specs.declared.token.LexFault.{LexFault}
+use Rattle.al_lex.specs.Pieces.{front_piece}
+use Rattle.al_lex.specs.Shapes.{Describes}
 use Rattle.al_lex.specs.Tokens.{IsCutInto, lexed, end_place_of}
 use Rattle.al_lex.specs.Tokens.Ending.{Whole, Broken}
 
@@ -17,3 +19,16 @@ FaultEndsCut = (text : List ℕ) (fault : LexFault) → (lexed text ≡ Err faul
 -- behind the last byte is one place
 abbrev pub EndIsBehind : Type 0
 EndIsBehind = (text : List ℕ) (tokens : List Token) (place : Place) → IsCutInto text tokens (Whole place) → place ≡ end_place_of text
+
+-- the piece at the front of bytes is the longest, or has a fault
+abbrev pub PiecesAreLongest : Type 0
+PiecesAreLongest = (bs : List ℕ) → 0 < length bs → Describes (front_piece bs) bs
+
+-- the tokens lie between these bytes, each behind the one before
+abbrev pub LieBetween : ℕ → ℕ → List Token → Type 0
+LieBetween from to [] = Unit {0}
+LieBetween from to (t ∷ ts) = (from ≤ t.span.start) × (0 < t.span.len) × (t.span.start + t.span.len ≤ to) × LieBetween (t.span.start + t.span.len) to ts
+
+-- tokens are pieces of the text in its order
+abbrev pub TokensLieInText : Type 0
+TokensLieInText = (text : List ℕ) (tokens : List Token) → lexed text ≡ Ok tokens → LieBetween 0 (length text) tokens

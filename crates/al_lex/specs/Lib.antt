@@ -6,4 +6,5 @@ pub mod Strings
 pub mod Numbers
 pub mod Pieces
 pub mod Tokens
+pub mod Shapes
 pub mod Laws

@@ -1,5 +1,5 @@
 // What holds of the tokens of every text. The functions have no code: their contracts are the laws.
-ghost use Rattle.al_lex.specs.Laws.{EndIsBehind, FaultEndsCut, TokensAreCut};
+ghost use Rattle.al_lex.specs.Laws.{EndIsBehind, FaultEndsCut, PiecesAreLongest, TokensAreCut, TokensLieInText};
 
 /// A text is cut into pieces in one way: each is the longest that begins where the one before ended.
 
@@ -7,4 +7,14 @@ pub fn texts_are_cut()
     ensures tokens { TokensAreCut }
     ensures fault { FaultEndsCut }
     ensures end { EndIsBehind }
+{}
+
+/// Each piece is the longest that begins there, and well formed; or the fault says what is wrong with it.
+pub fn pieces_are_longest()
+    ensures { PiecesAreLongest }
+{}
+
+/// The spans of a text's tokens lie in the text, each behind the one before.
+pub fn tokens_lie_in_text()
+    ensures { TokensLieInText }
 {}
