@@ -1,0 +1,3 @@
+pub mod MainNames
+pub mod BatchLemmas
+pub mod Faults

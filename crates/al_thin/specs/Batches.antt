@@ -1,0 +1,68 @@
+-- What compiling files from an empty library gives.
+use Rattle.std.specs.Prelude.{ℕ, Bool, true, false, List, [], ◌∷◌, ◌++◌, Option, Some, None, bytes_eq, option_and_then, if◌then◌else◌}
+use Rattle.std.specs.List.{flat_map}
+use Rattle.al_base.specs.Names.{is_file_name}
+use Rattle.al_base.specs.Files.{Texts, text_of}
+use Rattle.al_base.specs.FileNames.{file_name_of}
+use Rattle.al_base.specs.Batch.{Batch, Faulty, NoMain, TooLarge, Made, Key, Finding, Run}
+use Rattle.al_base.specs.declared.unit_key.UnitKind.TheVariants.{Body}
+use Rattle.al_base.specs.declared.run.RunEnd.TheVariants.{Stuck}
+use Rattle.al_image.specs.declared.instruction.Instruction.{Instruction}
+use Rattle.al_image.specs.declared.instruction.Instruction.TheVariants.{PutText, NewLine}
+use Rattle.al_image.specs.Images.{program_of, is_too_large, image_bytes}
+use Rattle.al_image.specs.Runs.{run_of_image}
+use Rattle.al_tree.specs.Trees.{UnitTree, StatementTree, OperationTree}
+use Rattle.al_tree.specs.Trees.StatementTree.{NullTree, CallTree}
+use Rattle.al_tree.specs.Trees.OperationTree.{NewLineTree, PutTree, PutLineTree}
+use Rattle.al_thin.specs.Readings.{Reading, Sentence, Fails, reading_of}
+use Rattle.al_thin.specs.Findings.{findings_of}
+
+-- what a call of Ada.Text_IO is compiled to (ARM A.10.7)
+abbrev pub operation_code : OperationTree → List Instruction
+operation_code (NewLineTree name) = NewLine ∷ []
+operation_code (PutTree name literal) = PutText literal.text ∷ []
+operation_code (PutLineTree name literal) = PutText literal.text ∷ NewLine ∷ []
+
+abbrev pub statement_code : StatementTree → List Instruction
+statement_code NullTree = []
+statement_code (CallTree library operation) = operation_code operation
+
+abbrev pub unit_code : UnitTree → List Instruction
+unit_code unit = flat_map statement_code unit.statements
+
+-- the unit, where it has this name
+abbrev pub named : List ℕ → Reading → Option UnitTree
+named main (Sentence unit) = if bytes_eq unit.name.label.text main then Some unit else None
+named main (Fails place code) = None
+
+-- The main unit is the procedure of that name in the file that the name wants. No file has a name that isn't one.
+unfoldable pub main_unit : Texts → List ℕ → Option UnitTree
+main_unit files main =
+    let file = file_name_of (main, Body) in
+    if is_file_name file then option_and_then (λ text. named main (reading_of text)) (text_of files file) else None
+
+-- the main procedure's body alone is elaborated: it depends on no other unit of the library (ARM 10.2)
+abbrev pub order_of : List ℕ → List Key
+order_of main = (main, Body) ∷ []
+
+abbrev pub linked : List ℕ → Option UnitTree → Batch
+linked main None = NoMain
+linked main (Some unit) =
+    if is_too_large (unit_code unit) then TooLarge (order_of main)
+    else Made (order_of main) (image_bytes (program_of main (unit_code unit)))
+
+-- where nothing is wrong with the files, the main unit is linked
+abbrev pub unless_faulty : List Finding → Batch → Batch
+unless_faulty [] linked = linked
+unless_faulty (f ∷ fs) linked = Faulty (f ∷ fs)
+
+unfoldable pub batch : Texts → List ℕ → Batch
+batch files main = unless_faulty (findings_of files) (linked main (main_unit files main))
+
+abbrev pub run_of_unit : List ℕ → Option UnitTree → ℕ → ℕ → Run
+run_of_unit main None tick steps = record { output = []; ended = Stuck }
+run_of_unit main (Some unit) tick steps = run_of_image (program_of main (unit_code unit)) tick steps
+
+-- what the image of the files puts out, with so many instructions between two ticks, in at most so many events
+unfoldable pub run_of : Texts → List ℕ → ℕ → ℕ → Run
+run_of files main tick steps = run_of_unit main (main_unit files main) tick steps

@@ -1,0 +1,5 @@
+pub mod Readings
+pub mod ReadingSeen
+pub mod Findings
+pub mod Batches
+pub mod Compiling

@@ -1,0 +1,31 @@
+-- What the text of a file is.
+use Rattle.std.specs.Prelude.{ℕ, List, Option, Some, None, Result, Ok, Err, slice_get, unwrap_or, option_map}
+use Rattle.al_base.specs.declared.place.Place.{Place}
+use Rattle.al_lex.specs.declared.token.Token.{Token}
+use Rattle.al_lex.specs.declared.token.LexFault.{LexFault}
+use Rattle.al_lex.specs.Codes.{number_of}
+use Rattle.al_lex.specs.Tokens.{lexed, end_place_of}
+use Rattle.al_tree.specs.Lexemes.{lexemes}
+use Rattle.al_tree.specs.Trees.{UnitTree}
+use Rattle.al_tree.specs.Units.{unit_of, syntax_fault_of}
+
+-- a sentence of the grammar, or where and how it fails to be one: by its first malformed lexeme, or else by the first token
+-- behind the longest front that goes on to a sentence
+pub data Reading : Type 0 where
+  Sentence : UnitTree → Reading
+  Fails : Place → ℕ → Reading
+
+-- where a token stands; behind the last one, the end of the text
+abbrev pub token_place : List ℕ → List Token → ℕ → Place
+token_place text tokens n = unwrap_or (option_map (λ t. t.span.place) (slice_get tokens n)) (end_place_of text)
+
+abbrev pub by_unit : List ℕ → List Token → Option UnitTree → Reading
+by_unit text tokens (Some unit) = Sentence unit
+by_unit text tokens None = Fails (token_place text tokens (unwrap_or (syntax_fault_of (lexemes text tokens)) 0)) 101
+
+abbrev pub by_tokens : List ℕ → Result (List Token) LexFault → Reading
+by_tokens text (Ok tokens) = by_unit text tokens (unit_of (lexemes text tokens))
+by_tokens text (Err fault) = Fails fault.place (number_of fault.code)
+
+unfoldable pub reading_of : List ℕ → Reading
+reading_of text = by_tokens text (lexed text)

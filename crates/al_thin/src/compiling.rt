@@ -1,0 +1,152 @@
+// Compiles all files.
+ghost use Rattle.std.specs.Prelude.{◌≡◌, ◌≤◌, ◌<◌, ◌++◌, Some, IfOk, IfSome, OnOk, length, map, option_map};
+ghost use Rattle.al_base.specs.Batch.{finding_of, key_of};
+ghost use Rattle.al_image.specs.Images.{program_of};
+ghost use Rattle.al_tree.specs.Views.{unit_seen};
+ghost use Rattle.al_thin.specs.ReadingSeen.{reading_seen};
+ghost use Rattle.al_thin.specs.Findings.{file_findings, findings_of};
+ghost use Rattle.al_thin.specs.Batches.{linked, main_unit, named, order_of, unit_code};
+ghost use Rattle.al_thin.specs.Compiling.{compiled_seen, Compiles, HoldsImage};
+
+use crate::checking::add_findings;
+use crate::coding::instructions_of;
+use crate::naming::file_of;
+use crate::reading::{Reading, read};
+use al_base::{Diagnostic, Files, Name, NoMemory, UnitKey, UnitKind, is_file_name};
+use al_image::{Image, ProgramError, program};
+use al_tree::CompilationUnit;
+use std::alloc::Global;
+
+/// A program: the order in which its units are elaborated, its image and the image's bytes.
+#[derive(Debug, Drop)]
+pub struct Program {
+    pub order: Vec<UnitKey>,
+    pub image: Image,
+    pub bytes: Vec<u8>,
+}
+
+/// What compiling gives.
+#[derive(Debug, Drop)]
+pub enum Compiled {
+    /// What is wrong with the files, by file, place and number: one thing at least.
+    Faulty(Vec<Diagnostic>),
+    /// Nothing is wrong, and the main unit is no procedure of the files (ARM 10.2).
+    NoMain,
+    /// The order of elaboration. The image would have more code than an image may have.
+    TooLarge(Vec<UnitKey>),
+    Made(Program),
+}
+
+/// Compiles all files, and makes the image of the main unit, whose name is in lower case.
+///
+/// # Errors
+///
+/// `NoMemory` where memory was wanted and not given. What is wrong with the files is no error.
+pub fn compile(alloc: Global, files: &Files, main: &[u8]) -> Result<Compiled, NoMemory>
+    ensures { IfOk result (λ compiled. Compiles compiled files.now main.now) }
+{
+    let found = findings_of(alloc, files)?;
+    if !found.is_empty() {
+        return Ok(Compiled::Faulty(found));
+    }
+    match main_unit(alloc, files, main)? {
+        None => Ok(Compiled::NoMain),
+        Some(unit) => link(alloc, main, unit),
+    }
+}
+
+/// What is wrong with the files.
+#[tactic(auto, unfolding(crate::specs::Findings::findings_of))]
+fn findings_of(alloc: Global, files: &Files) -> Result<Vec<Diagnostic>, NoMemory>
+    ensures { IfOk result (λ found. map finding_of found.items ≡ findings_of files.now) }
+{
+    let list = files.list()?;
+    let mut found = Vec::new(alloc);
+    for (name, text) in list.iter() {
+        add_file_findings(alloc, files, name, text, &mut found)?;
+    }
+    Ok(found)
+}
+
+/// Adds what is wrong with a file.
+fn add_file_findings(
+    alloc: Global,
+    files: &Files,
+    name: &[u8],
+    text: &[u8],
+    found: &mut Vec<Diagnostic>,
+) -> Result<(), NoMemory>
+    ensures { OnOk result (map finding_of found.new.items ≡ map finding_of found.old.items ++ file_findings files.now (name.now, text.now)) }
+{
+    let reading = read(alloc, text)?;
+    add_findings(alloc, files, name, &reading, found)
+}
+
+/// The main unit: the procedure of that name in the file that the name wants.
+#[tactic(auto, using(crate::proofs::MainNames::main_name_fits), unfolding(crate::specs::Batches::main_unit))]
+fn main_unit(alloc: Global, files: &Files, main: &[u8]) -> Result<Option<CompilationUnit>, NoMemory>
+    ensures unit { IfOk result (λ unit. option_map unit_seen unit ≡ main_unit files.now main.now) }
+    ensures name { IfOk result (λ unit. IfSome unit (λ u. (0 < length main.now) × (length main.now ≤ 255))) }
+{
+    let file = file_of(alloc, main, UnitKind::Body)?;
+    if !is_file_name(file.as_slice()) {
+        return Ok(None);
+    }
+    match files.get(file.as_slice()) {
+        None => Ok(None),
+        Some(text) => Ok(named(main, read(alloc, text)?)),
+    }
+}
+
+/// The unit that was read, where it has this name.
+#[tactic(auto, unfolding(al_tree::specs::Views::unit_seen))]
+fn named(main: &[u8], reading: Reading) -> Option<CompilationUnit>
+    ensures { option_map unit_seen result ≡ named main.now (reading_seen reading) }
+{
+    match reading {
+        Reading::Fails(_, _) => None,
+        Reading::Sentence(unit) => {
+            if unit.body.name.name.as_slice() == main {
+                Some(unit)
+            } else {
+                None
+            }
+        }
+    }
+}
+
+/// Makes the program of a main unit.
+fn link(alloc: Global, main: &[u8], unit: CompilationUnit) -> Result<Compiled, NoMemory>
+    requires some { 0 < length main.now }
+    requires short { length main.now ≤ 255 }
+    ensures linked { IfOk result (λ compiled. compiled_seen compiled ≡ linked main.now (Some (unit_seen unit))) }
+    ensures image { IfOk result (λ compiled. HoldsImage compiled (program_of main.now (unit_code (unit_seen unit)))) }
+{
+    let code = instructions_of(alloc, unit)?;
+    let order = order_of(alloc, main)?;
+    match program(alloc, main, code) {
+        Ok(image) => {
+            let bytes = image.bytes(alloc)?;
+            Ok(Compiled::Made(Program {
+                order,
+                image,
+                bytes,
+            }))
+        }
+        Err(ProgramError::TooLarge) => Ok(Compiled::TooLarge(order)),
+        Err(ProgramError::NoMemory) => Err(NoMemory),
+    }
+}
+
+/// The order of elaboration: the main procedure's body alone.
+fn order_of(alloc: Global, main: &[u8]) -> Result<Vec<UnitKey>, NoMemory>
+    ensures { IfOk result (λ order. map key_of order.items ≡ order_of main.now) }
+{
+    let name = Name::from_slice(alloc, main)?;
+    let mut order = Vec::new(alloc);
+    order.push(UnitKey {
+        name,
+        kind: UnitKind::Body,
+    })?;
+    Ok(order)
+}

@@ -1,0 +1,51 @@
+// Reads the text of a file.
+ghost use Rattle.std.specs.Prelude.{◌≡◌, ◌≤◌, IfOk, length};
+ghost use Rattle.al_lex.specs.Tokens.{lexed};
+ghost use Rattle.al_thin.specs.Readings.{reading_of, token_place};
+ghost use Rattle.al_thin.specs.ReadingSeen.{reading_seen};
+
+use al_base::{NoMemory, Place};
+use al_lex::{LexError, Token, end_place, lex};
+use al_parse::{ParseError, parse};
+use al_tree::{CompilationUnit, faults_are_found};
+use std::alloc::Global;
+
+/// What the text of a file is.
+#[derive(Drop)]
+pub(crate) enum Reading {
+    Sentence(CompilationUnit),
+    /// The place and the number of what is wrong first.
+    Fails(Place, u16),
+}
+
+/// Reads a text.
+#[tactic(auto, using(crate::proofs::Faults::fault_has_no_unit), unfolding(crate::specs::Readings::reading_of))]
+pub(crate) fn read(alloc: Global, text: &[u8]) -> Result<Reading, NoMemory>
+    ensures { IfOk result (λ reading. reading_seen reading ≡ reading_of text.now) }
+{
+    let tokens = match lex(alloc, text) {
+        Ok(tokens) => tokens,
+        Err(LexError::Fault(fault)) => {
+            return Ok(Reading::Fails(fault.place, fault.code.number()));
+        }
+        Err(LexError::NoMemory) => return Err(NoMemory),
+    };
+    match parse(alloc, text, tokens.as_slice()) {
+        Ok(unit) => Ok(Reading::Sentence(unit)),
+        Err(ParseError::Syntax(fault)) => {
+            faults_are_found();
+            Ok(Reading::Fails(token_place(text, tokens.as_slice(), fault.at), 101))
+        }
+        Err(ParseError::NoMemory) => Err(NoMemory),
+    }
+}
+
+// Where a token stands; behind the last one, the end of the text.
+fn token_place(text: &[u8], tokens: &[Token], at: usize) -> Place
+    ensures { result ≡ token_place text.now tokens.now at }
+{
+    match tokens.get(at) {
+        Some(token) => token.span.place,
+        None => end_place(text),
+    }
+}

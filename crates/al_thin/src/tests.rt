@@ -1,0 +1,105 @@
+// Worked values.
+use crate::{Compiled, compile};
+use al_base::{Files, Refusal};
+use std::alloc::Global;
+use std::process::Abort;
+use std::test::Fail;
+
+const HELLO: &[u8] =
+    b"with Ada.Text_IO; procedure Hello is begin Ada.Text_IO.Put_Line (\"hi\"); end Hello;\n";
+
+fn put(alloc: Global, files: &mut Files, name: &[u8], text: &[u8]) -> Result<(), Refusal> {
+    let Ok(text) = Vec::from_slice(alloc, text) else {
+        return Err(Refusal::NoMemory);
+    };
+    files.put(name, text)
+}
+
+/// Expects just these findings, each as a file, a line, a column and a number.
+fn expect_faulty(
+    rt: &impl Abort,
+    compiled: &Compiled,
+    wanted: &[(&'static [u8], usize, usize, u16)],
+) {
+    let Compiled::Faulty(found) = compiled else {
+        assert!(rt; false, "nothing is wrong");
+        return;
+    };
+    assert_eq!(rt; found.len(), wanted.len());
+    for (diagnostic, (file, line, col, code)) in found.iter().zip(wanted) {
+        assert_eq!(rt; diagnostic.file.as_slice(), *file);
+        assert_eq!(rt; diagnostic.place.line, *line);
+        assert_eq!(rt; diagnostic.place.col, *col);
+        assert_eq!(rt; diagnostic.code, *code);
+    }
+}
+
+#[test]
+fn hello_is_made(rt: HostRuntime) -> Result<(), Fail> {
+    let alloc = rt.alloc();
+    let mut files = Files::new(alloc);
+    put(alloc, &mut files, b"hello.adb", HELLO)?;
+    put(
+        alloc,
+        &mut files,
+        b"m.adb",
+        b"procedure M is begin null; end;",
+    )?;
+    let Compiled::Made(program) = compile(alloc, &files, b"hello")? else {
+        assert!(rt; false, "there is an image");
+        return Ok(());
+    };
+    assert_eq!(rt; program.bytes.len(), 87);
+    assert_eq!(rt; program.order.len(), 1);
+    assert_eq!(rt; program.order[0].name.as_slice(), b"hello".as_slice());
+    assert!(rt; matches!(compile(alloc, &files, b"n")?, Compiled::NoMain));
+    assert!(rt; matches!(compile(alloc, &files, b"m.n")?, Compiled::NoMain));
+    Ok(())
+}
+
+#[test]
+fn findings_by_file_and_place(rt: HostRuntime) -> Result<(), Fail> {
+    let alloc = rt.alloc();
+    let mut files = Files::new(alloc);
+    put(alloc, &mut files, b"hello.adb", HELLO)?;
+    put(
+        alloc,
+        &mut files,
+        b"z.adb",
+        b"procedure Ada is begin null; end Z;",
+    )?;
+    put(alloc, &mut files, b"y.ads", b"")?;
+    put(
+        alloc,
+        &mut files,
+        b"y.adb",
+        b"procedure Y is begin Ada.Text_IO.New_Line; end Z;",
+    )?;
+    put(
+        alloc,
+        &mut files,
+        b"m.adb",
+        b"procedure M is begin null; end M",
+    )?;
+    put(alloc, &mut files, b"l.adb", b"procedure L is begin ?")?;
+    put(
+        alloc,
+        &mut files,
+        b"x.adb",
+        b"procedure X is begin Ada.Text_IO.New_Line; null;\nADA.Text_IO.Put (\"\"); end Y;",
+    )?;
+    let compiled = compile(alloc, &files, b"hello")?;
+    let wanted: [(&'static [u8], usize, usize, u16); 9] = [
+        (b"l.adb", 1, 22, 1),
+        (b"m.adb", 1, 33, 101),
+        (b"x.adb", 1, 22, 401),
+        (b"x.adb", 2, 1, 401),
+        (b"x.adb", 2, 27, 308),
+        (b"y.adb", 1, 1, 208),
+        (b"y.ads", 1, 1, 101),
+        (b"z.adb", 1, 11, 201),
+        (b"z.adb", 1, 11, 207),
+    ];
+    expect_faulty(&rt, &compiled, &wanted);
+    Ok(())
+}
