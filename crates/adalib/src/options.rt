@@ -1,0 +1,100 @@
+// The words of the command line.
+ghost use Rattle.std.specs.Prelude.{◌≡◌, ◌≤◌, IfOk, IfSome, MatchOption, Some};
+ghost use Rattle.adalib.specs.Tick.{tick_of};
+
+use clap::error::ErrorKind;
+use clap::{Arg, ArgAction, Command};
+use std::alloc::{AllocError, Global};
+use thiserror::Error;
+
+/// Instructions between two ticks of the clock, where the words give no number.
+const DEFAULT_TICK: u32 = 100;
+
+pub const MAX_TICK: u32 = 10_000;
+
+/// Why the words are refused.
+#[derive(Clone, Copy, Debug, PartialEq, Eq, Error)]
+pub enum UsageError {
+    #[error("the words are of another form")]
+    Usage,
+    #[error("out of memory")]
+    OutOfMemory,
+}
+
+impl From<AllocError> for UsageError {
+    fn from(_e: AllocError) -> UsageError {
+        UsageError::OutOfMemory
+    }
+}
+
+impl From<clap::Error> for UsageError {
+    fn from(e: clap::Error) -> UsageError {
+        match e.kind() {
+            ErrorKind::OutOfMemory => UsageError::OutOfMemory,
+            _ => UsageError::Usage,
+        }
+    }
+}
+
+/// What the words ask for.
+#[derive(Drop)]
+pub struct Options<'a> {
+    /// How many instructions a run does between two ticks of its clock.
+    pub tick: u32,
+    /// Where the commands come from: the standard input where it isn't told.
+    pub file: Option<&'a str>,
+}
+
+impl<'a> Options<'a> {
+    /// Reads `[--tick N] [FILE]`, the program's own word in front. `--tick=N` is `--tick N`, words behind `--` are no
+    /// options, and `-` is a file's name.
+    ///
+    /// # Errors
+    /// [`UsageError::Usage`] for words of another form: a `--tick` without a number of 1 to 10000, a second `--tick`
+    /// or file, or another word that begins with `-`. [`UsageError::OutOfMemory`] where memory is refused.
+    pub fn of(alloc: Global, words: &'a [String]) -> Result<Options<'a>, UsageError>
+        ensures { IfOk result (λ options. (1 ≤ options.tick) × (options.tick ≤ MAX_TICK)) }
+    {
+        let tick = Arg::new(alloc, "tick").long("tick").action(ArgAction::Set);
+        let file = Arg::new(alloc, "file").action(ArgAction::Set);
+        let command = Command::new(alloc, "adalib")
+            .disable_help_flag(true)
+            .arg(tick)?
+            .arg(file)?;
+        let matches = command.try_get_matches_from(words)?;
+        let tick = told_tick(matches.get_str("tick")).ok_or(UsageError::Usage)?;
+        Ok(Options {
+            tick,
+            file: matches.get_str("file"),
+        })
+    }
+}
+
+// The tick that the word tells, and the default one where there is no word.
+fn told_tick(word: Option<&str>) -> Option<u32>
+    ensures value { MatchOption word.entry (result ≡ Some 100) (λ told. result ≡ tick_of told.now) }
+    ensures range { IfSome result (λ tick. (1 ≤ tick) × (tick ≤ MAX_TICK)) }
+{
+    match word {
+        Some(word) => tick_of(word),
+        None => Some(DEFAULT_TICK),
+    }
+}
+
+// The number in the word, where it is 1 to 10000. Digits alone: `parse` would take a sign.
+fn tick_of(word: &str) -> Option<u32>
+    ensures value { result ≡ tick_of word.now }
+    ensures range { IfSome result (λ tick. (1 ≤ tick) × (tick ≤ MAX_TICK)) }
+{
+    if word.as_bytes().first() == Some(&b'+') {
+        return None;
+    }
+    let Ok(number) = word.parse::<u32>() else {
+        return None;
+    };
+    if 1 <= number && number <= MAX_TICK {
+        Some(number)
+    } else {
+        None
+    }
+}

@@ -1,0 +1,2 @@
+pub mod LastBuilds
+pub mod Library

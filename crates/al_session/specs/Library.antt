@@ -1,0 +1,11 @@
+-- A library as its fields stand for it.
+use Rattle.std.specs.Prelude.{Option, option_map}
+use Rattle.al_base.specs.Files.{Texts}
+use Rattle.al_serve.specs.Library.{State, LastBuild}
+use Rattle.al_session.specs.declared.last_build.LastBuild as declared
+
+abbrev pub last_seen : declared.LastBuild → LastBuild
+last_seen last = record { files = last.files; main = last.main }
+
+abbrev pub state_of : Texts → Option declared.LastBuild → State
+state_of now last = record { now = now; built = option_map last_seen last }

@@ -1,0 +1,14 @@
+//! A library of compilation units that compiles all its files anew at each build, and a session over it.
+#![tactic(auto)]
+
+mod last_build;
+mod library;
+mod memory;
+
+pub use al_serve::{Ended, serve, serve_within};
+pub use al_stream::{Counted, Device, Fault, Sink, Source};
+pub use library::Library;
+pub use memory::serve_bytes;
+
+#[cfg(test)]
+mod tests;
