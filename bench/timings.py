@@ -69,7 +69,7 @@ def main():
         base, _ = least(program, files(count))
         for what, command in (
             ("put over a file", put(b"u0.adb", b"x")),
-            ("put and delete of a new file", put(b"u0.ads", b"") + b"delete u0.ads\n"),
+            ("put and delete of a new name", put(b"u0.ads", b"") + b"delete u0.ads\n"),
             ("refused command", b"delete none.ads\n"),
         ):
             spent, _ = least(program, files(count) + command * repeats)
