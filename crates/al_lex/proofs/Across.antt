@@ -18,7 +18,7 @@ use Rattle.al_lex.specs.Bytes.{is_line_end, is_blank}
 use Rattle.al_lex.specs.Delimiters.{written}
 use Rattle.al_lex.specs.Shapes.{IsBlank, IsComment, IsDelimiter, IsLineEnd, IsLongest, IsNumber, IsNumeral, IsOf, IsString}
 use Rattle.al_lex.proofs.Prefixes.{head_of_front}
-use Rattle.al_lex.proofs.Tests.{both_left, both_right}
+use Rattle.al_lex.proofs.Joined.{both_left, both_right}
 use Rattle.al_lex.proofs.Written.{first, short}
 
 -- what the first bytes of each sort of piece are

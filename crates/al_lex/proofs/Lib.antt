@@ -1,4 +1,4 @@
-pub mod Tests
+pub mod Joined
 pub mod Runs
 pub mod Numerals
 pub mod Bodies

@@ -8,7 +8,7 @@ use Rattle.al_lex.specs.declared.token.Sort.TheVariants.{Gap, LineEnd}
 use Rattle.al_lex.specs.Bytes.{is_line_end, is_inside_line, is_blank}
 use Rattle.al_lex.specs.Shapes.{IsLineEnd, IsLongest, IsOf, IsWord}
 use Rattle.al_lex.proofs.Runs.{letter_in_word}
-use Rattle.al_lex.proofs.Tests.{both_left, both_right}
+use Rattle.al_lex.proofs.Joined.{both_left, both_right}
 
 one : (n : ℕ) → 1 + n ≡ suc n
 one n = omega arith

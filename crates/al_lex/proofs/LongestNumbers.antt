@@ -10,7 +10,7 @@ use Rattle.al_lex.specs.Numbers.{based_len, exponent_len, exponent_start, goes_o
 use Rattle.al_lex.specs.Shapes.{IsExponent, IsLongest, IsNumber, IsNumeral}
 use Rattle.al_lex.proofs.Numerals.{goes, ends, numeral_is}
 use Rattle.al_lex.proofs.Prefixes.{left_part, parts_length, right_part}
-use Rattle.al_lex.proofs.Tests.{both_left, both_right}
+use Rattle.al_lex.proofs.Joined.{both_left, both_right}
 
 -- neither the byte behind the end nor an underscore is a digit
 no_digit : (d : Digits) → is_digit d 0 ≡ true → ⊥

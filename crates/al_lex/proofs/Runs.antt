@@ -6,7 +6,7 @@ use Rattle.std.specs.List.{prefix_len}
 use Rattle.std.proofs.lemmas.Bool.{or_left}
 use Rattle.al_base.specs.Identifiers.{is_word_byte}
 use Rattle.al_lex.specs.Bytes.{is_inside_line}
-use Rattle.al_lex.proofs.Tests.{both_left}
+use Rattle.al_lex.proofs.Joined.{both_left}
 
 ors : (p q r : Bool) → (q || r) ≡ true → ((p || q) || r) ≡ true
 ors true q r h = refl

@@ -4,7 +4,7 @@ use Rattle.std.specs.Prelude.{if◌then◌else◌}
 use Rattle.al_lex.specs.declared.delimiter.Delimiter.{Delimiter as Delim}
 use Rattle.al_lex.specs.declared.delimiter.Delimiter.TheVariants.{Ampersand, Apostrophe, LeftParenthesis, RightParenthesis, Asterisk, Plus, Comma, Minus, Dot, Slash, Colon, Semicolon, Less, Equal, Greater, VerticalLine, Arrow, DoubleDot, DoubleAsterisk, Assign, NotEqual, GreaterOrEqual, LessOrEqual, LeftLabelBracket, RightLabelBracket, Box}
 use Rattle.al_lex.specs.Delimiters.{written, double, single}
-use Rattle.al_lex.proofs.Tests.{both_left, both_right}
+use Rattle.al_lex.proofs.Joined.{both_left, both_right}
 
 pub first : {x y : ℕ} {xs ys : List ℕ} → x ∷ xs ≡ y ∷ ys → y ≡ x
 first e = cc
