@@ -11,7 +11,7 @@ fn token(kind: Kind, start: usize, len: usize) -> Token {
             len,
             place: Place {
                 line: 1,
-                col: start + 1,
+                col: 1,
             },
         },
     }
