@@ -3,6 +3,7 @@ use Rattle.std.proofs.lemmas.List.{append_cancel_right}
 use Rattle.std.proofs.Common.{⊎_elim, ℕ, ◌≡◌, Bool, true, false, ◌⊎◌, inl, inr, List, [], ◌∷◌, ◌++◌, Option, Some, None, Ok, Err, if◌then◌else◌, refl, sym, ap, ◌∙◌}
 use Rattle.std.proofs.lemmas.Bool.{both_ways, cond-true, cond-false}
 use Rattle.al_grammar.specs.Grammar.{Lexeme, either, maybe}
+use Rattle.al_grammar.specs.Grammar.Lexeme.{Fixed}
 use Rattle.al_grammar.specs.Reading.{disjoint, begins, Read}
 use Rattle.al_grammar.proofs.Sets.{begins_parts, Starts, begins_same, starts_left, starts_right, starts_begins, starts_not}
 use Rattle.al_grammar.proofs.Language.{IsFront, IsOnline, Reads}
@@ -128,3 +129,31 @@ module _ (A : Type 0) (f : A → List Lexeme) (r : List Lexeme → Read) (fs ms 
     fault = λ ts u h. opt_fault ts u (begins fs ts) refl h;
     online = chosen_online fs r stays a.online stays_online;
   }
+
+-- a construct too deep: there is none
+refuses : List Lexeme → Read
+refuses xs = Err xs
+
+refuses_online : IsOnline refuses
+unfolding refuses
+refuses_online = record { ok = λ p c q s t h. absurd (cc); err = never_err }
+  where
+    same : (x y : List Lexeme) (m : Read) → m ≡ Err x → m ≡ Err y → x ≡ y
+    same x y m e d = cc
+
+    never_err : (p : List Lexeme) (c : Lexeme) (q s t : List Lexeme) → refuses (p ++ c ∷ s) ≡ Err (q ++ c ∷ s) → refuses (p ++ c ∷ t) ≡ Err (q ++ c ∷ t)
+    never_err p c q s t h = ap (λ (y : List Lexeme). Err (y ++ c ∷ t)) (append_cancel_right p q (c ∷ s) (same (p ++ c ∷ s) (q ++ c ∷ s) (refuses (p ++ c ∷ s)) refl h))
+
+pub none_there : (f : ⊥ → List Lexeme) (fs ms : List ℕ) → Reads ⊥ f (λ xs. Err xs) fs ms false
+unfolding refuses
+none_there f fs ms = record {
+  starts = λ x. absurd x;
+  again = λ x. absurd x;
+  unique = λ x. absurd x;
+  found = λ ts u h. absurd (cc);
+  fault = λ ts u h. ([], inl refl, cc);
+  online = refuses_online;
+}
+
+pub never : (k : ℕ) → Reads ⊥ (λ x. Fixed k ∷ absurd x) (λ xs. Err xs) (k ∷ []) [] false
+never k = none_there (λ x. Fixed k ∷ absurd x) (k ∷ []) []

@@ -1,11 +1,11 @@
 -- The reader that gives a tree reads as the one that gives only what is left.
 use Rattle.std.proofs.Common.{ℕ, zero, suc, ◌≡◌, ◌==◌, Bool, true, false, List, [], ◌∷◌, ◌++◌, length, Option, Some, None, Ok, Err, ◌⊎◌, inl, inr, if◌then◌else◌, refl, sym, ap, ap₂, ◌∙◌, append_assoc, eqb-true}
 use Rattle.std.proofs.lemmas.Bool.{cond-true, cond-false}
-use Rattle.al_grammar.specs.Grammar.{Label, Lexeme, Rule, Grammar, each, either, maybe, has_room, Within, within, Layer, Construct, Tree, layer_lexemes, construct_lexemes, lexemes_of}
+use Rattle.al_grammar.specs.Grammar.{Label, Lexeme, Rule, Grammar, each, either, maybe, marked, all_marked, has_room, Within, within, ByRoom, by_room, Layer, Construct, Tree, layer_lexemes, construct_lexemes, lexemes_of}
 use Rattle.al_grammar.specs.Grammar.Lexeme.{Fixed, Named}
-use Rattle.al_grammar.specs.Grammar.Rule.{One, Any, Seq, Alt, Opt, Many, Nest, Room}
-use Rattle.al_grammar.specs.Reading.{begins, first, Read, ◌>>=◌, one, any, times, layer_read, construct_read, read}
-use Rattle.al_grammar.specs.Growing.{Grown, remade, grow_on, grow_one, grow_any, grow_times, grow_within, layer_grow, construct_grow, grow}
+use Rattle.al_grammar.specs.Grammar.Rule.{One, Any, Seq, Alt, Opt, Many, Nest, Room, RoomOr, Marked}
+use Rattle.al_grammar.specs.Reading.{begins, first, Read, ◌>>=◌, one, any, times, turns, layer_read, construct_read, read}
+use Rattle.al_grammar.specs.Growing.{Grown, remade, grow_on, grow_one, grow_any, grow_times, put_before, grow_turns, grow_within, grow_by_room, layer_grow, construct_grow, grow}
 use Rattle.al_grammar.proofs.Sets.{bind_ok, bind_err, ok_same, not_both}
 use Rattle.al_grammar.proofs.Repeat.{once_more, no_more}
 
@@ -176,11 +176,114 @@ module _ (A : Type 0) (f : A → List Lexeme) (r : List Lexeme → Read) (v : Li
   pub grows_many : Grows (List A) (each f) (λ xs. times (length xs) fs r xs) (λ xs. grow_times (length xs) fs v xs)
   grows_many = record { found = λ ts u q. times_found (length ts) ts u q; fault = λ ts u q. times_fault (length ts) ts u q }
 
+-- ---- any number behind a mark, and perhaps a last one
+
+module _ (A B : Type 0) (k : ℕ) (f : A → List Lexeme) (g : B → List Lexeme) (r s : List Lexeme → Read) (v : List Lexeme → Grown A) (w : List Lexeme → Grown B) (a : Grows A f r v) (b : Grows B g s w) (fs : List ℕ) where
+  -- behind a mark, where more reads what follows
+  abbrev behind : (List Lexeme → Read) → List Lexeme → Read
+  behind more ys = if begins fs ys then (r ys >>= λ zs. more zs) else s ys
+
+  abbrev gone_on : (List Lexeme → Grown (List A × Option B)) → List Lexeme → Grown (List A × Option B)
+  gone_on m ys = grow_on (v ys) (λ x zs. remade (λ y. put_before x y) (m zs))
+
+  abbrev ended : List Lexeme → Grown (List A × Option B)
+  ended ys = remade (λ y. ([], Some y)) (w ys)
+
+  abbrev grow_behind : (List Lexeme → Grown (List A × Option B)) → List Lexeme → Grown (List A × Option B)
+  grow_behind m ys = if begins fs ys then gone_on m ys else ended ys
+
+  behind_found : (t : List Lexeme → Read) (m : List Lexeme → Grown (List A × Option B)) → Grows (List A × Option B) (all_marked k f g) t m → (ys u : List Lexeme) (o : Bool) → begins fs ys ≡ o → behind t ys ≡ Ok u → (x : List A × Option B) × (Fixed k ∷ ys ≡ all_marked k f g x ++ u) × (grow_behind m ys ≡ Some (x, u))
+  behind_found t m c ys u true e h =
+      let p = bind_ok (r ys) t u (sym (cond-true (begins fs ys) (r ys >>= λ zs. t zs) (s ys) e) ∙ h) in
+      let x = a.found ys p.0 p.1 in
+      let y = c.found p.0 u p.2 in
+      let es = each (marked k f) y.0.0 in
+      let last = maybe (marked k g) y.0.1 in (
+        put_before x.0 y.0,
+        ap (λ (t : List Lexeme). Fixed k ∷ t) (x.1 ∙ ap (λ (t : List Lexeme). f x.0 ++ t) y.1)
+            ∙ sym (append_assoc (Fixed k ∷ f x.0) (es ++ last) u)
+            ∙ ap (λ (t : List Lexeme). t ++ u) (sym (append_assoc (Fixed k ∷ f x.0) es last)),
+        cond-true (begins fs ys) (gone_on m ys) (ended ys) e
+            ∙ ap (λ (n : Grown A). grow_on n (λ x zs. remade (λ y. put_before x y) (m zs))) x.2
+            ∙ ap (λ (n : Grown (List A × Option B)). remade (λ y. put_before x.0 y) n) y.2,
+      )
+  behind_found t m c ys u false e h =
+      let y = b.found ys u (sym (cond-false (begins fs ys) (r ys >>= λ zs. t zs) (s ys) e) ∙ h) in
+      (([], Some y.0), ap (λ (t : List Lexeme). Fixed k ∷ t) y.1, cond-false (begins fs ys) (gone_on m ys) (ended ys) e ∙ ap (λ (n : Grown B). remade {A = B} {B = List A × Option B} (λ y. ([], Some y)) n) y.2)
+
+  behind_fault : (t : List Lexeme → Read) (m : List Lexeme → Grown (List A × Option B)) → Grows (List A × Option B) (all_marked k f g) t m → (ys u : List Lexeme) (o : Bool) → begins fs ys ≡ o → behind t ys ≡ Err u → grow_behind m ys ≡ None
+  behind_fault t m c ys u true e h =
+      cond-true (begins fs ys) (gone_on m ys) (ended ys) e ∙
+      elim (bind_err (r ys) t u (sym (cond-true (begins fs ys) (r ys >>= λ zs. t zs) (s ys) e) ∙ h)) [
+        | inl d ↦ ap (λ (n : Grown A). grow_on n (λ x zs. remade (λ y. put_before x y) (m zs))) (a.fault ys u d)
+        | inr d ↦
+            let x = a.found ys d.0 d.1 in
+            ap (λ (n : Grown A). grow_on n (λ x zs. remade (λ y. put_before x y) (m zs))) x.2
+            ∙ ap (λ (n : Grown (List A × Option B)). remade (λ y. put_before x.0 y) n) (c.fault d.0 u d.2)
+      ]
+  behind_fault t m c ys u false e h =
+      cond-false (begins fs ys) (gone_on m ys) (ended ys) e
+      ∙ ap (λ (n : Grown B). remade {A = B} {B = List A × Option B} (λ y. ([], Some y)) n) (b.fault ys u (sym (cond-false (begins fs ys) (r ys >>= λ zs. t zs) (s ys) e) ∙ h))
+
+  -- a mark, and what is behind it
+  mark_grows : (t : List Lexeme → Read) (m : List Lexeme → Grown (List A × Option B)) → Grows (List A × Option B) (all_marked k f g) t m → Grows (List A × Option B) (all_marked k f g) (λ xs. one k xs >>= λ ys. behind t ys) (λ xs. grow_on (grow_one k xs) (λ _ ys. grow_behind m ys))
+  mark_grows t m c = record {
+    found = λ ts u q.
+        let p = bind_ok (one k ts) (λ ys. behind t ys) u q in
+        let x = one_found k ts p.0 p.1 in
+        let y = behind_found t m c p.0 u (begins fs p.0) refl p.2 in
+        (y.0, x.1 ∙ y.1, ap (λ (n : Grown (Unit {0})). grow_on n (λ _ ys. grow_behind m ys)) x.2 ∙ y.2);
+    fault = λ ts u q.
+        elim (bind_err (one k ts) (λ ys. behind t ys) u q) [
+          | inl e ↦ ap (λ (n : Grown (Unit {0})). grow_on n (λ _ ys. grow_behind m ys)) (one_fault k ts u e)
+          | inr e ↦
+              let x = one_found k ts e.0 e.1 in
+              ap (λ (n : Grown (Unit {0})). grow_on n (λ _ ys. grow_behind m ys)) x.2 ∙ behind_fault t m c e.0 u (begins fs e.0) refl e.2
+        ];
+  }
+
+  module _ (t : List Lexeme → Read) (m : List Lexeme → Grown (List A × Option B)) (c : Grows (List A × Option B) (all_marked k f g) t m) where
+    here_found : (ts u : List Lexeme) (o : Bool) → begins (k ∷ []) ts ≡ o → (if begins (k ∷ []) ts then t ts else Ok ts) ≡ Ok u → (x : List A × Option B) × (ts ≡ all_marked k f g x ++ u) × ((if begins (k ∷ []) ts then m ts else Some (([], None), ts)) ≡ Some (x, u))
+    here_found ts u true e h =
+        let x = c.found ts u (sym (cond-true (begins (k ∷ []) ts) (t ts) (Ok ts) e) ∙ h) in
+        (x.0, x.1, cond-true (begins (k ∷ []) ts) (m ts) (Some (([], None), ts)) e ∙ x.2)
+    here_found ts u false e h =
+        let d : ts ≡ u = ok_same ts u (if begins (k ∷ []) ts then t ts else Ok ts) (cond-false (begins (k ∷ []) ts) (t ts) (Ok ts) e) h in
+        (([], None), d, cond-false (begins (k ∷ []) ts) (m ts) (Some (([], None), ts)) e ∙ ap (λ (l : List Lexeme). Some (([], None), l)) d)
+
+    here_fault : (ts u : List Lexeme) (o : Bool) → begins (k ∷ []) ts ≡ o → (if begins (k ∷ []) ts then t ts else Ok ts) ≡ Err u → (if begins (k ∷ []) ts then m ts else Some (([], None), ts)) ≡ None
+    here_fault ts u true e h = cond-true (begins (k ∷ []) ts) (m ts) (Some (([], None), ts)) e ∙ c.fault ts u (sym (cond-true (begins (k ∷ []) ts) (t ts) (Ok ts) e) ∙ h)
+    here_fault ts u false e h = not_both ts u (if begins (k ∷ []) ts then t ts else Ok ts) (cond-false (begins (k ∷ []) ts) (t ts) (Ok ts) e) h
+
+  grows_turns : (n : ℕ) → Grows (List A × Option B) (all_marked k f g) (turns n k fs r s) (grow_turns n k fs v w)
+  unfolding turns grow_turns
+  grows_turns zero =
+      let c : Grows (List A × Option B) (all_marked k f g) (λ xs. Err xs) (λ xs. None) = record { found = λ ts u q. absurd (cc); fault = λ ts u q. refl } in
+      record {
+        found = λ ts u q. here_found (λ xs. Err xs) (λ xs. None) c ts u (begins (k ∷ []) ts) refl q;
+        fault = λ ts u q. here_fault (λ xs. Err xs) (λ xs. None) c ts u (begins (k ∷ []) ts) refl q;
+      }
+  grows_turns (suc n) =
+      let t : List Lexeme → Read = λ xs. one k xs >>= λ ys. behind (turns n k fs r s) ys in
+      let m : List Lexeme → Grown (List A × Option B) = λ xs. grow_on (grow_one k xs) (λ _ ys. grow_behind (grow_turns n k fs v w) ys) in
+      let c = mark_grows (turns n k fs r s) (grow_turns n k fs v w) (grows_turns n) in
+      record {
+        found = λ ts u q. here_found t m c ts u (begins (k ∷ []) ts) refl q;
+        fault = λ ts u q. here_fault t m c ts u (begins (k ∷ []) ts) refl q;
+      }
+
+  pub grows_marked : Grows (List A × Option B) (all_marked k f g) (λ xs. turns (length xs) k fs r s xs) (λ xs. grow_turns (length xs) k fs v w xs)
+  grows_marked = record { found = λ ts u q. (grows_turns (length ts)).found ts u q; fault = λ ts u q. (grows_turns (length ts)).fault ts u q }
+
 -- ---- where there is room
 
 grows_within : (room : Bool) (A : Type 0) (f : A → List Lexeme) (r : List Lexeme → Read) (v : List Lexeme → Grown A) → Grows A f r v → Grows (Within room A) (within room f) (λ xs. if room then r xs else Err xs) (λ xs. grow_within room (v xs))
 grows_within true A f r v a = a
 grows_within false A f r v a = record { found = λ ts u q. absurd (cc); fault = λ ts u q. refl }
+
+grows_by_room : (room : Bool) (A B : Type 0) (f : A → List Lexeme) (g : B → List Lexeme) (r s : List Lexeme → Read) (v : List Lexeme → Grown A) (w : List Lexeme → Grown B) → Grows A f r v → Grows B g s w → Grows (ByRoom room A B) (by_room room f g) (λ xs. if room then r xs else s xs) (λ xs. grow_by_room room (v xs) (w xs))
+grows_by_room true A B f g r s v w a b = a
+grows_by_room false A B f g r s v w a b = b
 
 -- ---- every rule
 
@@ -193,6 +296,8 @@ module _ (room : Bool) (In : ℕ → Type 0) (f : (n : ℕ) → In n → List Le
   layer_grows (Opt a) = grows_opt (Layer room In a) (layer_lexemes room In f a) (layer_read room r a) (layer_grow room In w a) (layer_grows a) (first a)
   layer_grows (Many a) = grows_many (Layer room In a) (layer_lexemes room In f a) (layer_read room r a) (layer_grow room In w a) (layer_grows a) (first a)
   layer_grows (Nest k n) = inside k n
+  layer_grows (RoomOr a b) = grows_by_room room (Layer room In a) (Layer room In b) (layer_lexemes room In f a) (layer_lexemes room In f b) (layer_read room r a) (layer_read room r b) (layer_grow room In w a) (layer_grow room In w b) (layer_grows a) (layer_grows b)
+  layer_grows (Marked k a b) = grows_marked (Layer room In a) (Layer room In b) k (layer_lexemes room In f a) (layer_lexemes room In f b) (layer_read room r a) (layer_read room r b) (layer_grow room In w a) (layer_grow room In w b) (layer_grows a) (layer_grows b) (first a)
   layer_grows (Room a) = grows_within room (Layer room In a) (layer_lexemes room In f a) (layer_read room r a) (layer_grow room In w a) (layer_grows a)
 
 -- behind its first word

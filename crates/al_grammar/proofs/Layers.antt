@@ -2,43 +2,16 @@
 use Rattle.std.proofs.Common.{ℕ, zero, suc, ◌+◌, ◌-◌, ◌<◌, ◌≡◌, Bool, true, false, not, ◌&&◌, ◌||◌, inl, inr, ⊎_elim, List, [], ◌∷◌, ◌++◌, length, take, None, Ok, Err, if◌then◌else◌, refl, sym, ap, ◌∙◌, subst, append_assoc, append-nil, length-append, arith}
 use Rattle.std.proofs.lemmas.Bool.{and_parts, not-true}
 use Rattle.std.proofs.lemmas.List.{append_cancel_right, take_at}
-use Rattle.al_grammar.specs.Grammar.{Lexeme, Rule, Grammar, has_room, Within, within, Layer, Construct, Tree, layer_lexemes, construct_lexemes, lexemes_of, Sentence}
+use Rattle.al_grammar.specs.Grammar.{Lexeme, Rule, Grammar, has_room, Within, within, ByRoom, by_room, Layer, Construct, Tree, layer_lexemes, construct_lexemes, lexemes_of, Sentence}
 use Rattle.al_grammar.specs.Grammar.Lexeme.{Fixed}
-use Rattle.al_grammar.specs.Grammar.Rule.{One, Any, Seq, Alt, Opt, Many, Nest, Room}
+use Rattle.al_grammar.specs.Grammar.Rule.{One, Any, Seq, Alt, Opt, Many, Nest, Room, RoomOr, Marked}
 use Rattle.al_grammar.specs.Reading.{disjoint, none, begins, first, more, may_be_empty, is_plain, is_clear, IsClosed, Read, ◌>>=◌, one, layer_read, construct_read, read}
 use Rattle.al_grammar.specs.Place.{IsFaultAt}
-use Rattle.al_grammar.proofs.Sets.{ok_same, not_both}
+use Rattle.al_grammar.proofs.Sets.{begins_parts, starts_left, starts_right, ok_same, not_both}
 use Rattle.al_grammar.proofs.Language.{IsFront, IsOnline, Reads, reads_one, reads_any, reads_seq}
-use Rattle.al_grammar.proofs.Choice.{reads_alt, reads_opt}
+use Rattle.al_grammar.proofs.Choice.{none_there, never, reads_alt, reads_opt}
 use Rattle.al_grammar.proofs.Repeat.{reads_many}
-
--- a construct too deep: there is none
-refuses : List Lexeme → Read
-refuses xs = Err xs
-
-refuses_online : IsOnline refuses
-unfolding refuses
-refuses_online = record { ok = λ p c q s t h. absurd (cc); err = never_err }
-  where
-    same : (x y : List Lexeme) (m : Read) → m ≡ Err x → m ≡ Err y → x ≡ y
-    same x y m e d = cc
-
-    never_err : (p : List Lexeme) (c : Lexeme) (q s t : List Lexeme) → refuses (p ++ c ∷ s) ≡ Err (q ++ c ∷ s) → refuses (p ++ c ∷ t) ≡ Err (q ++ c ∷ t)
-    never_err p c q s t h = ap (λ (y : List Lexeme). Err (y ++ c ∷ t)) (append_cancel_right p q (c ∷ s) (same (p ++ c ∷ s) (q ++ c ∷ s) (refuses (p ++ c ∷ s)) refl h))
-
-none_there : (f : ⊥ → List Lexeme) (fs ms : List ℕ) → Reads ⊥ f (λ xs. Err xs) fs ms false
-unfolding refuses
-none_there f fs ms = record {
-  starts = λ x. absurd x;
-  again = λ x. absurd x;
-  unique = λ x. absurd x;
-  found = λ ts u h. absurd (cc);
-  fault = λ ts u h. ([], inl refl, cc);
-  online = refuses_online;
-}
-
-never : (k : ℕ) → Reads ⊥ (λ x. Fixed k ∷ absurd x) (λ xs. Err xs) (k ∷ []) [] false
-never k = none_there (λ x. Fixed k ∷ absurd x) (k ∷ []) []
+use Rattle.al_grammar.proofs.Marks.{reads_marked}
 
 -- where there is room
 room_reads : (room : Bool) (A : Type 0) (f : A → List Lexeme) (r : List Lexeme → Read) (fs ms : List ℕ) → (room ≡ true → Reads A f r fs ms false) → Reads (Within room A) (within room f) (λ xs. if room then r xs else Err xs) fs ms false
@@ -48,6 +21,34 @@ room_reads false A f r fs ms h = none_there (λ x. absurd x) fs ms
 room_tree : (room : Bool) (A : Type 0) → room ≡ true → A → Within room A
 room_tree true A h x = x
 room_tree false A h x = absurd (cc)
+
+-- one where there is room, the other where there is none
+by_room_reads : (room : Bool) (A B : Type 0) (f : A → List Lexeme) (g : B → List Lexeme) (r s : List Lexeme → Read) (fs gs ms ns : List ℕ) → (room ≡ true → Reads A f r fs ms false) → Reads B g s gs ns false → Reads (ByRoom room A B) (by_room room f g) (λ xs. if room then r xs else s xs) (fs ++ gs) (ms ++ ns) false
+by_room_reads true A B f g r s fs gs ms ns h b =
+    let a = h refl in
+    record {
+      starts = λ x. starts_left fs gs (f x) (a.starts x);
+      again = λ x ts i. a.again x ts (begins_parts ms ns ts i).0;
+      unique = λ x y ks ls i j q. a.unique x y ks ls (begins_parts ms ns ks i).0 (begins_parts ms ns ls j).0 q;
+      found = a.found;
+      fault = a.fault;
+      online = a.online;
+    }
+by_room_reads false A B f g r s fs gs ms ns h b = record {
+  starts = λ x. starts_right fs gs (g x) (b.starts x);
+  again = λ x ts i. b.again x ts (begins_parts ms ns ts i).1;
+  unique = λ x y ks ls i j q. b.unique x y ks ls (begins_parts ms ns ks i).1 (begins_parts ms ns ls j).1 q;
+  found = b.found;
+  fault = b.fault;
+  online = b.online;
+}
+
+by_room_tree : (room : Bool) (A B : Type 0) → (room ≡ true → A) → B → ByRoom room A B
+by_room_tree true A B h y = h refl
+by_room_tree false A B h y = y
+
+false_there : (room : Bool) → false ≡ true → room ≡ true
+false_there room h = absurd (cc)
 
 closed_more : (ms : List ℕ) (ts : List Lexeme) → none ms ≡ true → begins ms ts ≡ false
 closed_more [] [] h = refl
@@ -79,6 +80,10 @@ plain_tree room In some r there (Alt a b) h = inl (plain_tree room In some r the
 plain_tree room In some r there (Opt a) h = None
 plain_tree room In some r there (Many a) h = []
 plain_tree room In some r there (Nest k n) h = some (there h) n
+plain_tree room In some r there (RoomOr a b) h =
+    let p = and_parts (is_plain true a) (is_plain false b) h in
+    by_room_tree room (Layer room In a) (Layer room In b) (λ full. plain_tree room In some true (λ _. full) a p.0) (plain_tree room In some false (false_there room) b p.1)
+plain_tree room In some r there (Marked k a b) h = ([], None)
 plain_tree room In some r there (Room a) h =
     let p = and_parts r (is_plain true a) h in
     room_tree room (Layer room In a) (there p.0) (plain_tree room In some true (λ e. there p.0) a p.1)
@@ -114,14 +119,30 @@ module _ (room : Bool) (In : ℕ → Type 0) (f : (n : ℕ) → In n → List Le
       let q = and_parts (is_clear o a) (not (may_be_empty a)) p.0 in
       reads_many (Layer room In a) (layer_lexemes room In f a) (layer_read room r a) (first a) (more a) (filled a (may_be_empty a) (not-true (may_be_empty a) q.1) (layer_reads o there a q.0)) p.1
   layer_reads o there (Nest k n) h = inside k n
+  layer_reads o there (RoomOr a b) h =
+      let p = and_parts (is_clear true a && is_clear false b) (not (may_be_empty a) && not (may_be_empty b)) h in
+      let q = and_parts (is_clear true a) (is_clear false b) p.0 in
+      let t = and_parts (not (may_be_empty a)) (not (may_be_empty b)) p.1 in
+      let d = not-true (may_be_empty a) t.0 in
+      let e = not-true (may_be_empty b) t.1 in
+      let no : (may_be_empty a || may_be_empty b) ≡ false = rw (d, e) refl in
+      subst (λ e. Reads (Layer room In (RoomOr a b)) (layer_lexemes room In f (RoomOr a b)) (layer_read room r (RoomOr a b)) (first (RoomOr a b)) (more (RoomOr a b)) e) (sym no)
+      (by_room_reads room (Layer room In a) (Layer room In b) (layer_lexemes room In f a) (layer_lexemes room In f b) (layer_read room r a) (layer_read room r b) (first a) (first b) (more a) (more b)
+      (λ full. filled a (may_be_empty a) d (layer_reads true (λ _. full) a q.0)) (filled b (may_be_empty b) e (layer_reads false (false_there room) b q.1)))
+  layer_reads o there (Marked k a b) h =
+      let choice = (is_clear o a && is_clear o b) && ((not (may_be_empty a) && not (may_be_empty b)) && disjoint (first a) (first b)) in
+      let p = and_parts choice (is_plain o a && disjoint (more a) (k ∷ [])) h in
+      let q = and_parts (is_clear o a && is_clear o b) ((not (may_be_empty a) && not (may_be_empty b)) && disjoint (first a) (first b)) p.0 in
+      let c = and_parts (is_clear o a) (is_clear o b) q.0 in
+      let s = and_parts (not (may_be_empty a) && not (may_be_empty b)) (disjoint (first a) (first b)) q.1 in
+      let t = and_parts (not (may_be_empty a)) (not (may_be_empty b)) s.0 in
+      let u = and_parts (is_plain o a) (disjoint (more a) (k ∷ [])) p.1 in
+      reads_marked (Layer room In a) (Layer room In b) k (layer_lexemes room In f a) (layer_lexemes room In f b) (layer_read room r a) (layer_read room r b) (first a) (first b) (more a) (more b) (filled a (may_be_empty a) (not-true (may_be_empty a) t.0) (layer_reads o there a c.0)) (filled b (may_be_empty b) (not-true (may_be_empty b) t.1) (layer_reads o there b c.1)) s.1 u.1 (plain_tree room In some o there a u.0)
   layer_reads o there (Room a) h =
       let p = and_parts (is_clear true a) (not (may_be_empty a)) h in
       let e = not-true (may_be_empty a) p.1 in
       subst (λ e. Reads (Layer room In (Room a)) (layer_lexemes room In f (Room a)) (layer_read room r (Room a)) (first a) (more a) e) (sym e)
       (room_reads room (Layer room In a) (layer_lexemes room In f a) (layer_read room r a) (first a) (more a) (λ full. filled a (may_be_empty a) e (layer_reads true (λ _. full) a p.0)))
-
-false_there : (room : Bool) → false ≡ true → room ≡ true
-false_there room h = absurd (cc)
 
 -- where a construct may be open there is one of each
 pub some_construct : (g : Grammar) → IsClosed g → (d : ℕ) → has_room d ≡ true → (n : ℕ) → Construct g d n

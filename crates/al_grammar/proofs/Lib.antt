@@ -2,7 +2,9 @@ pub mod Sets
 pub mod Language
 pub mod Choice
 pub mod Repeat
+pub mod Marks
 pub mod Layers
 pub mod Steps
+pub mod Turns
 pub mod Growing
 pub mod Laws

@@ -7,7 +7,7 @@ use Rattle.al_grammar.proofs.Sets.{begins_parts, Starts, begins_same, starts_beg
 use Rattle.al_grammar.proofs.Language.{IsFront, IsOnline, Reads}
 use Rattle.al_grammar.proofs.Choice.{stays_online}
 
-bind_alike : (m : Read) (f g : List Lexeme → Read) → ((y : List Lexeme) → m ≡ Ok y → f y ≡ g y) → (m >>= f) ≡ (m >>= g)
+pub bind_alike : (m : Read) (f g : List Lexeme → Read) → ((y : List Lexeme) → m ≡ Ok y → f y ≡ g y) → (m >>= f) ≡ (m >>= g)
 bind_alike (Ok y) f g h = h y refl
 bind_alike (Err y) f g h = refl
 

@@ -20,6 +20,10 @@ begins-append xs ys (t ∷ ts) = mem-append (kind t) xs ys
 pub begins_parts : (xs ys : List ℕ) (ts : List Lexeme) → begins (xs ++ ys) ts ≡ false → (begins xs ts ≡ false) × (begins ys ts ≡ false)
 begins_parts xs ys ts h = or_parts (begins xs ts) (begins ys ts) (sym (begins-append xs ys ts) ∙ h)
 
+-- no part begins it, so the whole does not
+pub begins_neither : (xs ys : List ℕ) (ts : List Lexeme) → begins xs ts ≡ false → begins ys ts ≡ false → begins (xs ++ ys) ts ≡ false
+begins_neither xs ys ts h i = begins-append xs ys ts ∙ rw (h, i) refl
+
 pub disjoint_at : (xs ys : List ℕ) (k : ℕ) → disjoint xs ys ≡ true → mem k xs ≡ true → mem k ys ≡ false
 disjoint_at [] ys k d h = absurd (cc)
 disjoint_at (x ∷ xs) ys k d h =

@@ -19,6 +19,8 @@ kind (Named k label) = k
 
 -- Nest k n: the construct n, which begins with the word k. Its inside is one deeper.
 -- Room a: a, where one more construct may be open, since a cannot do without.
+-- RoomOr a b: a, where one more construct may be open, and b, where none may.
+-- Marked k a b: any number of a, each behind the mark k, and then perhaps one b behind the mark k.
 pub data Rule : Type 0 where
   One : ℕ → Rule
   Any : ℕ → Rule
@@ -28,6 +30,8 @@ pub data Rule : Type 0 where
   Many : Rule → Rule
   Nest : ℕ → ℕ → Rule
   Room : Rule → Rule
+  RoomOr : Rule → Rule → Rule
+  Marked : ℕ → Rule → Rule → Rule
 
 -- what each construct has behind its first word
 abbrev pub Grammar : Type 0
@@ -41,6 +45,10 @@ abbrev pub Within : Bool → Type 0 → Type 0
 Within true A = A
 Within false A = ⊥
 
+abbrev pub ByRoom : Bool → Type 0 → Type 0 → Type 0
+ByRoom true A B = A
+ByRoom false A B = B
+
 -- The trees of a rule, where those of a construct's inside are known.
 abbrev pub Layer : Bool → (ℕ → Type 0) → Rule → Type 0
 Layer room In (One k) = Unit {0}
@@ -51,6 +59,8 @@ Layer room In (Opt a) = Option (Layer room In a)
 Layer room In (Many a) = List (Layer room In a)
 Layer room In (Nest k n) = In n
 Layer room In (Room a) = Within room (Layer room In a)
+Layer room In (RoomOr a b) = ByRoom room (Layer room In a) (Layer room In b)
+Layer room In (Marked k a b) = List (Layer room In a) × Option (Layer room In b)
 
 -- constructs that nest at most d deep, themselves included
 abbrev pub Construct : Grammar → ℕ → ℕ → Type 0
@@ -76,6 +86,17 @@ abbrev pub within : {A : Type 0} → (room : Bool) → (A → List Lexeme) → W
 within true f x = f x
 within false f x = absurd x
 
+abbrev pub by_room : {A B : Type 0} → (room : Bool) → (A → List Lexeme) → (B → List Lexeme) → ByRoom room A B → List Lexeme
+by_room true f g x = f x
+by_room false f g x = g x
+
+-- behind the mark k
+abbrev pub marked : {A : Type 0} → ℕ → (A → List Lexeme) → A → List Lexeme
+marked k f x = Fixed k ∷ f x
+
+abbrev pub all_marked : {A B : Type 0} → ℕ → (A → List Lexeme) → (B → List Lexeme) → List A × Option B → List Lexeme
+all_marked k f g x = each (marked k f) x.0 ++ maybe (marked k g) x.1
+
 abbrev pub layer_lexemes : (room : Bool) (In : ℕ → Type 0) → ((n : ℕ) → In n → List Lexeme) → (a : Rule) → Layer room In a → List Lexeme
 layer_lexemes room In f (One k) x = Fixed k ∷ []
 layer_lexemes room In f (Any k) x = Named k x ∷ []
@@ -85,6 +106,8 @@ layer_lexemes room In f (Opt a) x = maybe (layer_lexemes room In f a) x
 layer_lexemes room In f (Many a) x = each (layer_lexemes room In f a) x
 layer_lexemes room In f (Nest k n) x = Fixed k ∷ f n x
 layer_lexemes room In f (Room a) x = within room (layer_lexemes room In f a) x
+layer_lexemes room In f (RoomOr a b) x = by_room room (layer_lexemes room In f a) (layer_lexemes room In f b) x
+layer_lexemes room In f (Marked k a b) x = all_marked k (layer_lexemes room In f a) (layer_lexemes room In f b) x
 
 abbrev pub construct_lexemes : (g : Grammar) (d n : ℕ) → Construct g d n → List Lexeme
 construct_lexemes g zero n x = absurd x

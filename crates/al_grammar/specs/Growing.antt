@@ -1,9 +1,9 @@
 -- The tree of a list of lexemes, read from left to right by the next lexeme alone, and the place of its fault.
 use Rattle.std.specs.Prelude.{ℕ, zero, suc, ◌==◌, ◌-◌, Bool, true, false, List, [], ◌∷◌, length, Option, Some, None, Ok, Err, if◌then◌else◌}
 use Rattle.std.proofs.Common.{inl, inr}
-use Rattle.al_grammar.specs.Grammar.{Label, Lexeme, Rule, Grammar, Within, Layer, Construct, Tree, has_room}
+use Rattle.al_grammar.specs.Grammar.{Label, Lexeme, Rule, Grammar, Within, ByRoom, Layer, Construct, Tree, has_room}
 use Rattle.al_grammar.specs.Grammar.Lexeme.{Fixed, Named}
-use Rattle.al_grammar.specs.Grammar.Rule.{One, Any, Seq, Alt, Opt, Many, Nest, Room}
+use Rattle.al_grammar.specs.Grammar.Rule.{One, Any, Seq, Alt, Opt, Many, Nest, Room, RoomOr, Marked}
 use Rattle.al_grammar.specs.Reading.{begins, first, Read, read}
 
 -- what was read, and what is left; or nothing, at a fault
@@ -34,10 +34,26 @@ unfoldable pub grow_times : {A : Type 0} → ℕ → List ℕ → (List Lexeme �
 grow_times zero s f xs = Some ([], xs)
 grow_times (suc n) s f xs = if begins s xs then grow_on (f xs) (λ y ys. remade (λ l. y ∷ l) (grow_times n s f ys)) else Some ([], xs)
 
+-- with x in front
+abbrev pub put_before : {A B : Type 0} → A → List A × Option B → List A × Option B
+put_before x y = (x ∷ y.0, y.1)
+
+-- at most n marks
+unfoldable pub grow_turns : {A B : Type 0} → ℕ → ℕ → List ℕ → (List Lexeme → Grown A) → (List Lexeme → Grown B) → List Lexeme → Grown (List A × Option B)
+grow_turns zero k s f g xs = if begins (k ∷ []) xs then None else Some (([], None), xs)
+grow_turns (suc n) k s f g xs =
+    if begins (k ∷ []) xs
+    then grow_on (grow_one k xs) (λ _ ys. if begins s ys then grow_on (f ys) (λ x zs. remade (λ y. put_before x y) (grow_turns n k s f g zs)) else remade (λ y. ([], Some y)) (g ys))
+    else Some (([], None), xs)
+
 -- where there is room
 abbrev pub grow_within : {A : Type 0} → (room : Bool) → Grown A → Grown (Within room A)
 grow_within true x = x
 grow_within false x = None
+
+abbrev pub grow_by_room : {A B : Type 0} → (room : Bool) → Grown A → Grown B → Grown (ByRoom room A B)
+grow_by_room true x y = x
+grow_by_room false x y = y
 
 abbrev pub layer_grow : (room : Bool) (In : ℕ → Type 0) → ((k n : ℕ) → List Lexeme → Grown (In n)) → (a : Rule) → List Lexeme → Grown (Layer room In a)
 layer_grow room In f (One k) xs = grow_one k xs
@@ -48,6 +64,8 @@ layer_grow room In f (Opt a) xs = if begins (first a) xs then remade (λ x. Some
 layer_grow room In f (Many a) xs = grow_times (length xs) (first a) (layer_grow room In f a) xs
 layer_grow room In f (Nest k n) xs = f k n xs
 layer_grow room In f (Room a) xs = grow_within room (layer_grow room In f a xs)
+layer_grow room In f (RoomOr a b) xs = grow_by_room room (layer_grow room In f a xs) (layer_grow room In f b xs)
+layer_grow room In f (Marked k a b) xs = grow_turns (length xs) k (first a) (layer_grow room In f a) (layer_grow room In f b) xs
 
 abbrev pub construct_grow : (g : Grammar) (d k n : ℕ) → List Lexeme → Grown (Construct g d n)
 construct_grow g zero k n xs = None

@@ -1,8 +1,8 @@
--- Reading from left to right by the next lexeme alone: what is left, or what is left from the fault on.
+-- Reading from left to right by the next lexeme (behind a mark, the one after it): what is left, or what is left from the fault on.
 use Rattle.std.specs.Prelude.{ℕ, zero, suc, ◌≡◌, ◌==◌, Bool, true, false, not, ◌&&◌, ◌||◌, List, [], ◌∷◌, ◌++◌, length, Result, Ok, Err, if◌then◌else◌}
 use Rattle.al_grammar.specs.Grammar.{Lexeme, Rule, Grammar, kind, has_room}
 use Rattle.al_grammar.specs.Grammar.Lexeme.{Fixed, Named}
-use Rattle.al_grammar.specs.Grammar.Rule.{One, Any, Seq, Alt, Opt, Many, Nest, Room}
+use Rattle.al_grammar.specs.Grammar.Rule.{One, Any, Seq, Alt, Opt, Many, Nest, Room, RoomOr, Marked}
 
 abbrev pub mem : ℕ → List ℕ → Bool
 mem k [] = false
@@ -30,6 +30,8 @@ may_be_empty (Opt a) = true
 may_be_empty (Many a) = true
 may_be_empty (Nest k n) = false
 may_be_empty (Room a) = may_be_empty a
+may_be_empty (RoomOr a b) = may_be_empty a || may_be_empty b
+may_be_empty (Marked k a b) = true
 
 -- the kinds that a rule begins with
 abbrev pub first : Rule → List ℕ
@@ -41,6 +43,8 @@ first (Opt a) = first a
 first (Many a) = first a
 first (Nest k n) = k ∷ []
 first (Room a) = first a
+first (RoomOr a b) = first a ++ first b
+first (Marked k a b) = k ∷ []
 
 -- the kinds that would make more of a rule at its end
 abbrev pub more : Rule → List ℕ
@@ -52,6 +56,8 @@ more (Opt a) = first a ++ more a
 more (Many a) = first a ++ more a
 more (Nest k n) = []
 more (Room a) = more a
+more (RoomOr a b) = more a ++ more b
+more (Marked k a b) = k ∷ (more a ++ more b)
 
 -- there is a tree with no construct in it, or, where there is room, with none inside another
 abbrev pub is_plain : Bool → Rule → Bool
@@ -63,8 +69,10 @@ is_plain r (Opt a) = true
 is_plain r (Many a) = true
 is_plain r (Nest k n) = r
 is_plain r (Room a) = r && is_plain true a
+is_plain r (RoomOr a b) = is_plain true a && is_plain false b
+is_plain r (Marked k a b) = true
 
--- the next lexeme tells what to read
+-- The next lexeme tells what to read. Behind a mark it is the one after the mark.
 abbrev pub is_clear : Bool → Rule → Bool
 is_clear r (One k) = true
 is_clear r (Any k) = true
@@ -74,6 +82,10 @@ is_clear r (Opt a) = is_clear r a && not (may_be_empty a)
 is_clear r (Many a) = (is_clear r a && not (may_be_empty a)) && disjoint (more a) (first a)
 is_clear r (Nest k n) = true
 is_clear r (Room a) = is_clear true a && not (may_be_empty a)
+is_clear r (RoomOr a b) = (is_clear true a && is_clear false b) && (not (may_be_empty a) && not (may_be_empty b))
+is_clear r (Marked k a b) =
+    ((is_clear r a && is_clear r b) && ((not (may_be_empty a) && not (may_be_empty b)) && disjoint (first a) (first b)))
+    && (is_plain r a && disjoint (more a) (k ∷ []))
 
 -- behind its first word each construct is clear, has a plain tree, and ends with a lexeme of its own
 abbrev pub is_closed : Rule → Bool
@@ -106,6 +118,12 @@ unfoldable pub times : ℕ → List ℕ → (List Lexeme → Read) → List Lexe
 times zero s f xs = Ok xs
 times (suc n) s f xs = if begins s xs then (f xs >>= λ ys. times n s f ys) else Ok xs
 
+-- At most n marks k are read. Behind one the next lexeme tells whether f reads, and then goes on, or g does, and then ends.
+unfoldable pub turns : ℕ → ℕ → List ℕ → (List Lexeme → Read) → (List Lexeme → Read) → List Lexeme → Read
+turns zero k s f g xs = if begins (k ∷ []) xs then Err xs else Ok xs
+turns (suc n) k s f g xs =
+    if begins (k ∷ []) xs then (one k xs >>= λ ys. if begins s ys then (f ys >>= λ zs. turns n k s f g zs) else g ys) else Ok xs
+
 abbrev pub layer_read : Bool → (ℕ → ℕ → List Lexeme → Read) → Rule → List Lexeme → Read
 layer_read room f (One k) xs = one k xs
 layer_read room f (Any k) xs = any k xs
@@ -115,6 +133,8 @@ layer_read room f (Opt a) xs = if begins (first a) xs then layer_read room f a x
 layer_read room f (Many a) xs = times (length xs) (first a) (layer_read room f a) xs
 layer_read room f (Nest k n) xs = f k n xs
 layer_read room f (Room a) xs = if room then layer_read room f a xs else Err xs
+layer_read room f (RoomOr a b) xs = if room then layer_read room f a xs else layer_read room f b xs
+layer_read room f (Marked k a b) xs = turns (length xs) k (first a) (layer_read room f a) (layer_read room f b) xs
 
 abbrev pub construct_read : Grammar → ℕ → ℕ → ℕ → List Lexeme → Read
 construct_read g zero k n xs = Err xs

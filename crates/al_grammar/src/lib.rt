@@ -1,7 +1,8 @@
 //! Grammars as terms: the trees of a grammar, the lexemes of a tree, and reading from left to right by the next lexeme.
 //!
 //! A rule (`specs/Grammar.antt`) is a lexeme of a kind, one rule after another, a choice, an option, a repetition, or a
-//! construct that nests. A grammar gives what each construct has behind its first word. Trees, their lexemes and the
+//! construct that nests. In a repetition behind a mark it is the lexeme after the mark that decides, and a rule may go by
+//! whether one more construct may be open. A grammar gives what each construct has behind its first word. Trees, their lexemes and the
 //! sentences follow by computation. That constructs nest at most so deep is part of a tree's type.
 //!
 //! `IsClosed` and `is_clear` (`specs/Reading.antt`) compute whether the next lexeme alone decides what to read. For every
