@@ -1,0 +1,9 @@
+pub mod Symbols
+pub mod Constructs
+pub mod Notation
+pub mod Expressions
+pub mod Declarations
+pub mod Statements
+pub mod Units
+pub mod Rules
+pub mod Laws

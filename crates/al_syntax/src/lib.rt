@@ -1,0 +1,35 @@
+//! The whole grammar of the language, as rules of `al_grammar`.
+//!
+//! `specs/Symbols.antt` has the kinds of lexemes, `specs/Constructs.antt` the constructs that nest, and
+//! `specs/{Expressions, Declarations, Statements, Units, Rules}.antt` the rules, by subject. They are factored so that the
+//! next lexeme alone decides what to read; behind the `'` of a name it is the lexeme after the `'`.
+//!
+//! The functions below have no code: their contracts are the laws of the grammar.
+#![tactic(auto)]
+
+ghost use Rattle.al_syntax.specs.Laws.{ConstructsArePlaced, FaultsAreFound, SymbolsAreNumbered, UnitsAreFound, UnitsAreUnique};
+
+/// No two trees of compilation units have one list of lexemes (the grammar is unambiguous).
+pub fn units_are_unique()
+    ensures { UnitsAreUnique }
+{}
+
+/// `tree_of` gives the tree of a compilation unit that has the lexemes, where there is one.
+pub fn units_are_found()
+    ensures { UnitsAreFound }
+{}
+
+/// `fault_of` gives the place of the fault of each list of lexemes that is no compilation unit's.
+pub fn faults_are_found()
+    ensures { FaultsAreFound }
+{}
+
+/// A symbol is found by its number as a kind of lexeme.
+pub fn symbols_are_numbered()
+    ensures { SymbolsAreNumbered }
+{}
+
+/// A construct is found by its place in the grammar.
+pub fn constructs_are_placed()
+    ensures { ConstructsArePlaced }
+{}
