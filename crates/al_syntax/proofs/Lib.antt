@@ -1,3 +1,4 @@
 pub mod Clear
 pub mod Laws
 pub mod Examples
+pub mod Plain

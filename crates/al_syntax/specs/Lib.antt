@@ -7,3 +7,4 @@ pub mod Statements
 pub mod Units
 pub mod Rules
 pub mod Laws
+pub mod Plain

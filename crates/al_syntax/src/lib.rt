@@ -7,6 +7,7 @@
 //! The functions below have no code: their contracts are the laws of the grammar.
 #![tactic(auto)]
 
+ghost use Rattle.al_syntax.specs.Plain.{RulesArePlain};
 ghost use Rattle.al_syntax.specs.Laws.{ConstructsArePlaced, FaultsAreFound, SymbolsAreNumbered, UnitsAreFound, UnitsAreUnique};
 
 /// No two trees of compilation units have one list of lexemes (the grammar is unambiguous).
@@ -32,4 +33,10 @@ pub fn symbols_are_numbered()
 /// A construct is found by its place in the grammar.
 pub fn constructs_are_placed()
     ensures { ConstructsArePlaced }
+{}
+
+/// A rule that was factored has the sentences of its plain form, as the Reference Manual writes it (ARM 3.3.1, 3.6, 4.1,
+/// 4.4, 5.1, 6.3, 10.1.3).
+pub fn rules_are_plain()
+    ensures { RulesArePlain }
 {}

@@ -1,0 +1,72 @@
+-- The rules without factoring: what each of those rules says that was written for reading by the next lexeme.
+use Rattle.std.specs.Prelude.{ℕ, ◌↔◌, List}
+use Rattle.al_grammar.specs.Grammar.{Lexeme, Rule, Sentence}
+use Rattle.al_grammar.specs.Grammar.Rule.{Opt, Many}
+use Rattle.al_syntax.specs.Symbols.Symbol.{Apostrophe, LeftParenthesis, RightParenthesis, Comma, Colon, Semicolon, Arrow, DoubleDot, Assign, And, Array, Constant, Else, In, Is, Not, Of, Or, Others, Separate, Then, Xor}
+use Rattle.al_syntax.specs.Constructs.Construct.{Parentheses, ArrayIndex, SubprogramBody}
+use Rattle.al_syntax.specs.Notation.{◌⨾◌, ◌∣◌, the, opens, parted}
+use Rattle.al_syntax.specs.Expressions.{identifier_rule, identifiers_rule, name_rest_rule, name_rule, parentheses_rule, simple_expression_rule, relational_rule, relation_rule, expression_rule}
+use Rattle.al_syntax.specs.Declarations.{subtype_indication_rule, array_rule, initial_rule, object_rule, specification_rule, subprogram_rule}
+use Rattle.al_syntax.specs.Statements.{loop_rule, block_rule, named_rule}
+use Rattle.al_syntax.specs.Rules.{inside, grammar}
+
+-- Both rules have the same sentences, however many constructs may be open.
+abbrev pub SameSentences : Rule → Rule → Type 0
+SameSentences a b = (d : ℕ) (xs : List Lexeme) → Sentence grammar d a xs ↔ Sentence grammar d b xs
+
+-- a name that is no qualified expression
+unfoldable pub target_rule : Rule
+target_rule = identifier_rule ⨾ name_rest_rule
+
+-- target [' parentheses]
+unfoldable pub plain_name_rule : Rule
+plain_name_rule = target_rule ⨾ Opt (the Apostrophe ⨾ parentheses_rule)
+
+-- simple [operator simple] | simple [not] in simple [.. simple]
+unfoldable pub plain_relation_rule : Rule
+plain_relation_rule =
+    simple_expression_rule ⨾ Opt (relational_rule ⨾ simple_expression_rule)
+    ∣ simple_expression_rule ⨾ Opt (the Not) ⨾ the In ⨾ simple_expression_rule ⨾ Opt (the DoubleDot ⨾ simple_expression_rule)
+
+-- relations with one logical operator between them
+unfoldable pub plain_expression_rule : Rule
+plain_expression_rule =
+    relation_rule ⨾ Many (the And ⨾ relation_rule)
+    ∣ relation_rule ⨾ Many (the Or ⨾ relation_rule)
+    ∣ relation_rule ⨾ Many (the Xor ⨾ relation_rule)
+    ∣ relation_rule ⨾ Many (the And ⨾ the Then ⨾ relation_rule)
+    ∣ relation_rule ⨾ Many (the Or ⨾ the Else ⨾ relation_rule)
+
+-- array ( range ) of indication
+unfoldable pub plain_array_rule : Rule
+plain_array_rule = the Array ⨾ opens LeftParenthesis ArrayIndex ⨾ the Of ⨾ subtype_indication_rule
+
+-- identifiers : [constant] (indication | array) [:= expression] ; | identifiers : constant := expression ;
+unfoldable pub plain_object_rule : Rule
+plain_object_rule =
+    identifiers_rule ⨾ the Colon ⨾ Opt (the Constant) ⨾ (subtype_indication_rule ∣ array_rule) ⨾ Opt initial_rule ⨾ the Semicolon
+    ∣ identifiers_rule ⨾ the Colon ⨾ the Constant ⨾ initial_rule ⨾ the Semicolon
+
+-- specification ; | specification is separate ; | specification is ..
+unfoldable pub plain_subprogram_rule : Rule
+plain_subprogram_rule =
+    specification_rule ⨾ the Semicolon
+    ∣ specification_rule ⨾ the Is ⨾ the Separate ⨾ the Semicolon
+    ∣ specification_rule ⨾ opens Is SubprogramBody
+
+-- target := expression ; | target ; | identifier : (loop | block)
+unfoldable pub plain_named_rule : Rule
+plain_named_rule =
+    target_rule ⨾ initial_rule ⨾ the Semicolon
+    ∣ target_rule ⨾ the Semicolon
+    ∣ identifier_rule ⨾ the Colon ⨾ (loop_rule ∣ block_rule)
+
+abbrev pub RulesArePlain : Type 0
+RulesArePlain =
+    SameSentences name_rule plain_name_rule
+    × SameSentences relation_rule plain_relation_rule
+    × SameSentences expression_rule plain_expression_rule
+    × SameSentences array_rule plain_array_rule
+    × SameSentences object_rule plain_object_rule
+    × SameSentences (specification_rule ⨾ subprogram_rule) plain_subprogram_rule
+    × SameSentences (identifier_rule ⨾ named_rule) plain_named_rule
