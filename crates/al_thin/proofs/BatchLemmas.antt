@@ -1,5 +1,5 @@
 -- What compiling gives where something is wrong, and where nothing is.
-use Rattle.std.proofs.Common.{◌≡◌, ℕ, ◌<◌, List, [], ◌∷◌, Option, Some, None, Result, Ok, Err, IfOk, length, map, refl, ap, ◌∙◌, sym, arith}
+use Rattle.std.proofs.Common.{◌≡◌, ℕ, ◌<◌, List, [], ◌∷◌, Some, None, Result, Ok, Err, IfOk, length, map, refl, ap, ◌∙◌, arith}
 use Rattle.al_base.specs.Files.{Texts}
 use Rattle.al_base.specs.Batch.{Batch, Faulty, NoMain, finding_of}
 use Rattle.al_base.specs.declared.diagnostic.Diagnostic.{Diagnostic}

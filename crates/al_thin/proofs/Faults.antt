@@ -1,5 +1,5 @@
 -- Lexemes with a syntax fault.
-use Rattle.std.proofs.Common.{◌≡◌, ℕ, List, Option, Some, None, refl, ◌∙◌, sym}
+use Rattle.std.proofs.Common.{◌≡◌, ℕ, List, Option, Some, None, refl}
 use Rattle.al_grammar.specs.Grammar.{Lexeme}
 use Rattle.al_tree.specs.Trees.{UnitTree}
 use Rattle.al_tree.specs.Units.{unit_of, syntax_fault_of, FaultsAreFound}

@@ -3,3 +3,4 @@ pub mod ReadingSeen
 pub mod Findings
 pub mod Batches
 pub mod Compiling
+pub mod Laws

@@ -7,10 +7,12 @@
 mod checking;
 mod coding;
 mod compiling;
+mod laws;
 mod naming;
 mod reading;
 
 pub use compiling::{Compiled, Program, compile};
+pub use laws::{findings_are_broken, texts_are_read};
 
 #[cfg(test)]
 mod tests;
