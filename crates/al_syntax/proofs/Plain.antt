@@ -1,18 +1,19 @@
 -- Each factored rule has the sentences of its plain form: trees of the one, with their lexemes, go to trees of the other.
-use Rattle.std.proofs.Common.{ℕ, zero, suc, ◌≡◌, inl, inr, List, [], ◌∷◌, ◌++◌, Option, Some, None, refl, sym, ap, ◌∙◌, append_assoc}
+use Rattle.std.proofs.Common.{ℕ, zero, suc, ◌≡◌, inl, inr, List, [], ◌∷◌, ◌++◌, Option, Some, None, refl, sym, ap, ◌∙◌, append_assoc, append-nil}
 use Rattle.al_grammar.specs.Grammar.{Label, Lexeme, Rule, each, maybe, marked, all_marked, Construct, Tree, lexemes_of, construct_lexemes}
 use Rattle.al_grammar.specs.Grammar.Lexeme.{Fixed, Named}
 use Rattle.al_grammar.specs.Grammar.Rule.{Opt, Many, Marked}
 use Rattle.al_syntax.specs.Symbols.{number}
-use Rattle.al_syntax.specs.Symbols.Symbol.{Identifier, Apostrophe, LeftParenthesis, Dot, Colon, Semicolon, And, Constant, Else, Or, Then, Xor}
+use Rattle.al_syntax.specs.Symbols.Symbol.{Identifier, Apostrophe, LeftParenthesis, RightParenthesis, Comma, Dot, Colon, Semicolon, Arrow, And, Body, Constant, Else, Is, Or, Others, Package, Task, Then, Xor}
 use Rattle.al_syntax.specs.Constructs.{construct_at}
-use Rattle.al_syntax.specs.Constructs.Construct.{Arguments}
+use Rattle.al_syntax.specs.Constructs.Construct.{Parentheses, Arguments, TaskBody, SubprogramBody, PackageDeclaration}
 use Rattle.al_syntax.specs.Notation.{◌⨾◌, ◌∣◌, the, opens}
-use Rattle.al_syntax.specs.Expressions.{identifier_rule, identifiers_rule, selection_rule, designator_rule, name_rest_rule, name_rule, parentheses_rule, simple_expression_rule, membership_rule, relation_rule, relational_rule, and_rule, or_rule, xor_rule, expression_rule}
-use Rattle.al_syntax.specs.Declarations.{subtype_indication_rule, array_rule, initial_rule, typed_rule, object_rule, specification_rule, subprogram_rule}
+use Rattle.al_syntax.specs.Expressions.{identifier_rule, identifiers_rule, selection_rule, designator_rule, name_rest_rule, name_rule, parentheses_rule, simple_expression_rule, membership_rule, relation_rule, relational_rule, and_rule, or_rule, xor_rule, expression_rule, expressions_rule}
+use Rattle.al_syntax.specs.Declarations.{subtype_indication_rule, array_rule, initial_rule, typed_rule, object_rule, specification_rule, subprogram_rule, task_rule, operation_body_rule}
 use Rattle.al_syntax.specs.Statements.{loop_rule, block_rule, named_rule}
+use Rattle.al_syntax.specs.Units.{library_item_rule}
 use Rattle.al_syntax.specs.Rules.{inside, grammar}
-use Rattle.al_syntax.specs.Plain.{SameSentences, target_rule, plain_name_rule, plain_relation_rule, plain_expression_rule, plain_array_rule, plain_object_rule, plain_subprogram_rule, plain_named_rule, RulesArePlain}
+use Rattle.al_syntax.specs.Plain.{SameSentences, target_rule, plain_name_rule, plain_relation_rule, plain_expression_rule, plain_array_rule, plain_object_rule, plain_subprogram_rule, plain_named_rule, plain_parentheses_rule, plain_task_rule, plain_operation_body_rule, plain_library_item_rule, RulesArePlain}
 
 -- a tree of b with these lexemes
 abbrev As : ℕ → Rule → List Lexeme → Type 0
@@ -291,6 +292,88 @@ plain_name d x = go x.0.0 x.0.1 x.1
     go i l None = ((i, ((split d l).0, ((split d l).1, None))), with_last i l [])
     go i l (Some p) = ((i, ((split d l).0, ((split d l).1, Some p.1))), with_last i l (Fixed tick ∷ lexemes_of grammar d parentheses_rule p.1))
 
+-- ---- what stands in parentheses
+
+-- the parenthesis that closes
+abbrev close : List Lexeme
+close = Fixed (number RightParenthesis) ∷ []
+
+parentheses_plain : (d : ℕ) → Into d (inside Parentheses) plain_parentheses_rule
+unfolding inside expressions_rule plain_parentheses_rule
+parentheses_plain d x = go x.0
+  where
+    listed : (e : Tree grammar d expression_rule) (l : Tree grammar d (Many (the Comma ⨾ expression_rule))) → As d plain_parentheses_rule (lexemes_of grammar d (inside Parentheses) (inl (e, l), tt))
+    listed e [] = (inl (e, tt), ap (λ (t : List Lexeme). t ++ close) (sym (append-nil (lexemes_of grammar d expression_rule e))))
+    listed e (y ∷ l) = (
+      inr (inl (e, (tt, ((y.1, l), tt)))),
+      sym (append_assoc (lexemes_of grammar d expression_rule e) (Fixed (number Comma) ∷ (lexemes_of grammar d expression_rule y.1 ++ lexemes_of grammar d (Many (the Comma ⨾ expression_rule)) l)) close),
+    )
+
+    go : (y : Tree grammar d (expressions_rule ∣ the Others ⨾ the Arrow ⨾ expression_rule)) → As d plain_parentheses_rule (lexemes_of grammar d (inside Parentheses) (y, tt))
+    go (inl y) = listed y.0 y.1
+    go (inr y) = (inr (inr (tt, (tt, (y.1.1, tt)))), refl)
+
+plain_parentheses : (d : ℕ) → Into d plain_parentheses_rule (inside Parentheses)
+unfolding inside expressions_rule plain_parentheses_rule
+plain_parentheses d (inl x) = ((inl (x.0, []), tt), ap (λ (t : List Lexeme). t ++ close) (append-nil (lexemes_of grammar d expression_rule x.0)))
+plain_parentheses d (inr (inl x)) =
+    let es = x.1.1.0 in (
+      (inl (x.0, (tt, es.0) ∷ es.1), tt),
+      append_assoc (lexemes_of grammar d expression_rule x.0) (Fixed (number Comma) ∷ (lexemes_of grammar d expression_rule es.0 ++ lexemes_of grammar d (Many (the Comma ⨾ expression_rule)) es.1)) close,
+    )
+plain_parentheses d (inr (inr x)) = ((inr (tt, (tt, x.1.1.0)), tt), refl)
+
+-- ---- bodies and units
+
+task_plain : (d : ℕ) → Into d (the Task ⨾ (task_rule ∣ opens Body TaskBody)) plain_task_rule
+unfolding plain_task_rule
+task_plain d x = go x.1
+  where
+    go : (y : Tree grammar d (task_rule ∣ opens Body TaskBody)) → As d plain_task_rule (lexemes_of grammar d (the Task ⨾ (task_rule ∣ opens Body TaskBody)) (tt, y))
+    go (inl y) = (inl (tt, y), refl)
+    go (inr y) = (inr (tt, y), refl)
+
+plain_task : (d : ℕ) → Into d plain_task_rule (the Task ⨾ (task_rule ∣ opens Body TaskBody))
+unfolding plain_task_rule
+plain_task d (inl x) = ((tt, inl x.1), refl)
+plain_task d (inr x) = ((tt, inr x.1), refl)
+
+operation_body_plain : (d : ℕ) → Into d operation_body_rule plain_operation_body_rule
+unfolding operation_body_rule plain_operation_body_rule
+operation_body_plain zero (inl x) = absurd x
+operation_body_plain (suc d) (inl x) = (inl x, refl)
+operation_body_plain d (inr x) = (inr x, refl)
+
+plain_operation_body : (d : ℕ) → Into d plain_operation_body_rule operation_body_rule
+unfolding operation_body_rule plain_operation_body_rule
+plain_operation_body zero (inl x) = absurd x.1
+plain_operation_body (suc d) (inl x) = (inl x, refl)
+plain_operation_body d (inr x) = (inr x, refl)
+
+library_item_plain : (d : ℕ) → Into d library_item_rule plain_library_item_rule
+unfolding library_item_rule plain_library_item_rule
+library_item_plain d (inl x) = go x.1
+  where
+    go : (y : Tree grammar d (specification_rule ⨾ the Semicolon ∣ opens Package PackageDeclaration)) → As d plain_library_item_rule (lexemes_of grammar d library_item_rule (inl (tt, y)))
+    go (inl y) = (inl (tt, y), refl)
+    go (inr y) = (inr (inl (tt, y)), refl)
+library_item_plain d (inr (inl x)) = go x.0 x.1
+  where
+    go : (s : Tree grammar d specification_rule) (y : Tree grammar d (the Semicolon ∣ opens Is SubprogramBody)) → As d plain_library_item_rule (lexemes_of grammar d library_item_rule (inr (inl (s, y))))
+    go s (inl y) = (inr (inr (inl (s, y))), refl)
+    go s (inr y) = (inr (inr (inr (inl (s, y)))), refl)
+library_item_plain d (inr (inr (inl x))) = (inr (inr (inr (inr (inl x)))), refl)
+library_item_plain d (inr (inr (inr x))) = (inr (inr (inr (inr (inr x)))), refl)
+
+plain_library_item : (d : ℕ) → Into d plain_library_item_rule library_item_rule
+unfolding library_item_rule plain_library_item_rule
+plain_library_item d (inl x) = (inl (tt, inl x.1), refl)
+plain_library_item d (inr (inl x)) = (inl (tt, inr x.1), refl)
+plain_library_item d (inr (inr (inl x))) = (inr (inl (x.0, inl x.1)), refl)
+plain_library_item d (inr (inr (inr (inl x)))) = (inr (inl (x.0, inr x.1)), refl)
+plain_library_item d (inr (inr (inr (inr (inl x))))) = (inr (inr (inl x)), refl)
+plain_library_item d (inr (inr (inr (inr (inr x))))) = (inr (inr (inr x)), refl)
+
 pub rules_plain : RulesArePlain
 rules_plain = (
   same name_rule plain_name_rule name_plain plain_name,
@@ -300,4 +383,8 @@ rules_plain = (
   same object_rule plain_object_rule object_plain plain_object,
   same (specification_rule ⨾ subprogram_rule) plain_subprogram_rule subprogram_plain plain_subprogram,
   same (identifier_rule ⨾ named_rule) plain_named_rule named_plain plain_named,
+  same (inside Parentheses) plain_parentheses_rule parentheses_plain plain_parentheses,
+  same (the Task ⨾ (task_rule ∣ opens Body TaskBody)) plain_task_rule task_plain plain_task,
+  same operation_body_rule plain_operation_body_rule operation_body_plain plain_operation_body,
+  same library_item_rule plain_library_item_rule library_item_plain plain_library_item,
 )

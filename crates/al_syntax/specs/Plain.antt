@@ -2,12 +2,13 @@
 use Rattle.std.specs.Prelude.{ℕ, ◌↔◌, List}
 use Rattle.al_grammar.specs.Grammar.{Lexeme, Rule, Sentence}
 use Rattle.al_grammar.specs.Grammar.Rule.{Opt, Many}
-use Rattle.al_syntax.specs.Symbols.Symbol.{Apostrophe, LeftParenthesis, RightParenthesis, Comma, Colon, Semicolon, Arrow, DoubleDot, Assign, And, Array, Constant, Else, In, Is, Not, Of, Or, Others, Separate, Then, Xor}
-use Rattle.al_syntax.specs.Constructs.Construct.{Parentheses, ArrayIndex, SubprogramBody}
+use Rattle.al_syntax.specs.Symbols.Symbol.{Apostrophe, LeftParenthesis, RightParenthesis, Comma, Colon, Semicolon, Arrow, DoubleDot, Assign, And, Array, Body, Constant, Else, Entry, In, Is, Not, Of, Or, Others, Package, Private, Separate, Task, Then, Xor}
+use Rattle.al_syntax.specs.Constructs.Construct.{Parentheses, ParentName, ArrayIndex, EntryBody, TaskBody, SubprogramBody, PackageDeclaration, PackageUnit}
 use Rattle.al_syntax.specs.Notation.{◌⨾◌, ◌∣◌, the, opens, parted}
-use Rattle.al_syntax.specs.Expressions.{identifier_rule, identifiers_rule, name_rest_rule, name_rule, parentheses_rule, simple_expression_rule, relational_rule, relation_rule, expression_rule}
-use Rattle.al_syntax.specs.Declarations.{subtype_indication_rule, array_rule, initial_rule, object_rule, specification_rule, subprogram_rule}
+use Rattle.al_syntax.specs.Expressions.{identifier_rule, identifiers_rule, name_rest_rule, name_rule, parentheses_rule, simple_expression_rule, relational_rule, relation_rule, expression_rule, expressions_rule}
+use Rattle.al_syntax.specs.Declarations.{subtype_indication_rule, array_rule, initial_rule, object_rule, specification_rule, subprogram_rule, task_rule, operation_body_rule}
 use Rattle.al_syntax.specs.Statements.{loop_rule, block_rule, named_rule}
+use Rattle.al_syntax.specs.Units.{library_item_rule}
 use Rattle.al_syntax.specs.Rules.{inside, grammar}
 
 -- Both rules have the same sentences, however many constructs may be open.
@@ -61,6 +62,31 @@ plain_named_rule =
     ∣ target_rule ⨾ the Semicolon
     ∣ identifier_rule ⨾ the Colon ⨾ (loop_rule ∣ block_rule)
 
+-- behind a parenthesis: expression ) | expression , expression {, expression} ) | others => expression )
+unfoldable pub plain_parentheses_rule : Rule
+plain_parentheses_rule =
+    expression_rule ⨾ the RightParenthesis
+    ∣ expression_rule ⨾ the Comma ⨾ expressions_rule ⨾ the RightParenthesis
+    ∣ the Others ⨾ the Arrow ⨾ expression_rule ⨾ the RightParenthesis
+
+-- a task, or the body of one
+unfoldable pub plain_task_rule : Rule
+plain_task_rule = the Task ⨾ task_rule ∣ the Task ⨾ opens Body TaskBody
+
+-- body in a protected body
+unfoldable pub plain_operation_body_rule : Rule
+plain_operation_body_rule = specification_rule ⨾ opens Is SubprogramBody ∣ opens Entry EntryBody
+
+-- the unit behind its context clause
+unfoldable pub plain_library_item_rule : Rule
+plain_library_item_rule =
+    the Private ⨾ specification_rule ⨾ the Semicolon
+    ∣ the Private ⨾ opens Package PackageDeclaration
+    ∣ specification_rule ⨾ the Semicolon
+    ∣ specification_rule ⨾ opens Is SubprogramBody
+    ∣ opens Package PackageUnit
+    ∣ the Separate ⨾ opens LeftParenthesis ParentName ⨾ specification_rule ⨾ opens Is SubprogramBody
+
 abbrev pub RulesArePlain : Type 0
 RulesArePlain =
     SameSentences name_rule plain_name_rule
@@ -70,3 +96,7 @@ RulesArePlain =
     × SameSentences object_rule plain_object_rule
     × SameSentences (specification_rule ⨾ subprogram_rule) plain_subprogram_rule
     × SameSentences (identifier_rule ⨾ named_rule) plain_named_rule
+    × SameSentences (inside Parentheses) plain_parentheses_rule
+    × SameSentences (the Task ⨾ (task_rule ∣ opens Body TaskBody)) plain_task_rule
+    × SameSentences operation_body_rule plain_operation_body_rule
+    × SameSentences library_item_rule plain_library_item_rule

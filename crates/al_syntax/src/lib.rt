@@ -36,7 +36,7 @@ pub fn constructs_are_placed()
 {}
 
 /// A rule that was factored has the sentences of its plain form, as the Reference Manual writes it (ARM 3.3.1, 3.6, 4.1,
-/// 4.4, 5.1, 6.3, 10.1.3).
+/// 4.3, 4.4, 5.1, 6.3, 9.1, 9.4, 10.1.1, 10.1.3).
 pub fn rules_are_plain()
     ensures { RulesArePlain }
 {}
