@@ -10,7 +10,6 @@ ghost use Rattle.std.specs.Prelude.{◌≤◌};
 
 mod options;
 mod status;
-
 #[cfg(test)]
 mod tests;
 

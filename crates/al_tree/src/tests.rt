@@ -9,10 +9,7 @@ fn token(kind: Kind, start: usize, len: usize) -> Token {
         span: Span {
             start,
             len,
-            place: Place {
-                line: 1,
-                col: 1,
-            },
+            place: Place { line: 1, col: 1 },
         },
     }
 }
