@@ -1,11 +1,13 @@
 #!/usr/bin/env python3
-"""timings.py PROGRAM: times sessions of growing size. Each line is the least of three runs, in milliseconds.
+"""timings.py PROGRAM [ada]: times sessions of growing size (with `ada` texts of Ada alone). Each line is the least of three runs, in milliseconds.
 
 Where an effort is linear, each doubling doubles the time beyond that of the empty session.
 """
 import pathlib
+import shutil
 import subprocess
 import sys
+import tempfile
 import time
 
 HELLO = b'with Ada.Text_IO; procedure Hello is begin Ada.Text_IO.Put_Line ("hi"); end Hello;'
@@ -47,8 +49,69 @@ def doubled(first, last):
         size *= 2
 
 
+STEP = b"""   procedure Step_%d (Count : in Integer; Total : in out Integer) is
+      Limit : constant Integer := 10 * Count + 3;
+      Sum   : Integer range 0 .. 9_999 := 0;
+   begin
+      for I in 1 .. Limit loop
+         if I mod 3 = 0 and then Sum < Limit * 2 then
+            Sum := Sum + I * (Count - 1); -- one more
+         elsif (I rem 5 = 1 or Sum /= 7) and not (Sum in 1 .. 100) then
+            Sum := abs (Sum - Integer'Succ (I) ** 2);
+         else
+            exit when Sum >= 16#3E8#;
+         end if;
+      end loop;
+      case Sum is
+         when 0 | 2 .. 5 => Total := Sum;
+         when others => Other.Note (Sum, Total);
+      end case;
+      Ada.Text_IO.Put_Line ("total " & Integer'Image (Total));
+   end Step_%d;
+"""
+
+
+def ada_text(size, last=b"end P;\n"):
+    """A package body of about so many bytes, of declarations, statements and expressions of many kinds."""
+    pieces = [b"with Ada.Text_IO; with Other;\npackage body P is\n"]
+    length = len(pieces[0]) + len(last)
+    while length < size:
+        number = len(pieces)
+        pieces.append(STEP % (number, number))
+        length += len(pieces[-1])
+    return b"".join(pieces) + last
+
+
+def compiler_time(text, runs=3):
+    """The least time of `gcc -c -gnats`, which reads the syntax alone, in milliseconds; None where there is no such compiler."""
+    if not shutil.which("gcc") or not shutil.which("gnatmake"):
+        return None
+    with tempfile.TemporaryDirectory() as folder:
+        (pathlib.Path(folder) / "p.adb").write_bytes(text)
+        best = None
+        for _ in range(runs):
+            start = time.perf_counter()
+            subprocess.run(["gcc", "-c", "-gnats", "p.adb"], cwd=folder, stdout=subprocess.PIPE, stderr=subprocess.PIPE)
+            spent = (time.perf_counter() - start) * 1000
+            best = spent if best is None else min(best, spent)
+    return best
+
+
+def texts_of_ada(program):
+    for what, last in (("Ada text", b"end P;\n"), ("Ada text with a fault in its last line", b"end P end;\n")):
+        for size in doubled(1 << 16, 1 << 20):
+            text = ada_text(size, last)
+            row(program, f"put and build: {what}", len(text), put(b"p.adb", text) + b"build p\n")
+            other = compiler_time(text)
+            if other is not None:
+                print(f"{'  gcc -c -gnats of the same text':<44} {len(text):>9} {other:>10.1f} ms")
+
+
 def main():
     program = str(pathlib.Path(sys.argv[1]).resolve())
+    if sys.argv[2:] == ["ada"]:
+        texts_of_ada(program)
+        return
     row(program, "empty session", 0, b"")
     for count in doubled(16, 4096):
         row(program, "put of so many files", count, files(count))
@@ -60,6 +123,7 @@ def main():
         room = size - len(procedure(b"P", b""))
         statements = b"null;" * (room // 5)
         row(program, "build of a text of so many bytes of statements", size, put(b"p.adb", procedure(b"P", statements)) + b"build p\n")
+    texts_of_ada(program)
     for count in doubled(1024, 65536):
         row(program, "session of so many refused commands", count, b"report order\n" * count)
         row(program, "session of so many puts over one file", count, put(b"hello.adb", HELLO) * count)

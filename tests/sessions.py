@@ -7,7 +7,9 @@ what comes of the session NAME cut to its first n bytes, for each n. command-lin
 the exit status and what it writes. Prints each failure, and last `N passed, M failed`.
 """
 import json
+import os
 import pathlib
+import select
 import subprocess
 import sys
 import tempfile
@@ -59,14 +61,17 @@ def input_of(name):
     return (SESSIONS / f"{name}.in").read_bytes()
 
 
+def words_of(name):
+    args = SESSIONS / f"{name}.args"
+    return args.read_text().split("\n")[:-1] if args.exists() else []
+
+
 def run_sessions(program, count):
     for out in sorted(SESSIONS.glob("*.out")):
         name = out.stem
         status = SESSIONS / f"{name}.exit"
-        args = SESSIONS / f"{name}.args"
-        words = args.read_text().split("\n")[:-1] if args.exists() else []
         wanted = (int(status.read_text()) if status.exists() else 0, out.read_bytes(), b"")
-        count.check(name, run(program, words, input_of(name)), wanted)
+        count.check(name, run(program, words_of(name), input_of(name)), wanted)
 
 
 def run_cuts(program, count):
@@ -111,6 +116,26 @@ def run_faults(program, count):
         count.check("input that can't be read", run(program, [], write_only), (1, b"", b""))
 
 
+def next_line(stream):
+    """The bytes up to a line end, or fewer where no more come within 20 seconds."""
+    line = b""
+    while not line.endswith(b"\n") and select.select([stream], [], [], 20)[0]:
+        some = os.read(stream.fileno(), 1)
+        if not some:
+            break
+        line += some
+    return line
+
+
+def run_turns(program, count):
+    """Each reply is there before the next command is written."""
+    turns = {b"delete a.ads\n": b"refused 2 no-file\n", b"run 1\n": b"refused 6 not-built\n", b"\n": b"refused 8 bad-command\n"}
+    with subprocess.Popen([program], stdin=subprocess.PIPE, stdout=subprocess.PIPE, bufsize=0) as talk:
+        for command, reply in turns.items():
+            talk.stdin.write(command)
+            count.check(f"the reply to {command} in its turn", (0, next_line(talk.stdout), b""), (0, reply, b""))
+
+
 def main():
     program = str(pathlib.Path(sys.argv[1]).resolve())
     count = Count()
@@ -118,6 +143,7 @@ def main():
     run_cuts(program, count)
     run_command_lines(program, count)
     run_faults(program, count)
+    run_turns(program, count)
     print(f"{count.passed} passed, {count.failed} failed")
     return count.failed != 0
 

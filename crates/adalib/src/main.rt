@@ -18,6 +18,7 @@ use options::{MAX_TICK, Options, UsageError};
 use status::status_of;
 use std::alloc::Global;
 use std::io;
+use std::io::BufWriter;
 use std::process::ExitCode;
 use std::rt::{Env, Files};
 
@@ -35,9 +36,9 @@ fn run<R: Env + Files + Input + Print + Eprint + AllocGlobal>(rt: &R) -> io::Res
         Ok(options) => match options.file {
             Some(path) => {
                 let file = std::fs::open(rt, path)?;
-                Ok(session(alloc, rt, file, options.tick))
+                session(alloc, rt, file, options.tick)
             }
-            None => Ok(session(alloc, rt, rt.reader(), options.tick)),
+            None => session(alloc, rt, rt.reader(), options.tick),
         },
         Err(UsageError::OutOfMemory) => Ok(ExitCode::FAILURE),
         Err(UsageError::Usage) => {
@@ -47,14 +48,20 @@ fn run<R: Env + Files + Input + Print + Eprint + AllocGlobal>(rt: &R) -> io::Res
     }
 }
 
-// One session, from an empty library.
-fn session<D: io::Read + Drop, R: Print>(alloc: Global, rt: &R, input: D, tick: u32) -> ExitCode
+// One session, from an empty library. Each reply is passed on at its end; what a device that fails leaves of it is dropped.
+fn session<D: io::Read + Drop, R: Print>(
+    alloc: Global,
+    rt: &R,
+    input: D,
+    tick: u32,
+) -> io::Result<ExitCode>
     requires some { 1 ≤ tick }
     requires few { tick ≤ MAX_TICK }
 {
     let mut reader = Counted::new(input);
-    let mut writer = Counted::new(io::writer(rt));
+    let mut writer = Counted::new(BufWriter::new(alloc, io::writer(rt))?);
     let mut library = Library::new(alloc);
     let ended = serve(alloc, &mut reader, &mut writer, &mut library, tick);
-    ExitCode::from(status_of(ended))
+    let _ = writer.into_inner().into_parts();
+    Ok(ExitCode::from(status_of(ended)))
 }

@@ -78,8 +78,8 @@ pub struct NoMemory;
 impl From<NoMemory> for Refusal {
     ghost from_gives = { λ _ e. e ≡ NoMemory };
 
-    fn from(_error: NoMemory) -> Refusal {
-        Refusal::NoMemory
+    fn from(_error: NoMemory) -> Self {
+        Self::NoMemory
     }
 }
 

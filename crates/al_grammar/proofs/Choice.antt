@@ -130,7 +130,7 @@ module _ (A : Type 0) (f : A → List Lexeme) (r : List Lexeme → Read) (fs ms 
     online = chosen_online fs r stays a.online stays_online;
   }
 
--- a construct too deep: there is none
+-- where there is none
 refuses : List Lexeme → Read
 refuses xs = Err xs
 
@@ -144,16 +144,16 @@ refuses_online = record { ok = λ p c q s t h. absurd (cc); err = never_err }
     never_err : (p : List Lexeme) (c : Lexeme) (q s t : List Lexeme) → refuses (p ++ c ∷ s) ≡ Err (q ++ c ∷ s) → refuses (p ++ c ∷ t) ≡ Err (q ++ c ∷ t)
     never_err p c q s t h = ap (λ (y : List Lexeme). Err (y ++ c ∷ t)) (append_cancel_right p q (c ∷ s) (same (p ++ c ∷ s) (q ++ c ∷ s) (refuses (p ++ c ∷ s)) refl h))
 
-pub none_there : (f : ⊥ → List Lexeme) (fs ms : List ℕ) → Reads ⊥ f (λ xs. Err xs) fs ms false
+pub none_there : (A : Type 0) (f : A → List Lexeme) (fs ms : List ℕ) → (A → ⊥) → Reads A f (λ xs. Err xs) fs ms false
 unfolding refuses
-none_there f fs ms = record {
-  starts = λ x. absurd x;
-  again = λ x. absurd x;
-  unique = λ x. absurd x;
+none_there A f fs ms empty = record {
+  starts = λ x. absurd (empty x);
+  again = λ x. absurd (empty x);
+  unique = λ x. absurd (empty x);
   found = λ ts u h. absurd (cc);
   fault = λ ts u h. ([], inl refl, cc);
   online = refuses_online;
 }
 
 pub never : (k : ℕ) → Reads ⊥ (λ x. Fixed k ∷ absurd x) (λ xs. Err xs) (k ∷ []) [] false
-never k = none_there (λ x. Fixed k ∷ absurd x) (k ∷ []) []
+never k = none_there ⊥ (λ x. Fixed k ∷ absurd x) (k ∷ []) [] (λ x. x)

@@ -3,7 +3,7 @@ use Rattle.std.proofs.Common.{ℕ, zero, suc, ◌≡◌, ◌==◌, Bool, true, f
 use Rattle.std.proofs.lemmas.Bool.{cond-true, cond-false}
 use Rattle.al_grammar.specs.Grammar.{Label, Lexeme, Rule, Grammar, each, either, maybe, marked, all_marked, has_room, Within, within, ByRoom, by_room, Layer, Construct, Tree, layer_lexemes, construct_lexemes, lexemes_of}
 use Rattle.al_grammar.specs.Grammar.Lexeme.{Fixed, Named}
-use Rattle.al_grammar.specs.Grammar.Rule.{One, Any, Seq, Alt, Opt, Many, Nest, Room, RoomOr, Marked}
+use Rattle.al_grammar.specs.Grammar.Rule.{One, Any, Seq, Alt, Opt, Many, Nest, Begun, Room, RoomOr, Marked}
 use Rattle.al_grammar.specs.Reading.{begins, first, Read, ◌>>=◌, one, any, times, turns, layer_read, construct_read, read}
 use Rattle.al_grammar.specs.Growing.{Grown, remade, grow_on, grow_one, grow_any, grow_times, put_before, grow_turns, grow_within, grow_by_room, layer_grow, construct_grow, grow}
 use Rattle.al_grammar.proofs.Sets.{bind_ok, bind_err, ok_same, not_both}
@@ -285,20 +285,11 @@ grows_by_room : (room : Bool) (A B : Type 0) (f : A → List Lexeme) (g : B → 
 grows_by_room true A B f g r s v w a b = a
 grows_by_room false A B f g r s v w a b = b
 
--- ---- every rule
+-- ---- constructs
 
-module _ (room : Bool) (In : ℕ → Type 0) (f : (n : ℕ) → In n → List Lexeme) (r : ℕ → ℕ → List Lexeme → Read) (w : (k n : ℕ) → List Lexeme → Grown (In n)) (inside : (k n : ℕ) → Grows (In n) (λ x. Fixed k ∷ f n x) (r k n) (w k n)) where
-  pub layer_grows : (a : Rule) → Grows (Layer room In a) (layer_lexemes room In f a) (layer_read room r a) (layer_grow room In w a)
-  layer_grows (One k) = record { found = one_found k; fault = one_fault k }
-  layer_grows (Any k) = record { found = any_found k; fault = any_fault k }
-  layer_grows (Seq a b) = grows_seq (Layer room In a) (Layer room In b) (layer_lexemes room In f a) (layer_lexemes room In f b) (layer_read room r a) (layer_read room r b) (layer_grow room In w a) (layer_grow room In w b) (layer_grows a) (layer_grows b)
-  layer_grows (Alt a b) = grows_alt (Layer room In a) (Layer room In b) (layer_lexemes room In f a) (layer_lexemes room In f b) (layer_read room r a) (layer_read room r b) (layer_grow room In w a) (layer_grow room In w b) (layer_grows a) (layer_grows b) (first a)
-  layer_grows (Opt a) = grows_opt (Layer room In a) (layer_lexemes room In f a) (layer_read room r a) (layer_grow room In w a) (layer_grows a) (first a)
-  layer_grows (Many a) = grows_many (Layer room In a) (layer_lexemes room In f a) (layer_read room r a) (layer_grow room In w a) (layer_grows a) (first a)
-  layer_grows (Nest k n) = inside k n
-  layer_grows (RoomOr a b) = grows_by_room room (Layer room In a) (Layer room In b) (layer_lexemes room In f a) (layer_lexemes room In f b) (layer_read room r a) (layer_read room r b) (layer_grow room In w a) (layer_grow room In w b) (layer_grows a) (layer_grows b)
-  layer_grows (Marked k a b) = grows_marked (Layer room In a) (Layer room In b) k (layer_lexemes room In f a) (layer_lexemes room In f b) (layer_read room r a) (layer_read room r b) (layer_grow room In w a) (layer_grow room In w b) (layer_grows a) (layer_grows b) (first a)
-  layer_grows (Room a) = grows_within room (Layer room In a) (layer_lexemes room In f a) (layer_read room r a) (layer_grow room In w a) (layer_grows a)
+where_room : (room : Bool) (A : Type 0) (f : A → List Lexeme) (r : List Lexeme → Read) (v : List Lexeme → Grown A) → Grows A f r v → Grows A f (λ xs. if room then r xs else Err xs) (λ xs. if room then v xs else None)
+where_room true A f r v a = a
+where_room false A f r v a = record { found = λ ts u q. absurd (cc); fault = λ ts u q. refl }
 
 -- behind its first word
 under : (k : ℕ) (B : Type 0) (h : B → List Lexeme) (s : List Lexeme → Read) (w : List Lexeme → Grown B) → Grows B h s w → Grows B (λ x. Fixed k ∷ h x) (λ xs. one k xs >>= s) (λ xs. grow_on (grow_one k xs) (λ _ ys. w ys))
@@ -315,11 +306,30 @@ under k B h s w b = record {
       ];
 }
 
-pub construct_grows : (g : Grammar) (d k n : ℕ) → Grows (Construct g d n) (λ x. Fixed k ∷ construct_lexemes g d n x) (construct_read g d k n) (construct_grow g d k n)
-construct_grows g zero k n = record { found = λ ts u q. absurd (cc); fault = λ ts u q. refl }
-construct_grows g (suc d) k n =
-    under k (Layer (has_room d) (Construct g d) (g n)) (layer_lexemes (has_room d) (Construct g d) (construct_lexemes g d) (g n)) (layer_read (has_room d) (construct_read g d) (g n)) (layer_grow (has_room d) (Construct g d) (construct_grow g d) (g n))
-    (layer_grows (has_room d) (Construct g d) (construct_lexemes g d) (construct_read g d) (construct_grow g d) (construct_grows g d) (g n))
+-- ---- every rule
+
+grows_any : (k : ℕ) → Grows Label (λ x. Named k x ∷ []) (any k) (grow_any k)
+grows_any k = record { found = any_found k; fault = any_fault k }
+
+module _ (room : Bool) (In : ℕ → Type 0) (f : (n : ℕ) → In n → List Lexeme) (r : ℕ → List Lexeme → Read) (w : (n : ℕ) → List Lexeme → Grown (In n)) (inside : (n : ℕ) → Grows (In n) (f n) (r n) (w n)) where
+  pub layer_grows : (a : Rule) → Grows (Layer room In a) (layer_lexemes room In f a) (layer_read room r a) (layer_grow room In w a)
+  layer_grows (One k) = record { found = one_found k; fault = one_fault k }
+  layer_grows (Any k) = grows_any k
+  layer_grows (Seq a b) = grows_seq (Layer room In a) (Layer room In b) (layer_lexemes room In f a) (layer_lexemes room In f b) (layer_read room r a) (layer_read room r b) (layer_grow room In w a) (layer_grow room In w b) (layer_grows a) (layer_grows b)
+  layer_grows (Alt a b) = grows_alt (Layer room In a) (Layer room In b) (layer_lexemes room In f a) (layer_lexemes room In f b) (layer_read room r a) (layer_read room r b) (layer_grow room In w a) (layer_grow room In w b) (layer_grows a) (layer_grows b) (first a)
+  layer_grows (Opt a) = grows_opt (Layer room In a) (layer_lexemes room In f a) (layer_read room r a) (layer_grow room In w a) (layer_grows a) (first a)
+  layer_grows (Many a) = grows_many (Layer room In a) (layer_lexemes room In f a) (layer_read room r a) (layer_grow room In w a) (layer_grows a) (first a)
+  layer_grows (Nest k n) = where_room room (In n) (λ x. Fixed k ∷ f n x) (λ xs. one k xs >>= r n) (λ xs. grow_on (grow_one k xs) (λ _ ys. w n ys)) (under k (In n) (f n) (r n) (w n) (inside n))
+  layer_grows (Begun k n) =
+      where_room room (Label × In n) (λ x. Named k x.0 ∷ f n x.1) (λ xs. any k xs >>= r n) (λ xs. grow_on (grow_any k xs) (λ x ys. remade (λ y. (x, y)) (w n ys)))
+      (grows_seq Label (In n) (λ x. Named k x ∷ []) (f n) (any k) (r n) (grow_any k) (w n) (grows_any k) (inside n))
+  layer_grows (RoomOr a b) = grows_by_room room (Layer room In a) (Layer room In b) (layer_lexemes room In f a) (layer_lexemes room In f b) (layer_read room r a) (layer_read room r b) (layer_grow room In w a) (layer_grow room In w b) (layer_grows a) (layer_grows b)
+  layer_grows (Marked k a b) = grows_marked (Layer room In a) (Layer room In b) k (layer_lexemes room In f a) (layer_lexemes room In f b) (layer_read room r a) (layer_read room r b) (layer_grow room In w a) (layer_grow room In w b) (layer_grows a) (layer_grows b) (first a)
+  layer_grows (Room a) = grows_within room (Layer room In a) (layer_lexemes room In f a) (layer_read room r a) (layer_grow room In w a) (layer_grows a)
+
+pub construct_grows : (g : Grammar) (d n : ℕ) → Grows (Construct g d n) (construct_lexemes g d n) (construct_read g d n) (construct_grow g d n)
+construct_grows g zero n = record { found = λ ts u q. absurd (cc); fault = λ ts u q. refl }
+construct_grows g (suc d) n = layer_grows (has_room d) (Construct g d) (construct_lexemes g d) (construct_read g d) (construct_grow g d) (construct_grows g d) (g n)
 
 pub grows : (g : Grammar) (d : ℕ) (a : Rule) → Grows (Tree g d a) (lexemes_of g d a) (read g d a) (grow g d a)
 grows g d a = layer_grows (has_room d) (Construct g d) (construct_lexemes g d) (construct_read g d) (construct_grow g d) (construct_grows g d) a

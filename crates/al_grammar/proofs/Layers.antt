@@ -1,22 +1,22 @@
 -- What reading does for every rule that is clear.
 use Rattle.std.proofs.Common.{ℕ, zero, suc, ◌+◌, ◌-◌, ◌<◌, ◌≡◌, Bool, true, false, not, ◌&&◌, ◌||◌, inl, inr, ⊎_elim, List, [], ◌∷◌, ◌++◌, length, take, None, Ok, Err, if◌then◌else◌, refl, sym, ap, ◌∙◌, subst, append_assoc, append-nil, length-append, arith}
 use Rattle.std.proofs.lemmas.Bool.{and_parts, not-true}
-use Rattle.std.proofs.lemmas.List.{append_cancel_right, take_at}
-use Rattle.al_grammar.specs.Grammar.{Lexeme, Rule, Grammar, has_room, Within, within, ByRoom, by_room, Layer, Construct, Tree, layer_lexemes, construct_lexemes, lexemes_of, Sentence}
-use Rattle.al_grammar.specs.Grammar.Lexeme.{Fixed}
-use Rattle.al_grammar.specs.Grammar.Rule.{One, Any, Seq, Alt, Opt, Many, Nest, Room, RoomOr, Marked}
-use Rattle.al_grammar.specs.Reading.{disjoint, none, begins, first, more, may_be_empty, is_plain, is_clear, IsClosed, Read, ◌>>=◌, one, layer_read, construct_read, read}
+use Rattle.std.proofs.lemmas.List.{take_at}
+use Rattle.al_grammar.specs.Grammar.{Label, Lexeme, Rule, Grammar, has_room, Within, within, ByRoom, by_room, Layer, Construct, Tree, layer_lexemes, construct_lexemes, lexemes_of, Sentence}
+use Rattle.al_grammar.specs.Grammar.Lexeme.{Fixed, Named}
+use Rattle.al_grammar.specs.Grammar.Rule.{One, Any, Seq, Alt, Opt, Many, Nest, Begun, Room, RoomOr, Marked}
+use Rattle.al_grammar.specs.Reading.{disjoint, none, first, more, may_be_empty, is_plain, is_clear, IsClosed, Read, ◌>>=◌, one, any, layer_read, construct_read, read}
 use Rattle.al_grammar.specs.Place.{IsFaultAt}
 use Rattle.al_grammar.proofs.Sets.{begins_parts, starts_left, starts_right, ok_same, not_both}
-use Rattle.al_grammar.proofs.Language.{IsFront, IsOnline, Reads, reads_one, reads_any, reads_seq}
-use Rattle.al_grammar.proofs.Choice.{none_there, never, reads_alt, reads_opt}
+use Rattle.al_grammar.proofs.Language.{IsFront, Reads, reads_one, reads_any, reads_seq}
+use Rattle.al_grammar.proofs.Choice.{none_there, reads_alt, reads_opt}
 use Rattle.al_grammar.proofs.Repeat.{reads_many}
 use Rattle.al_grammar.proofs.Marks.{reads_marked}
 
 -- where there is room
 room_reads : (room : Bool) (A : Type 0) (f : A → List Lexeme) (r : List Lexeme → Read) (fs ms : List ℕ) → (room ≡ true → Reads A f r fs ms false) → Reads (Within room A) (within room f) (λ xs. if room then r xs else Err xs) fs ms false
 room_reads true A f r fs ms h = h refl
-room_reads false A f r fs ms h = none_there (λ x. absurd x) fs ms
+room_reads false A f r fs ms h = none_there ⊥ (λ x. absurd x) fs ms (λ x. x)
 
 room_tree : (room : Bool) (A : Type 0) → room ≡ true → A → Within room A
 room_tree true A h x = x
@@ -50,36 +50,41 @@ by_room_tree false A B h y = y
 false_there : (room : Bool) → false ≡ true → room ≡ true
 false_there room h = absurd (cc)
 
-closed_more : (ms : List ℕ) (ts : List Lexeme) → none ms ≡ true → begins ms ts ≡ false
-closed_more [] [] h = refl
-closed_more [] (t ∷ ts) h = refl
-closed_more (m ∷ ms) ts h = absurd (cc)
+none_empty : (ms : List ℕ) → none ms ≡ true → ms ≡ []
+none_empty [] h = refl
+none_empty (m ∷ ms) h = absurd (cc)
 
-chosen_end : (ms : List ℕ) (e : Bool) (ts : List Lexeme) → none ms ≡ true → begins (if e then [] ++ ms else ms) ts ≡ false
-chosen_end ms true ts h = closed_more ms ts h
-chosen_end ms false ts h = closed_more ms ts h
+-- a construct, which is refused where no more may be open
+where_room : (room : Bool) (A : Type 0) (f : A → List Lexeme) (r : List Lexeme → Read) (fs : List ℕ) → (room ≡ false → A → ⊥) → (room ≡ true → Reads A f r fs [] false) → Reads A f (λ xs. if room then r xs else Err xs) fs [] false
+where_room true A f r fs empty h = h refl
+where_room false A f r fs empty h = none_there A f fs [] (empty refl)
 
 -- behind its first word
-under : (k : ℕ) (B : Type 0) (g : B → List Lexeme) (s : List Lexeme → Read) (gs ns : List ℕ) (e : Bool) → Reads B g s gs ns e → none ns ≡ true → B → Reads B (λ x. Fixed k ∷ g x) (λ xs. one k xs >>= s) (k ∷ []) [] false
-under k B g s gs ns e b closed y =
-    let w : Reads ((Unit {0}) × B) (λ x. (Fixed k ∷ []) ++ g x.1) (λ xs. one k xs >>= s) (k ∷ []) (if e then [] ++ ns else ns) false = reads_seq (Unit {0}) B (λ _. Fixed k ∷ []) g (one k) s (k ∷ []) gs [] ns false e (reads_one k) b refl y in
+under : (k : ℕ) (B : Type 0) (g : B → List Lexeme) (s : List Lexeme → Read) (gs : List ℕ) → Reads B g s gs [] false → B → Reads B (λ x. Fixed k ∷ g x) (λ xs. one k xs >>= s) (k ∷ []) [] false
+under k B g s gs b y =
+    let w : Reads ((Unit {0}) × B) (λ x. (Fixed k ∷ []) ++ g x.1) (λ xs. one k xs >>= s) (k ∷ []) [] false = reads_seq (Unit {0}) B (λ _. Fixed k ∷ []) g (one k) s (k ∷ []) gs [] [] false false (reads_one k) b refl y in
     record {
       starts = λ x. w.starts (tt, x);
-      again = λ x ts h. w.again (tt, x) ts (chosen_end ns e ts closed);
-      unique = λ x z ks ls h i q. ap (λ (p : (Unit {0}) × B). p.1) (w.unique (tt, x) (tt, z) ks ls (chosen_end ns e ks closed) (chosen_end ns e ls closed) q);
+      again = λ x ts h. w.again (tt, x) ts h;
+      unique = λ x z ks ls h i q. ap (λ (p : (Unit {0}) × B). p.1) (w.unique (tt, x) (tt, z) ks ls h i q);
       found = λ ts u h. let x = w.found ts u h in (x.0.1, x.1);
       fault = λ ts u h. let x = w.fault ts u h in (x.0, ⊎_elim (λ q. inl q) (λ v. inr (v.0.1, v.1, v.2)) x.1, x.2);
       online = w.online;
     }
 
+-- a label like any other
+no_label : Label
+no_label = record { text = []; line = 0; col = 0 }
+
 pub plain_tree : (room : Bool) (In : ℕ → Type 0) → (room ≡ true → (n : ℕ) → In n) → (r : Bool) → (r ≡ true → room ≡ true) → (a : Rule) → is_plain r a ≡ true → Layer room In a
 plain_tree room In some r there (One k) h = tt
-plain_tree room In some r there (Any k) h = record { text = []; line = 0; col = 0 }
+plain_tree room In some r there (Any k) h = no_label
 plain_tree room In some r there (Seq a b) h = let p = and_parts (is_plain r a) (is_plain r b) h in (plain_tree room In some r there a p.0, plain_tree room In some r there b p.1)
 plain_tree room In some r there (Alt a b) h = inl (plain_tree room In some r there a h)
 plain_tree room In some r there (Opt a) h = None
 plain_tree room In some r there (Many a) h = []
 plain_tree room In some r there (Nest k n) h = some (there h) n
+plain_tree room In some r there (Begun k n) h = (no_label, some (there h) n)
 plain_tree room In some r there (RoomOr a b) h =
     let p = and_parts (is_plain true a) (is_plain false b) h in
     by_room_tree room (Layer room In a) (Layer room In b) (λ full. plain_tree room In some true (λ _. full) a p.0) (plain_tree room In some false (false_there room) b p.1)
@@ -88,7 +93,7 @@ plain_tree room In some r there (Room a) h =
     let p = and_parts r (is_plain true a) h in
     room_tree room (Layer room In a) (there p.0) (plain_tree room In some true (λ e. there p.0) a p.1)
 
-module _ (room : Bool) (In : ℕ → Type 0) (f : (n : ℕ) → In n → List Lexeme) (r : ℕ → ℕ → List Lexeme → Read) (some : room ≡ true → (n : ℕ) → In n) (inside : (k n : ℕ) → Reads (In n) (λ x. Fixed k ∷ f n x) (r k n) (k ∷ []) [] false) where
+module _ (room : Bool) (In : ℕ → Type 0) (f : (n : ℕ) → In n → List Lexeme) (r : ℕ → List Lexeme → Read) (fs : ℕ → List ℕ) (some : room ≡ true → (n : ℕ) → In n) (empty : room ≡ false → (n : ℕ) → In n → ⊥) (inside : (n : ℕ) → Reads (In n) (f n) (r n) (fs n) [] false) where
   -- as a rule that has a lexeme at least
   filled : (a : Rule) (e : Bool) → e ≡ false → Reads (Layer room In a) (layer_lexemes room In f a) (layer_read room r a) (first a) (more a) e → Reads (Layer room In a) (layer_lexemes room In f a) (layer_read room r a) (first a) (more a) false
   filled a e h w = subst (λ e. Reads (Layer room In a) (layer_lexemes room In f a) (layer_read room r a) (first a) (more a) e) h w
@@ -118,7 +123,10 @@ module _ (room : Bool) (In : ℕ → Type 0) (f : (n : ℕ) → In n → List Le
       let p = and_parts (is_clear o a && not (may_be_empty a)) (disjoint (more a) (first a)) h in
       let q = and_parts (is_clear o a) (not (may_be_empty a)) p.0 in
       reads_many (Layer room In a) (layer_lexemes room In f a) (layer_read room r a) (first a) (more a) (filled a (may_be_empty a) (not-true (may_be_empty a) q.1) (layer_reads o there a q.0)) p.1
-  layer_reads o there (Nest k n) h = inside k n
+  layer_reads o there (Nest k n) h = where_room room (In n) (λ x. Fixed k ∷ f n x) (λ xs. one k xs >>= r n) (k ∷ []) (λ none. empty none n) (λ full. under k (In n) (f n) (r n) (fs n) (inside n) (some full n))
+  layer_reads o there (Begun k n) h =
+      where_room room (Label × In n) (λ x. Named k x.0 ∷ f n x.1) (λ xs. any k xs >>= r n) (k ∷ []) (λ none x. empty none n x.1)
+      (λ full. reads_seq Label (In n) (λ x. Named k x ∷ []) (f n) (any k) (r n) (k ∷ []) (fs n) [] [] false false (reads_any k) (inside n) refl (some full n))
   layer_reads o there (RoomOr a b) h =
       let p = and_parts (is_clear true a && is_clear false b) (not (may_be_empty a) && not (may_be_empty b)) h in
       let q = and_parts (is_clear true a) (is_clear false b) p.0 in
@@ -152,17 +160,25 @@ some_construct g closed (suc d) h n =
     let q = and_parts (is_clear false (g n)) (is_plain false (g n)) p.0 in
     plain_tree (has_room d) (Construct g d) (some_construct g closed d) false (false_there (has_room d)) (g n) q.1
 
-pub construct_reads : (g : Grammar) → IsClosed g → (d k n : ℕ) → Reads (Construct g d n) (λ x. Fixed k ∷ construct_lexemes g d n x) (construct_read g d k n) (k ∷ []) [] false
-construct_reads g closed zero k n = never k
-construct_reads g closed (suc d) k n =
+no_construct : (g : Grammar) (d : ℕ) → has_room d ≡ false → (n : ℕ) → Construct g d n → ⊥
+no_construct g zero h n x = x
+no_construct g (suc d) h n x = absurd (cc)
+
+pub construct_reads : (g : Grammar) → IsClosed g → (d n : ℕ) → Reads (Construct g d n) (construct_lexemes g d n) (construct_read g d n) (first (g n)) [] false
+construct_reads g closed zero n = none_there ⊥ (λ x. absurd x) (first (g n)) [] (λ x. x)
+construct_reads g closed (suc d) n =
     let p = and_parts (is_clear false (g n) && is_plain false (g n)) (none (more (g n)) && not (may_be_empty (g n))) (closed n) in
     let q = and_parts (is_clear false (g n)) (is_plain false (g n)) p.0 in
     let s = and_parts (none (more (g n))) (not (may_be_empty (g n))) p.1 in
-    under k (Layer (has_room d) (Construct g d) (g n)) (layer_lexemes (has_room d) (Construct g d) (construct_lexemes g d) (g n)) (layer_read (has_room d) (construct_read g d) (g n)) (first (g n)) (more (g n)) (may_be_empty (g n))
-    (layer_reads (has_room d) (Construct g d) (construct_lexemes g d) (construct_read g d) (some_construct g closed d) (construct_reads g closed d) false (false_there (has_room d)) (g n) q.0) s.0 (plain_tree (has_room d) (Construct g d) (some_construct g closed d) false (false_there (has_room d)) (g n) q.1)
+    let A = Layer (has_room d) (Construct g d) (g n) in
+    let f = layer_lexemes (has_room d) (Construct g d) (construct_lexemes g d) (g n) in
+    let r = layer_read (has_room d) (construct_read g d) (g n) in
+    subst (λ ms. Reads A f r (first (g n)) ms false) (none_empty (more (g n)) s.0)
+    (subst (λ e. Reads A f r (first (g n)) (more (g n)) e) (not-true (may_be_empty (g n)) s.1)
+    (layer_reads (has_room d) (Construct g d) (construct_lexemes g d) (construct_read g d) (λ m. first (g m)) (some_construct g closed d) (no_construct g d) (construct_reads g closed d) false (false_there (has_room d)) (g n) q.0))
 
 pub reads : (g : Grammar) → IsClosed g → (d : ℕ) (a : Rule) → is_clear false a ≡ true → Reads (Tree g d a) (lexemes_of g d a) (read g d a) (first a) (more a) (may_be_empty a)
-reads g closed d a h = layer_reads (has_room d) (Construct g d) (construct_lexemes g d) (construct_read g d) (some_construct g closed d) (construct_reads g closed d) false (false_there (has_room d)) a h
+reads g closed d a h = layer_reads (has_room d) (Construct g d) (construct_lexemes g d) (construct_read g d) (λ m. first (g m)) (some_construct g closed d) (no_construct g d) (construct_reads g closed d) false (false_there (has_room d)) a h
 
 -- ---- whole lists
 

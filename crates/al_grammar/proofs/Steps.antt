@@ -1,10 +1,10 @@
 -- One step of a loop that reads a rule again and again, and of a construct.
 use Rattle.std.proofs.Common.{ℕ, zero, suc, ◌-◌, ◌<◌, ◌≡◌, ◌==◌, Bool, true, false, ◌&&◌, ◌||◌, not, List, [], ◌∷◌, length, Ok, Err, refl, ap, ◌∙◌, subst, eq-eqb, arith}
 use Rattle.std.proofs.lemmas.Bool.{and_parts, not-true, cond-true}
-use Rattle.al_grammar.specs.Grammar.{Lexeme, Rule, Grammar, Tree, lexemes_of}
+use Rattle.al_grammar.specs.Grammar.{Label, Lexeme, Rule, Grammar, Tree, lexemes_of}
 use Rattle.al_grammar.specs.Grammar.Lexeme.{Fixed, Named}
-use Rattle.al_grammar.specs.Grammar.Rule.{One, Seq, Many, Nest}
-use Rattle.al_grammar.specs.Reading.{disjoint, begins, first, more, may_be_empty, is_clear, IsClosed, ◌>>=◌, one, times, read}
+use Rattle.al_grammar.specs.Grammar.Rule.{One, Seq, Many, Nest, Begun}
+use Rattle.al_grammar.specs.Reading.{disjoint, begins, first, more, may_be_empty, is_clear, IsClosed, ◌>>=◌, one, any, times, read}
 use Rattle.al_grammar.proofs.Language.{Reads}
 use Rattle.al_grammar.proofs.Repeat.{once_more, no_more, enough, shorter}
 use Rattle.al_grammar.proofs.Layers.{reads}
@@ -41,13 +41,13 @@ one_here k xs = cond-true (k == k) (Ok xs) (Err (Fixed k ∷ xs)) (eq-eqb k k re
 pub begins_here : (k : ℕ) (xs : List Lexeme) → begins (k ∷ []) (Fixed k ∷ xs) ≡ true
 begins_here k xs = rw (eq-eqb k k refl) refl
 
+or_no : (b : Bool) → (b || false) ≡ false → b ≡ false
+or_no true h = absurd (cc)
+or_no false h = refl
+
 pub one_not : (k : ℕ) (xs : List Lexeme) → begins (k ∷ []) xs ≡ false → one k xs ≡ Err xs
 one_not k [] h = refl
 one_not k (Fixed j ∷ xs) h = rw (or_no (j == k) h) refl
-  where
-    or_no : (b : Bool) → (b || false) ≡ false → b ≡ false
-    or_no true h = absurd (cc)
-    or_no false h = refl
 one_not k (Named j t ∷ xs) h = refl
 
 -- a rule behind a mark
@@ -64,6 +64,29 @@ pub inside : (g : Grammar) (d k n : ℕ) (xs : List Lexeme) → 0 < d → read g
 inside g zero k n xs h = absurd (omega arith)
 inside g (suc d) k n xs h =
     let e : suc d - 1 ≡ d = omega arith in rw e refl
+
+pub begun : (g : Grammar) (d k n : ℕ) (xs : List Lexeme) → 0 < d → read g d (Begun k n) xs ≡ (any k xs >>= λ ys. read g (d - 1) (g n) ys)
+begun g zero k n xs h = absurd (omega arith)
+begun g (suc d) k n xs h =
+    let e : suc d - 1 ≡ d = omega arith in rw e refl
+
+-- where no more construct may be open its first lexeme is refused
+pub nest_refused : (g : Grammar) (d k n : ℕ) (xs : List Lexeme) → d ≡ 0 → read g d (Nest k n) xs ≡ Err xs
+nest_refused g d k n xs h = rw h refl
+
+pub begun_refused : (g : Grammar) (d k n : ℕ) (xs : List Lexeme) → d ≡ 0 → read g d (Begun k n) xs ≡ Err xs
+begun_refused g d k n xs h = rw h refl
+
+pub any_here : (k : ℕ) (label : Label) (xs : List Lexeme) → any k (Named k label ∷ xs) ≡ Ok xs
+any_here k label xs = cond-true (k == k) (Ok xs) (Err (Named k label ∷ xs)) (eq-eqb k k refl)
+
+pub begins_named : (k : ℕ) (label : Label) (xs : List Lexeme) → begins (k ∷ []) (Named k label ∷ xs) ≡ true
+begins_named k label xs = rw (eq-eqb k k refl) refl
+
+pub any_not : (k : ℕ) (xs : List Lexeme) → begins (k ∷ []) xs ≡ false → any k xs ≡ Err xs
+any_not k [] h = refl
+any_not k (Fixed j ∷ xs) h = refl
+any_not k (Named j label ∷ xs) h = rw (or_no (j == k) h) refl
 
 -- a rule that is read again and again takes a lexeme at least
 pub item_shorter : (g : Grammar) → IsClosed g → (d : ℕ) (a : Rule) → is_clear false (Many a) ≡ true → (xs ys : List Lexeme) → read g d a xs ≡ Ok ys → length ys < length xs

@@ -1,5 +1,5 @@
 -- One step of a loop that reads rules behind a mark, and of a rule that goes by the room.
-use Rattle.std.proofs.Common.{ℕ, zero, suc, ◌<◌, ◌≡◌, Bool, true, false, ◌&&◌, not, List, [], ◌∷◌, length, Ok, Err, if◌then◌else◌, refl, ap, ◌∙◌, subst, arith}
+use Rattle.std.proofs.Common.{ℕ, zero, suc, ◌<◌, ◌≡◌, true, false, ◌&&◌, not, List, [], ◌∷◌, length, Ok, Err, if◌then◌else◌, refl, ap, ◌∙◌, subst, arith}
 use Rattle.std.proofs.lemmas.Bool.{and_parts, not-true, cond-true, cond-false}
 use Rattle.al_grammar.specs.Grammar.{Lexeme, Rule, Grammar, Tree, lexemes_of}
 use Rattle.al_grammar.specs.Grammar.Lexeme.{Fixed}

@@ -18,6 +18,7 @@ kind (Fixed k) = k
 kind (Named k label) = k
 
 -- Nest k n: the construct n, which begins with the word k. Its inside is one deeper.
+-- Begun k n: the construct n, which begins with a lexeme of kind k that has a label. Its inside is one deeper.
 -- Room a: a, where one more construct may be open, since a cannot do without.
 -- RoomOr a b: a, where one more construct may be open, and b, where none may.
 -- Marked k a b: any number of a, each behind the mark k, and then perhaps one b behind the mark k.
@@ -29,6 +30,7 @@ pub data Rule : Type 0 where
   Opt : Rule → Rule
   Many : Rule → Rule
   Nest : ℕ → ℕ → Rule
+  Begun : ℕ → ℕ → Rule
   Room : Rule → Rule
   RoomOr : Rule → Rule → Rule
   Marked : ℕ → Rule → Rule → Rule
@@ -58,6 +60,7 @@ Layer room In (Alt a b) = Layer room In a ⊎ Layer room In b
 Layer room In (Opt a) = Option (Layer room In a)
 Layer room In (Many a) = List (Layer room In a)
 Layer room In (Nest k n) = In n
+Layer room In (Begun k n) = Label × In n
 Layer room In (Room a) = Within room (Layer room In a)
 Layer room In (RoomOr a b) = ByRoom room (Layer room In a) (Layer room In b)
 Layer room In (Marked k a b) = List (Layer room In a) × Option (Layer room In b)
@@ -105,6 +108,7 @@ layer_lexemes room In f (Alt a b) x = either (layer_lexemes room In f a) (layer_
 layer_lexemes room In f (Opt a) x = maybe (layer_lexemes room In f a) x
 layer_lexemes room In f (Many a) x = each (layer_lexemes room In f a) x
 layer_lexemes room In f (Nest k n) x = Fixed k ∷ f n x
+layer_lexemes room In f (Begun k n) x = Named k x.0 ∷ f n x.1
 layer_lexemes room In f (Room a) x = within room (layer_lexemes room In f a) x
 layer_lexemes room In f (RoomOr a b) x = by_room room (layer_lexemes room In f a) (layer_lexemes room In f b) x
 layer_lexemes room In f (Marked k a b) x = all_marked k (layer_lexemes room In f a) (layer_lexemes room In f b) x

@@ -3,7 +3,7 @@ use Rattle.std.specs.Prelude.{ℕ, zero, suc, ◌==◌, ◌-◌, Bool, true, fal
 use Rattle.std.proofs.Common.{inl, inr}
 use Rattle.al_grammar.specs.Grammar.{Label, Lexeme, Rule, Grammar, Within, ByRoom, Layer, Construct, Tree, has_room}
 use Rattle.al_grammar.specs.Grammar.Lexeme.{Fixed, Named}
-use Rattle.al_grammar.specs.Grammar.Rule.{One, Any, Seq, Alt, Opt, Many, Nest, Room, RoomOr, Marked}
+use Rattle.al_grammar.specs.Grammar.Rule.{One, Any, Seq, Alt, Opt, Many, Nest, Begun, Room, RoomOr, Marked}
 use Rattle.al_grammar.specs.Reading.{begins, first, Read, read}
 
 -- what was read, and what is left; or nothing, at a fault
@@ -55,21 +55,22 @@ abbrev pub grow_by_room : {A B : Type 0} → (room : Bool) → Grown A → Grown
 grow_by_room true x y = x
 grow_by_room false x y = y
 
-abbrev pub layer_grow : (room : Bool) (In : ℕ → Type 0) → ((k n : ℕ) → List Lexeme → Grown (In n)) → (a : Rule) → List Lexeme → Grown (Layer room In a)
+abbrev pub layer_grow : (room : Bool) (In : ℕ → Type 0) → ((n : ℕ) → List Lexeme → Grown (In n)) → (a : Rule) → List Lexeme → Grown (Layer room In a)
 layer_grow room In f (One k) xs = grow_one k xs
 layer_grow room In f (Any k) xs = grow_any k xs
 layer_grow room In f (Seq a b) xs = grow_on (layer_grow room In f a xs) (λ x ys. remade (λ y. (x, y)) (layer_grow room In f b ys))
 layer_grow room In f (Alt a b) xs = if begins (first a) xs then remade (λ x. inl x) (layer_grow room In f a xs) else remade (λ x. inr x) (layer_grow room In f b xs)
 layer_grow room In f (Opt a) xs = if begins (first a) xs then remade (λ x. Some x) (layer_grow room In f a xs) else Some (None, xs)
 layer_grow room In f (Many a) xs = grow_times (length xs) (first a) (layer_grow room In f a) xs
-layer_grow room In f (Nest k n) xs = f k n xs
+layer_grow room In f (Nest k n) xs = if room then grow_on (grow_one k xs) (λ _ ys. f n ys) else None
+layer_grow room In f (Begun k n) xs = if room then grow_on (grow_any k xs) (λ x ys. remade (λ y. (x, y)) (f n ys)) else None
 layer_grow room In f (Room a) xs = grow_within room (layer_grow room In f a xs)
 layer_grow room In f (RoomOr a b) xs = grow_by_room room (layer_grow room In f a xs) (layer_grow room In f b xs)
 layer_grow room In f (Marked k a b) xs = grow_turns (length xs) k (first a) (layer_grow room In f a) (layer_grow room In f b) xs
 
-abbrev pub construct_grow : (g : Grammar) (d k n : ℕ) → List Lexeme → Grown (Construct g d n)
-construct_grow g zero k n xs = None
-construct_grow g (suc d) k n xs = grow_on (grow_one k xs) (λ _ ys. layer_grow (has_room d) (Construct g d) (construct_grow g d) (g n) ys)
+abbrev pub construct_grow : (g : Grammar) (d n : ℕ) → List Lexeme → Grown (Construct g d n)
+construct_grow g zero n xs = None
+construct_grow g (suc d) n xs = layer_grow (has_room d) (Construct g d) (construct_grow g d) (g n) xs
 
 abbrev pub grow : (g : Grammar) (d : ℕ) (a : Rule) → List Lexeme → Grown (Tree g d a)
 grow g d a xs = layer_grow (has_room d) (Construct g d) (construct_grow g d) a xs

@@ -2,7 +2,7 @@
 use Rattle.std.specs.Prelude.{ℕ, zero, suc, ◌≡◌, ◌==◌, Bool, true, false, not, ◌&&◌, ◌||◌, List, [], ◌∷◌, ◌++◌, length, Result, Ok, Err, if◌then◌else◌}
 use Rattle.al_grammar.specs.Grammar.{Lexeme, Rule, Grammar, kind, has_room}
 use Rattle.al_grammar.specs.Grammar.Lexeme.{Fixed, Named}
-use Rattle.al_grammar.specs.Grammar.Rule.{One, Any, Seq, Alt, Opt, Many, Nest, Room, RoomOr, Marked}
+use Rattle.al_grammar.specs.Grammar.Rule.{One, Any, Seq, Alt, Opt, Many, Nest, Begun, Room, RoomOr, Marked}
 
 abbrev pub mem : ℕ → List ℕ → Bool
 mem k [] = false
@@ -29,6 +29,7 @@ may_be_empty (Alt a b) = may_be_empty a || may_be_empty b
 may_be_empty (Opt a) = true
 may_be_empty (Many a) = true
 may_be_empty (Nest k n) = false
+may_be_empty (Begun k n) = false
 may_be_empty (Room a) = may_be_empty a
 may_be_empty (RoomOr a b) = may_be_empty a || may_be_empty b
 may_be_empty (Marked k a b) = true
@@ -42,6 +43,7 @@ first (Alt a b) = first a ++ first b
 first (Opt a) = first a
 first (Many a) = first a
 first (Nest k n) = k ∷ []
+first (Begun k n) = k ∷ []
 first (Room a) = first a
 first (RoomOr a b) = first a ++ first b
 first (Marked k a b) = k ∷ []
@@ -55,6 +57,7 @@ more (Alt a b) = more a ++ more b
 more (Opt a) = first a ++ more a
 more (Many a) = first a ++ more a
 more (Nest k n) = []
+more (Begun k n) = []
 more (Room a) = more a
 more (RoomOr a b) = more a ++ more b
 more (Marked k a b) = k ∷ (more a ++ more b)
@@ -68,6 +71,7 @@ is_plain r (Alt a b) = is_plain r a
 is_plain r (Opt a) = true
 is_plain r (Many a) = true
 is_plain r (Nest k n) = r
+is_plain r (Begun k n) = r
 is_plain r (Room a) = r && is_plain true a
 is_plain r (RoomOr a b) = is_plain true a && is_plain false b
 is_plain r (Marked k a b) = true
@@ -81,6 +85,7 @@ is_clear r (Alt a b) = (is_clear r a && is_clear r b) && ((not (may_be_empty a) 
 is_clear r (Opt a) = is_clear r a && not (may_be_empty a)
 is_clear r (Many a) = (is_clear r a && not (may_be_empty a)) && disjoint (more a) (first a)
 is_clear r (Nest k n) = true
+is_clear r (Begun k n) = true
 is_clear r (Room a) = is_clear true a && not (may_be_empty a)
 is_clear r (RoomOr a b) = (is_clear true a && is_clear false b) && (not (may_be_empty a) && not (may_be_empty b))
 is_clear r (Marked k a b) =
@@ -124,21 +129,23 @@ turns zero k s f g xs = if begins (k ∷ []) xs then Err xs else Ok xs
 turns (suc n) k s f g xs =
     if begins (k ∷ []) xs then (one k xs >>= λ ys. if begins s ys then (f ys >>= λ zs. turns n k s f g zs) else g ys) else Ok xs
 
-abbrev pub layer_read : Bool → (ℕ → ℕ → List Lexeme → Read) → Rule → List Lexeme → Read
+-- f reads what a construct has behind its first lexeme. That lexeme is read only where one more construct may be open.
+abbrev pub layer_read : Bool → (ℕ → List Lexeme → Read) → Rule → List Lexeme → Read
 layer_read room f (One k) xs = one k xs
 layer_read room f (Any k) xs = any k xs
 layer_read room f (Seq a b) xs = layer_read room f a xs >>= λ ys. layer_read room f b ys
 layer_read room f (Alt a b) xs = if begins (first a) xs then layer_read room f a xs else layer_read room f b xs
 layer_read room f (Opt a) xs = if begins (first a) xs then layer_read room f a xs else Ok xs
 layer_read room f (Many a) xs = times (length xs) (first a) (layer_read room f a) xs
-layer_read room f (Nest k n) xs = f k n xs
+layer_read room f (Nest k n) xs = if room then (one k xs >>= f n) else Err xs
+layer_read room f (Begun k n) xs = if room then (any k xs >>= f n) else Err xs
 layer_read room f (Room a) xs = if room then layer_read room f a xs else Err xs
 layer_read room f (RoomOr a b) xs = if room then layer_read room f a xs else layer_read room f b xs
 layer_read room f (Marked k a b) xs = turns (length xs) k (first a) (layer_read room f a) (layer_read room f b) xs
 
-abbrev pub construct_read : Grammar → ℕ → ℕ → ℕ → List Lexeme → Read
-construct_read g zero k n xs = Err xs
-construct_read g (suc d) k n xs = one k xs >>= λ ys. layer_read (has_room d) (construct_read g d) (g n) ys
+abbrev pub construct_read : Grammar → ℕ → ℕ → List Lexeme → Read
+construct_read g zero n xs = Err xs
+construct_read g (suc d) n xs = layer_read (has_room d) (construct_read g d) (g n) xs
 
 abbrev pub read : Grammar → ℕ → Rule → List Lexeme → Read
 read g d a xs = layer_read (has_room d) (construct_read g d) a xs

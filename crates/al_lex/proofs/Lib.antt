@@ -14,3 +14,4 @@ pub mod LongestNumbers
 pub mod Found
 pub mod Across
 pub mod Order
+pub mod Rising

@@ -1,5 +1,8 @@
 -- What the tokens of a text are, without computing them.
-use Rattle.std.specs.Prelude.{ℕ, ◌≡◌, ◌↔◌, ◌+◌, ◌<◌, ◌≤◌, List, [], ◌∷◌, length, Ok, Err}
+use Rattle.std.specs.Prelude.{ℕ, ◌≡◌, ◌↔◌, ◌+◌, ◌<◌, ◌≤◌, List, [], ◌∷◌, length, map, Ok, Err}
+use Rattle.std.specs.List.Sorted.{IsStrictlySortedBy}
+use Rattle.std.specs.Ordering.{nat_cmp, then_cmp}
+use Rattle.std.specs.declared.cmp.Ordering.{Ordering}
 use Rattle.al_base.specs.declared.place.Place.{Place}
 use Rattle.al_lex.specs.declared.token.Token.{Token}
 use Rattle.al_lex.specs.declared.token.LexFault.{LexFault}
@@ -32,3 +35,11 @@ LieBetween from to (t ∷ ts) = (from ≤ t.span.start) × (0 < t.span.len) × (
 -- tokens are pieces of the text in its order
 abbrev pub TokensLieInText : Type 0
 TokensLieInText = (text : List ℕ) (tokens : List Token) → lexed text ≡ Ok tokens → LieBetween 0 (length text) tokens
+
+-- the order of places: by lines, and on one line by columns
+abbrev pub place_cmp : Place → Place → Ordering
+place_cmp = then_cmp (λ p q. nat_cmp p.line q.line) (λ p q. nat_cmp p.col q.col)
+
+-- each token stands before those behind it
+abbrev pub PlacesRise : Type 0
+PlacesRise = (text : List ℕ) (tokens : List Token) → lexed text ≡ Ok tokens → IsStrictlySortedBy place_cmp (map (λ t. t.span.place) tokens)

@@ -1,5 +1,5 @@
 // What holds of the tokens of every text. The functions have no code: their contracts are the laws.
-ghost use Rattle.al_lex.specs.Laws.{EndIsBehind, FaultEndsCut, PiecesAreLongest, TokensAreCut, TokensLieInText};
+ghost use Rattle.al_lex.specs.Laws.{EndIsBehind, FaultEndsCut, PiecesAreLongest, PlacesRise, TokensAreCut, TokensLieInText};
 
 /// A text is cut into pieces in one way: each is the longest that begins where the one before ended.
 
@@ -17,4 +17,9 @@ pub fn pieces_are_longest()
 /// The spans of a text's tokens lie in the text, each behind the one before.
 pub fn tokens_lie_in_text()
     ensures { TokensLieInText }
+{}
+
+/// The places of a text's tokens rise: by lines, and on one line by columns.
+pub fn places_rise()
+    ensures { PlacesRise }
 {}

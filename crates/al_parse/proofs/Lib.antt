@@ -1,4 +1,4 @@
-pub mod Inside
-pub mod Identifiers
-pub mod Loops
+pub mod Clear
+pub mod Rooms
+pub mod Stubs
 pub mod Texts

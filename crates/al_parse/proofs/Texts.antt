@@ -1,18 +1,18 @@
 -- Whole texts.
-use Rattle.std.proofs.Common.{ℕ, ◌≡◌, ◌-◌, ◌≤◌, ◌<◌, List, [], ◌∷◌, ◌++◌, length, Option, Some, None, Ok, Err, refl, sym, ap, ◌∙◌, subst, append-nil, length-append, arith}
-use Rattle.al_grammar.specs.Grammar.{Lexeme, lexemes_of}
+use Rattle.std.proofs.Common.{ℕ, ◌≡◌, ◌-◌, ◌≤◌, ◌<◌, List, [], ◌∷◌, ◌++◌, length, Some, Ok, Err, refl, sym, ap, ◌∙◌, subst, append-nil, length-append, arith}
+use Rattle.al_grammar.specs.Grammar.{lexemes_of}
 use Rattle.al_grammar.specs.Growing.{fault_before, fault_of}
 use Rattle.al_grammar.proofs.Layers.{reads}
 use Rattle.al_grammar.proofs.Language.{Reads}
-use Rattle.al_tree.specs.Rules.{grammar, unit_rule, most}
-use Rattle.al_tree.specs.Trees.{UnitTree, tokens_of}
-use Rattle.al_tree.specs.Units.{unit_of, syntax_fault_of}
-use Rattle.al_tree.proofs.Clear.{closed, unit_clear}
-use Rattle.al_tree.proofs.Forms.{is_fault, unit_found}
-use Rattle.al_parse.specs.declared.stop.Stop.{Stop}
-use Rattle.al_parse.specs.declared.stop.Stop.TheVariants.{Memory, Fault}
-use Rattle.al_parse.specs.Faults.{IsFaultOf}
-use Rattle.al_parse.specs.Parses.{Lexemes, Stops, Refuses, reading}
+use Rattle.al_syntax.specs.Rules.{grammar, most}
+use Rattle.al_syntax.specs.Units.{unit_rule}
+use Rattle.al_syntax.specs.UnitTrees.{CompilationUnitTree, tokens_of}
+use Rattle.al_syntax.proofs.Clear.{closed, unit_clear}
+use Rattle.al_syntax.proofs.Laws.{faults_found}
+use Rattle.al_parse_expr.specs.declared.stop.Stop.{Stop}
+use Rattle.al_parse_expr.specs.declared.stop.Stop.TheVariants.{Memory, Fault}
+use Rattle.al_parse_expr.specs.Parses.{Lexemes, Stops, Took, reading}
+use Rattle.al_parse.specs.Faults.{IsUnit, syntax_fault_of, IsSyntaxFaultAt, IsTreeOf, IsFaultOf, Refuses}
 
 fault_is : (xs : Lexemes) → syntax_fault_of xs ≡ fault_before (length xs) (reading most unit_rule xs)
 unfolding syntax_fault_of fault_of
@@ -44,19 +44,22 @@ goes_over xs (c ∷ u) n h e l = (
   fault_is xs ∙ ap (fault_before (length xs)) h ∙ ap (λ (k : ℕ). Some (length xs - k)) e,
 )
 
+sentence : (xs : Lexemes) → reading most unit_rule xs ≡ Ok [] → IsUnit xs
+unfolding IsUnit
+sentence xs h =
+    let p = (reads grammar closed most unit_rule unit_clear).found xs [] h in
+    (p.0, sym (p.1 ∙ append-nil (lexemes_of grammar most unit_rule p.0)))
+
 -- nothing is left
-pub ends : (xs u front : Lexemes) → length u ≡ 0 → xs ≡ front ++ u → front ≡ xs
-ends xs [] front e h = sym (h ∙ append-nil front)
-ends xs (c ∷ u) front e h = absurd (omega arith)
+pub is_tree : (u : CompilationUnitTree) (xs rest : Lexemes) → length rest ≡ 0 → Took (tokens_of u) rest xs (reading most unit_rule xs) → IsTreeOf u xs
+is_tree u xs [] e took = record { tokens = sym (took.0 ∙ append-nil (tokens_of u)); unit = sentence xs took.1 }
+is_tree u xs (c ∷ rest) e took = absurd (omega arith)
 
-no_fault : (xs u : Lexemes) → length u ≡ 0 → reading most unit_rule xs ≡ Ok u → syntax_fault_of xs ≡ None
-no_fault xs [] e h = fault_is xs ∙ ap (fault_before (length xs)) h
-no_fault xs (c ∷ u) e h = absurd (omega arith)
-
-pub is_unit : (xs rest : Lexemes) (u : UnitTree) → length rest ≡ 0 → xs ≡ tokens_of u ++ rest → reading most unit_rule xs ≡ Ok rest → unit_of xs ≡ Some u
-is_unit xs rest u e h r = unit_found xs u (no_fault xs rest e r) (ends xs rest (tokens_of u) e h)
+is_place : (xs : Lexemes) (n : ℕ) → syntax_fault_of xs ≡ Some n → IsSyntaxFaultAt xs n
+unfolding syntax_fault_of IsSyntaxFaultAt
+is_place xs n h = ((faults_found xs).1 n).0 h
 
 pub fault_found : (xs : Lexemes) (left n : ℕ) → length xs ≡ n → Refuses (Fault left) xs → IsFaultOf xs (n - left)
 fault_found xs left n e r =
     let h : syntax_fault_of xs ≡ Some (n - left) = r.1 ∙ ap (λ (k : ℕ). Some (k - left)) e in
-    record { found = h; place = is_fault xs (n - left) h }
+    record { found = h; place = is_place xs (n - left) h }

@@ -5,13 +5,13 @@
 //! is the same, and a fault is at the same token. `depth` is how many more constructs may be open.
 #![tactic(auto)]
 
+mod body;
+mod declaration;
 mod parsing;
-mod statements;
+mod specification;
+mod start;
+mod statement;
 mod step;
-mod stop;
 mod unit;
 
 pub use parsing::{ParseError, SyntaxFault, parse};
-
-#[cfg(test)]
-mod tests;

@@ -1,19 +1,16 @@
 // Whole texts.
-ghost use Rattle.std.specs.Prelude.{◌≡◌, IfErr, IfOk, Some};
+ghost use Rattle.std.specs.Prelude.{IfErr, IfOk};
 ghost use Rattle.al_tree.specs.Lexemes.{lexemes};
-ghost use Rattle.al_tree.specs.Trees.{tokens_of};
-ghost use Rattle.al_tree.specs.Units.{unit_of};
-ghost use Rattle.al_tree.specs.Views.{unit_seen};
-ghost use Rattle.al_parse.specs.Faults.{FaultOf};
-ghost use Rattle.al_parse.specs.Parses.{Refuses};
+ghost use Rattle.al_tree.specs.UnitViews.{unit_seen};
+ghost use Rattle.al_parse.specs.Faults.{FaultOf, IsTreeOf, Refuses};
 
-use crate::stop::Stop;
 use crate::unit::unit;
 use al_lex::Token;
+use al_parse_expr::Stop;
 use al_tree::CompilationUnit;
 use std::alloc::Global;
 
-/// Constructs that may be open at once: a body from its `is`, an argument from its parenthesis.
+/// Constructs that may be open at once: a pair of parentheses, or what `end` closes, a body from its `is`.
 const MOST_OPEN: u32 = 64;
 
 /// The place of a syntax fault.
@@ -32,8 +29,7 @@ pub enum ParseError {
 }
 
 fn whole(alloc: Global, source: &[u8], tokens: &[Token]) -> Result<CompilationUnit, Stop>
-    ensures found { IfOk result (λ u. unit_of (lexemes source.now tokens.now) ≡ Some (unit_seen u)) }
-    ensures tokens { IfOk result (λ u. tokens_of (unit_seen u) ≡ lexemes source.now tokens.now) }
+    ensures found { IfOk result (λ u. IsTreeOf (unit_seen u) (lexemes source.now tokens.now)) }
     ensures fault { IfErr result (λ e. Refuses e (lexemes source.now tokens.now)) }
 {
     let (unit, rest) = unit(alloc, source, MOST_OPEN, tokens)?;
@@ -43,13 +39,12 @@ fn whole(alloc: Global, source: &[u8], tokens: &[Token]) -> Result<CompilationUn
     Ok(unit)
 }
 
-/// The one tree of the tokens of a text, or where they stop being the front of a compilation unit.
+/// The tree of the tokens of a text, or where they stop being the front of a compilation unit.
 ///
 /// # Errors
 /// `Syntax` where the tokens are no compilation unit; `NoMemory` where memory is wanted and not given.
 pub fn parse(alloc: Global, source: &[u8], tokens: &[Token]) -> Result<CompilationUnit, ParseError>
-    ensures found { IfOk result (λ u. unit_of (lexemes source.now tokens.now) ≡ Some (unit_seen u)) }
-    ensures tokens { IfOk result (λ u. tokens_of (unit_seen u) ≡ lexemes source.now tokens.now) }
+    ensures found { IfOk result (λ u. IsTreeOf (unit_seen u) (lexemes source.now tokens.now)) }
     ensures fault { IfErr result (λ e. FaultOf e (lexemes source.now tokens.now)) }
 {
     match whole(alloc, source, tokens) {

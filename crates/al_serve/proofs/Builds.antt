@@ -1,5 +1,5 @@
 -- Replies that speak of the last build.
-use Rattle.std.proofs.Common.{◌≡◌, ℕ, List, [], Option, Some, None, option_map, refl, sym, ap}
+use Rattle.std.proofs.Common.{◌≡◌, ℕ, List, [], Option, Some, None, option_map, refl, ap}
 use Rattle.al_base.specs.Files.{Texts}
 use Rattle.al_base.specs.Batch.{Batch}
 use Rattle.al_base.specs.declared.refusal.Refusal.TheVariants.{NotBuilt}

@@ -4,3 +4,4 @@ pub mod Builds
 pub mod Commands
 pub mod Turns
 pub mod Sessions
+pub mod Orders

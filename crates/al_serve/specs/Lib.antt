@@ -6,6 +6,6 @@ pub mod Replies
 pub mod Session
 pub mod Outcomes
 pub mod ReplySeen
-pub mod Pieces
 pub mod Acting
 pub mod Serving
+pub mod Orders

@@ -3,6 +3,7 @@
 
 mod act;
 mod answering;
+mod laws;
 mod library;
 mod line;
 mod pieces;
@@ -11,5 +12,6 @@ mod reports;
 mod serving;
 mod subject;
 
+pub use laws::sessions_are_ordered;
 pub use library::{Built, Outcome, UnitLibrary};
 pub use serving::{Ended, MAX_COMMANDS, MAX_PULLS, serve, serve_within};

@@ -32,13 +32,16 @@ pub enum Simple<'a> {
     Bad,
 }
 
+/// The most bytes of a line.
+const LONGEST: usize = 600;
+
 /// Reads a line, without its line end.
 #[tactic(auto, unfolding(crate::specs::Lines::line_of))]
 pub fn line_of(line: &[u8]) -> Line<'_>
     ensures says { line_seen result ≡ line_of line.now }
     ensures few_steps { KindHasFewSteps (line_seen result) }
 {
-    if line.len() > 600 {
+    if line.len() > LONGEST {
         return Line::Whole(Simple::Bad);
     }
     let Some((verb, rest)) = cut_at(line, b' ') else {

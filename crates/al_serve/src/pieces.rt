@@ -1,9 +1,8 @@
 // The lines of replies, which are written piece by piece and take no memory.
-ghost use Rattle.std.specs.Prelude.{◌≡◌, ℕ, ◌-◌, ◌^◌, ◌<◌, ◌++◌, List, Option, IsOk, map, length};
+ghost use Rattle.std.specs.Prelude.{◌≡◌, ◌-◌, ◌^◌, ◌<◌, IsOk, map};
 ghost use Rattle.std.specs.List.{flat_map};
 ghost use Rattle.al_base.specs.Batch.{finding_of, key_of, run_of};
-ghost use Rattle.al_stream.specs.Output.{WritesReply};
-ghost use Rattle.al_serve.specs.Pieces.{Adds};
+ghost use Rattle.al_stream.specs.Output.{Adds};
 ghost use Rattle.al_serve.specs.Replies.{refused, message_of, finding_line, kind_word, key_line, end_word, run_reply};
 
 use al_base::{Diagnostic, Ran, Refusal, RunEnd, UnitKey, UnitKind};
@@ -17,8 +16,7 @@ pub fn emit_refusal<K: Sink>(
 ) -> Result<(), Device>
     requires { IsOk so_far → K.faults writer.old < 2 ^ 64 - 1 }
     ensures faults { IsOk result → IsOk so_far × (K.faults writer.new ≡ K.faults writer.old) }
-    ensures told { Adds so_far result (K.written writer.old) (K.written writer.new) (K.faults writer.old) (K.faults writer.new)
-        (refused refusal) }
+    ensures told { Adds K.written K.faults writer.old writer.new so_far result (refused refusal) }
 {
     let so_far = emit(so_far, writer, b"refused ");
     let so_far = emit_number(so_far, writer, usize::from(refusal.number()));
@@ -55,8 +53,7 @@ fn emit_finding<K: Sink>(
 ) -> Result<(), Device>
     requires { IsOk so_far → K.faults writer.old < 2 ^ 64 - 1 }
     ensures faults { IsOk result → IsOk so_far × (K.faults writer.new ≡ K.faults writer.old) }
-    ensures told { Adds so_far result (K.written writer.old) (K.written writer.new) (K.faults writer.old) (K.faults writer.new)
-        (finding_line (finding_of diagnostic.now)) }
+    ensures told { Adds K.written K.faults writer.old writer.new so_far result (finding_line (finding_of diagnostic.now)) }
 {
     let so_far = emit(so_far, writer, diagnostic.file.as_slice());
     let so_far = emit(so_far, writer, b":");
@@ -76,8 +73,7 @@ pub fn emit_findings<K: Sink>(
 ) -> Result<(), Device>
     requires { IsOk so_far → K.faults writer.old < 2 ^ 64 - 1 }
     ensures faults { IsOk result → IsOk so_far × (K.faults writer.new ≡ K.faults writer.old) }
-    ensures told { Adds so_far result (K.written writer.old) (K.written writer.new) (K.faults writer.old) (K.faults writer.new)
-        (flat_map finding_line (map finding_of diagnostics.now)) }
+    ensures told { Adds K.written K.faults writer.old writer.new so_far result (flat_map finding_line (map finding_of diagnostics.now)) }
 {
     for diagnostic in diagnostics {
         so_far = emit_finding(so_far, writer, diagnostic);
@@ -103,8 +99,7 @@ fn emit_key<K: Sink>(
 ) -> Result<(), Device>
     requires { IsOk so_far → K.faults writer.old < 2 ^ 64 - 1 }
     ensures faults { IsOk result → IsOk so_far × (K.faults writer.new ≡ K.faults writer.old) }
-    ensures told { Adds so_far result (K.written writer.old) (K.written writer.new) (K.faults writer.old) (K.faults writer.new)
-        (key_line (key_of key.now)) }
+    ensures told { Adds K.written K.faults writer.old writer.new so_far result (key_line (key_of key.now)) }
 {
     let so_far = emit(so_far, writer, key.name.as_slice());
     let so_far = emit(so_far, writer, b" ");
@@ -120,8 +115,7 @@ pub fn emit_keys<K: Sink>(
 ) -> Result<(), Device>
     requires { IsOk so_far → K.faults writer.old < 2 ^ 64 - 1 }
     ensures faults { IsOk result → IsOk so_far × (K.faults writer.new ≡ K.faults writer.old) }
-    ensures told { Adds so_far result (K.written writer.old) (K.written writer.new) (K.faults writer.old) (K.faults writer.new)
-        (flat_map key_line (map key_of keys.now)) }
+    ensures told { Adds K.written K.faults writer.old writer.new so_far result (flat_map key_line (map key_of keys.now)) }
 {
     for key in keys {
         so_far = emit_key(so_far, writer, key);
@@ -148,8 +142,7 @@ pub fn emit_ran<K: Sink>(
 ) -> Result<(), Device>
     requires { IsOk so_far → K.faults writer.old < 2 ^ 64 - 1 }
     ensures faults { IsOk result → IsOk so_far × (K.faults writer.new ≡ K.faults writer.old) }
-    ensures told { Adds so_far result (K.written writer.old) (K.written writer.new) (K.faults writer.old) (K.faults writer.new)
-        (run_reply (run_of ran.now)) }
+    ensures told { Adds K.written K.faults writer.old writer.new so_far result (run_reply (run_of ran.now)) }
 {
     let so_far = emit(so_far, writer, b"output ");
     let output = ran.output.as_slice();

@@ -1,8 +1,7 @@
 // The replies to builds and reports, as the last build gives them.
-ghost use Rattle.std.specs.Prelude.{◌≡◌, ℕ, ◌-◌, ◌^◌, ◌<◌, ◌++◌, List, [], Option, IsOk, map, codes, length};
+ghost use Rattle.std.specs.Prelude.{◌≡◌, ◌-◌, ◌^◌, ◌<◌, IsOk, map, codes, length};
 ghost use Rattle.al_base.specs.Batch.{finding_of, key_of};
-ghost use Rattle.al_stream.specs.Output.{WritesReply};
-ghost use Rattle.al_serve.specs.Pieces.{Adds};
+ghost use Rattle.al_stream.specs.Output.{WritesReply, Adds};
 ghost use Rattle.al_serve.specs.Outcomes.{outcome_seen};
 ghost use Rattle.al_serve.specs.ReplySeen.{reply_seen};
 ghost use Rattle.al_serve.specs.Replies.{listing, finding_line, key_line, build_reply, report_reply, order_reply, image_reply, report_of, build_reply_of, built_line, no_main_line, image_text};
@@ -12,7 +11,7 @@ use crate::pieces::{emit_findings, emit_keys, emit_ran, emit_refusal};
 use crate::reply::Reply;
 use crate::subject::Subject;
 use al_base::{Diagnostic, Refusal, UnitKey};
-use al_stream::{Device, Sink, emit, emit_hex, emit_number};
+use al_stream::{Device, Sink, emit, emit_hex, emit_number, finish};
 
 // A word and the number of diagnostics, and a line for each.
 fn emit_diagnostics<K: Sink>(
@@ -23,8 +22,7 @@ fn emit_diagnostics<K: Sink>(
 ) -> Result<(), Device>
     requires { IsOk so_far → K.faults writer.old < 2 ^ 64 - 1 }
     ensures faults { IsOk result → IsOk so_far × (K.faults writer.new ≡ K.faults writer.old) }
-    ensures told { Adds so_far result (K.written writer.old) (K.written writer.new) (K.faults writer.old) (K.faults writer.new)
-        (listing word.now finding_line (map finding_of diagnostics.now)) }
+    ensures told { Adds K.written K.faults writer.old writer.new so_far result (listing word.now finding_line (map finding_of diagnostics.now)) }
 {
     let so_far = emit(so_far, writer, word);
     let so_far = emit_number(so_far, writer, diagnostics.len());
@@ -41,8 +39,7 @@ fn emit_order<K: Sink>(
 ) -> Result<(), Device>
     requires { IsOk so_far → K.faults writer.old < 2 ^ 64 - 1 }
     ensures faults { IsOk result → IsOk so_far × (K.faults writer.new ≡ K.faults writer.old) }
-    ensures told { Adds so_far result (K.written writer.old) (K.written writer.new) (K.faults writer.old) (K.faults writer.new)
-        (listing word.now key_line (map key_of order.now)) }
+    ensures told { Adds K.written K.faults writer.old writer.new so_far result (listing word.now key_line (map key_of order.now)) }
 {
     let so_far = emit(so_far, writer, word);
     let so_far = emit_number(so_far, writer, order.len());
@@ -57,8 +54,7 @@ fn emit_image<K: Sink>(
 ) -> Result<(), Device>
     requires { IsOk so_far → K.faults writer.old < 2 ^ 64 - 1 }
     ensures faults { IsOk result → IsOk so_far × (K.faults writer.new ≡ K.faults writer.old) }
-    ensures told { Adds so_far result (K.written writer.old) (K.written writer.new) (K.faults writer.old) (K.faults writer.new)
-        (image_text image.now) }
+    ensures told { Adds K.written K.faults writer.old writer.new so_far result (image_text image.now) }
 {
     let so_far = emit(so_far, writer, b"image ");
     let so_far = emit_number(so_far, writer, image.len());
@@ -74,8 +70,7 @@ fn emit_built<K: Sink>(
 ) -> Result<(), Device>
     requires { IsOk so_far → K.faults writer.old < 2 ^ 64 - 1 }
     ensures faults { IsOk result → IsOk so_far × (K.faults writer.new ≡ K.faults writer.old) }
-    ensures told { Adds so_far result (K.written writer.old) (K.written writer.new) (K.faults writer.old) (K.faults writer.new)
-        (built_line items bytes) }
+    ensures told { Adds K.written K.faults writer.old writer.new so_far result (built_line items bytes) }
 {
     let so_far = emit(so_far, writer, b"built ");
     let so_far = emit_number(so_far, writer, items);
@@ -91,8 +86,7 @@ fn emit_no_main<K: Sink>(
 ) -> Result<(), Device>
     requires { IsOk so_far → K.faults writer.old < 2 ^ 64 - 1 }
     ensures faults { IsOk result → IsOk so_far × (K.faults writer.new ≡ K.faults writer.old) }
-    ensures told { Adds so_far result (K.written writer.old) (K.written writer.new) (K.faults writer.old) (K.faults writer.new)
-        (no_main_line main.now) }
+    ensures told { Adds K.written K.faults writer.old writer.new so_far result (no_main_line main.now) }
 {
     let so_far = emit(so_far, writer, b"failed B1 main ");
     let so_far = emit(so_far, writer, main);
@@ -108,8 +102,7 @@ fn emit_outcome<K: Sink>(
 ) -> Result<(), Device>
     requires { IsOk so_far → K.faults writer.old < 2 ^ 64 - 1 }
     ensures faults { IsOk result → IsOk so_far × (K.faults writer.new ≡ K.faults writer.old) }
-    ensures told { Adds so_far result (K.written writer.old) (K.written writer.new) (K.faults writer.old) (K.faults writer.new)
-        (build_reply main.now (outcome_seen outcome.now)) }
+    ensures told { Adds K.written K.faults writer.old writer.new so_far result (build_reply main.now (outcome_seen outcome.now)) }
 {
     match outcome {
         Outcome::Faulty(diagnostics) => emit_diagnostics(so_far, writer, b"failed ", diagnostics),
@@ -127,8 +120,7 @@ fn report_diagnostics<K: Sink>(
 ) -> Result<(), Device>
     requires { IsOk so_far → K.faults writer.old < 2 ^ 64 - 1 }
     ensures faults { IsOk result → IsOk so_far × (K.faults writer.new ≡ K.faults writer.old) }
-    ensures told { Adds so_far result (K.written writer.old) (K.written writer.new) (K.faults writer.old) (K.faults writer.new)
-        (report_reply Subject.Diagnostics (outcome_seen outcome.now)) }
+    ensures told { Adds K.written K.faults writer.old writer.new so_far result (report_reply Subject.Diagnostics (outcome_seen outcome.now)) }
 {
     match outcome {
         Outcome::Faulty(diagnostics) => {
@@ -148,8 +140,7 @@ fn report_order<K: Sink>(
 ) -> Result<(), Device>
     requires { IsOk so_far → K.faults writer.old < 2 ^ 64 - 1 }
     ensures faults { IsOk result → IsOk so_far × (K.faults writer.new ≡ K.faults writer.old) }
-    ensures told { Adds so_far result (K.written writer.old) (K.written writer.new) (K.faults writer.old) (K.faults writer.new)
-        (order_reply (outcome_seen outcome.now)) }
+    ensures told { Adds K.written K.faults writer.old writer.new so_far result (order_reply (outcome_seen outcome.now)) }
 {
     match outcome {
         Outcome::Faulty(_) => emit_refusal(so_far, writer, Refusal::NoImage),
@@ -167,8 +158,7 @@ fn report_image<K: Sink>(
 ) -> Result<(), Device>
     requires { IsOk so_far → K.faults writer.old < 2 ^ 64 - 1 }
     ensures faults { IsOk result → IsOk so_far × (K.faults writer.new ≡ K.faults writer.old) }
-    ensures told { Adds so_far result (K.written writer.old) (K.written writer.new) (K.faults writer.old) (K.faults writer.new)
-        (image_reply (outcome_seen outcome.now)) }
+    ensures told { Adds K.written K.faults writer.old writer.new so_far result (image_reply (outcome_seen outcome.now)) }
 {
     match outcome {
         Outcome::Faulty(_) => emit_refusal(so_far, writer, Refusal::NoImage),
@@ -187,8 +177,7 @@ fn emit_report<K: Sink>(
 ) -> Result<(), Device>
     requires { IsOk so_far → K.faults writer.old < 2 ^ 64 - 1 }
     ensures faults { IsOk result → IsOk so_far × (K.faults writer.new ≡ K.faults writer.old) }
-    ensures told { Adds so_far result (K.written writer.old) (K.written writer.new) (K.faults writer.old) (K.faults writer.new)
-        (report_reply subject (outcome_seen outcome.now)) }
+    ensures told { Adds K.written K.faults writer.old writer.new so_far result (report_reply subject (outcome_seen outcome.now)) }
 {
     match subject {
         Subject::Diagnostics => report_diagnostics(so_far, writer, outcome),
@@ -197,8 +186,21 @@ fn emit_report<K: Sink>(
     }
 }
 
-/// Writes a reply. What it tells of the library is written as the library holds it.
+/// Writes a reply, and passes it on. What it tells of the library is written as the library holds it.
 pub fn write_reply<K: Sink, L: UnitLibrary>(
+    writer: &mut K,
+    library: &L,
+    reply: &Reply,
+) -> Result<(), Device>
+    requires { K.faults writer.old < 2 ^ 64 - 1 }
+    ensures { WritesReply (K.written writer.old) (K.written writer.new) (K.faults writer.old) (K.faults writer.new)
+        (reply_seen L.batch (L.state library.now) reply.now) result }
+{
+    let so_far = emit_reply(writer, library, reply);
+    finish(so_far, writer)
+}
+
+fn emit_reply<K: Sink, L: UnitLibrary>(
     writer: &mut K,
     library: &L,
     reply: &Reply,

@@ -1,2 +1,3 @@
 pub mod LastBuilds
 pub mod Library
+pub mod Reports

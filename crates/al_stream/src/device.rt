@@ -1,7 +1,7 @@
 // Where the commands come from, and where the replies go.
 ghost use Rattle.std.specs.Prelude.{◌≡◌, ℕ, ◌+◌, ◌-◌, ◌^◌, ◌<◌, ◌≤◌, List, Option, IfOk, length};
 ghost use Rattle.std.specs.Io.{ReadsAtMost, WritesAtMost};
-ghost use Rattle.std.specs.Io.KnownBytes.{ReadConsumes, WriteAppends};
+ghost use Rattle.std.specs.Io.KnownBytes.{ReadConsumes, WriteAppends, Keeps};
 ghost use Rattle.al_stream.specs.Device.{CountsFault};
 
 use std::io::{Read, Write};
@@ -47,7 +47,7 @@ pub trait Sink {
     /// The bytes that were written, where the type says.
     ghost written: { Self → Option (List ℕ) };
 
-    /// How many pushes have failed.
+    /// How many pushes and flushes have failed.
     ghost faults: { Self → ℕ };
 
     /// Writes a front of the bytes, which is empty only if they are.
@@ -56,6 +56,12 @@ pub trait Sink {
         ensures bound { WritesAtMost result bytes.now }
         ensures some { IfOk result (λ n. 0 < length bytes.now → 0 < n) }
         ensures bytes { WriteAppends (written self.old) (written self.new) result bytes.now }
+        ensures fault { CountsFault (faults self.old) (faults self.new) result };
+
+    /// Passes on what was written and is held back.
+    fn flush(&mut self) -> Result<(), Fault>
+        requires { faults self.old < 2 ^ 64 - 1 }
+        ensures bytes { Keeps (written self.old) (written self.new) }
         ensures fault { CountsFault (faults self.old) (faults self.new) result };
 }
 
@@ -115,6 +121,16 @@ impl<D: Write> Sink for Counted<D> {
         match self.inner.write(bytes) {
             Ok(count) if count > 0 || bytes.is_empty() => Ok(count),
             _ => {
+                self.faults += 1;
+                Err(Fault)
+            }
+        }
+    }
+
+    fn flush(&mut self) -> Result<(), Fault> {
+        match self.inner.flush() {
+            Ok(()) => Ok(()),
+            Err(_) => {
                 self.faults += 1;
                 Err(Fault)
             }

@@ -1,7 +1,7 @@
 // Writing in pieces, which takes no memory.
-ghost use Rattle.std.specs.Prelude.{◌≡◌, ℕ, ◌-◌, ◌^◌, ◌<◌, ◌≤◌, ◌++◌, List, Option, IsOk, length, decimal};
+ghost use Rattle.std.specs.Prelude.{◌≡◌, ◌-◌, ◌^◌, ◌<◌, ◌≤◌, [], IsOk, length, decimal};
 ghost use Rattle.al_stream.specs.Hexadecimal.{hex_line, hex_lines};
-ghost use Rattle.al_stream.specs.Output.{WritesReply};
+ghost use Rattle.al_stream.specs.Output.{Adds};
 
 use crate::device::{Device, Sink};
 use crate::writing::write_all;
@@ -14,14 +14,24 @@ use itoa::Buffer;
 pub fn emit<K: Sink>(so_far: Result<(), Device>, writer: &mut K, piece: &[u8]) -> Result<(), Device>
     requires { IsOk so_far → K.faults writer.old < 2 ^ 64 - 1 }
     ensures faults { IsOk result → IsOk so_far × (K.faults writer.new ≡ K.faults writer.old) }
-    ensures told { (start : Option (List ℕ)) (faults : ℕ) (before : List ℕ) →
-        WritesReply start (K.written writer.old) faults (K.faults writer.old) before so_far →
-        WritesReply start (K.written writer.new) faults (K.faults writer.new) (before ++ piece.now) result }
+    ensures told { Adds K.written K.faults writer.old writer.new so_far result piece.now }
 {
     if so_far.is_err() {
         return so_far;
     }
     write_all(writer, piece)
+}
+
+/// Ends a reply: passes on what the writer holds back of it, unless a piece failed.
+pub fn finish<K: Sink>(so_far: Result<(), Device>, writer: &mut K) -> Result<(), Device>
+    requires { IsOk so_far → K.faults writer.old < 2 ^ 64 - 1 }
+    ensures { Adds K.written K.faults writer.old writer.new so_far result [] }
+{
+    so_far?;
+    match writer.flush() {
+        Ok(()) => Ok(()),
+        Err(_) => Err(Device::Write),
+    }
 }
 
 /// Writes a number in decimal digits, as [`emit`] writes a piece.
@@ -32,9 +42,7 @@ pub fn emit_number<K: Sink>(
 ) -> Result<(), Device>
     requires { IsOk so_far → K.faults writer.old < 2 ^ 64 - 1 }
     ensures faults { IsOk result → IsOk so_far × (K.faults writer.new ≡ K.faults writer.old) }
-    ensures told { (start : Option (List ℕ)) (faults : ℕ) (before : List ℕ) →
-        WritesReply start (K.written writer.old) faults (K.faults writer.old) before so_far →
-        WritesReply start (K.written writer.new) faults (K.faults writer.new) (before ++ decimal number) result }
+    ensures told { Adds K.written K.faults writer.old writer.new so_far result (decimal number) }
 {
     let mut digits = Buffer::new();
     emit(so_far, writer, digits.format(number).as_bytes())
@@ -51,9 +59,7 @@ fn emit_hex_line<K: Sink>(
     requires room { IsOk so_far → K.faults writer.old < 2 ^ 64 - 1 }
     requires short { length bytes.now ≤ 32 }
     ensures faults { IsOk result → IsOk so_far × (K.faults writer.new ≡ K.faults writer.old) }
-    ensures told { (start : Option (List ℕ)) (faults : ℕ) (before : List ℕ) →
-        WritesReply start (K.written writer.old) faults (K.faults writer.old) before so_far →
-        WritesReply start (K.written writer.new) faults (K.faults writer.new) (before ++ hex_line bytes.now) result }
+    ensures told { Adds K.written K.faults writer.old writer.new so_far result (hex_line bytes.now) }
 {
     let mut text = [0; 65];
     for (i, byte) in bytes.iter().enumerate() {
@@ -74,9 +80,7 @@ pub fn emit_hex<K: Sink>(
 ) -> Result<(), Device>
     requires { IsOk so_far → K.faults writer.old < 2 ^ 64 - 1 }
     ensures faults { IsOk result → IsOk so_far × (K.faults writer.new ≡ K.faults writer.old) }
-    ensures told { (start : Option (List ℕ)) (faults : ℕ) (before : List ℕ) →
-        WritesReply start (K.written writer.old) faults (K.faults writer.old) before so_far →
-        WritesReply start (K.written writer.new) faults (K.faults writer.new) (before ++ hex_lines bytes.now) result }
+    ensures told { Adds K.written K.faults writer.old writer.new so_far result (hex_lines bytes.now) }
 {
     for line in bytes.chunks(32) {
         so_far = emit_hex_line(so_far, writer, line);

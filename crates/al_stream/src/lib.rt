@@ -7,7 +7,7 @@
 //! - [`Buffer`] gives the bytes of a source in turn, within a bound on the number of pulls.
 //! - [`read_line`] reads a line into a [`KeptLine`], [`read_text`] reads a text of known length into a [`Text`].
 //! - [`write_all`] writes all of some bytes, [`emit`], [`emit_number`] and [`emit_hex`] do so piece by piece and
-//!   take no memory.
+//!   take no memory, and [`finish`] ends a row of pieces.
 #![tactic(auto)]
 
 mod buffer;
@@ -20,7 +20,7 @@ mod writing;
 
 pub use buffer::Buffer;
 pub use device::{Counted, Device, Fault, Sink, Source};
-pub use emitting::{emit, emit_hex, emit_number};
+pub use emitting::{emit, emit_hex, emit_number, finish};
 pub use kept::KeptLine;
 pub use laws::cut_is_first;
 pub use reading::{Text, read_line, read_text};

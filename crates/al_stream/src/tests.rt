@@ -1,9 +1,9 @@
 use crate::{
-    Buffer, Counted, Device, KeptLine, Text, cut_is_first, emit, emit_hex, emit_number, read_line,
-    read_text, write_all,
+    Buffer, Counted, Device, KeptLine, Text, cut_is_first, emit, emit_hex, emit_number, finish,
+    read_line, read_text, write_all,
 };
 use std::io;
-use std::io::{ErrorKind, Read, Write};
+use std::io::{BufWriter, ErrorKind, Read, Write};
 use std::test::Fail;
 
 /// A device that fails at one call, and at each later one.
@@ -149,5 +149,26 @@ fn writers_that_fail(rt: HostRuntime) -> Result<(), Fail> {
     });
     assert_eq!(rt; write_all(&mut sink, b"").err(), None);
     assert_eq!(rt; write_all(&mut sink, b"a").err(), Some(Device::Write));
+    Ok(())
+}
+
+#[test]
+fn what_is_held_back(rt: HostRuntime) -> Result<(), Fail> {
+    let mut sink = Counted::new(BufWriter::new(rt.alloc(), Vec::new(rt.alloc()))?);
+    let mut so_far = emit(Ok(()), &mut sink, b"o");
+    so_far = emit(so_far, &mut sink, b"k");
+    finish(so_far, &mut sink)?;
+    let (written, held) = sink.into_inner().into_parts();
+    assert_eq!(rt; written.as_slice(), b"ok".as_slice());
+    assert!(rt; held.is_empty());
+    let failing = Failing {
+        inner: Vec::new(rt.alloc()),
+        before: 0,
+    };
+    let mut sink = Counted::new(BufWriter::new(rt.alloc(), failing)?);
+    let so_far = emit(Ok(()), &mut sink, b"ok");
+    assert_eq!(rt; so_far, Ok(()));
+    let ended = finish(so_far, &mut sink);
+    assert_eq!(rt; ended.err(), Some(Device::Write));
     Ok(())
 }

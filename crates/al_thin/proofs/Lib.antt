@@ -1,6 +1,14 @@
 pub mod Members
 pub mod MainNames
+pub mod Fields
+pub mod NotCalls
+pub mod Thin
+pub mod Bodies
 pub mod BatchLemmas
 pub mod Faults
 pub mod ReadingLaws
 pub mod FindingLaws
+pub mod Labels
+pub mod Picks
+pub mod Sorting
+pub mod Ascending

@@ -11,35 +11,49 @@ use Rattle.al_image.specs.declared.instruction.Instruction.{Instruction}
 use Rattle.al_image.specs.declared.instruction.Instruction.TheVariants.{PutText, NewLine}
 use Rattle.al_image.specs.Images.{program_of, is_too_large, image_bytes}
 use Rattle.al_image.specs.Runs.{run_of_image}
-use Rattle.al_tree.specs.Trees.{UnitTree, StatementTree, OperationTree}
-use Rattle.al_tree.specs.Trees.StatementTree.{NullTree, CallTree}
-use Rattle.al_tree.specs.Trees.OperationTree.{NewLineTree, PutTree, PutLineTree}
-use Rattle.al_thin.specs.Readings.{Reading, Sentence, Fails, reading_of}
+use Rattle.al_unit.specs.Readings.{Reading}
+use Rattle.al_unit.specs.Readings.Reading.{Sentence, Fails}
+use Rattle.al_syntax.specs.UnitTrees.{CompilationUnitTree}
+use Rattle.al_thin.specs.Readings.{reading_of}
+use Rattle.al_thin.specs.ThinTrees.{UnitTree, StatementTree, OperationTree, thin_unit}
+use Rattle.al_thin.specs.ThinTrees.StatementTree.{NullTree, CallTree}
+use Rattle.al_thin.specs.ThinTrees.OperationTree.{NewLineTree, PutTree, PutLineTree}
 use Rattle.al_thin.specs.Findings.{findings_of}
 
 -- what a call of Ada.Text_IO is compiled to (ARM A.10.7)
 abbrev pub operation_code : OperationTree → List Instruction
-operation_code (NewLineTree name) = NewLine ∷ []
-operation_code (PutTree name literal) = PutText literal.text ∷ []
-operation_code (PutLineTree name literal) = PutText literal.text ∷ NewLine ∷ []
+operation_code NewLineTree = NewLine ∷ []
+operation_code (PutTree text) = PutText text ∷ []
+operation_code (PutLineTree text) = PutText text ∷ NewLine ∷ []
 
 abbrev pub statement_code : StatementTree → List Instruction
 statement_code NullTree = []
-statement_code (CallTree library operation) = operation_code operation
+statement_code (CallTree place operation) = operation_code operation
 
 abbrev pub unit_code : UnitTree → List Instruction
 unit_code unit = flat_map statement_code unit.statements
 
 -- the unit, where it has this name
-abbrev pub named : List ℕ → Reading → Option UnitTree
-named main (Sentence unit) = if bytes_eq unit.name.label.text main then Some unit else None
-named main (Fails place code) = None
+abbrev pub if_named : List ℕ → UnitTree → Option UnitTree
+if_named main unit = if bytes_eq unit.name.text main then Some unit else None
 
--- The main unit is the procedure of that name in the file that the name wants. No file has a name that isn't one.
-unfoldable pub main_unit : Texts → List ℕ → Option UnitTree
-main_unit files main =
+-- where it is of the thin language and has this name
+abbrev pub named : List ℕ → CompilationUnitTree → Option UnitTree
+named main unit = option_and_then (if_named main) (thin_unit unit)
+
+abbrev pub sentence_of : Reading → Option CompilationUnitTree
+sentence_of (Sentence unit) = Some unit
+sentence_of (Fails place code) = None
+
+-- the unit in the file that the name wants; no file has a name that isn't one
+unfoldable pub unit_in_file : Texts → List ℕ → Option CompilationUnitTree
+unit_in_file files main =
     let file = file_name_of (main, Body) in
-    if is_file_name file then option_and_then (λ text. named main (reading_of text)) (text_of files file) else None
+    if is_file_name file then option_and_then (λ text. sentence_of (reading_of text)) (text_of files file) else None
+
+-- the main unit is the procedure of that name in that file
+unfoldable pub main_unit : Texts → List ℕ → Option UnitTree
+main_unit files main = option_and_then (named main) (unit_in_file files main)
 
 -- the main procedure's body alone is elaborated: it depends on no other unit of the library (ARM 10.2)
 abbrev pub order_of : List ℕ → List Key

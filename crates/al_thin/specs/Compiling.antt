@@ -1,12 +1,13 @@
 -- What the compiler answers.
-use Rattle.std.specs.Prelude.{ℕ, ◌≡◌, List, map}
+use Rattle.std.specs.Prelude.{ℕ, ◌≡◌, List, Option, Some, None, map}
 use Rattle.al_base.specs.Files.{Texts}
 use Rattle.al_base.specs.Batch.{Batch, Faulty, NoMain, TooLarge, Made, finding_of, key_of}
-use Rattle.al_image.specs.Images.{Image}
+use Rattle.al_image.specs.Images.{Image, program_of}
 use Rattle.al_image.specs.Runs.{run_of_image}
 use Rattle.al_thin.specs.declared.compiling.Compiled.{Compiled}
 use Rattle.al_thin.specs.declared.compiling.Compiled.TheVariants as answers
-use Rattle.al_thin.specs.Batches.{batch, run_of}
+use Rattle.al_thin.specs.ThinTrees.{UnitTree}
+use Rattle.al_thin.specs.Batches.{batch, run_of, unit_code}
 
 abbrev pub compiled_seen : Compiled → Batch
 compiled_seen (answers.Faulty diagnostics) = Faulty (map finding_of diagnostics.items)
@@ -18,6 +19,11 @@ compiled_seen (answers.Made program) = Made (map key_of program.order.items) pro
 abbrev pub HoldsImage : Compiled → Image → Type 0
 HoldsImage (answers.Made program) image = program.image ≡ image
 HoldsImage other image = Unit {0}
+
+-- .. that of the main unit
+abbrev pub HoldsImageOf : Compiled → List ℕ → Option UnitTree → Type 0
+HoldsImageOf compiled main None = Unit {0}
+HoldsImageOf compiled main (Some unit) = HoldsImage compiled (program_of main (unit_code unit))
 
 -- the image of a program that was made runs as the files say
 abbrev pub RunsAs : Compiled → Texts → List ℕ → Type 0

@@ -1,6 +1,9 @@
 pub mod Readings
+pub mod ThinTrees
+pub mod ThinSeen
 pub mod ReadingSeen
 pub mod Findings
 pub mod Batches
 pub mod Compiling
 pub mod Laws
+pub mod Orders

@@ -5,21 +5,18 @@ use Rattle.al_lex.specs.declared.token.Token.{Token}
 use Rattle.al_lex.specs.declared.token.LexFault.{LexFault}
 use Rattle.al_lex.specs.Codes.{number_of}
 use Rattle.al_lex.specs.Tokens.{lexed, end_place_of}
+use Rattle.al_parse.specs.Faults.{syntax_fault_of}
+use Rattle.al_syntax.specs.UnitTrees.{CompilationUnitTree}
+use Rattle.al_unit.specs.Readings.{Reading}
+use Rattle.al_unit.specs.Readings.Reading.{Sentence, Fails}
+use Rattle.al_syntax.specs.TreeLaws.{unit_of}
 use Rattle.al_tree.specs.Lexemes.{lexemes}
-use Rattle.al_tree.specs.Trees.{UnitTree}
-use Rattle.al_tree.specs.Units.{unit_of, syntax_fault_of}
-
--- a sentence of the grammar, or where and how it fails to be one: by its first malformed lexeme, or else by the first token
--- behind the longest front that goes on to a sentence
-pub data Reading : Type 0 where
-  Sentence : UnitTree → Reading
-  Fails : Place → ℕ → Reading
 
 -- where a token stands; behind the last one, the end of the text
 abbrev pub token_place : List ℕ → List Token → ℕ → Place
 token_place text tokens n = unwrap_or (option_map (λ t. t.span.place) (slice_get tokens n)) (end_place_of text)
 
-abbrev pub by_unit : List ℕ → List Token → Option UnitTree → Reading
+abbrev pub by_unit : List ℕ → List Token → Option CompilationUnitTree → Reading
 by_unit text tokens (Some unit) = Sentence unit
 by_unit text tokens None = Fails (token_place text tokens (unwrap_or (syntax_fault_of (lexemes text tokens)) 0)) 101
 

@@ -1,22 +1,28 @@
 // What is wrong in a file.
-ghost use Rattle.std.specs.Prelude.{◌≡◌, ◌++◌, ◌∷◌, [], OnOk, bytes_eq, map, not, option_map};
+ghost use Rattle.std.specs.Prelude.{◌≡◌, ◌++◌, ◌∷◌, [], OnOk, map, option_map};
 ghost use Rattle.std.specs.List.{flat_map};
 ghost use Rattle.al_base.specs.Batch.{finding_of};
-ghost use Rattle.al_tree.specs.Views.{identifier_label, identifier_seen, package_seen, statement_seen, unit_seen};
+ghost use Rattle.al_tree.specs.Lexemes.{identifier_label};
+ghost use Rattle.al_tree.specs.UnitViews.{unit_seen};
+ghost use Rattle.al_unit.specs.Units.{header_of};
 ghost use Rattle.al_thin.specs.ReadingSeen.{reading_seen};
-ghost use Rattle.al_thin.specs.Findings.{finding, finding_if, is_predefined, name_findings, statement_findings, call_findings, end_findings, check_findings, body_findings, or_else, reading_findings};
+ghost use Rattle.al_thin.specs.Findings.{body_findings, call_findings, check_findings, end_findings, finding, finding_when, name_findings, or_else, reading_findings, statement_findings, unit_findings};
+ghost use Rattle.al_thin.specs.ThinSeen.{thin_seen, thin_unit_seen};
+ghost use Rattle.al_thin.specs.ThinTrees.{thin_unit};
 
-use crate::naming::file_of;
+use crate::naming::{file_of, unit_key, unit_place};
 use crate::reading::Reading;
-use al_base::{Diagnostic, Files, Name, NoMemory, Place, UnitKind};
-use al_tree::{CompilationUnit, Identifier, PackageName, Statement};
+use crate::statements::ThinStatement;
+use crate::unit::{ThinUnit, thin_unit};
+use al_base::{Diagnostic, Files, Name, NoMemory, Place, UnitKind, file_name_of};
+use al_tree::{CompilationUnit, Identifier};
+use al_unit_graph::is_reserved;
 use std::alloc::Global;
 
 /// Where a text begins.
 const FIRST_PLACE: Place = Place { line: 1, col: 1 };
 
 /// Adds what is wrong in a file that was read so.
-#[tactic(auto, unfolding(al_tree::specs::Views::unit_seen))]
 pub(crate) fn add_findings(
     alloc: Global,
     files: &Files,
@@ -28,26 +34,56 @@ pub(crate) fn add_findings(
 {
     match reading {
         Reading::Fails(place, code) => add(alloc, file, *place, *code, found),
-        Reading::Sentence(unit) => add_unit_findings(alloc, files, file, unit, found),
+        Reading::Sentence(unit) => add_sentence_findings(alloc, files, file, unit, found),
     }
 }
 
-/// Adds what is wrong with a unit: it is checked where its name is right.
-fn add_unit_findings(
+/// Adds what is wrong with a unit: it is looked at where its name is right.
+fn add_sentence_findings(
     alloc: Global,
     files: &Files,
     file: &[u8],
     unit: &CompilationUnit,
     found: &mut Vec<Diagnostic>,
 ) -> Result<(), NoMemory>
-    ensures { OnOk result (map finding_of found.new.items ≡ map finding_of found.old.items ++ or_else (name_findings file.now (identifier_label unit.now.body.name)) (body_findings files.now file.now (unit_seen unit.now))) }
+    ensures { OnOk result (map finding_of found.new.items ≡ map finding_of found.old.items ++ or_else (name_findings file.now (header_of (unit_seen unit.now))) (unit_findings files.now file.now (thin_unit (unit_seen unit.now)))) }
 {
     let before = found.len();
-    add_name_findings(alloc, file, &unit.body.name, found)?;
+    add_name_findings(alloc, file, unit, found)?;
     if found.len() > before {
         return Ok(());
     }
-    add_body_findings(alloc, files, file, unit, found)
+    add_compiled_findings(alloc, files, file, unit, found)
+}
+
+/// Adds what is wrong with a unit whose name is right.
+fn add_compiled_findings(
+    alloc: Global,
+    files: &Files,
+    file: &[u8],
+    unit: &CompilationUnit,
+    found: &mut Vec<Diagnostic>,
+) -> Result<(), NoMemory>
+    ensures { OnOk result (map finding_of found.new.items ≡ map finding_of found.old.items ++ unit_findings files.now file.now (thin_unit (unit_seen unit.now))) }
+{
+    let thin = thin_unit(alloc, unit)?;
+    add_unit_findings(alloc, files, file, &thin, found)
+}
+
+/// Adds what is wrong with a unit as one of the thin language.
+fn add_unit_findings(
+    alloc: Global,
+    files: &Files,
+    file: &[u8],
+    unit: &Option<ThinUnit<'_>>,
+    found: &mut Vec<Diagnostic>,
+) -> Result<(), NoMemory>
+    ensures { OnOk result (map finding_of found.new.items ≡ map finding_of found.old.items ++ unit_findings files.now file.now (option_map thin_unit_seen unit.now)) }
+{
+    match unit {
+        None => add(alloc, file, FIRST_PLACE, 700, found),
+        Some(unit) => add_body_findings(alloc, files, file, unit, found),
+    }
 }
 
 /// Adds a finding at a place.
@@ -65,19 +101,19 @@ fn add(
     Ok(())
 }
 
-/// Adds a finding at an identifier, where it is so.
-fn add_if(
+/// Adds a finding at a place, where it is so.
+fn add_when(
     alloc: Global,
     is_so: bool,
     file: &[u8],
-    identifier: &Identifier,
+    place: Place,
     code: u16,
     found: &mut Vec<Diagnostic>,
 ) -> Result<(), NoMemory>
-    ensures { OnOk result (map finding_of found.new.items ≡ map finding_of found.old.items ++ finding_if is_so file.now (identifier_label identifier.now) code) }
+    ensures { OnOk result (map finding_of found.new.items ≡ map finding_of found.old.items ++ finding_when is_so file.now place code) }
 {
     if is_so {
-        add(alloc, file, identifier.place, code, found)
+        add(alloc, file, place, code, found)
     } else {
         Ok(())
     }
@@ -87,42 +123,36 @@ fn add_if(
 fn add_name_findings(
     alloc: Global,
     file: &[u8],
-    name: &Identifier,
+    unit: &CompilationUnit,
     found: &mut Vec<Diagnostic>,
 ) -> Result<(), NoMemory>
-    ensures { OnOk result (map finding_of found.new.items ≡ map finding_of found.old.items ++ name_findings file.now (identifier_label name.now)) }
+    ensures { OnOk result (map finding_of found.new.items ≡ map finding_of found.old.items ++ name_findings file.now (header_of (unit_seen unit.now))) }
 {
-    let wanted = file_of(alloc, name.name.as_slice(), UnitKind::Body)?;
-    add_if(alloc, file != wanted.as_slice(), file, name, 201, found)?;
-    add_if(
+    let key = unit_key(alloc, unit)?;
+    let place = unit_place(unit);
+    let wanted = file_name_of(alloc, &key)?;
+    add_when(alloc, file != wanted.as_slice(), file, place, 201, found)?;
+    add_when(
         alloc,
-        is_predefined(name.name.as_slice()),
+        is_reserved(key.name.as_slice()),
         file,
-        name,
+        place,
         207,
         found,
     )
 }
 
-/// Whether there is a unit of the name without a file for it (ARM A.1, A.2).
-fn is_predefined(name: &[u8]) -> bool
-    ensures { result ≡ is_predefined name.now }
-{
-    name == b"standard".as_slice() || name == b"ada".as_slice()
-}
-
 /// Adds what is wrong with a body whose name is right.
-#[tactic(auto, unfolding(al_tree::specs::Views::unit_seen))]
 fn add_body_findings(
     alloc: Global,
     files: &Files,
     file: &[u8],
-    unit: &CompilationUnit,
+    unit: &ThinUnit<'_>,
     found: &mut Vec<Diagnostic>,
 ) -> Result<(), NoMemory>
-    ensures { OnOk result (map finding_of found.new.items ≡ map finding_of found.old.items ++ body_findings files.now file.now (unit_seen unit.now)) }
+    ensures { OnOk result (map finding_of found.new.items ≡ map finding_of found.old.items ++ body_findings files.now file.now (thin_unit_seen unit.now)) }
 {
-    let declaration = file_of(alloc, unit.body.name.name.as_slice(), UnitKind::Decl)?;
+    let declaration = file_of(alloc, unit.name.name.as_slice(), UnitKind::Decl)?;
     if files.get(declaration.as_slice()).is_some() {
         add(alloc, file, FIRST_PLACE, 208, found)
     } else {
@@ -131,56 +161,28 @@ fn add_body_findings(
 }
 
 /// Adds what the check of a unit finds, in the order of the text.
-#[tactic(auto, unfolding(al_tree::specs::Views::unit_seen))]
 fn add_check_findings(
     alloc: Global,
     file: &[u8],
-    unit: &CompilationUnit,
+    unit: &ThinUnit<'_>,
     found: &mut Vec<Diagnostic>,
 ) -> Result<(), NoMemory>
-    ensures { OnOk result (map finding_of found.new.items ≡ map finding_of found.old.items ++ check_findings file.now (unit_seen unit.now)) }
+    ensures { OnOk result (map finding_of found.new.items ≡ map finding_of found.old.items ++ check_findings file.now (thin_unit_seen unit.now)) }
 {
-    let body = &unit.body;
-    add_call_findings(
-        alloc,
-        file,
-        &unit.with_clause,
-        body.statements.as_slice(),
-        found,
-    )?;
-    add_end_findings(
-        alloc,
-        file,
-        body.name.name.as_slice(),
-        &body.end_name,
-        found,
-    )
-}
-
-/// Adds the calls for which there is no with clause.
-fn add_call_findings(
-    alloc: Global,
-    file: &[u8],
-    with_clause: &Option<PackageName>,
-    statements: &[Statement],
-    found: &mut Vec<Diagnostic>,
-) -> Result<(), NoMemory>
-    ensures { OnOk result (map finding_of found.new.items ≡ map finding_of found.old.items ++ call_findings file.now (option_map package_seen with_clause.now) (map statement_seen statements.now)) }
-{
-    match with_clause {
-        Some(_) => Ok(()),
-        None => add_unseen_calls(alloc, file, statements, found),
+    if !unit.with_clause {
+        add_unseen_calls(alloc, file, unit.statements.as_slice(), found)?;
     }
+    add_end_findings(alloc, file, unit.name.name.as_slice(), unit.end_name, found)
 }
 
 /// Adds each call.
 fn add_unseen_calls(
     alloc: Global,
     file: &[u8],
-    statements: &[Statement],
+    statements: &[ThinStatement<'_>],
     found: &mut Vec<Diagnostic>,
 ) -> Result<(), NoMemory>
-    ensures { OnOk result (map finding_of found.new.items ≡ map finding_of found.old.items ++ flat_map (statement_findings file.now) (map statement_seen statements.now)) }
+    ensures { OnOk result (map finding_of found.new.items ≡ map finding_of found.old.items ++ flat_map (statement_findings file.now) (map thin_seen statements.now)) }
 {
     for statement in statements {
         add_unseen_call(alloc, file, statement, found)?;
@@ -192,14 +194,14 @@ fn add_unseen_calls(
 fn add_unseen_call(
     alloc: Global,
     file: &[u8],
-    statement: &Statement,
+    statement: &ThinStatement<'_>,
     found: &mut Vec<Diagnostic>,
 ) -> Result<(), NoMemory>
-    ensures { OnOk result (map finding_of found.new.items ≡ map finding_of found.old.items ++ statement_findings file.now (statement_seen statement.now)) }
+    ensures { OnOk result (map finding_of found.new.items ≡ map finding_of found.old.items ++ statement_findings file.now (thin_seen statement.now)) }
 {
     match statement {
-        Statement::Null => Ok(()),
-        Statement::Call(call) => add(alloc, file, call.package.ada.place, 401, found),
+        ThinStatement::Null => Ok(()),
+        ThinStatement::Call(place, _) => add(alloc, file, *place, 401, found),
     }
 }
 
@@ -208,16 +210,16 @@ fn add_end_findings(
     alloc: Global,
     file: &[u8],
     name: &[u8],
-    end_name: &Option<Identifier>,
+    end_name: Option<&Identifier>,
     found: &mut Vec<Diagnostic>,
 ) -> Result<(), NoMemory>
-    ensures { OnOk result (map finding_of found.new.items ≡ map finding_of found.old.items ++ end_findings file.now name.now (option_map identifier_seen end_name.now)) }
+    ensures { OnOk result (map finding_of found.new.items ≡ map finding_of found.old.items ++ end_findings file.now name.now (option_map (λ i. identifier_label i.now) end_name.entry)) }
 {
     match end_name {
         None => Ok(()),
         Some(end_name) => {
             let differs = end_name.name.as_slice() != name;
-            add_if(alloc, differs, file, end_name, 308, found)
+            add_when(alloc, differs, file, end_name.place, 308, found)
         }
     }
 }

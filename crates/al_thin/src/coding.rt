@@ -1,52 +1,73 @@
 // The code of a unit.
 ghost use Rattle.std.specs.Prelude.{◌≡◌, ◌∷◌, [], ◌++◌, IfOk, OnOk};
-ghost use Rattle.al_tree.specs.Views.{operation_seen, statement_seen, unit_seen};
+ghost use Rattle.al_image.specs.declared.instruction.Instruction.TheVariants.{PutText};
 ghost use Rattle.al_thin.specs.Batches.{operation_code, statement_code, unit_code};
+ghost use Rattle.al_thin.specs.ThinSeen.{output_seen, thin_seen, thin_unit_seen};
 
+use crate::calls::Output;
+use crate::statements::ThinStatement;
+use crate::unit::ThinUnit;
 use al_base::NoMemory;
 use al_image::{Instruction, Text};
-use al_tree::{CompilationUnit, Operation, Statement, SubprogramBody};
+use al_tree::StringLiteral;
 use std::alloc::Global;
 
-/// The instructions of a procedure's statements. The texts that it puts out aren't copied.
-#[tactic(auto, unfolding(al_tree::specs::Views::unit_seen))]
+/// The instructions of a procedure's statements.
 pub(crate) fn instructions_of(
     alloc: Global,
-    unit: CompilationUnit,
+    unit: &ThinUnit<'_>,
 ) -> Result<Vec<Instruction>, NoMemory>
-    ensures { IfOk result (λ code. code.items ≡ unit_code (unit_seen unit)) }
+    ensures { IfOk result (λ code. code.items ≡ unit_code (thin_unit_seen unit.now)) }
 {
     let mut code = Vec::new(alloc);
-    let CompilationUnit { body, .. } = unit;
-    let SubprogramBody { statements, .. } = body;
-    for statement in statements {
-        push_statement(&mut code, statement)?;
+    for statement in unit.statements.as_slice() {
+        push_statement(alloc, &mut code, *statement)?;
     }
     Ok(code)
 }
 
 /// Appends the instructions of a statement.
-fn push_statement(code: &mut Vec<Instruction>, statement: Statement) -> Result<(), NoMemory>
-    ensures { OnOk result (code.new.items ≡ code.old.items ++ statement_code (statement_seen statement)) }
+fn push_statement(
+    alloc: Global,
+    code: &mut Vec<Instruction>,
+    statement: ThinStatement<'_>,
+) -> Result<(), NoMemory>
+    ensures { OnOk result (code.new.items ≡ code.old.items ++ statement_code (thin_seen statement.entry)) }
 {
     match statement {
-        Statement::Null => Ok(()),
-        Statement::Call(call) => push_operation(code, call.operation),
+        ThinStatement::Null => Ok(()),
+        ThinStatement::Call(_, output) => push_output(alloc, code, output),
     }
 }
 
 /// Appends the instructions of a call of Ada.Text_IO (ARM A.10.7).
-fn push_operation(code: &mut Vec<Instruction>, operation: Operation) -> Result<(), NoMemory>
-    ensures { OnOk result (code.new.items ≡ code.old.items ++ operation_code (operation_seen operation)) }
+fn push_output(
+    alloc: Global,
+    code: &mut Vec<Instruction>,
+    output: Output<'_>,
+) -> Result<(), NoMemory>
+    ensures { OnOk result (code.new.items ≡ code.old.items ++ operation_code (output_seen output.entry)) }
 {
-    match operation {
-        Operation::NewLine(_) => push(code, Instruction::NewLine),
-        Operation::Put(_, literal) => push(code, Instruction::PutText(Text::new(literal.text))),
-        Operation::PutLine(_, literal) => {
-            push(code, Instruction::PutText(Text::new(literal.text)))?;
+    match output {
+        Output::NewLine => push(code, Instruction::NewLine),
+        Output::Put(literal) => push_text(alloc, code, literal),
+        Output::PutLine(literal) => {
+            push_text(alloc, code, literal)?;
             push(code, Instruction::NewLine)
         }
     }
+}
+
+/// Appends the instruction that puts out a literal's text.
+fn push_text(
+    alloc: Global,
+    code: &mut Vec<Instruction>,
+    literal: &StringLiteral,
+) -> Result<(), NoMemory>
+    ensures { OnOk result (code.new.items ≡ code.old.items ++ PutText literal.now.text.items ∷ []) }
+{
+    let text = Vec::from_slice(alloc, literal.text.as_slice())?;
+    push(code, Instruction::PutText(Text::new(text)))
 }
 
 fn push(code: &mut Vec<Instruction>, instruction: Instruction) -> Result<(), NoMemory>

@@ -2,16 +2,18 @@
 ghost use Rattle.std.specs.Prelude.{◌≡◌, ◌≤◌, ◌<◌, ◌++◌, Some, IfOk, IfSome, OnOk, length, map, option_map};
 ghost use Rattle.al_base.specs.Batch.{finding_of, key_of};
 ghost use Rattle.al_image.specs.Images.{program_of};
-ghost use Rattle.al_tree.specs.Views.{unit_seen};
+ghost use Rattle.al_tree.specs.UnitViews.{unit_seen};
 ghost use Rattle.al_thin.specs.ReadingSeen.{reading_seen};
+ghost use Rattle.al_thin.specs.ThinSeen.{thin_unit_seen};
 ghost use Rattle.al_thin.specs.Findings.{file_findings, findings_of};
-ghost use Rattle.al_thin.specs.Batches.{linked, main_unit, named, order_of, unit_code};
-ghost use Rattle.al_thin.specs.Compiling.{compiled_seen, Compiles, HoldsImage};
+ghost use Rattle.al_thin.specs.Batches.{linked, main_unit, named, order_of, sentence_of, unit_code, unit_in_file};
+ghost use Rattle.al_thin.specs.Compiling.{compiled_seen, Compiles, HoldsImage, HoldsImageOf};
 
 use crate::checking::add_findings;
 use crate::coding::instructions_of;
 use crate::naming::file_of;
 use crate::reading::{Reading, read};
+use crate::unit::{ThinUnit, thin_unit};
 use al_base::{Diagnostic, Files, Name, NoMemory, UnitKey, UnitKind, is_file_name};
 use al_image::{Image, ProgramError, program};
 use al_tree::CompilationUnit;
@@ -49,9 +51,28 @@ pub fn compile(alloc: Global, files: &Files, main: &[u8]) -> Result<Compiled, No
     if !found.is_empty() {
         return Ok(Compiled::Faulty(found));
     }
-    match main_unit(alloc, files, main)? {
+    match unit_in_file(alloc, files, main)? {
         None => Ok(Compiled::NoMain),
-        Some(unit) => link(alloc, main, unit),
+        Some(unit) => compile_unit(alloc, main, &unit),
+    }
+}
+
+/// Links the unit, where it is the main unit.
+fn compile_unit(alloc: Global, main: &[u8], unit: &CompilationUnit) -> Result<Compiled, NoMemory>
+    requires some { 0 < length main.now }
+    requires short { length main.now ≤ 255 }
+    ensures linked { IfOk result (λ compiled. compiled_seen compiled ≡ linked main.now (named main.now (unit_seen unit.now))) }
+    ensures image { IfOk result (λ compiled. HoldsImageOf compiled main.now (named main.now (unit_seen unit.now))) }
+{
+    match thin_unit(alloc, unit)? {
+        None => Ok(Compiled::NoMain),
+        Some(thin) => {
+            if thin.name.name.as_slice() == main {
+                link(alloc, main, &thin)
+            } else {
+                Ok(Compiled::NoMain)
+            }
+        }
     }
 }
 
@@ -82,10 +103,14 @@ fn add_file_findings(
     add_findings(alloc, files, name, &reading, found)
 }
 
-/// The main unit: the procedure of that name in the file that the name wants.
-#[tactic(auto, using(crate::proofs::MainNames::main_name_fits), unfolding(crate::specs::Batches::main_unit))]
-fn main_unit(alloc: Global, files: &Files, main: &[u8]) -> Result<Option<CompilationUnit>, NoMemory>
-    ensures unit { IfOk result (λ unit. option_map unit_seen unit ≡ main_unit files.now main.now) }
+/// The unit in the file that the name wants.
+#[tactic(auto, using(crate::proofs::MainNames::main_name_fits), unfolding(crate::specs::Batches::unit_in_file))]
+fn unit_in_file(
+    alloc: Global,
+    files: &Files,
+    main: &[u8],
+) -> Result<Option<CompilationUnit>, NoMemory>
+    ensures unit { IfOk result (λ unit. option_map unit_seen unit ≡ unit_in_file files.now main.now) }
     ensures name { IfOk result (λ unit. IfSome unit (λ u. (0 < length main.now) × (length main.now ≤ 255))) }
 {
     let file = file_of(alloc, main, UnitKind::Body)?;
@@ -94,33 +119,26 @@ fn main_unit(alloc: Global, files: &Files, main: &[u8]) -> Result<Option<Compila
     }
     match files.get(file.as_slice()) {
         None => Ok(None),
-        Some(text) => Ok(named(main, read(alloc, text)?)),
+        Some(text) => Ok(sentence_of(read(alloc, text)?)),
     }
 }
 
-/// The unit that was read, where it has this name.
-#[tactic(auto, unfolding(al_tree::specs::Views::unit_seen))]
-fn named(main: &[u8], reading: Reading) -> Option<CompilationUnit>
-    ensures { option_map unit_seen result ≡ named main.now (reading_seen reading) }
+/// The unit that was read, if any.
+fn sentence_of(reading: Reading) -> Option<CompilationUnit>
+    ensures { option_map unit_seen result ≡ sentence_of (reading_seen reading) }
 {
     match reading {
         Reading::Fails(_, _) => None,
-        Reading::Sentence(unit) => {
-            if unit.body.name.name.as_slice() == main {
-                Some(unit)
-            } else {
-                None
-            }
-        }
+        Reading::Sentence(unit) => Some(unit),
     }
 }
 
 /// Makes the program of a main unit.
-fn link(alloc: Global, main: &[u8], unit: CompilationUnit) -> Result<Compiled, NoMemory>
+fn link(alloc: Global, main: &[u8], unit: &ThinUnit<'_>) -> Result<Compiled, NoMemory>
     requires some { 0 < length main.now }
     requires short { length main.now ≤ 255 }
-    ensures linked { IfOk result (λ compiled. compiled_seen compiled ≡ linked main.now (Some (unit_seen unit))) }
-    ensures image { IfOk result (λ compiled. HoldsImage compiled (program_of main.now (unit_code (unit_seen unit)))) }
+    ensures linked { IfOk result (λ compiled. compiled_seen compiled ≡ linked main.now (Some (thin_unit_seen unit.now))) }
+    ensures image { IfOk result (λ compiled. HoldsImage compiled (program_of main.now (unit_code (thin_unit_seen unit.now)))) }
 {
     let code = instructions_of(alloc, unit)?;
     let order = order_of(alloc, main)?;

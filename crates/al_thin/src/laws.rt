@@ -1,13 +1,15 @@
 // What the findings of files are. The functions do nothing: their contracts are the laws.
 ghost use Rattle.al_thin.specs.Laws.{FindingsAreBroken, TextsAreRead};
+ghost use Rattle.al_thin.specs.Orders.{FindingsAscend};
 
-use al_tree::{faults_are_found, units_are_found};
+use al_syntax::{faults_are_found, sentences_are_trees, trees_are_found};
 
 /// Each text has one reading: the one tree of its tokens, or its first lexical fault, or its syntax fault.
 pub fn texts_are_read()
     ensures { TextsAreRead }
 {
-    units_are_found();
+    trees_are_found();
+    sentences_are_trees();
     faults_are_found();
 }
 
@@ -15,3 +17,12 @@ pub fn texts_are_read()
 pub fn findings_are_broken()
     ensures { FindingsAreBroken }
 {}
+
+/// What a build finds wrong stands by file, place and code, and nothing is told twice.
+pub fn findings_ascend()
+    ensures { FindingsAscend }
+{
+    trees_are_found();
+    sentences_are_trees();
+    faults_are_found();
+}

@@ -1,18 +1,23 @@
 //! Compiles the texts of the first stage: procedures of null statements and calls that put out strings and line ends. All
 //! files are read and checked, and the main procedure's image is made.
 //!
-//! This crate stands in for the unit graph, the checks, the code and the linking of the whole language until they are there.
+//! A text is parsed by the whole grammar, and whether its unit is of the first stage is asked of its tree. This crate stands
+//! in for the unit graph, the checks, the code and the linking of the whole language until they are there.
 #![tactic(auto)]
 
+mod calls;
 mod checking;
 mod coding;
 mod compiling;
 mod laws;
+mod literals;
 mod naming;
 mod reading;
+mod statements;
+mod unit;
 
 pub use compiling::{Compiled, Program, compile};
-pub use laws::{findings_are_broken, texts_are_read};
+pub use laws::{findings_are_broken, findings_ascend, texts_are_read};
 
 #[cfg(test)]
 mod tests;

@@ -1,4 +1,4 @@
-// Reads the text of a file.
+// What the text of a file is.
 ghost use Rattle.std.specs.Prelude.{◌≡◌, ◌≤◌, IfOk, length};
 ghost use Rattle.al_lex.specs.Tokens.{lexed};
 ghost use Rattle.al_thin.specs.Readings.{reading_of, token_place};
@@ -7,7 +7,8 @@ ghost use Rattle.al_thin.specs.ReadingSeen.{reading_seen};
 use al_base::{NoMemory, Place};
 use al_lex::{LexError, Token, end_place, lex};
 use al_parse::{ParseError, parse};
-use al_tree::{CompilationUnit, faults_are_found};
+use al_syntax::{faults_are_found, sentences_are_trees, trees_are_found, trees_are_unique};
+use al_tree::CompilationUnit;
 use std::alloc::Global;
 
 /// What the text of a file is.
@@ -19,10 +20,14 @@ pub(crate) enum Reading {
 }
 
 /// Reads a text.
-#[tactic(auto, using(crate::proofs::Faults::fault_has_no_unit), unfolding(crate::specs::Readings::reading_of))]
+#[tactic(auto, using(crate::proofs::Faults::fault_has_no_unit, crate::proofs::Faults::tree_is_found), unfolding(crate::specs::Readings::reading_of))]
 pub(crate) fn read(alloc: Global, text: &[u8]) -> Result<Reading, NoMemory>
     ensures { IfOk result (λ reading. reading_seen reading ≡ reading_of text.now) }
 {
+    trees_are_found();
+    trees_are_unique();
+    sentences_are_trees();
+    faults_are_found();
     let tokens = match lex(alloc, text) {
         Ok(tokens) => tokens,
         Err(LexError::Fault(fault)) => {
@@ -32,10 +37,10 @@ pub(crate) fn read(alloc: Global, text: &[u8]) -> Result<Reading, NoMemory>
     };
     match parse(alloc, text, tokens.as_slice()) {
         Ok(unit) => Ok(Reading::Sentence(unit)),
-        Err(ParseError::Syntax(fault)) => {
-            faults_are_found();
-            Ok(Reading::Fails(token_place(text, tokens.as_slice(), fault.at), 101))
-        }
+        Err(ParseError::Syntax(fault)) => Ok(Reading::Fails(
+            token_place(text, tokens.as_slice(), fault.at),
+            101,
+        )),
         Err(ParseError::NoMemory) => Err(NoMemory),
     }
 }

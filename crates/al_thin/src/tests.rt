@@ -103,3 +103,38 @@ fn findings_by_file_and_place(rt: HostRuntime) -> Result<(), Fail> {
     expect_faulty(&rt, &compiled, &wanted);
     Ok(())
 }
+
+#[test]
+fn other_units_are_not_compiled_yet(rt: HostRuntime) -> Result<(), Fail> {
+    let alloc = rt.alloc();
+    let mut files = Files::new(alloc);
+    put(
+        alloc,
+        &mut files,
+        b"a~b.ads",
+        b"package A.B is X : Integer := 1 + 2; end A.B;",
+    )?;
+    put(
+        alloc,
+        &mut files,
+        b"m-s.adb",
+        b"separate (M) procedure S is begin null; end S;",
+    )?;
+    put(
+        alloc,
+        &mut files,
+        b"m.adb",
+        b"with Ada.Text_IO; procedure M is begin Ada.Text_IO.Put (\"a\" & \"b\"); end M;",
+    )?;
+    put(alloc, &mut files, b"p.ads", b"package Ada.Q is end Ada.Q;")?;
+    let compiled = compile(alloc, &files, b"m")?;
+    let wanted: [(&'static [u8], usize, usize, u16); 5] = [
+        (b"a~b.ads", 1, 1, 700),
+        (b"m-s.adb", 1, 1, 700),
+        (b"m.adb", 1, 1, 700),
+        (b"p.ads", 1, 9, 201),
+        (b"p.ads", 1, 9, 207),
+    ];
+    expect_faulty(&rt, &compiled, &wanted);
+    Ok(())
+}

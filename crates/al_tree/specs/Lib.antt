@@ -1,8 +1,8 @@
-pub mod Words
 pub mod Symbols
 pub mod Spellings
 pub mod Lexemes
-pub mod Rules
-pub mod Trees
-pub mod Views
-pub mod Units
+pub mod Listed
+pub mod ExpressionViews
+pub mod DeclarationViews
+pub mod StatementViews
+pub mod UnitViews

@@ -1,20 +1,39 @@
-//! The trees of compilation units, the grammar, and the lexemes of tokens and of trees.
-//!
-//! The grammar is that of a first, small part of Ada: one procedure without parameters and declarations, whose statements
-//! are null statements and calls of the procedures of `Ada.Text_IO` that put out a string or a line's end.
+//! The trees of compilation units, and the lexemes of tokens and of trees.
 #![tactic(auto)]
 
-mod law;
+mod declaration;
+mod expression;
+mod names;
 mod spelling;
+mod statement;
 mod symbol;
-mod tree;
+mod unit;
 
-pub use law::{faults_are_found, literals_are_unquoted, units_are_found, units_are_unique};
-pub use spelling::{spelling_of, text_of, unquoted};
-pub use symbol::{Symbol, symbol_of};
-pub use tree::{
-    Call, CompilationUnit, Identifier, Operation, PackageName, Statement, StringLiteral,
-    SubprogramBody,
+pub use declaration::{
+    ArrayDefinition, Aspect, CommonDeclaration, ComponentDeclaration, Components, Declaration,
+    DiscreteRange, Formal, FormalPart, ObjectDeclaration, ObjectForm, ObjectType, Pragma,
+    PragmaArguments, ProtectedComponent, ProtectedDefinition, ProtectedOperation,
+    ProtectedPrivatePart, Range, Specification, SubtypeDeclaration, SubtypeIndication,
+    TaskDeclaration, TypeDeclaration, TypeDefinition, UseClause,
+};
+pub use expression::{
+    AddedTerm, AddingOperator, Expression, Factor, LogicalOperator, MultipliedFactor,
+    MultiplyingOperator, NamePart, ObjectName, Parentheses, Primary, Relation, RelationalOperator,
+    Sign, SimpleExpression, Term,
+};
+pub use names::{
+    CompoundName, CompoundNames, Identifier, Identifiers, NumericLiteral, StringLiteral,
+};
+pub use spelling::{literals_are_unquoted, text_of, unquoted, value_of};
+pub use statement::{
+    Alternative, BlockStatement, Branch, CaseStatement, Choice, CompoundEnd, DeclaredStatements,
+    ElsifBranch, IfStatement, Item, LoopEnd, LoopStatement, NamedEnd, OperationBody, Statement,
+    Statements, SubprogramBody,
+};
+pub use symbol::{Symbol, is_symbol, symbol_of};
+pub use unit::{
+    CompilationUnit, ContextItem, LibraryItem, PackageBody, PackageDeclaration, PackageStatements,
+    PrivatePart,
 };
 
 #[cfg(test)]

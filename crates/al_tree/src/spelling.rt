@@ -1,9 +1,9 @@
 // The text of a token.
 ghost use Rattle.std.specs.Prelude.{◌≡◌, IfOk};
-ghost use Rattle.al_tree.specs.Spellings.{between, past_quote, spelling_of, text_of, unquoted};
+ghost use Rattle.al_tree.specs.Spellings.{LiteralsAreUnquoted, between, past_quote, text_of, unquoted, value_of};
 
 use al_base::{NoMemory, Span};
-use al_lex::{Kind, Token};
+use al_lex::number_value;
 use std::alloc::Global;
 
 /// The piece of the text that the span names, as far as the text goes.
@@ -52,14 +52,15 @@ fn between(literal: &[u8]) -> &[u8]
     }
 }
 
-/// What a lexeme is called: the text of a string literal, and any other token's text in lower case.
-#[tactic(auto, unfolding(crate::specs::Spellings::spelling_of))]
-pub fn spelling_of(alloc: Global, source: &[u8], token: &Token) -> Result<Vec<u8>, NoMemory>
-    ensures { IfOk result (λ text. text.items ≡ spelling_of source.now token.now) }
+/// The value of a numeric literal (ARM 2.4), and 0 of any other text.
+#[tactic(auto, unfolding(crate::specs::Spellings::value_of))]
+pub fn value_of(text: &[u8]) -> u64
+    ensures { result ≡ value_of text.now }
 {
-    let text = text_of(source, &token.span);
-    match token.kind {
-        Kind::Str => unquoted(alloc, text),
-        _ => Ok(text.to_ascii_lowercase(alloc)?),
-    }
+    number_value(text).unwrap_or(0)
 }
+
+/// A text with each quote written twice, between quotes, stands for that text (ARM 2.6).
+pub fn literals_are_unquoted()
+    ensures { LiteralsAreUnquoted }
+{}

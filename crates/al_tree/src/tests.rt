@@ -1,60 +1,120 @@
-use crate::{Identifier, StringLiteral, Symbol, spelling_of, symbol_of, text_of, unquoted};
-use al_base::{Place, Span};
-use al_lex::{Kind, Token};
+// Worked values, and trees made by hand with their lexemes.
+ghost use Rattle.std.specs.Prelude.{◌≡◌, ◌∷◌, []};
+ghost use Rattle.al_syntax.specs.DeclarationTrees.{pragma_tokens};
+ghost use Rattle.al_syntax.specs.ExpressionTrees.{simple_tokens, term_tokens};
+ghost use Rattle.al_syntax.specs.StatementTrees.{statement_tokens};
+ghost use Rattle.al_syntax.specs.Symbols.{Symbol as symbols};
+ghost use Rattle.al_syntax.specs.Words.{labelled, word};
+ghost use Rattle.al_tree.specs.DeclarationViews.{pragma_seen};
+ghost use Rattle.al_tree.specs.ExpressionViews.{simple_seen, term_seen};
+ghost use Rattle.al_tree.specs.Lexemes.{identifier_label, place_label};
+ghost use Rattle.al_tree.specs.StatementViews.{statement_seen};
+
+use crate::{
+    Factor, Identifier, NumericLiteral, ObjectName, Pragma, Primary, Sign, SimpleExpression,
+    Statement, StringLiteral, Symbol, Term, is_symbol, symbol_of, text_of,
+};
+use al_base::{Name, NoMemory, Place, ReservedWord, Span};
+use al_lex::{Delimiter, Kind, Token};
+use std::alloc::Global;
 use std::test::Fail;
 
-fn token(kind: Kind, start: usize, len: usize) -> Token {
+const PLACE: Place = Place { line: 1, col: 1 };
+
+fn token(kind: Kind, start: usize, len: usize) -> Token
+    ensures { result.kind ≡ kind }
+{
     Token {
         kind,
         span: Span {
             start,
             len,
-            place: Place { line: 1, col: 1 },
+            place: PLACE,
         },
     }
 }
 
-#[test]
-fn tells_words_in_any_case(rt: HostRuntime) -> Result<(), Fail> {
-    let source = b"adA.TEXT_io.M";
-    assert_eq!(rt;
-        symbol_of(source, &token(Kind::Identifier, 0, 3)),
-        Symbol::Ada
-    );
-    assert_eq!(rt;
-        symbol_of(source, &token(Kind::Identifier, 4, 7)),
-        Symbol::TextIo
-    );
-    assert_eq!(rt;
-        symbol_of(source, &token(Kind::Identifier, 12, 1)),
-        Symbol::OtherIdentifier
-    );
-    assert_eq!(rt;
-        symbol_of(source, &token(Kind::Number, 0, 1)),
-        Symbol::Other
-    );
-    Ok(())
+fn named(alloc: Global, name: Identifier) -> Term
+    ensures { term_tokens (term_seen result) ≡ labelled symbols.Identifier (identifier_label name) ∷ [] }
+{
+    let name = ObjectName::new(name, Vec::new(alloc));
+    Term::new(Factor::sole_primary(Primary::named(name)), Vec::new(alloc))
+}
+
+/// `- name`
+fn negated(alloc: Global, place: Place, name: Identifier) -> SimpleExpression
+    ensures { simple_tokens (simple_seen result) ≡ labelled symbols.Minus (place_label place) ∷ labelled symbols.Identifier (identifier_label name) ∷ [] }
+{
+    let first = named(alloc, name);
+    SimpleExpression::new(Some(Sign::Minus(place)), first, Vec::new(alloc))
+}
+
+/// `exit name;`
+fn exit(place: Place, name: Identifier) -> Statement
+    ensures { statement_tokens (statement_seen result) ≡ labelled symbols.Exit (place_label place) ∷ labelled symbols.Identifier (identifier_label name) ∷ word symbols.Semicolon ∷ [] }
+{
+    Statement::exit(place, Some(name), None)
+}
+
+/// `pragma name;`
+fn pragma(name: Identifier) -> Pragma
+    ensures { pragma_tokens (pragma_seen result) ≡ word symbols.Pragma ∷ labelled symbols.Identifier (identifier_label name) ∷ word symbols.Semicolon ∷ [] }
+{
+    Pragma {
+        name,
+        arguments: None,
+    }
 }
 
 #[test]
-fn spells(rt: HostRuntime) -> Result<(), Fail> {
+fn tells_symbols(rt: HostRuntime) {
+    let word = token(Kind::Reserved(ReservedWord::Xor), 0, 3);
+    let mark = token(Kind::Delimiter(Delimiter::LessOrEqual), 0, 2);
+    assert_eq!(rt; symbol_of(&word), Symbol::Xor);
+    assert_eq!(rt; symbol_of(&mark), Symbol::LessOrEqual);
+    assert_eq!(rt;
+        symbol_of(&token(Kind::Reserved(ReservedWord::Goto), 0, 4)),
+        Symbol::Other
+    );
+    assert!(rt; is_symbol(&token(Kind::Str, 0, 2), Symbol::StringLiteral));
+    assert!(rt; !is_symbol(&word, Symbol::Or));
+}
+
+#[test]
+#[tactic(auto, unfolding(crate::specs::Symbols::symbol_of))]
+fn tells_texts(rt: HostRuntime) -> Result<(), Fail> {
     let alloc = rt.alloc();
-    let source = b"Put_Line (\"He said \"\"hi\"\"\")";
-    let string = token(Kind::Str, 10, 16);
-    let word = token(Kind::Identifier, 0, 8);
-    assert!(rt; text_of(source, &word.span) == b"Put_Line".as_slice());
-    assert!(rt; spelling_of(alloc, source, &word)?.as_slice() == b"put_line".as_slice());
-    assert!(rt;
-        unquoted(alloc, text_of(source, &string.span))?.as_slice() == b"He said \"hi\"".as_slice()
-    );
-    assert!(rt;
-        Identifier::of_token(alloc, source, &word)?.name.as_slice() == b"put_line".as_slice()
-    );
+    let source = b"Max := 16#fF# & \"\"\"\"";
+    let name = token(Kind::Identifier, 0, 3);
+    let number = token(Kind::Number, 7, 6);
+    let string = token(Kind::Str, 16, 4);
+    assert!(rt; text_of(source, &name.span) == b"Max".as_slice());
+    assert!(rt; Identifier::of_token(alloc, source, &name)?.name.as_slice() == b"max".as_slice());
+    assert_eq!(rt; NumericLiteral::of_token(source, &number).value, 255);
     assert!(rt;
         StringLiteral::of_token(alloc, source, &string)?
             .text
             .as_slice()
-            == b"He said \"hi\"".as_slice()
+            == b"\"".as_slice()
     );
+    Ok(())
+}
+
+fn identifier(alloc: Global, name: &[u8]) -> Result<Identifier, NoMemory> {
+    Ok(Identifier {
+        name: Name::from_slice(alloc, name)?,
+        place: PLACE,
+    })
+}
+
+#[test]
+fn makes_trees(rt: HostRuntime) -> Result<(), Fail> {
+    let alloc = rt.alloc();
+    let negative = negated(alloc, PLACE, identifier(alloc, b"max")?);
+    assert_eq!(rt; negative.sign, Some(Sign::Minus(PLACE)));
+    let leaving = exit(PLACE, identifier(alloc, b"outer")?);
+    assert!(rt; matches!(leaving, Statement::Exit(_, Some(_), None)));
+    let page = pragma(identifier(alloc, b"page")?);
+    assert!(rt; page.arguments.is_none());
     Ok(())
 }

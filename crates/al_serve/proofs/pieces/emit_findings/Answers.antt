@@ -1,5 +1,4 @@
-use Rattle.std.proofs.Common.{◌≡◌, ◌+◌, ◌++◌, map, take, ap, ◌∙◌, append_assoc, arith, length}
-use Rattle.std.specs.List.{flat_map}
+use Rattle.std.proofs.Common.{◌∙◌, append_assoc, arith}
 use Rattle.std.proofs.lemmas.List.{take_all}
 use Rattle.al_base.specs.Batch.{finding_of}
 use Rattle.al_serve.specs.Replies.{finding_line}

@@ -1,28 +1,5 @@
-use Rattle.std.proofs.Common.{[], refl}
-use Rattle.al_stream.proofs.Moments.{appends_none}
-use Rattle.al_serve.proofs.Builds.{build_reply_some, build_reply_none, report_some, report_none}
+use Rattle.std.proofs.Common.{append-nil}
 use Rattle.al_serve.proofs.reports.write_reply.Goals as goal
 
-pub returns-in-Done : goal.returns-in-Done
-returns-in-Done g c = rw c.in-Done.is (c.emit.ensures.told _ _ [] (appends_none _, refl))
-
-pub returns-in-Refused : goal.returns-in-Refused
-returns-in-Refused g c = rw c.in-Refused.is (c.emit_refusal.ensures.told _ _ [] (appends_none _, refl))
-
-pub returns-in-Some : goal.returns-in-Some
-returns-in-Some g c =
-    let same = build_reply_some g.L.UnitLibrary.batch (g.L.UnitLibrary.state c.args.library.now).built _ c.in-Some.ensures in
-    rw (c.in-LastBuild.is, same) (c.emit_outcome.ensures.told _ _ [] (appends_none _, refl))
-
-pub returns-in-None-last : goal.returns-in-None-last
-returns-in-None-last g c =
-    let same = report_none g.L.UnitLibrary.batch c.in-Report.subject (g.L.UnitLibrary.state c.args.library.now).built c.in-None-last.ensures in
-    rw (c.in-Report.is, same) (c.emit_refusal-in-None-last.ensures.told _ _ [] (appends_none _, refl))
-
-pub returns-in-Some-last : goal.returns-in-Some-last
-returns-in-Some-last g c =
-    let same = report_some g.L.UnitLibrary.batch c.in-Report.subject (g.L.UnitLibrary.state c.args.library.now).built _ c.in-Some-last.ensures in
-    rw (c.in-Report.is, same) (c.emit_report.ensures.told _ _ [] (appends_none _, refl))
-
-pub returns-in-Ran : goal.returns-in-Ran
-returns-in-Ran g c = rw c.in-Ran.is (c.emit_ran.ensures.told _ _ [] (appends_none _, refl))
+pub returns : goal.returns
+returns g c = rw append-nil at (c.finish.ensures _ _ _ c.emit_reply-so_far.ensures)

@@ -3,7 +3,6 @@ use Rattle.std.specs.Io.KnownBytes.{Consumes, prepend_known}
 use Rattle.al_serve.specs.Library.{meaning}
 use Rattle.al_serve.specs.ReplySeen.{reply_seen}
 use Rattle.al_serve.specs.Session.{session, over}
-use Rattle.al_stream.specs.Output.{IsFront}
 use Rattle.al_stream.proofs.Moments.{reads_none, reads_then, stops_then, appends_none, appends_then}
 use Rattle.al_serve.proofs.Turns.{turned, reached_start, reached_more, session-zero, session_over, first-nil, none_left, known-nil}
 use Rattle.al_serve.proofs.Sessions.{served_over, served_ends, served_last, stopped_reading, stopped_writing}

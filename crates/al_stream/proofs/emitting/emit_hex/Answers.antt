@@ -1,8 +1,7 @@
-use Rattle.std.proofs.Common.{◌≡◌, ℕ, List, ◌++◌, [], length, Option, IsOk, append_assoc, append-nil, sym, ap, ◌∙◌, arith, rules, refl}
+use Rattle.std.proofs.Common.{◌≡◌, ℕ, List, ◌++◌, [], append_assoc, append-nil, sym, ap, ◌∙◌, rules, refl}
 use Rattle.std.proofs.lemmas.List.{nil_from_length}
 use Rattle.std.specs.Slice.Iter.{chunks_rest}
 use Rattle.al_stream.specs.Hexadecimal.{hex_line, hex_lines}
-use Rattle.al_stream.specs.Output.{WritesReply}
 use Rattle.al_stream.proofs.HexLines.{hex_lines-none, hex_lines-first}
 use Rattle.al_stream.proofs.emitting.emit_hex.Goals as goal
 

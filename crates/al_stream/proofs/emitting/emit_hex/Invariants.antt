@@ -1,7 +1,7 @@
-use Rattle.std.proofs.Common.{◌≡◌, ℕ, List, ◌++◌, Option, IsOk}
+use Rattle.std.proofs.Common.{◌≡◌, ℕ, List, ◌++◌, IsOk}
 use Rattle.std.specs.Slice.Iter.{chunks_rest, chunks_size}
 use Rattle.al_stream.specs.Hexadecimal.{hex_lines}
-use Rattle.al_stream.specs.Output.{WritesReply}
+use Rattle.al_stream.specs.Output.{Adds}
 use Rattle.al_stream.proofs.emitting.emit_hex.Given as goal
 
 -- so many lines are written, and the others are those of the bytes that are left
@@ -11,7 +11,5 @@ invariant-loop-line g l = record {
   whole : done ++ hex_lines (chunks_rest l.line-iterator) ≡ hex_lines l.bytes;
   size : chunks_size l.line-iterator ≡ 32;
   room : IsOk l.so_far → IsOk l.fn.so_far × (g.K.Sink.faults l.writer ≡ g.K.Sink.faults l.fn.writer);
-  told : (start : Option (List ℕ)) (faults : ℕ) (before : List ℕ) →
-      WritesReply start (g.K.Sink.written l.fn.writer) faults (g.K.Sink.faults l.fn.writer) before l.fn.so_far →
-      WritesReply start (g.K.Sink.written l.writer) faults (g.K.Sink.faults l.writer) (before ++ done) l.so_far;
+  told : Adds g.K.Sink.written g.K.Sink.faults l.fn.writer l.writer l.fn.so_far l.so_far done;
 }

@@ -1,9 +1,8 @@
 use Rattle.std.proofs.Common.{◌≡◌, ◌<◌, Some, None, length, arith, ap, sym, ◌∙◌}
 use Rattle.std.specs.Option.{option_map}
 use Rattle.std.proofs.lemmas.Bool.Decides.{nat_tests}
-use Rattle.al_tree.specs.Views.{unit_seen}
-use Rattle.al_thin.specs.Batches.{main_unit}
-use Rattle.al_thin.proofs.BatchLemmas.{faulty_batch, no_main, linked_compiles}
+use Rattle.al_tree.specs.UnitViews.{unit_seen}
+use Rattle.al_thin.proofs.BatchLemmas.{faulty_batch, no_unit_in_file, unit_compiles}
 use Rattle.al_thin.proofs.compiling.compile.Goals as goal
 
 pub returns-then-not-is_empty : goal.returns-then-not-is_empty
@@ -14,11 +13,11 @@ returns-then-not-is_empty c =
 pub returns-in-None : goal.returns-in-None
 returns-in-None c =
     let none : length c.in_ok-found.found.items ≡ 0 = grind (arith, nat_tests, c.in_ok-found.found.ok) in
-    let no_unit : None ≡ main_unit c.args.files.now c.args.main.now = ap (option_map unit_seen) (sym c.in-None.is) ∙ c.in_ok-main_unit.ensures.unit in
-    record { is_batch = no_main c.args.files.now c.args.main.now c.in_ok-found.found.items c.in_ok-found.ensures none no_unit; runs = tt }
+    let no_unit = ap (option_map unit_seen) (sym c.in-None.is) ∙ c.in_ok-unit_in_file.ensures.unit in
+    record { is_batch = no_unit_in_file c.args.files.now c.args.main.now c.in_ok-found.found.items c.in_ok-found.ensures none no_unit; runs = tt }
 
 pub returns : goal.returns
 returns c =
     let none : length c.in_ok-found.found.items ≡ 0 = grind (arith, nat_tests, c.in_ok-found.found.ok) in
-    let is_main : Some (unit_seen c.in-Some.unit) ≡ main_unit c.args.files.now c.args.main.now = ap (option_map unit_seen) (sym c.in-Some.is) ∙ c.in_ok-main_unit.ensures.unit in
-    linked_compiles c.args.files.now c.args.main.now c.in_ok-found.found.items (unit_seen c.in-Some.unit) c.link.result c.in_ok-found.ensures none is_main c.link.ensures.linked c.link.ensures.image
+    let is_unit = ap (option_map unit_seen) (sym c.in-Some.is) ∙ c.in_ok-unit_in_file.ensures.unit in
+    unit_compiles c.args.files.now c.args.main.now c.in_ok-found.found.items (unit_seen c.in-Some.unit) c.compile_unit.result c.in_ok-found.ensures none is_unit c.compile_unit.ensures.linked c.compile_unit.ensures.image

@@ -1,0 +1,12 @@
+pub mod ListLemmas
+pub mod AscendingLemmas
+pub mod ReachLemmas
+pub mod StepLemmas
+pub mod ViewLemmas
+pub mod SearchLemmas
+pub mod FlagLemmas
+pub mod ReverseLemmas
+pub mod EnterLemmas
+pub mod LookLemmas
+pub mod LeaveLemmas
+pub mod EndLemmas

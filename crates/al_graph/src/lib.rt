@@ -1,0 +1,13 @@
+//! Directed graphs on the numbers below a count: what some nodes reach, what reaches them, and which nodes lie on cycles.
+#![tactic(auto)]
+
+mod graph;
+pub mod laws;
+mod reverse;
+mod search;
+mod sets;
+#[cfg(test)]
+mod tests;
+mod walk;
+
+pub use graph::Graph;

@@ -1,0 +1,4 @@
+pub mod Tokens
+pub mod Loops
+pub mod Clear
+pub mod Parts

@@ -1,0 +1,4 @@
+pub mod Parses
+pub mod Names
+pub mod Logical
+pub mod Bounds

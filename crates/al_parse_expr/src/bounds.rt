@@ -1,0 +1,52 @@
+// Ranges (ARM 3.5, 3.6.1).
+ghost use Rattle.al_syntax.specs.DeclarationTrees.{discrete_range_tokens, range_tokens};
+ghost use Rattle.al_syntax.specs.Expressions.{discrete_range_rule, range_rule};
+ghost use Rattle.al_tree.specs.DeclarationViews.{discrete_range_seen, range_seen};
+ghost use Rattle.al_tree.specs.Lexemes.{lexemes};
+ghost use Rattle.al_parse_expr.specs.Parses.{Gives, reading};
+
+use crate::descent::simple_expression;
+use crate::step::{expect, is_next, skip};
+use crate::stop::Stop;
+use al_lex::Token;
+use al_tree::{DiscreteRange, Range, Symbol};
+use std::alloc::Global;
+
+/// `range low .. high` (ARM 3.5(3))
+#[tactic(auto, unfolding(al_syntax::specs::Expressions::range_rule))]
+pub fn range<'a>(
+    alloc: Global,
+    source: &[u8],
+    depth: u32,
+    tokens: &'a [Token],
+) -> Result<(Range, &'a [Token]), Stop>
+    ensures { Gives (λ x. range_tokens (range_seen x.0)) (λ x. lexemes source.now x.1.now) result (lexemes source.now tokens.now) (reading depth range_rule (lexemes source.now tokens.now)) }
+{
+    let rest = expect(source, tokens, Symbol::Range)?;
+    let (low, rest) = simple_expression(alloc, source, depth, rest)?;
+    let rest = expect(source, rest, Symbol::DoubleDot)?;
+    let (high, rest) = simple_expression(alloc, source, depth, rest)?;
+    Ok((Range { low, high }, rest))
+}
+
+/// A subtype's name, both bounds, or a subtype's name with both bounds behind it (ARM 3.6.1(2)).
+#[tactic(auto, unfolding(al_syntax::specs::Expressions::discrete_range_rule, al_syntax::specs::Expressions::range_rule))]
+pub fn discrete_range<'a>(
+    alloc: Global,
+    source: &[u8],
+    depth: u32,
+    tokens: &'a [Token],
+) -> Result<(DiscreteRange, &'a [Token]), Stop>
+    ensures { Gives (λ x. discrete_range_tokens (discrete_range_seen x.0)) (λ x. lexemes source.now x.1.now) result (lexemes source.now tokens.now) (reading depth discrete_range_rule (lexemes source.now tokens.now)) }
+{
+    let (low, rest) = simple_expression(alloc, source, depth, tokens)?;
+    if let Some(rest) = skip(source, rest, Symbol::DoubleDot) {
+        let (high, rest) = simple_expression(alloc, source, depth, rest)?;
+        return Ok((DiscreteRange::Bounds(Range { low, high }), rest));
+    }
+    if is_next(source, rest, Symbol::Range) {
+        let (bounds, rest) = range(alloc, source, depth, rest)?;
+        return Ok((DiscreteRange::MarkRange(low, bounds), rest));
+    }
+    Ok((DiscreteRange::Mark(low), rest))
+}

@@ -1,0 +1,39 @@
+// Why a parse function stops.
+ghost use Rattle.std.specs.Prelude.{◌≡◌};
+ghost use Rattle.al_parse_expr.specs.declared.stop.Stop.TheVariants.{Memory};
+
+use al_base::NoMemory;
+use std::alloc::{AllocError, AllocFailed};
+
+/// Why no tree is read.
+#[derive(Debug, Drop)]
+pub enum Stop {
+    /// Memory was wanted and not given.
+    Memory,
+    /// No sentence goes on here, with so many tokens left.
+    Fault(usize),
+}
+
+impl From<NoMemory> for Stop {
+    ghost from_gives = { λ _ e. e ≡ Memory };
+
+    fn from(_error: NoMemory) -> Stop {
+        Stop::Memory
+    }
+}
+
+impl From<AllocError> for Stop {
+    ghost from_gives = { λ _ e. e ≡ Memory };
+
+    fn from(_error: AllocError) -> Stop {
+        Stop::Memory
+    }
+}
+
+impl<T: Drop> From<AllocFailed<T>> for Stop {
+    ghost from_gives = { λ _ e. e ≡ Memory };
+
+    fn from(_error: AllocFailed<T>) -> Stop {
+        Stop::Memory
+    }
+}

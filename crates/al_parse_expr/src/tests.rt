@@ -1,0 +1,125 @@
+use crate::{Stop, expression, name_rest};
+use al_lex::{Token, lex};
+use al_tree::{
+    AddingOperator, Expression, Factor, LogicalOperator, NamePart, Primary, Relation,
+    SimpleExpression,
+};
+use std::alloc::Global;
+use std::test::Fail;
+
+const MOST_OPEN: u32 = 64;
+
+fn tokens_of(alloc: Global, source: &[u8]) -> Result<Vec<Token>, Fail> {
+    match lex(alloc, source) {
+        Ok(tokens) => Ok(tokens),
+        Err(_) => Err(Fail::from("no tokens")),
+    }
+}
+
+/// How many tokens are before the end of the expression, or before its fault.
+fn read(alloc: Global, depth: u32, source: &[u8]) -> Result<Result<usize, usize>, Fail> {
+    let tokens = tokens_of(alloc, source)?;
+    let count = tokens.len();
+    match expression(alloc, source, depth, tokens.as_slice()) {
+        Ok((_, rest)) => Ok(Ok(count - rest.len())),
+        Err(Stop::Fault(left)) if left <= count => Ok(Err(count - left)),
+        Err(_) => Err(Fail::from("no fault")),
+    }
+}
+
+#[test]
+fn takes_expressions(rt: HostRuntime) -> Result<(), Fail> {
+    let alloc = rt.alloc();
+    assert_eq!(rt; read(alloc, MOST_OPEN, b"A and then B and then C;")?, Ok(7));
+    assert_eq!(rt;
+        read(alloc, MOST_OPEN, b"-X * 2 ** N mod 8 + Y & \"!\" /= Z;")?,
+        Ok(14)
+    );
+    assert_eq!(rt;
+        read(alloc, MOST_OPEN, b"X not in Low .. T'Last (1).F;")?,
+        Ok(13)
+    );
+    assert_eq!(rt;
+        read(alloc, MOST_OPEN, b"T'(others => not B) = (1, 2);")?,
+        Ok(14)
+    );
+    assert_eq!(rt;
+        read(alloc, MOST_OPEN, b"A'Range'First < B and abs C in D xor")?,
+        Ok(12)
+    );
+    Ok(())
+}
+
+#[test]
+fn finds_faults(rt: HostRuntime) -> Result<(), Fail> {
+    let alloc = rt.alloc();
+    assert_eq!(rt; read(alloc, MOST_OPEN, b"A and B or C")?, Ok(3));
+    assert_eq!(rt; read(alloc, MOST_OPEN, b"(A and B or C)")?, Err(4));
+    assert_eq!(rt; read(alloc, MOST_OPEN, b"A and then")?, Err(3));
+    assert_eq!(rt; read(alloc, MOST_OPEN, b"A and else B")?, Err(2));
+    assert_eq!(rt; read(alloc, MOST_OPEN, b"X not = Y")?, Err(2));
+    assert_eq!(rt; read(alloc, MOST_OPEN, b"X'3")?, Err(2));
+    assert_eq!(rt; read(alloc, 2, b"((X))")?, Ok(5));
+    assert_eq!(rt; read(alloc, 2, b"((F (X)))")?, Err(3));
+    Ok(())
+}
+
+/// The only primary of a simple expression.
+fn sole_primary(simple: &SimpleExpression) -> Option<&Primary> {
+    match &simple.first.first {
+        Factor::SolePrimary(primary) if simple.others.is_empty() => Some(primary),
+        _ => None,
+    }
+}
+
+#[test]
+fn keeps_what_is_written(rt: HostRuntime) -> Result<(), Fail> {
+    let alloc = rt.alloc();
+    let source = b"A or else\n  X not in 7 .. B - 1";
+    let tokens = tokens_of(alloc, source)?;
+    let Ok((Expression::Logical(operator, _, second, others), [])) = expression(
+        alloc,
+        source,
+        MOST_OPEN,
+        tokens.as_slice(),
+    ) else {
+        return Err(Fail::from("no relations"));
+    };
+    assert_eq!(rt; operator, LogicalOperator::OrElse);
+    assert!(rt; others.is_empty());
+    let Relation::InRange(_, Some(not), low, high) = &*second else {
+        return Err(Fail::from("no range"));
+    };
+    assert_eq!(rt; (not.line, not.col), (2, 5));
+    let Some(Primary::Numeric(literal)) = sole_primary(low) else {
+        return Err(Fail::from("no number"));
+    };
+    assert_eq!(rt; literal.value, 7);
+    let [added] = high.others.as_slice() else {
+        return Err(Fail::from("no minus"));
+    };
+    assert!(rt; matches!(added.operator, AddingOperator::Minus(_)));
+    Ok(())
+}
+
+#[test]
+fn takes_names_apart(rt: HostRuntime) -> Result<(), Fail> {
+    let alloc = rt.alloc();
+    let source = b".Y (1, (2)) 'Image := 3";
+    let tokens = tokens_of(alloc, source)?;
+    let Ok((parts, rest)) = name_rest(alloc, source, MOST_OPEN, tokens.as_slice()) else {
+        return Err(Fail::from("no parts"));
+    };
+    assert_eq!(rt; rest.len(), 2);
+    let [
+        NamePart::Selector(selector),
+        NamePart::Arguments(_, _, more),
+        NamePart::Attribute(_),
+    ] = parts.as_slice()
+    else {
+        return Err(Fail::from("other parts"));
+    };
+    assert!(rt; selector.name.as_slice() == b"y".as_slice());
+    assert_eq!(rt; more.len(), 1);
+    Ok(())
+}

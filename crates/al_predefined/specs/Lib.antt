@@ -1,0 +1,4 @@
+pub mod Operators
+pub mod Predefined
+pub mod PredefinedNames
+pub mod Standard

@@ -1,0 +1,358 @@
+// The predefined operators of types.
+ghost use Rattle.std.specs.Prelude.{◌≡◌, IfOk, OnOk};
+ghost use Rattle.al_predefined.specs.Operators.{gives, natural, operand, operands, operators_of, operator_view, predefined_symbol, spelling, standard_symbol, whole_type, with_group, with_operator, with_operators, arithmetic, logical};
+
+use al_base::{Name, NoMemory, UnitKey, UnitKind};
+use al_view::{
+    Bounds, CallKind, Interface, Mode, Parameter, Profile, Row, SubprogramView, Subtype, Symbol,
+    TypeDefinition, Types, View, ViewKind, copied_unit,
+};
+use std::alloc::Global;
+
+/// A predefined operator (ARM 4.5), by its sign.
+#[derive(Clone, Copy, Debug, PartialEq, Eq)]
+pub enum OperatorSymbol {
+    And,
+    Or,
+    Xor,
+    Not,
+    Equal,
+    NotEqual,
+    Less,
+    LessOrEqual,
+    Greater,
+    GreaterOrEqual,
+    Plus,
+    Minus,
+    Times,
+    Divide,
+    Mod,
+    Rem,
+    Power,
+    Abs,
+}
+
+/// What an operator of a type takes and gives.
+#[derive(Clone, Copy, Debug, PartialEq, Eq)]
+pub enum OperatorProfile {
+    /// A value of the type, to one of the type.
+    Unary,
+    /// Two values of the type, to one of the type.
+    Binary,
+    /// A value of the type and a natural number, to one of the type (ARM 4.5.6(7)).
+    Power,
+    /// A moment and a span of time, to a moment (ARM D.8).
+    Later,
+    /// Two values of the type, to a Boolean.
+    Relation,
+}
+
+impl OperatorSymbol {
+    /// How it is written.
+    pub fn spelling(self) -> &'static [u8]
+        ensures { result.now ≡ spelling self }
+    {
+        match self {
+            OperatorSymbol::And => b"and",
+            OperatorSymbol::Or => b"or",
+            OperatorSymbol::Xor => b"xor",
+            OperatorSymbol::Not => b"not",
+            OperatorSymbol::Equal => b"=",
+            OperatorSymbol::NotEqual => b"/=",
+            OperatorSymbol::Less => b"<",
+            OperatorSymbol::LessOrEqual => b"<=",
+            OperatorSymbol::Greater => b">",
+            OperatorSymbol::GreaterOrEqual => b">=",
+            OperatorSymbol::Plus => b"+",
+            OperatorSymbol::Minus => b"-",
+            OperatorSymbol::Times => b"*",
+            OperatorSymbol::Divide => b"/",
+            OperatorSymbol::Mod => b"mod",
+            OperatorSymbol::Rem => b"rem",
+            OperatorSymbol::Power => b"**",
+            OperatorSymbol::Abs => b"abs",
+        }
+    }
+}
+
+const RELATIONS: [OperatorSymbol; 6] = [
+    OperatorSymbol::Equal,
+    OperatorSymbol::NotEqual,
+    OperatorSymbol::Less,
+    OperatorSymbol::LessOrEqual,
+    OperatorSymbol::Greater,
+    OperatorSymbol::GreaterOrEqual,
+];
+
+const EQUALITY: [OperatorSymbol; 2] = [OperatorSymbol::Equal, OperatorSymbol::NotEqual];
+
+const LOGICAL: [OperatorSymbol; 3] = [OperatorSymbol::And, OperatorSymbol::Or, OperatorSymbol::Xor];
+
+const SIGNS: [OperatorSymbol; 3] = [
+    OperatorSymbol::Plus,
+    OperatorSymbol::Minus,
+    OperatorSymbol::Abs,
+];
+
+const ARITHMETIC: [OperatorSymbol; 6] = [
+    OperatorSymbol::Plus,
+    OperatorSymbol::Minus,
+    OperatorSymbol::Times,
+    OperatorSymbol::Divide,
+    OperatorSymbol::Rem,
+    OperatorSymbol::Mod,
+];
+
+/// The first declaration of the name in a predefined package.
+pub fn predefined_symbol(alloc: Global, unit: &[u8], name: &[u8]) -> Result<Symbol, NoMemory>
+    ensures { IfOk result (λ symbol. symbol ≡ predefined_symbol unit.now name.now) }
+{
+    let unit = Name::from_slice(alloc, unit)?;
+    let name = Name::from_slice(alloc, name)?;
+    Ok(Symbol {
+        unit: UnitKey {
+            name: unit,
+            kind: UnitKind::Decl,
+        },
+        name,
+        number: 0,
+    })
+}
+
+/// A symbol of Standard.
+pub fn standard_symbol(alloc: Global, name: &[u8]) -> Result<Symbol, NoMemory>
+    ensures { IfOk result (λ symbol. symbol ≡ standard_symbol name.now) }
+{
+    predefined_symbol(alloc, b"standard", name)
+}
+
+/// All values of a type.
+pub fn whole_type(alloc: Global, symbol: &Symbol) -> Result<Subtype, NoMemory>
+    ensures { IfOk result (λ subtype. subtype ≡ whole_type symbol.now) }
+{
+    let base = symbol.copy(alloc)?;
+    Ok(Subtype { base, bounds: None })
+}
+
+fn natural(alloc: Global) -> Result<Subtype, NoMemory>
+    ensures { IfOk result (λ subtype. subtype ≡ natural) }
+{
+    let base = standard_symbol(alloc, b"integer")?;
+    Ok(Subtype {
+        base,
+        bounds: Some(Bounds {
+            low: 0,
+            high: 2147483647,
+        }),
+    })
+}
+
+/// A parameter of mode `in`.
+pub fn operand(alloc: Global, name: &[u8], subtype: Subtype) -> Result<Parameter, NoMemory>
+    ensures { IfOk result (λ parameter. parameter ≡ operand name.now subtype) }
+{
+    let name = Name::from_slice(alloc, name)?;
+    Ok(Parameter {
+        name,
+        mode: Mode::In,
+        subtype,
+    })
+}
+
+fn operands(
+    alloc: Global,
+    symbol: &Symbol,
+    profile: OperatorProfile,
+) -> Result<Row<Parameter>, NoMemory>
+    ensures { IfOk result (λ parameters. parameters ≡ operands symbol.now profile) }
+{
+    let mut parameters = Row::empty(alloc);
+    if profile != OperatorProfile::Unary {
+        let left = operand(alloc, b"left", whole_type(alloc, symbol)?)?;
+        parameters.push(left)?;
+    }
+    let subtype = match profile {
+        OperatorProfile::Power => natural(alloc)?,
+        OperatorProfile::Later => {
+            let span = predefined_symbol(alloc, b"ada.real_time", b"time_span")?;
+            whole_type(alloc, &span)?
+        }
+        _ => whole_type(alloc, symbol)?,
+    };
+    let right = operand(alloc, b"right", subtype)?;
+    parameters.push(right)?;
+    Ok(parameters)
+}
+
+fn gives(alloc: Global, symbol: &Symbol, profile: OperatorProfile) -> Result<Subtype, NoMemory>
+    ensures { IfOk result (λ subtype. subtype ≡ gives symbol.now profile) }
+{
+    match profile {
+        OperatorProfile::Relation => {
+            let boolean = standard_symbol(alloc, b"boolean")?;
+            let subtype = whole_type(alloc, &boolean)?;
+            Ok(subtype)
+        }
+        _ => {
+            let subtype = whole_type(alloc, symbol)?;
+            Ok(subtype)
+        }
+    }
+}
+
+/// An operator of the type with this symbol and these types, with its number among its homonyms in its unit.
+pub fn operator_view(
+    alloc: Global,
+    of_type: &Symbol,
+    types: &Types,
+    profile: OperatorProfile,
+    operator: OperatorSymbol,
+    number: usize,
+) -> Result<View, NoMemory>
+    ensures { IfOk result (λ view. view ≡ operator_view of_type.now types.now profile operator number) }
+{
+    let unit = copied_unit(alloc, &of_type.unit)?;
+    let name = Name::from_slice(alloc, operator.spelling())?;
+    let parameters = operands(alloc, of_type, profile)?;
+    let subtype = gives(alloc, of_type, profile)?;
+    let subprogram = SubprogramView {
+        symbol: Symbol { unit, name, number },
+        profile: Profile {
+            parameters,
+            result: Some(subtype),
+        },
+        types: types.share()?,
+        call: CallKind::Operator {
+            of_type: of_type.copy(alloc)?,
+        },
+        flag: None,
+    };
+    let view = View::new(alloc, ViewKind::OfSubprogram(subprogram))?;
+    Ok(view)
+}
+
+/// One more operator of the type.
+pub fn declare_operator(
+    alloc: Global,
+    interface: &mut Interface,
+    of_type: &Symbol,
+    types: &Types,
+    profile: OperatorProfile,
+    operator: OperatorSymbol,
+) -> Result<(), NoMemory>
+    ensures { OnOk result (interface.new ≡ with_operator of_type.now types.now profile interface.old operator) }
+{
+    let number = interface.views(operator.spelling()).len();
+    let view = operator_view(alloc, of_type, types, profile, operator, number)?;
+    interface.declare(operator.spelling(), view)?;
+    Ok(())
+}
+
+fn declare_group(
+    alloc: Global,
+    interface: &mut Interface,
+    of_type: &Symbol,
+    types: &Types,
+    profile: OperatorProfile,
+    operators: &[OperatorSymbol],
+) -> Result<(), NoMemory>
+    ensures { OnOk result (interface.new ≡ with_group of_type.now types.now interface.old (profile, operators.now)) }
+{
+    for operator in operators {
+        declare_operator(alloc, interface, of_type, types, profile, *operator)?;
+    }
+    Ok(())
+}
+
+fn declare_arithmetic(
+    alloc: Global,
+    interface: &mut Interface,
+    of_type: &Symbol,
+    types: &Types,
+) -> Result<(), NoMemory>
+    ensures { OnOk result (interface.new ≡ with_operators of_type.now types.now interface.old arithmetic) }
+{
+    declare_group(
+        alloc,
+        interface,
+        of_type,
+        types,
+        OperatorProfile::Unary,
+        &SIGNS,
+    )?;
+    declare_group(
+        alloc,
+        interface,
+        of_type,
+        types,
+        OperatorProfile::Binary,
+        &ARITHMETIC,
+    )?;
+    let power = [OperatorSymbol::Power];
+    declare_group(
+        alloc,
+        interface,
+        of_type,
+        types,
+        OperatorProfile::Power,
+        &power,
+    )?;
+    Ok(())
+}
+
+/// The logical operators of Boolean, behind what is declared (ARM 4.5.1(2), 4.5.6(3)).
+pub fn declare_logical(
+    alloc: Global,
+    interface: &mut Interface,
+    of_type: &Symbol,
+    types: &Types,
+) -> Result<(), NoMemory>
+    ensures { OnOk result (interface.new ≡ with_operators of_type.now types.now interface.old logical) }
+{
+    declare_group(
+        alloc,
+        interface,
+        of_type,
+        types,
+        OperatorProfile::Binary,
+        &LOGICAL,
+    )?;
+    let not = [OperatorSymbol::Not];
+    declare_group(
+        alloc,
+        interface,
+        of_type,
+        types,
+        OperatorProfile::Unary,
+        &not,
+    )?;
+    Ok(())
+}
+
+/// The operators that the declaration of a type declares, behind what is declared (ARM 3.2.3(6)); of Boolean but the
+/// logical ones.
+pub fn declare_operators(
+    alloc: Global,
+    interface: &mut Interface,
+    of_type: &Symbol,
+    types: &Types,
+    definition: &TypeDefinition,
+) -> Result<(), NoMemory>
+    ensures { OnOk result (interface.new ≡ with_operators of_type.now types.now interface.old (operators_of definition.now)) }
+{
+    let relation = OperatorProfile::Relation;
+    match definition {
+        TypeDefinition::Integer(_) => {
+            declare_group(alloc, interface, of_type, types, relation, &RELATIONS)?;
+            declare_arithmetic(alloc, interface, of_type, types)?;
+        }
+        TypeDefinition::Enumeration(_) => {
+            declare_group(alloc, interface, of_type, types, relation, &RELATIONS)?;
+        }
+        TypeDefinition::Array { .. } | TypeDefinition::Record(_) => {
+            declare_group(alloc, interface, of_type, types, relation, &EQUALITY)?;
+        }
+        TypeDefinition::Time | TypeDefinition::Private => {}
+    }
+    Ok(())
+}

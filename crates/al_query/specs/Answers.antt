@@ -1,0 +1,73 @@
+-- What an answer says.
+use Rattle.std.specs.Prelude.{Bool, false, List, [], ◌∷◌, ◌++◌, map, Option, Some, None}
+use Rattle.std.specs.List.{flat_map}
+use Rattle.al_base.specs.declared.unit_key.UnitKey.{UnitKey}
+use Rattle.al_view.specs.declared.view.ViewKind.{ViewKind}
+use Rattle.al_view.specs.Named.{Declarations}
+use Rattle.al_view.specs.ViewSymbols.{symbols_of}
+use Rattle.al_query.specs.declared.answer.Completion.{Completion}
+use Rattle.al_query.specs.declared.answer.ContextView.{ContextView}
+use Rattle.al_query.specs.declared.answer.UnitForm.{UnitForm}
+use Rattle.al_query.specs.declared.answer.UseClause.{UseClause}
+use Rattle.al_query.specs.declared.answer.UseClause.TheVariants.{Package, «Type»}
+use Rattle.al_query.specs.declared.answer.AnswerKind.{AnswerKind}
+use Rattle.al_query.specs.declared.answer.AnswerKind.TheVariants.{Views, Whole, Kind, Parent, IsPrivate, Context, NeedsBody, Completions}
+
+-- the views of a name; none in an answer to another question
+abbrev pub views_of : AnswerKind → List ViewKind
+views_of (Views views) = views
+views_of _ = []
+
+-- the names of a part with their views; none in an answer to another question
+abbrev pub whole_of : AnswerKind → Declarations
+whole_of (Whole interface) = interface
+whole_of _ = []
+
+-- what the unit is, none where that isn't answered
+abbrev pub form_of : AnswerKind → Option UnitForm
+form_of (Kind form) = Some form
+form_of _ = None
+
+-- the parent unit, none where there is none or that isn't answered
+abbrev pub parent_of : AnswerKind → Option UnitKey
+parent_of (Parent parent) = parent
+parent_of _ = None
+
+-- whether the answer is that it is a private unit
+abbrev pub is_private_of : AnswerKind → Bool
+is_private_of (IsPrivate b) = b
+is_private_of _ = false
+
+-- whether the answer is that it needs a body
+abbrev pub needs_body_of : AnswerKind → Bool
+needs_body_of (NeedsBody b) = b
+needs_body_of _ = false
+
+-- the context, none where that isn't answered
+abbrev pub context_of : AnswerKind → Option ContextView
+context_of (Context context) = Some context
+context_of _ = None
+
+-- what must be completed, nothing where that isn't answered
+abbrev pub completions_of : AnswerKind → List Completion
+completions_of (Completions completions) = completions
+completions_of _ = []
+
+abbrev pub clause_units : UseClause → List UnitKey
+clause_units (Package unit) = unit ∷ []
+clause_units («Type» symbol) = symbol.unit ∷ []
+
+abbrev pub context_units : ContextView → List UnitKey
+context_units c = c.withs ++ flat_map clause_units c.uses ++ flat_map (λ u. clause_units u.clause) c.uses_inside
+
+abbrev pub view_units : ViewKind → List UnitKey
+view_units v = map (λ s. s.unit) (symbols_of v)
+
+-- the units that an answer names
+unfoldable pub units_named : AnswerKind → List UnitKey
+units_named (Views views) = flat_map view_units views
+units_named (Whole interface) = flat_map (λ e. flat_map view_units e.1) interface
+units_named (Parent (Some unit)) = unit ∷ []
+units_named (Context c) = context_units c
+units_named (Completions completions) = flat_map (λ c. view_units c.view) completions
+units_named _ = []

@@ -1,0 +1,9 @@
+-- What a recorder is seen as.
+use Rattle.std.specs.Prelude.{List}
+use Rattle.al_query.specs.declared.query.Query.{Query}
+use Rattle.al_query.specs.declared.answer.AnswerKind.{AnswerKind}
+
+-- who is asked, and what was
+pub record Recording (A : Type 0) : Type 0 where
+  pub asked : A
+  pub log : List (Query × AnswerKind)

@@ -1,0 +1,14 @@
+//! Questions of units, their answers, and the recorder of both.
+#![tactic(auto)]
+
+mod answer;
+mod key;
+mod query;
+mod recorder;
+mod same;
+#[cfg(test)]
+mod tests;
+
+pub use answer::{Answer, AnswerKind, Completion, ContextView, UnitForm, UseClause, UseInPart};
+pub use query::{Property, Query};
+pub use recorder::{Answers, ReadLog, Recorder};

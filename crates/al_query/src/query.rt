@@ -1,0 +1,110 @@
+// Questions of units.
+ghost use Rattle.std.specs.Prelude.{◌≡◌, IfOk};
+ghost use Rattle.al_query.specs.Queries.{unit_of, same_query};
+
+use al_base::{Name, NoMemory, UnitKey};
+use al_view::{Part, copied_unit, is_unit};
+use std::alloc::Global;
+
+/// What every unit can be asked for.
+#[derive(Clone, Copy, Debug, PartialEq, Eq)]
+pub enum Property {
+    /// What it is (ARM 10.1.1).
+    Kind,
+    /// Its parent unit (ARM 10.1.1(10)).
+    Parent,
+    /// Whether it is a private unit (ARM 10.1.1(12)).
+    IsPrivate,
+    /// Its with and use clauses as resolved (ARM 10.1.2, 8.4).
+    Context,
+    /// Whether it needs a body (ARM 7.2(4)).
+    NeedsBody,
+    /// What its body must complete (ARM 3.11.1).
+    Completions,
+}
+
+/// A question of a unit.
+#[derive(Debug, Drop)]
+pub enum Query {
+    /// What a part of it declares under a name.
+    Named {
+        unit: UnitKey,
+        part: Part,
+        name: Name,
+    },
+    /// All that a part of it declares.
+    Whole {
+        unit: UnitKey,
+        part: Part,
+    },
+    /// One of its properties.
+    Of {
+        unit: UnitKey,
+        property: Property,
+    },
+}
+
+impl Query {
+    /// The unit that is asked about.
+    pub fn unit(&self) -> &UnitKey
+        ensures { result.now ≡ unit_of self.now }
+    {
+        match self {
+            Query::Named { unit, .. } => unit,
+            Query::Whole { unit, .. } => unit,
+            Query::Of { unit, .. } => unit,
+        }
+    }
+
+    /// Whether two questions are one.
+    pub fn is(&self, other: &Query) -> bool
+        ensures { result ≡ same_query self.now other.now }
+    {
+        match (self, other) {
+            (
+                Query::Named { unit, part, name },
+                Query::Named {
+                    unit: of,
+                    part: in_part,
+                    name: by,
+                },
+            ) => { is_unit(unit, of) && part.is(in_part) && name.as_slice() == by.as_slice() }
+            (
+                Query::Whole { unit, part },
+                Query::Whole {
+                    unit: of,
+                    part: in_part,
+                },
+            ) => { is_unit(unit, of) && part.is(in_part) }
+            (
+                Query::Of { unit, property },
+                Query::Of {
+                    unit: of,
+                    property: other,
+                },
+            ) => { is_unit(unit, of) && *property == *other }
+            _ => false,
+        }
+    }
+
+    /// The same question once more.
+    pub fn copy(&self, alloc: Global) -> Result<Query, NoMemory>
+        ensures { IfOk result (λ copy. copy ≡ self.now) }
+    {
+        match self {
+            Query::Named { unit, part, name } => Ok(Query::Named {
+                unit: copied_unit(alloc, unit)?,
+                part: part.copy(alloc)?,
+                name: Name::from_slice(alloc, name.as_slice())?,
+            }),
+            Query::Whole { unit, part } => Ok(Query::Whole {
+                unit: copied_unit(alloc, unit)?,
+                part: part.copy(alloc)?,
+            }),
+            Query::Of { unit, property } => Ok(Query::Of {
+                unit: copied_unit(alloc, unit)?,
+                property: *property,
+            }),
+        }
+    }
+}

@@ -1,0 +1,149 @@
+// The recorder of questions.
+ghost use Rattle.std.specs.Prelude.{◌≡◌, ◌&&◌, ◌||◌, List, [], ◌∷◌, ◌++◌, IfOk, OnErr, None, true, is_ok, length, slice_get, if◌then◌else◌};
+ghost use Rattle.std.specs.Option.{option_copied, option_map};
+ghost use Rattle.al_base.specs.declared.unit_key.UnitKey.{UnitKey};
+ghost use Rattle.al_query.specs.declared.query.Query.{Query};
+ghost use Rattle.al_query.specs.declared.answer.AnswerKind.{AnswerKind};
+ghost use Rattle.al_query.specs.Reads.{Agrees, Agrees-prop, Grounded-prop, KeepsGrounded, logged, recorded};
+
+use crate::answer::Answer;
+use crate::query::Query;
+use al_base::NoMemory;
+use indexmap::IndexMap;
+use std::alloc::Global;
+use std::marker::Model;
+
+/// Who can be asked. What it answers is a table.
+pub trait Answers {
+    ghost use Rattle.al_query.specs.declared.query.Query.{Query};
+    ghost use Rattle.al_query.specs.declared.answer.AnswerKind.{AnswerKind};
+
+    ghost table: { Self → Query → AnswerKind };
+
+    fn ask(&self, query: &Query) -> Result<Answer, NoMemory>
+        ensures { IfOk result (λ answer. answer ≡ table self.now query.now) };
+}
+
+/// Each question that was asked, once, with its answer, in the order of asking. A question is found without a walk.
+#[derive(Drop)]
+pub struct ReadLog {
+    answers: IndexMap<Query, Answer>,
+}
+
+impl Model for ReadLog {
+    ghost use Rattle.std.specs.Prelude.{List};
+    ghost use Rattle.al_query.specs.declared.query.Query.{Query};
+    ghost use Rattle.al_query.specs.declared.answer.AnswerKind.{AnswerKind};
+
+    ghost Value = { List (Query × AnswerKind) };
+
+    ghost view = { λ l. l.answers.entries };
+}
+
+impl ReadLog {
+    /// No questions. It takes no memory.
+    pub fn new(alloc: Global) -> Self
+        ensures { result ≡ [] }
+    {
+        ReadLog {
+            answers: IndexMap::new(alloc),
+        }
+    }
+
+    /// How many questions were asked.
+    pub fn len(&self) -> usize
+        ensures { result ≡ length self.now }
+    {
+        self.answers.len()
+    }
+
+    /// The i-th question that was asked, from 0, with its answer.
+    pub fn at(&self, i: usize) -> Option<(&Query, &Answer)>
+        ensures { option_map (λ read. (read.0.now, read.1.now)) result ≡ slice_get self.now i }
+    {
+        self.answers.get_index(i)
+    }
+
+    /// The recorded answer to a question.
+    pub fn find(&self, query: &Query) -> Option<&Answer>
+        ensures { option_copied result ≡ recorded self.now query.now }
+    {
+        self.answers.get(query)
+    }
+
+    /// Appends a question that the log lacks.
+    fn push(&mut self, query: Query, answer: Answer) -> Result<(), NoMemory>
+        requires { recorded self.old query ≡ None }
+        ensures { self.new ≡ (if is_ok result then self.old ++ (query, answer) ∷ [] else self.old) }
+    {
+        self.answers.insert(query, answer)?;
+        Ok(())
+    }
+}
+
+/// Asks, and keeps what was asked.
+#[derive(Drop)]
+pub struct Recorder<A: Answers> {
+    alloc: Global,
+    asked: A,
+    log: ReadLog,
+}
+
+impl<A: Answers> Model for Recorder<A> {
+    ghost use Rattle.al_query.specs.Recording.{Recording};
+
+    ghost Value = { Recording A };
+
+    ghost use Rattle.al_query.specs.Reads.{Agrees};
+
+    ghost view = { λ r. record { asked = r.asked; log = r.log } };
+
+    ghost invariant = { λ r. Agrees (A.table r.asked) r.log };
+}
+
+impl<A: Answers> Recorder<A> {
+    /// A recorder that was asked nothing. It takes no memory.
+    pub fn new(alloc: Global, asked: A) -> Self
+        ensures asked { result.asked ≡ asked }
+        ensures log { result.log ≡ [] }
+    {
+        Recorder {
+            alloc,
+            asked,
+            log: ReadLog::new(alloc),
+        }
+    }
+
+    /// The answer, recorded where the log lacks the question, an empty one too. A table that agrees with the log from
+    /// now on gives this answer too.
+    pub fn ask(&mut self, query: &Query) -> Result<Answer, NoMemory>
+        ensures asked { self.new.asked ≡ self.old.asked }
+        ensures answer { IfOk result (λ answer. answer ≡ A.table self.old.asked query.now) }
+        ensures log { IfOk result (λ answer. self.new.log ≡ logged self.old.log query.now answer) }
+        ensures told { IfOk result (λ answer. (t : Query → AnswerKind) → Agrees t self.new.log → (Agrees t self.old.log) × (t query.now ≡ answer)) }
+        ensures grounded { IfOk result (λ answer. KeepsGrounded self.old.log self.new.log query.now answer) }
+        ensures err { OnErr result (self.new.log ≡ self.old.log) }
+    {
+        if let Some(answer) = self.log.find(query) {
+            let answer = answer.share()?;
+            return Ok(answer);
+        }
+        let answer = self.asked.ask(query)?;
+        let kept = answer.share()?;
+        let query = query.copy(self.alloc)?;
+        self.log.push(query, kept)?;
+        Ok(answer)
+    }
+
+    /// What was asked. It takes no memory.
+    pub fn into_log(self) -> ReadLog
+    where
+        A: Drop,
+        ensures log { result ≡ self.log }
+        ensures agrees { Agrees (A.table self.asked) result }
+    {
+        let Recorder { asked, log, .. } = self;
+        drop(asked);
+        log
+    }
+}

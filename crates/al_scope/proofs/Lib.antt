@@ -1,0 +1,4 @@
+pub mod HidingLemmas
+pub mod NameLemmas
+pub mod PlaceLemmas
+pub mod VisibleLemmas

@@ -1,0 +1,27 @@
+-- The innermost region of a place.
+use Rattle.std.proofs.Common.{◌≡◌, ℕ, ◌+◌, zero, suc, List, [], ◌∷◌, length, set, get_or, refl, ap, arith}
+use Rattle.std.specs.List.{list_any}
+use Rattle.al_query.specs.declared.query.Query.{Query}
+use Rattle.al_view.specs.declared.view.ViewKind.{ViewKind}
+use Rattle.al_query.specs.declared.answer.AnswerKind.{AnswerKind}
+use Rattle.al_scope.specs.declared.region.Region.{Region}
+use Rattle.al_scope.specs.Visible.{in_last, has_homograph_in, found_in}
+use Rattle.al_view.specs.Homographs.{homographs}
+
+pub in_last-is : (change : Region → Region) (xs : List Region) (n : ℕ) (d new : Region) → n + 1 ≡ length xs → new ≡ change (get_or xs n d) → set xs n new ≡ in_last change xs
+in_last-is change [] n d new h e = absurd (omega arith)
+in_last-is change (x ∷ []) zero d new h e = ap (λ (r : Region). r ∷ []) e
+in_last-is change (x ∷ []) (suc n) d new h e = absurd (omega arith)
+in_last-is change (x ∷ y ∷ ys) zero d new h e = absurd (omega arith)
+in_last-is change (x ∷ y ∷ ys) (suc n) d new h e =
+    let less : n + 1 ≡ length (y ∷ ys) = omega arith in
+    ap (λ (l : List Region). x ∷ l) (in_last-is change (y ∷ ys) n d new less e)
+
+pub homograph_in-is : (t : Query → AnswerKind) (name : List ℕ) (v : ViewKind) (xs : List Region) (n : ℕ) (d : Region) → n + 1 ≡ length xs → has_homograph_in t name v xs ≡ list_any (homographs v) (found_in t name (get_or xs n d)).views
+homograph_in-is t name v [] n d h = absurd (omega arith)
+homograph_in-is t name v (x ∷ []) zero d h = refl
+homograph_in-is t name v (x ∷ []) (suc n) d h = absurd (omega arith)
+homograph_in-is t name v (x ∷ y ∷ ys) zero d h = absurd (omega arith)
+homograph_in-is t name v (x ∷ y ∷ ys) (suc n) d h =
+    let less : n + 1 ≡ length (y ∷ ys) = omega arith in
+    homograph_in-is t name v (y ∷ ys) n d less

@@ -1,0 +1,14 @@
+use Rattle.std.proofs.Common.{◌≡◌, take}
+use Rattle.std.specs.List.{flat_map}
+use Rattle.al_query.specs.Reads.{Agrees}
+use Rattle.al_query.specs.declared.query.Query.{Query}
+use Rattle.al_query.specs.declared.answer.AnswerKind.{AnswerKind}
+use Rattle.al_scope.specs.Visible.{declared_by}
+use Rattle.al_scope.proofs.scope.ask_each.Given as goal
+
+-- each table that agrees with the log now gave what is there
+abbrev pub invariant-loop-part : goal.invariant-loop-part
+invariant-loop-part g l = record {
+  asked : l.recorder.asked ≡ l.fn.recorder.asked;
+  told : (t : Query → AnswerKind) → Agrees t l.recorder.log → Agrees t l.fn.recorder.log × (l.views ≡ flat_map (declared_by t l.name) (take l.part-index l.parts));
+}

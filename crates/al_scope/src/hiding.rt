@@ -1,0 +1,99 @@
+// What regions have of one name, and what of it is visible.
+ghost use Rattle.std.specs.Prelude.{◌≡◌, ◌++◌, IfOk, filter, not};
+ghost use Rattle.std.specs.List.{list_all, list_any};
+ghost use Rattle.al_view.specs.Homographs.{homographs, may_be_overloaded};
+ghost use Rattle.al_scope.specs.Visible.{clash, direct, shuts_out, use_visible};
+
+use al_base::NoMemory;
+use al_view::{View, Views};
+use std::alloc::Global;
+
+/// What a region has of a name.
+#[derive(Drop)]
+pub struct Found {
+    /// Whether a declaration of it was begun.
+    pub begun: bool,
+    pub views: Views,
+}
+
+/// Whether some of the views is a homograph.
+pub fn has_homograph(view: &View, views: &[View]) -> bool
+    ensures { result ≡ list_any (homographs view.now) views.now }
+{
+    views.iter().any(|other| view.is_homograph_of(other))
+}
+
+/// Whether the region shuts the view out.
+fn shuts(view: &View, found: &Found) -> bool
+    ensures { result ≡ shuts_out view.now found.now }
+{
+    found.begun || has_homograph(view, found.views.as_slice())
+}
+
+/// Whether some region shuts the view out.
+fn shuts_any(view: &View, founds: &[Found]) -> bool
+    ensures { result ≡ list_any (shuts_out view.now) founds.now }
+{
+    founds.iter().any(|found| shuts(view, found))
+}
+
+/// The views that no region shuts out.
+fn left_by(alloc: Global, founds: &[Found], views: &Views) -> Result<Views, NoMemory>
+    ensures { IfOk result (λ left. left ≡ filter (λ v. not (list_any (shuts_out v) founds.now)) views.now) }
+{
+    let mut left = Views::new(alloc);
+    for view in views.as_slice() {
+        if !shuts_any(view, founds) {
+            left.push(view.share()?)?;
+        }
+    }
+    Ok(left)
+}
+
+/// One region further in: its own views, then what it leaves of the outer ones.
+fn step(alloc: Global, outer: &Views, found: &Found) -> Result<Views, NoMemory>
+    ensures { IfOk result (λ views. views ≡ found.now.views ++ filter (λ v. not (shuts_out v found.now)) outer.now) }
+{
+    let mut views = found.views.copy(alloc)?;
+    for view in outer.as_slice() {
+        if !shuts(view, found) {
+            views.push(view.share()?)?;
+        }
+    }
+    Ok(views)
+}
+
+/// The directly visible ones, in one pass inward.
+pub fn direct_of(alloc: Global, founds: &[Found]) -> Result<Views, NoMemory>
+    ensures { IfOk result (λ views. views ≡ direct founds.now) }
+{
+    let mut views = Views::new(alloc);
+    for found in founds {
+        views = step(alloc, &views, found)?;
+    }
+    Ok(views)
+}
+
+/// Whether all may be overloaded.
+fn all_overload(views: &[View]) -> bool
+    ensures { result ≡ list_all may_be_overloaded views.now }
+{
+    views.iter().all(|view| view.may_be_overloaded())
+}
+
+/// Whether several are there that can't all be overloaded.
+fn do_clash(views: &Views) -> bool
+    ensures { result ≡ clash views.now }
+{
+    views.as_slice().len() > 1 && !all_overload(views.as_slice())
+}
+
+/// The use-visible ones among those that are potentially so.
+pub fn use_visible_of(alloc: Global, founds: &[Found], views: &Views) -> Result<Views, NoMemory>
+    ensures { IfOk result (λ left. left ≡ use_visible founds.now views.now) }
+{
+    if do_clash(views) {
+        return Ok(Views::new(alloc));
+    }
+    left_by(alloc, founds, views)
+}

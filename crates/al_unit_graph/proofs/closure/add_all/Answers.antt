@@ -1,0 +1,15 @@
+use Rattle.std.proofs.Common.{◌≡◌, ◌+◌, ◌++◌, ◌∷◌, [], map, take, ap, sym, ◌∙◌, arith}
+use Rattle.std.proofs.lemmas.Grind.{common_steps}
+use Rattle.al_base.specs.Batch.{key_of}
+use Rattle.al_unit_graph.specs.Closures.{is_same_key, with_item, with_items}
+use Rattle.al_unit_graph.proofs.ClosureLemmas.{with_items-push}
+use Rattle.al_unit_graph.proofs.closure.add_all.Goals as goal
+
+pub loop-key-preserved : goal.loop-key-preserved
+loop-key-preserved c =
+    let so_far = map key_of (take c.loop-key.key-index c.args.more.now) in
+    let one_more : map key_of (take (c.loop-key.key-index + 1) c.args.more.now) ≡ so_far ++ key_of c.key-item.result ∷ [] = grind (arith, common_steps, c.loop-key-test.true, c.key-item.is) in
+    c.in_ok-add_new.ensures
+    ∙ ap (λ ks. with_item is_same_key ks (key_of c.key-item.result)) c.loop-key.invariant
+    ∙ sym (with_items-push is_same_key (map key_of c.args.keys.now.items) so_far (key_of c.key-item.result))
+    ∙ ap (λ ks. with_items is_same_key (map key_of c.args.keys.now.items) ks) (sym one_more)

@@ -1,0 +1,17 @@
+use Rattle.std.proofs.Common.{◌≡◌, map, subst, ◌∙◌, ap, ◌↔◌}
+use Rattle.std.specs.List.{Contains}
+use Rattle.al_base.specs.Batch.{Key, key_of}
+use Rattle.al_unit_graph.specs.Dependence.{direct}
+use Rattle.al_unit_graph.specs.Closures.{Reached, next}
+use Rattle.al_unit_graph.specs.declared.closure.Step.TheVariants.{Dependence}
+use Rattle.al_unit_graph.proofs.ClosureLemmas.{depends_reached}
+use Rattle.al_unit_graph.proofs.source.Sources.depends.Goals as goal
+
+pub returns : goal.returns
+returns c =
+    let lib = c.args.self.now in
+    let key = key_of c.args.key.now in
+    let keys = map key_of c.in_ok-keys.keys.items in
+    let first : map key_of c.as_slice.result.now ≡ direct lib key = ap (λ ks. map key_of ks) c.as_slice.ensures.value ∙ c.in_ok-first.ensures in
+    let reached = subst (λ ks. (y : Key) → Contains keys y ↔ Reached (next lib Dependence) ks y) first c.in_ok-keys.ensures in
+    λ y. ((λ m. (depends_reached lib key y).0 ((reached y).0 m)), (λ d. (reached y).1 ((depends_reached lib key y).1 d)))

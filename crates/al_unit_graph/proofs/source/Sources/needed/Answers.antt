@@ -1,0 +1,19 @@
+use Rattle.std.proofs.Common.{◌≡◌, ◌++◌, map, subst, ◌∙◌, ap, ◌↔◌}
+use Rattle.std.specs.List.{Contains}
+use Rattle.al_base.specs.Batch.{Key, key_of}
+use Rattle.al_unit_graph.specs.Dependence.{listed}
+use Rattle.al_unit_graph.specs.Library.{declaration_of}
+use Rattle.al_unit_graph.specs.Closures.{Reached, next}
+use Rattle.al_unit_graph.specs.declared.closure.Step.TheVariants.{Need}
+use Rattle.al_unit_graph.proofs.ClosureLemmas.{needed_reached}
+use Rattle.al_unit_graph.proofs.source.Sources.needed.Goals as goal
+
+pub returns : goal.returns
+returns c =
+    let lib = c.args.self.now in
+    let main = c.args.main.now in
+    let keys = map key_of c.in_ok-keys.keys.items in
+    let first : map key_of c.as_slice.result.now ≡ listed (declaration_of lib main) =
+    ap (λ ks. map key_of ks) c.as_slice.ensures.value ∙ c.in_ok-add_declaration.ensures ∙ ap (λ ks. map key_of ks ++ listed (declaration_of lib main)) c.new-first.ensures.items in
+    let reached = subst (λ ks. (y : Key) → Contains keys y ↔ Reached (next lib Need) ks y) first c.in_ok-keys.ensures in
+    λ y. ((λ m. (needed_reached lib main y).0 ((reached y).0 m)), (λ d. (reached y).1 ((needed_reached lib main y).1 d)))

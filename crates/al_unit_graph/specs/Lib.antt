@@ -1,0 +1,10 @@
+pub mod Names
+pub mod Headers
+pub mod Library
+pub mod Dependence
+pub mod Faults
+pub mod FaultLists
+pub mod Needed
+pub mod Closures
+pub mod Traces
+pub mod Views

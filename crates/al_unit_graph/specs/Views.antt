@@ -1,0 +1,35 @@
+-- The program's headers and files as plain data.
+use Rattle.std.specs.Prelude.{ℕ, List, map, Vec}
+use Rattle.std.specs.Option.{option_map}
+use Rattle.al_unit_graph.specs.Headers as plain
+use Rattle.al_unit_graph.specs.declared.header.Mention.{Mention}
+use Rattle.al_unit_graph.specs.declared.header.Header.{Header}
+use Rattle.al_unit_graph.specs.declared.source.Contents.{Contents}
+use Rattle.al_unit_graph.specs.declared.source.Contents.TheVariants.{Headed, Unread}
+use Rattle.al_unit_graph.specs.declared.source.Source.{Source}
+
+abbrev pub mention_seen : Mention → plain.Mention
+mention_seen m = record { name = m.name; place = m.place }
+
+abbrev pub header_seen : Header → plain.Header
+header_seen h = record {
+  name = h.name;
+  place = h.place;
+  form = h.form;
+  is_private = h.is_private;
+  needs_body = h.needs_body;
+  parent_body = option_map mention_seen h.parent_body;
+  designator = h.designator;
+  mentions = map mention_seen h.mentions.items;
+  stubs = h.stubs.items;
+}
+
+abbrev pub contents_seen : Contents → plain.Contents
+contents_seen (Headed h) = plain.Headed (header_seen h)
+contents_seen (Unread place code) = plain.Unread place code
+
+abbrev pub source_seen : Source → plain.Source
+source_seen s = record { text = s.text.value.items; contents = contents_seen s.contents }
+
+abbrev pub library_of : {Y : Type 0} → List (Vec ℕ Y × Source) → plain.Library
+library_of entries = map (λ e. (e.0.items, source_seen e.1)) entries

@@ -1,0 +1,195 @@
+// What units depend on and need, by way of others too.
+ghost use Rattle.std.specs.Prelude.{◌≡◌, ◌++◌, ◌∷◌, [], ◌↔◌, ◌⊎◌, map, IfOk, OnOk};
+ghost use Rattle.std.specs.List.{Contains, list_any, flat_map};
+ghost use Rattle.al_base.specs.Batch.{key_of, Key};
+ghost use Rattle.al_unit_graph.specs.Dependence.{direct, DependsOn};
+ghost use Rattle.al_unit_graph.specs.Needed.{present, body_of, Needed};
+ghost use Rattle.al_base.specs.declared.unit_key.UnitKind.TheVariants.{Sub};
+ghost use Rattle.al_unit_graph.specs.Closures.{needs, next, Reached, is_same_key, with_item, with_items};
+
+use crate::source::Sources;
+use al_base::{Name, NoMemory, UnitKey, UnitKind};
+use std::alloc::Global;
+
+/// Where a step from a unit leads.
+#[derive(Clone, Copy, Debug, PartialEq, Eq)]
+pub(crate) enum Step {
+    /// To what it depends on.
+    Dependence,
+    /// To what it needs in a partition (ARM 10.2(2..7)).
+    Need,
+}
+
+/// Whether two keys are of one unit.
+fn is_same_key(a: &UnitKey, b: &UnitKey) -> bool
+    ensures { result ≡ is_same_key (key_of a.now) (key_of b.now) }
+{
+    a.name.as_slice() == b.name.as_slice() && a.kind == b.kind
+}
+
+/// Whether the key is one of these.
+fn contains_key(keys: &[UnitKey], key: &UnitKey) -> bool
+    ensures { result ≡ list_any (λ k. is_same_key k (key_of key.now)) (map key_of keys.now) }
+{
+    for k in keys {
+        if is_same_key(k, key) {
+            return true;
+        }
+    }
+    false
+}
+
+/// Adds a key, where it isn't there yet.
+fn add_new(alloc: Global, keys: &mut Vec<UnitKey>, key: &UnitKey) -> Result<(), NoMemory>
+    ensures { OnOk result (map key_of keys.new.items ≡ with_item is_same_key (map key_of keys.old.items) (key_of key.now)) }
+{
+    if !contains_key(keys.as_slice(), key) {
+        let name = Name::from_slice(alloc, key.name.as_slice())?;
+        keys.push(UnitKey {
+            name,
+            kind: key.kind,
+        })?;
+    }
+    Ok(())
+}
+
+/// Adds the keys that aren't there yet.
+
+fn add_all(alloc: Global, keys: &mut Vec<UnitKey>, more: &[UnitKey]) -> Result<(), NoMemory>
+    ensures { OnOk result (map key_of keys.new.items ≡ with_items is_same_key (map key_of keys.old.items) (map key_of more.now)) }
+{
+    for key in more {
+        add_new(alloc, keys, key)?;
+    }
+    Ok(())
+}
+
+impl Sources {
+    /// What a unit depends on by itself.
+    pub fn direct(&self, key: &UnitKey) -> Result<Vec<UnitKey>, NoMemory>
+        ensures { IfOk result (λ keys. map key_of keys.items ≡ direct self.now (key_of key.now)) }
+    {
+        match self.unit_at(key.name.as_slice(), key.kind)? {
+            Some(header) => self.dependences(header),
+            None => Ok(Vec::new(self.alloc)),
+        }
+    }
+
+    /// Adds the unit of this name and kind, where the library has it.
+    fn add_present(
+        &self,
+        name: &[u8],
+        kind: UnitKind,
+        keys: &mut Vec<UnitKey>,
+    ) -> Result<(), NoMemory>
+        ensures { OnOk result (map key_of keys.new.items ≡ map key_of keys.old.items ++ present self.now (name.now, kind)) }
+    {
+        if self.unit_at(name, kind)?.is_some() {
+            let name = Name::from_slice(self.alloc, name)?;
+            keys.push(UnitKey { name, kind })?;
+        }
+        Ok(())
+    }
+
+    /// Adds the body of a declaration.
+    fn add_body(&self, key: &UnitKey, keys: &mut Vec<UnitKey>) -> Result<(), NoMemory>
+        ensures { OnOk result (map key_of keys.new.items ≡ map key_of keys.old.items ++ body_of self.now (key_of key.now)) }
+    {
+        match key.kind {
+            UnitKind::Decl => self.add_present(key.name.as_slice(), UnitKind::Body, keys),
+            UnitKind::Body | UnitKind::Sub => Ok(()),
+        }
+    }
+
+    /// Adds the subunit of a stub.
+    fn add_subunit(&self, name: &[u8], stub: &Name, keys: &mut Vec<UnitKey>) -> Result<(), NoMemory>
+        ensures { OnOk result (map key_of keys.new.items ≡ map key_of keys.old.items ++ present self.now (name.now ++ 46 ∷ stub.now, Sub)) }
+    {
+        let mut full = Vec::from_slice(self.alloc, name)?;
+        full.push(b'.')?;
+        full.extend_from_slice(stub.as_slice())?;
+        self.add_present(full.as_slice(), UnitKind::Sub, keys)
+    }
+
+    /// Adds the subunits of these stubs.
+    fn add_subunits(
+        &self,
+        name: &[u8],
+        stubs: &[Name],
+        keys: &mut Vec<UnitKey>,
+    ) -> Result<(), NoMemory>
+        ensures { OnOk result (map key_of keys.new.items ≡ map key_of keys.old.items ++ flat_map (λ stub. present self.now (name.now ++ 46 ∷ stub, Sub)) stubs.now) }
+    {
+        for stub in stubs {
+            self.add_subunit(name, stub, keys)?;
+        }
+        Ok(())
+    }
+
+    /// What a needed unit needs by itself.
+    fn needs(&self, key: &UnitKey) -> Result<Vec<UnitKey>, NoMemory>
+        ensures { IfOk result (λ keys. map key_of keys.items ≡ needs self.now (key_of key.now)) }
+    {
+        let mut keys = self.direct(key)?;
+        self.add_body(key, &mut keys)?;
+        if let Some(header) = self.unit_at(key.name.as_slice(), key.kind)? {
+            self.add_subunits(key.name.as_slice(), header.stubs.as_slice(), &mut keys)?;
+        }
+        Ok(keys)
+    }
+
+    /// What one step from a unit leads to.
+    fn next(&self, step: Step, key: &UnitKey) -> Result<Vec<UnitKey>, NoMemory>
+        ensures { IfOk result (λ keys. map key_of keys.items ≡ next self.now step (key_of key.now)) }
+    {
+        match step {
+            Step::Dependence => self.direct(key),
+            Step::Need => self.needs(key),
+        }
+    }
+
+    /// What the first units lead to by steps, these too.
+    fn reached(&self, step: Step, first: &[UnitKey]) -> Result<Vec<UnitKey>, NoMemory>
+        ensures { IfOk result (λ keys. (y : Key) → Contains (map key_of keys.items) y ↔ Reached (next self.now step) (map key_of first.now) y) }
+    {
+        let mut keys = Vec::new(self.alloc);
+        add_all(self.alloc, &mut keys, first)?;
+        for i in 0..usize::MAX {
+            if i >= keys.len() {
+                return Ok(keys);
+            }
+            let more = self.next(step, &keys[i])?;
+            add_all(self.alloc, &mut keys, more.as_slice())?;
+        }
+        Ok(keys)
+    }
+
+    /// What the unit depends on, by way of others too.
+    pub fn depends(&self, key: &UnitKey) -> Result<Vec<UnitKey>, NoMemory>
+        ensures { IfOk result (λ keys. (y : Key) → Contains (map key_of keys.items) y ↔ DependsOn self.now (key_of key.now) y) }
+    {
+        let first = self.direct(key)?;
+        let keys = self.reached(Step::Dependence, first.as_slice())?;
+        Ok(keys)
+    }
+
+    /// The unit itself and what it depends on, by way of others too.
+    pub fn closure(&self, key: &UnitKey) -> Result<Vec<UnitKey>, NoMemory>
+        ensures { IfOk result (λ keys. (y : Key) → Contains (map key_of keys.items) y ↔ ((key_of key.now ≡ y) ⊎ DependsOn self.now (key_of key.now) y)) }
+    {
+        let mut first = Vec::new(self.alloc);
+        add_new(self.alloc, &mut first, key)?;
+        let keys = self.reached(Step::Dependence, first.as_slice())?;
+        Ok(keys)
+    }
+
+    /// What a partition with this main unit needs (ARM 10.2(2..7)).
+    pub fn needed(&self, main: &[u8]) -> Result<Vec<UnitKey>, NoMemory>
+        ensures { IfOk result (λ keys. (y : Key) → Contains (map key_of keys.items) y ↔ Needed self.now main.now y) }
+    {
+        let mut first = Vec::new(self.alloc);
+        self.add_declaration(main, &mut first)?;
+        let keys = self.reached(Step::Need, first.as_slice())?;
+        Ok(keys)
+    }
+}

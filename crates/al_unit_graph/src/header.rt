@@ -1,0 +1,41 @@
+// What the graph of units needs to know of a unit.
+use al_base::{Name, Place};
+
+/// What a compilation unit is (ARM 10.1.1, 10.1.3).
+#[derive(Clone, Copy, Debug, PartialEq, Eq)]
+pub enum UnitForm {
+    PackageDeclaration,
+    SubprogramDeclaration,
+    PackageBody,
+    SubprogramBody,
+    SubunitBody,
+}
+
+/// The name of a unit in lower case, and where it stands: its first identifier.
+#[derive(Debug, Drop)]
+pub struct Mention {
+    pub name: Name,
+    pub place: Place,
+}
+
+/// What a compilation unit says of itself.
+#[derive(Debug, Drop)]
+pub struct Header {
+    /// Of a subunit with that of its parent body in front (ARM 10.1.3(8)).
+    pub name: Name,
+    /// Where the name stands; of a subunit the name of its body.
+    pub place: Place,
+    pub form: UnitForm,
+    /// Declared with the word private (ARM 10.1.1(12)).
+    pub is_private: bool,
+    /// A declaration that a body completes (ARM 6.1(20), 7.2(4)).
+    pub needs_body: bool,
+    /// Of a subunit the name of its parent body (ARM 10.1.3(8)).
+    pub parent_body: Option<Mention>,
+    /// The name as it stands in the declaration or the body; of a subunit without that of its parent body.
+    pub designator: Name,
+    /// The names in the with clauses (ARM 10.1.2(4)).
+    pub mentions: Vec<Mention>,
+    /// The names of the stubs that stand immediately in a body's declarative part (ARM 10.1.3(2)).
+    pub stubs: Vec<Name>,
+}

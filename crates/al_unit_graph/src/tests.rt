@@ -1,0 +1,96 @@
+use crate::{Contents, Header, Mention, Source, Sources, UnitForm, parent_of};
+use al_base::{Name, NoMemory, Place, UnitKey, UnitKind};
+use std::alloc::Global;
+use std::rc::Rc;
+use std::test::Fail;
+
+const HERE: Place = Place { line: 1, col: 6 };
+
+fn named(alloc: Global, name: &[u8], form: UnitForm) -> Result<Header, NoMemory> {
+    Ok(Header {
+        name: Name::from_slice(alloc, name)?,
+        place: HERE,
+        form,
+        is_private: false,
+        needs_body: false,
+        parent_body: None,
+        designator: Name::from_slice(alloc, name)?,
+        mentions: Vec::new(alloc),
+        stubs: Vec::new(alloc),
+    })
+}
+
+fn mention(alloc: Global, name: &[u8]) -> Result<Mention, NoMemory> {
+    let name = Name::from_slice(alloc, name)?;
+    Ok(Mention { name, place: HERE })
+}
+
+fn put(alloc: Global, sources: &mut Sources, file: &[u8], header: Header) -> Result<(), NoMemory> {
+    let text = Rc::new(alloc, Vec::new(alloc))?;
+    let contents = Contents::Headed(header);
+    let file = Name::from_slice(alloc, file)?;
+    sources.insert(file, Source { text, contents })
+}
+
+fn key(alloc: Global, name: &[u8], kind: UnitKind) -> Result<UnitKey, NoMemory> {
+    let name = Name::from_slice(alloc, name)?;
+    Ok(UnitKey { name, kind })
+}
+
+#[test]
+fn body_depends_on_a_child_and_its_parent(rt: HostRuntime) -> Result<(), Fail> {
+    let alloc = rt.alloc();
+    let mut sources = Sources::new(alloc);
+    put(
+        alloc,
+        &mut sources,
+        b"a.ads",
+        named(alloc, b"a", UnitForm::PackageDeclaration)?,
+    )?;
+    put(
+        alloc,
+        &mut sources,
+        b"a~b.ads",
+        named(alloc, b"a.b", UnitForm::PackageDeclaration)?,
+    )?;
+    let mut main = named(alloc, b"m", UnitForm::SubprogramBody)?;
+    main.mentions.push(mention(alloc, b"a.b")?)?;
+    put(alloc, &mut sources, b"m.adb", main)?;
+    let m = key(alloc, b"m", UnitKind::Body)?;
+    assert_eq!(rt; sources.depends(&m)?.len(), 2);
+    assert_eq!(rt; sources.closure(&m)?.len(), 3);
+    assert_eq!(rt; sources.needed(b"m")?.len(), 3);
+    assert_eq!(rt; parent_of(b"a.b"), Some(b"a".as_slice()));
+    Ok(())
+}
+
+#[test]
+fn units_that_mention_each_other_depend_on_themselves(rt: HostRuntime) -> Result<(), Fail> {
+    let alloc = rt.alloc();
+    let mut sources = Sources::new(alloc);
+    let mut a = named(alloc, b"a", UnitForm::PackageDeclaration)?;
+    a.mentions.push(mention(alloc, b"b")?)?;
+    let mut b = named(alloc, b"b", UnitForm::PackageDeclaration)?;
+    b.mentions.push(mention(alloc, b"a")?)?;
+    put(alloc, &mut sources, b"a.ads", a)?;
+    put(alloc, &mut sources, b"b.ads", b)?;
+    let key = key(alloc, b"a", UnitKind::Decl)?;
+    assert_eq!(rt; sources.depends(&key)?.len(), 2);
+    Ok(())
+}
+
+#[test]
+fn unit_that_is_not_there(rt: HostRuntime) -> Result<(), Fail> {
+    let alloc = rt.alloc();
+    let mut sources = Sources::new(alloc);
+    let mut main = named(alloc, b"m", UnitForm::SubprogramBody)?;
+    main.mentions.push(mention(alloc, b"ada.text_io")?)?;
+    main.mentions.push(mention(alloc, b"standard")?)?;
+    put(alloc, &mut sources, b"m.adb", main)?;
+    let header = sources
+        .unit_at(b"m", UnitKind::Body)?
+        .expect(&rt, "it is there");
+    let found = sources.own_faults(b"m.adb", header)?;
+    assert_eq!(rt; found.len(), 1);
+    Ok(())
+}

@@ -1,0 +1,115 @@
+// The files that a unit wants, and whether one that it meets differs between two libraries (ARM 10.1.4(5, 7)).
+ghost use Rattle.std.specs.Prelude.{◌≡◌, ◌++◌, map, IfOk, OnOk};
+ghost use Rattle.std.specs.Option.{option_map};
+ghost use Rattle.std.specs.List.{flat_map};
+ghost use Rattle.al_unit_graph.specs.Traces.{text_at, declaration_files, body_files, own_files, parent_files, mention_files, wanted_files};
+ghost use Rattle.al_unit_graph.specs.Views.{mention_seen, header_seen};
+
+use crate::dependence::is_library_body;
+use crate::header::{Header, Mention};
+use crate::names::{is_without_file, lineage, parent_of};
+use crate::source::Sources;
+use crate::units::file_of;
+use al_base::{Name, NoMemory, UnitKind};
+
+impl Sources {
+    /// The text of a file.
+    pub fn text_at(&self, file: &[u8]) -> Option<&[u8]>
+        ensures { option_map (λ text. text.now) result ≡ text_at self.now file.now }
+    {
+        match self.source_at(file) {
+            Some(source) => Some(source.text.as_slice()),
+            None => None,
+        }
+    }
+
+    /// Adds the files in which the declaration of a unit is looked for.
+    fn add_declaration_files(&self, name: &[u8], files: &mut Vec<Name>) -> Result<(), NoMemory>
+        ensures { OnOk result (files.new.items ≡ files.old.items ++ declaration_files self.now name.now) }
+    {
+        if is_without_file(name) {
+            return Ok(());
+        }
+        let declaration = file_of(self.alloc, name, UnitKind::Decl)?;
+        let is_there = self.is_there(declaration.as_slice());
+        files.push(declaration)?;
+        if !is_there {
+            files.push(file_of(self.alloc, name, UnitKind::Body)?)?;
+        }
+        Ok(())
+    }
+
+    /// Adds the file in which a parent body is looked for.
+    fn add_body_file(&self, name: &[u8], files: &mut Vec<Name>) -> Result<(), NoMemory>
+        ensures { OnOk result (files.new.items ≡ files.old.items ++ body_files name.now) }
+    {
+        if is_without_file(name) {
+            return Ok(());
+        }
+        files.push(file_of(self.alloc, name, UnitKind::Body)?)?;
+        Ok(())
+    }
+
+    /// Adds the files of a body's declaration.
+    fn add_own_files(&self, header: &Header, files: &mut Vec<Name>) -> Result<(), NoMemory>
+        ensures { OnOk result (files.new.items ≡ files.old.items ++ own_files self.now (header_seen header.now)) }
+    {
+        if is_library_body(header.form) {
+            self.add_declaration_files(header.name.as_slice(), files)
+        } else {
+            Ok(())
+        }
+    }
+
+    /// Adds the files of the parent's declaration and of a body's own, or of the parent body.
+    fn add_parent_files(&self, header: &Header, files: &mut Vec<Name>) -> Result<(), NoMemory>
+        ensures { OnOk result (files.new.items ≡ files.old.items ++ parent_files self.now (header_seen header.now) (option_map mention_seen header.now.parent_body)) }
+    {
+        if let Some(parent) = &header.parent_body {
+            return self.add_body_file(parent.name.as_slice(), files);
+        }
+        if let Some(parent) = parent_of(header.name.as_slice()) {
+            self.add_declaration_files(parent, files)?;
+        }
+        self.add_own_files(header, files)
+    }
+
+    /// Adds the files of the declarations of these units.
+    fn add_files_of(&self, names: &[&[u8]], files: &mut Vec<Name>) -> Result<(), NoMemory>
+        ensures { OnOk result (files.new.items ≡ files.old.items ++ flat_map (declaration_files self.now) (map (λ n. n.now) names.now)) }
+    {
+        for name in names {
+            self.add_declaration_files(name, files)?;
+        }
+        Ok(())
+    }
+
+    /// Adds the files of the declarations of a mentioned unit and of its ancestors.
+    fn add_mention_files(&self, mention: &Mention, files: &mut Vec<Name>) -> Result<(), NoMemory>
+        ensures { OnOk result (files.new.items ≡ files.old.items ++ mention_files self.now (mention_seen mention.now)) }
+    {
+        let names = lineage(self.alloc, mention.name.as_slice())?;
+        self.add_files_of(names.as_slice(), files)
+    }
+
+    /// Adds the files of the units that the context clause mentions.
+    fn add_context_files(&self, mentions: &[Mention], files: &mut Vec<Name>) -> Result<(), NoMemory>
+        ensures { OnOk result (files.new.items ≡ files.old.items ++ flat_map (mention_files self.now) (map mention_seen mentions.now)) }
+    {
+        for mention in mentions {
+            self.add_mention_files(mention, files)?;
+        }
+        Ok(())
+    }
+
+    /// The files that a unit wants, which may not be there.
+    #[tactic(auto, unfolding(crate::specs::Traces::wanted_files))]
+    pub fn wanted_files(&self, header: &Header) -> Result<Vec<Name>, NoMemory>
+        ensures { IfOk result (λ files. files.items ≡ wanted_files self.now (header_seen header.now)) }
+    {
+        let mut files = Vec::new(self.alloc);
+        self.add_parent_files(header, &mut files)?;
+        self.add_context_files(header.mentions.as_slice(), &mut files)?;
+        Ok(files)
+    }
+}

@@ -1,0 +1,4 @@
+pub mod HomographLemmas
+pub mod InterfaceLemmas
+pub mod SameLemmas
+pub mod SymbolLemmas

@@ -1,0 +1,6 @@
+pub mod Homographs
+pub mod Interfaces
+pub mod Named
+pub mod Operators
+pub mod Symbols
+pub mod ViewSymbols

@@ -1,0 +1,42 @@
+// What types and code are known by.
+ghost use Rattle.std.specs.Prelude.{◌≡◌, IfOk};
+ghost use Rattle.al_view.specs.Symbols.{same_symbol};
+
+use crate::unit::{copied_unit, is_unit};
+use al_base::{Name, NoMemory, UnitKey};
+use std::alloc::Global;
+
+/// What a declaration of a unit is known by in every unit. A type is the one that has its symbol (ARM 3.2(1)).
+#[derive(Debug, Drop)]
+pub struct Symbol {
+    /// The unit whose text declares it.
+    pub unit: UnitKey,
+    /// Its name in lower case; of an operator, its symbol.
+    pub name: Name,
+    /// How many declarations of that name stand before it in that unit.
+    pub number: usize,
+}
+
+impl Symbol {
+    /// Whether two symbols are one.
+    pub fn is(&self, other: &Symbol) -> bool
+        ensures { result ≡ same_symbol self.now other.now }
+    {
+        is_unit(&self.unit, &other.unit)
+            && self.name.as_slice() == other.name.as_slice()
+            && self.number == other.number
+    }
+
+    /// The same symbol once more.
+    pub fn copy(&self, alloc: Global) -> Result<Symbol, NoMemory>
+        ensures { IfOk result (λ copy. copy ≡ self.now) }
+    {
+        let unit = copied_unit(alloc, &self.unit)?;
+        let name = Name::from_slice(alloc, self.name.as_slice())?;
+        Ok(Symbol {
+            unit,
+            name,
+            number: self.number,
+        })
+    }
+}

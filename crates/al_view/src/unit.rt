@@ -1,0 +1,24 @@
+// Keys of units.
+ghost use Rattle.std.specs.Prelude.{◌≡◌, IfOk};
+ghost use Rattle.al_view.specs.Symbols.{same_unit};
+
+use al_base::{Name, NoMemory, UnitKey};
+use std::alloc::Global;
+
+/// Whether two keys are of one unit.
+pub fn is_unit(unit: &UnitKey, other: &UnitKey) -> bool
+    ensures { result ≡ same_unit unit.now other.now }
+{
+    unit.kind == other.kind && unit.name.as_slice() == other.name.as_slice()
+}
+
+/// The same key once more.
+pub fn copied_unit(alloc: Global, unit: &UnitKey) -> Result<UnitKey, NoMemory>
+    ensures { IfOk result (λ copy. copy ≡ unit.now) }
+{
+    let name = Name::from_slice(alloc, unit.name.as_slice())?;
+    Ok(UnitKey {
+        name,
+        kind: unit.kind,
+    })
+}

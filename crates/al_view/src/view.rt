@@ -1,0 +1,184 @@
+// Declarations as other units see them.
+ghost use Rattle.std.specs.Prelude.{◌≡◌, IfOk};
+
+use crate::priority::Priority;
+use crate::row::Row;
+use crate::symbol::Symbol;
+use crate::types::{Component, StaticValue, Subtype, Types};
+use al_base::Name;
+use std::alloc::{AllocError, Global};
+use std::marker::Model;
+use std::rc::Rc;
+
+/// A declaration as other units see it. It has no name and no place: its name is the one that it was asked for by.
+/// It holds each type that it is of with its definition, through all components, each once and components first; those
+/// of Standard, which every unit has, only where it is one of them.
+#[derive(Drop)]
+pub enum ViewKind {
+    /// A type (ARM 3.2.1). It is the last of these.
+    OfType(Types),
+    /// A subtype (ARM 3.2.2).
+    OfSubtype(SubtypeView),
+    /// A constant or variable, a component of a protected object or a formal parameter too (ARM 3.3.1).
+    OfObject(ObjectView),
+    /// A named number (ARM 3.3.2).
+    OfNumber(StaticValue),
+    /// An enumeration literal (ARM 3.5.1(3)).
+    OfLiteral(LiteralView),
+    /// A subprogram, an operator or an entry (ARM 6.1, 9.5.2).
+    OfSubprogram(SubprogramView),
+    /// A single task (ARM 9.1).
+    OfTask(TaskView),
+    /// A single protected object (ARM 9.4).
+    OfProtected(ProtectedView),
+}
+
+/// A subtype with the types that it is of.
+#[derive(Drop)]
+pub struct SubtypeView {
+    pub subtype: Subtype,
+    pub types: Types,
+}
+
+/// Where an object lies.
+#[derive(Drop)]
+pub enum ObjectPlace {
+    /// In the frame of the body at this depth of nesting, from this word on.
+    Frame { depth: u32, word: u32 },
+    /// In the words of a unit that the symbol stands for, from this word of them on.
+    Static { symbol: Symbol, word: u32 },
+}
+
+/// An object.
+#[derive(Drop)]
+pub struct ObjectView {
+    pub subtype: Subtype,
+    pub types: Types,
+    /// Whether it is a constant (ARM 3.3(13)).
+    pub is_constant: bool,
+    /// The value of a static constant (ARM 4.9(24)).
+    pub value: Option<StaticValue>,
+    pub place: ObjectPlace,
+}
+
+/// An enumeration literal: its type and its position.
+#[derive(Drop)]
+pub struct LiteralView {
+    pub base: Symbol,
+    pub types: Types,
+    pub position: u32,
+}
+
+/// The mode of a formal parameter (ARM 6.1(16)).
+#[derive(Clone, Copy, Debug, PartialEq, Eq)]
+pub enum Mode {
+    In,
+    InOut,
+    Out,
+}
+
+/// A formal parameter (ARM 6.1(15)).
+#[derive(Drop)]
+pub struct Parameter {
+    pub name: Name,
+    pub mode: Mode,
+    pub subtype: Subtype,
+}
+
+/// A profile (ARM 6.1(20)).
+#[derive(Drop)]
+pub struct Profile {
+    pub parameters: Row<Parameter>,
+    /// The result of a function.
+    pub result: Option<Subtype>,
+}
+
+/// What is called, and how.
+#[derive(Debug, Drop)]
+pub enum CallKind {
+    /// A predefined operator (ARM 4.5), with the type that declares it (ARM 3.2.1(9), 3.2.3(6)).
+    Operator { of_type: Symbol },
+    /// A subprogram of a body at this depth of nesting.
+    Subprogram { depth: u32 },
+    /// A subprogram of a predefined unit (ARM A).
+    Predefined,
+    /// A subprogram of a protected object (ARM 9.5.1).
+    Protected,
+    /// An entry of a protected object (ARM 9.5.2).
+    Entry,
+}
+
+/// A subprogram, an operator or an entry.
+#[derive(Drop)]
+pub struct SubprogramView {
+    pub symbol: Symbol,
+    pub profile: Profile,
+    pub types: Types,
+    pub call: CallKind,
+    /// Where it has a declaration of its own: what tells that its body is elaborated (ARM 3.11(10)).
+    pub flag: Option<ObjectPlace>,
+}
+
+/// A single task.
+#[derive(Drop)]
+pub struct TaskView {
+    pub symbol: Symbol,
+    /// Its priority (ARM D.1).
+    pub priority: Priority,
+}
+
+/// An operation of a protected object, by its name.
+#[derive(Drop)]
+pub struct Operation {
+    pub name: Name,
+    pub subprogram: SubprogramView,
+}
+
+/// A single protected object.
+#[derive(Drop)]
+pub struct ProtectedView {
+    pub symbol: Symbol,
+    pub operations: Row<Operation>,
+    pub components: Row<Component>,
+    /// The types of the components.
+    pub types: Types,
+    /// Its ceiling (ARM D.3).
+    pub ceiling: Priority,
+}
+
+/// A view that is shared: a copy costs no more than a count.
+#[derive(Drop)]
+pub struct View {
+    kind: Rc<ViewKind>,
+}
+
+impl Model for View {
+    ghost use Rattle.al_view.specs.declared.view.ViewKind.{ViewKind};
+
+    ghost Value = { ViewKind };
+
+    ghost view = { λ v. v.kind.value };
+}
+
+impl View {
+    pub fn new(alloc: Global, kind: ViewKind) -> Result<Self, AllocError>
+        ensures { IfOk result (λ view. view ≡ kind) }
+    {
+        let kind = Rc::new(alloc, kind)?;
+        Ok(View { kind })
+    }
+
+    pub fn kind(&self) -> &ViewKind
+        ensures { result.now ≡ self.now }
+    {
+        &self.kind
+    }
+
+    /// The same view once more.
+    pub fn share(&self) -> Result<Self, AllocError>
+        ensures { IfOk result (λ view. view ≡ self.now) }
+    {
+        let kind = self.kind.clone()?;
+        Ok(View { kind })
+    }
+}

@@ -1,0 +1,125 @@
+#!/usr/bin/env python3
+"""memory.py PROGRAM: refuses each growth of memory in turn, in the stored sessions.
+
+Each session is run once for each growth, with that one refused (by refuse.c, built by the kit's clang and loaded before
+the program). It must then write what it always writes; or `refused 10 no-memory` to one put, rename, build or run that
+is not refused otherwise, and to all else what the session without that command writes; or, where the growth is outside
+the session, nothing, with exit status 1. Prints a line for each session, and last `N passed, M failed`.
+"""
+import pathlib
+import re
+import shutil
+import subprocess
+import sys
+import tempfile
+
+from sessions import SESSIONS, TESTS, Count, input_of, words_of
+
+LONGEST = 4096
+REFUSED = b"refused 10 no-memory\n"
+OUTSIDE = "outside the session"
+UNSEEN = "with the plain replies"
+
+
+class Refuser:
+    """Runs the program with one growth refused, or with none."""
+
+    def __init__(self, program, folder):
+        self.program = program
+        self.words = []
+        self.shim = f"{folder}/refuse.so"
+        clang = pathlib.Path(shutil.which("rt")).resolve().parents[1] / "toolchain/bin/clang"
+        how = ["-shared", "-nostdlib", "-fPIC", "-O1", "-fuse-ld=lld"]
+        subprocess.run([clang, *how, "-o", self.shim, TESTS / "refuse.c"], check=True)
+
+    def run(self, session, growth=0):
+        """The exit status, output and error output; and whether a growth was refused."""
+        with tempfile.TemporaryFile() as told:
+            env = {"LD_PRELOAD": self.shim, "REFUSE": str(growth), "TELL": str(told.fileno())}
+            done = subprocess.run(
+                [self.program, *self.words],
+                input=session,
+                capture_output=True,
+                env=env,
+                pass_fds=[told.fileno()],
+                timeout=120,
+            )
+            told.seek(0)
+            return (done.returncode, done.stdout, done.stderr), told.read() != b""
+
+
+def commands_of(session):
+    """The commands: a line each, a put whose length is digits with its text."""
+    at = 0
+    while at < len(session):
+        end = (session.find(b"\n", at) + 1) or len(session)
+        put = re.fullmatch(rb"put [^ \n]+ ([0-9]{1,9})\n", session[at:end])
+        if put:
+            end += int(put[1]) + 1
+        yield session[at:end]
+        at = end
+
+
+def may_lack_memory(command, reply):
+    return command.split(b" ")[0] in (b"put", b"rename", b"build", b"run") and not reply.startswith(b"refused ")
+
+
+def replies_to(refuser, commands):
+    """The reply to each command, where no growth is refused."""
+    written = [refuser.run(b"".join(commands[:k]))[0][1] for k in range(len(commands) + 1)]
+    return [written[k + 1][len(written[k]) :] for k in range(len(commands))]
+
+
+def outcomes(refuser, session):
+    """All that may come of a session where one growth is refused, each with a name."""
+    plain, _ = refuser.run(session)
+    allowed = {(1, b"", b""): OUTSIDE, plain: UNSEEN}
+    commands = list(commands_of(session))
+    for k, reply in enumerate(replies_to(refuser, commands)):
+        if may_lack_memory(commands[k], reply):
+            others = replies_to(refuser, commands[:k] + commands[k + 1 :])
+            others.insert(k, REFUSED)
+            line = commands[k].split(b"\n")[0].decode()
+            allowed.setdefault((plain[0], b"".join(others), plain[2]), f"at '{line[:20]}'")
+    return allowed
+
+
+def sweep(refuser, name, count):
+    session = input_of(name)
+    refuser.words = words_of(name)
+    allowed = outcomes(refuser, session)
+    seen = {}
+    strange = []
+    growth = 1
+    got, refused = refuser.run(session, growth)
+    while refused:
+        if got in allowed:
+            seen[allowed[got]] = seen.get(allowed[got], 0) + 1
+        else:
+            strange.append((growth, got))
+        growth += 1
+        got, refused = refuser.run(session, growth)
+    told = ", ".join(f"{times} {outcome}" for outcome, times in seen.items())
+    print(f"{name}: {growth - 1} growths refused: {told}")
+    for at, got in strange:
+        print(f"  failed at growth {at}: {got}")
+    if growth > 1 and not strange:
+        count.passed += 1
+    else:
+        count.failed += 1
+
+
+def main():
+    program = str(pathlib.Path(sys.argv[1]).resolve())
+    count = Count()
+    with tempfile.TemporaryDirectory() as folder:
+        refuser = Refuser(program, folder)
+        for stored in sorted(SESSIONS.glob("*.in")):
+            if stored.stat().st_size <= LONGEST:
+                sweep(refuser, stored.stem, count)
+    print(f"{count.passed} passed, {count.failed} failed")
+    return count.failed != 0
+
+
+if __name__ == "__main__":
+    sys.exit(main())
