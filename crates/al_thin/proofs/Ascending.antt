@@ -16,8 +16,8 @@ use Rattle.al_lex.proofs.Rising.{places_rise}
 use Rattle.al_syntax.specs.Laws.{FaultsAreFound}
 use Rattle.al_syntax.specs.TreeLaws.{TreesAreFound, SentencesAreTrees}
 use Rattle.al_syntax.specs.UnitTrees.{tokens_of}
-use Rattle.al_unit.specs.Readings.{Reading}
-use Rattle.al_unit.specs.Units.{header_of}
+use Rattle.al_header.specs.Readings.{Reading}
+use Rattle.al_header.specs.Units.{header_of}
 use Rattle.al_unit_graph.specs.Headers.{key_of_unit}
 use Rattle.al_unit_graph.specs.Names.{is_reserved}
 use Rattle.al_image.specs.Images.{is_too_large, program_of, image_bytes}

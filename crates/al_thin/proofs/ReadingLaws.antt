@@ -8,7 +8,7 @@ use Rattle.al_syntax.specs.Laws.{FaultsAreFound}
 use Rattle.al_syntax.specs.TreeLaws.{unit_of, TreesAreFound, SentencesAreTrees}
 use Rattle.al_syntax.specs.UnitTrees.{CompilationUnitTree}
 use Rattle.al_tree.specs.Lexemes.{lexemes}
-use Rattle.al_unit.specs.Readings.{Reading}
+use Rattle.al_header.specs.Readings.{Reading}
 use Rattle.al_thin.specs.Readings.{reading_of, by_tokens, by_unit}
 use Rattle.al_thin.specs.Laws.{Reads, TextsAreRead}
 use Rattle.al_thin.specs.Laws.Reads.{sentence, malformed, no_sentence}

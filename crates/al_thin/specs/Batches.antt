@@ -11,8 +11,8 @@ use Rattle.al_image.specs.declared.instruction.Instruction.{Instruction}
 use Rattle.al_image.specs.declared.instruction.Instruction.TheVariants.{PutText, NewLine}
 use Rattle.al_image.specs.Images.{program_of, is_too_large, image_bytes}
 use Rattle.al_image.specs.Runs.{run_of_image}
-use Rattle.al_unit.specs.Readings.{Reading}
-use Rattle.al_unit.specs.Readings.Reading.{Sentence, Fails}
+use Rattle.al_header.specs.Readings.{Reading}
+use Rattle.al_header.specs.Readings.Reading.{Sentence, Fails}
 use Rattle.al_syntax.specs.UnitTrees.{CompilationUnitTree}
 use Rattle.al_thin.specs.Readings.{reading_of}
 use Rattle.al_thin.specs.ThinTrees.{UnitTree, StatementTree, OperationTree, thin_unit}

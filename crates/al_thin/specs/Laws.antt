@@ -16,9 +16,9 @@ use Rattle.al_syntax.specs.Rules.{most}
 use Rattle.al_syntax.specs.UnitTrees.{CompilationUnitTree, tokens_of}
 use Rattle.al_syntax.specs.Nesting.{nesting}
 use Rattle.al_tree.specs.Lexemes.{lexemes}
-use Rattle.al_unit.specs.Readings.{Reading}
-use Rattle.al_unit.specs.Readings.Reading.{Sentence, Fails}
-use Rattle.al_unit.specs.Units.{header_of}
+use Rattle.al_header.specs.Readings.{Reading}
+use Rattle.al_header.specs.Readings.Reading.{Sentence, Fails}
+use Rattle.al_header.specs.Units.{header_of}
 use Rattle.al_unit_graph.specs.Headers.{Header, key_of_unit}
 use Rattle.al_unit_graph.specs.Names.{is_reserved}
 use Rattle.al_thin.specs.ThinTrees.{UnitTree, OperationTree, thin_unit}

@@ -1,6 +1,6 @@
 -- A reading of the code, as the definitions see it.
 use Rattle.al_tree.specs.UnitViews.{unit_seen}
-use Rattle.al_unit.specs.Readings.{Reading as AnyReading, Reading as readings}
+use Rattle.al_header.specs.Readings.{Reading as AnyReading, Reading as readings}
 use Rattle.al_thin.specs.declared.reading.Reading.{Reading}
 use Rattle.al_thin.specs.declared.reading.Reading.TheVariants.{Sentence, Fails}
 

@@ -7,8 +7,8 @@ use Rattle.al_lex.specs.Codes.{number_of}
 use Rattle.al_lex.specs.Tokens.{lexed, end_place_of}
 use Rattle.al_parse.specs.Faults.{syntax_fault_of}
 use Rattle.al_syntax.specs.UnitTrees.{CompilationUnitTree}
-use Rattle.al_unit.specs.Readings.{Reading}
-use Rattle.al_unit.specs.Readings.Reading.{Sentence, Fails}
+use Rattle.al_header.specs.Readings.{Reading}
+use Rattle.al_header.specs.Readings.Reading.{Sentence, Fails}
 use Rattle.al_syntax.specs.TreeLaws.{unit_of}
 use Rattle.al_tree.specs.Lexemes.{lexemes}
 

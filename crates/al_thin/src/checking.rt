@@ -4,7 +4,7 @@ ghost use Rattle.std.specs.List.{flat_map};
 ghost use Rattle.al_base.specs.Batch.{finding_of};
 ghost use Rattle.al_tree.specs.Lexemes.{identifier_label};
 ghost use Rattle.al_tree.specs.UnitViews.{unit_seen};
-ghost use Rattle.al_unit.specs.Units.{header_of};
+ghost use Rattle.al_header.specs.Units.{header_of};
 ghost use Rattle.al_thin.specs.ReadingSeen.{reading_seen};
 ghost use Rattle.al_thin.specs.Findings.{body_findings, call_findings, check_findings, end_findings, finding, finding_when, name_findings, or_else, reading_findings, statement_findings, unit_findings};
 ghost use Rattle.al_thin.specs.ThinSeen.{thin_seen, thin_unit_seen};

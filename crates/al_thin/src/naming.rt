@@ -6,7 +6,7 @@ ghost use Rattle.al_base.specs.Batch.{key_of};
 ghost use Rattle.al_tree.specs.DeclarationViews.{compound_seen, specification_seen};
 ghost use Rattle.al_tree.specs.UnitViews.{library_item_seen, unit_seen};
 ghost use Rattle.al_unit_graph.specs.Headers.{key_of_unit, kind_of};
-ghost use Rattle.al_unit.specs.Units.{designator, dotted, form_of, full_name, header_of, item_name, parent_body_name};
+ghost use Rattle.al_header.specs.Units.{designator, dotted, form_of, full_name, header_of, item_name, parent_body_name};
 
 use al_base::{Name, NoMemory, Place, UnitKey, UnitKind, file_name_of};
 use al_tree::{CompilationUnit, CompoundName, LibraryItem, Specification};
@@ -21,7 +21,7 @@ pub(crate) fn file_of(alloc: Global, name: &[u8], kind: UnitKind) -> Result<Name
 }
 
 /// The unit's name and kind.
-#[tactic(auto, unfolding(al_tree::specs::UnitViews::unit_seen, al_unit::specs::Units::header_of))]
+#[tactic(auto, unfolding(al_tree::specs::UnitViews::unit_seen, al_header::specs::Units::header_of))]
 pub(crate) fn unit_key(alloc: Global, unit: &CompilationUnit) -> Result<UnitKey, NoMemory>
     ensures { IfOk result (λ key. key_of key ≡ key_of_unit (header_of (unit_seen unit.now))) }
 {
@@ -33,7 +33,7 @@ pub(crate) fn unit_key(alloc: Global, unit: &CompilationUnit) -> Result<UnitKey,
 }
 
 /// Where the unit's name stands; of a subunit the name of its body.
-#[tactic(auto, unfolding(al_tree::specs::UnitViews::unit_seen, al_unit::specs::Units::header_of))]
+#[tactic(auto, unfolding(al_tree::specs::UnitViews::unit_seen, al_header::specs::Units::header_of))]
 pub(crate) fn unit_place(unit: &CompilationUnit) -> Place
     ensures { result ≡ (header_of (unit_seen unit.now)).place }
 {

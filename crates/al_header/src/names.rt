@@ -6,7 +6,7 @@ ghost use Rattle.al_syntax.specs.DeclarationTrees.{CompoundNameTree};
 ghost use Rattle.al_tree.specs.Lexemes.{identifier_label};
 ghost use Rattle.al_tree.specs.DeclarationViews.{compound_seen, specification_seen};
 ghost use Rattle.al_unit_graph.specs.Views.{mention_seen};
-ghost use Rattle.al_unit.specs.Units.{dotted, designator, full_name, place_of, mention_of};
+ghost use Rattle.al_header.specs.Units.{dotted, designator, full_name, place_of, mention_of};
 
 use al_base::{Name, NoMemory, Place};
 use al_tree::{CompoundName, Identifier, Specification};

@@ -4,7 +4,7 @@ ghost use Rattle.std.specs.Option.{option_map};
 ghost use Rattle.al_tree.specs.DeclarationViews.{compound_seen};
 ghost use Rattle.al_tree.specs.UnitViews.{library_item_seen};
 ghost use Rattle.al_unit_graph.specs.Views.{mention_seen};
-ghost use Rattle.al_unit.specs.Units.{item_name, parent_body_name, form_of, mention_of};
+ghost use Rattle.al_header.specs.Units.{item_name, parent_body_name, form_of, mention_of};
 
 use crate::names::{designator, mention_of};
 use al_base::NoMemory;

@@ -4,7 +4,7 @@ use Rattle.al_base.specs.Files.{Texts}
 use Rattle.al_base.specs.declared.place.Place.{Place}
 use Rattle.al_syntax.specs.UnitTrees.{CompilationUnitTree}
 use Rattle.al_unit_graph.specs.Headers.{Contents, Headed, Unread, Library}
-use Rattle.al_unit.specs.Units.{header_of}
+use Rattle.al_header.specs.Units.{header_of}
 
 -- a compilation unit; or no compilation unit, with the place and the number of the first lexical fault, or else of the syntax fault
 pub data Reading : Type 0 where
