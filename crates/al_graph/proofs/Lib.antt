@@ -1,3 +1,5 @@
+pub mod Members
+pub mod ClosingLemmas
 pub mod ListLemmas
 pub mod AscendingLemmas
 pub mod ReachLemmas

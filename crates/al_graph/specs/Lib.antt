@@ -1,3 +1,4 @@
 pub mod Graphs
 pub mod Searches
 pub mod Walks
+pub mod Closing

@@ -2,6 +2,7 @@
 ghost use Rattle.std.specs.Prelude.{ℕ, Bool, List, IsTrue};
 ghost use Rattle.std.specs.List.{Contains};
 ghost use Rattle.al_graph.specs.Graphs.{Step, Reaches, IsReached, HoldsReached};
+ghost use Rattle.al_graph.specs.Closing.{ClosingIsReached};
 
 /// What leads to a node that leads on, leads there too.
 pub fn reaching_is_transitive()
@@ -14,4 +15,10 @@ pub fn reached_is_least()
     ensures starts { (g : List (List ℕ)) (starts : List ℕ) (a : ℕ) → Contains starts a → IsReached g starts a }
     ensures steps { (g : List (List ℕ)) (starts : List ℕ) (a b : ℕ) → IsReached g starts a → Step g a b → IsReached g starts b }
     ensures least { (g : List (List ℕ)) (starts : List ℕ) (held : ℕ → Bool) → HoldsReached g starts held → (a : ℕ) → IsReached g starts a → IsTrue (held a) }
+{}
+
+/// The list that is computed of what is reached from some items has all that is in the least set that holds them and what one
+/// step leads to, and nothing else.
+pub fn closing_is_reached<T>()
+    ensures { ClosingIsReached T }
 {}

@@ -1,6 +1,6 @@
--- Elements of lists.
-use Rattle.std.proofs.Common.{◌≡◌, zero, suc, List, [], ◌∷◌, ◌⊎◌, inl, inr, subst, sym, arith}
-use Rattle.std.specs.List.{Contains, flat_map}
+-- Elements of lists, and tests of them.
+use Rattle.std.proofs.Common.{◌≡◌, zero, suc, Bool, true, false, ◌||◌, List, [], ◌∷◌, ◌⊎◌, inl, inr, refl, ap, subst, sym, ◌∙◌, arith}
+use Rattle.std.specs.List.{Contains, list_any, flat_map}
 use Rattle.std.proofs.lemmas.List.Elements.{Contains-append_left, Contains-append_right, Contains-append_cases, Contains-push}
 
 module _ {X : Type 0} where
@@ -40,3 +40,23 @@ module _ {X Y : Type 0} (g : X → List Y) where
         | inl same ↦ Contains-append_left (g a) (flat_map g xs) y (subst P (sym same) d)
         | inr h ↦ Contains-append_right (g a) (flat_map g xs) y (into_flat_map xs x y h d)
       ]
+
+pub or : (b c : Bool) → (b ≡ true) ⊎ (c ≡ true) → (b || c) ≡ true
+or true c is = refl
+or false c (inl is) = absurd (cc)
+or false c (inr is) = is
+
+module _ {X : Type 0} (p : X → Bool) where
+  any_by : (x : X) (xs : List X) (b : Bool) → p x ≡ b → (list_any p xs ≡ true → (y : X) × Contains xs y × (p y ≡ true)) → (b || list_any p xs) ≡ true → (y : X) × Contains (x ∷ xs) y × (p y ≡ true)
+  any_by x xs true is rest any = (x, first x xs, is)
+  any_by x xs false is rest any = let r = rest any in (r.0, later x xs r.0 r.1, r.2)
+
+  -- an item that passes a test
+  pub any_from : (xs : List X) → list_any p xs ≡ true → (y : X) × Contains xs y × (p y ≡ true)
+  any_from [] any = absurd (cc)
+  any_from (x ∷ xs) any = any_by x xs (p x) refl (any_from xs) any
+
+  pub any_into : (xs : List X) (y : X) → Contains xs y → p y ≡ true → list_any p xs ≡ true
+  any_into [] y c is = absurd (nowhere y c)
+  any_into (x ∷ xs) y c is =
+      or (p x) (list_any p xs) (elim (first_or_later x xs y c) [ inl same ↦ inl (ap p same ∙ is) | inr h ↦ inr (any_into xs y h is) ])
