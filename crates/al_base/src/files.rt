@@ -1,6 +1,7 @@
 // A finite map from file names to texts.
 ghost use Rattle.std.specs.Prelude.{◌≡◌, [], length, map, IfOk, OnOk, OnErr, slice_get};
 ghost use Rattle.std.specs.Option.{option_copied, option_map};
+ghost use Rattle.al_base.specs.FileLaws.{Ascend};
 ghost use Rattle.al_base.specs.Files.{text_of, with_file, without_file, with_renamed, put_refusal, delete_refusal, rename_refusal, AnswersRefusal, AnswersFirst};
 
 use crate::is_file_name;
@@ -82,6 +83,18 @@ impl Files {
         let mut list = Vec::with_capacity(self.alloc, self.texts.len())?;
         for (name, text) in self.texts.iter() {
             list.push((name.as_slice(), text.as_slice()))?;
+        }
+        Ok(list)
+    }
+
+    /// The names and texts of all files, by name: texts that may be shared. The names ascend.
+    pub fn shared(&self) -> Result<Vec<(&[u8], &Rc<Vec<u8>>)>, NoMemory>
+        ensures list { IfOk result (λ list. map (λ f. (f.0.now, f.1.now.value.items)) list.items ≡ self.now) }
+        ensures ascend { Ascend self.now }
+    {
+        let mut list = Vec::with_capacity(self.alloc, self.texts.len())?;
+        for (name, text) in self.texts.iter() {
+            list.push((name.as_slice(), text))?;
         }
         Ok(list)
     }
