@@ -1,7 +1,5 @@
--- Tests, and tests of the items of a list.
-use Rattle.std.proofs.Common.{◌≡◌, Bool, true, false, not, ◌&&◌, ◌||◌, ◌⊎◌, inl, inr, List, [], ◌∷◌, refl, ap, ◌∙◌}
-use Rattle.std.specs.List.{Contains, list_any}
-use Rattle.al_unit_graph.proofs.Members.{nowhere, first_or_later}
+-- Tests.
+use Rattle.std.proofs.Common.{◌≡◌, Bool, true, false, not, ◌&&◌, refl}
 
 pub not_both : (b : Bool) → b ≡ true → b ≡ false → ⊥
 not_both b holds fails = cc
@@ -25,14 +23,3 @@ both false y is = absurd (cc)
 pub and : (x y : Bool) → x ≡ true → y ≡ true → (x && y) ≡ true
 and true y is is_too = is_too
 and false y is is_too = absurd (cc)
-
-pub or : (b c : Bool) → (b ≡ true) ⊎ (c ≡ true) → (b || c) ≡ true
-or true c is = refl
-or false c (inl is) = absurd (cc)
-or false c (inr is) = is
-
--- a test that an item passes
-pub passed : {X : Type 0} (p : X → Bool) (xs : List X) (y : X) → Contains xs y → p y ≡ true → list_any p xs ≡ true
-passed p [] y c is = absurd (nowhere y c)
-passed p (x ∷ xs) y c is =
-    or (p x) (list_any p xs) (elim (first_or_later x xs y c) [ inl same ↦ inl (ap p same ∙ is) | inr h ↦ inr (passed p xs y h is) ])

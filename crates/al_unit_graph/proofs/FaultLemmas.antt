@@ -16,9 +16,9 @@ use Rattle.al_unit_graph.specs.Faults.{finding, Fits, IsNoPackage, Misnames, Bre
 use Rattle.al_unit_graph.specs.Faults.Misnames.{other_file, reserved}
 use Rattle.al_unit_graph.specs.Faults.BreaksByItself.{missing_mention, missing_parent_body, missing_declaration, missing_parent, parent_no_package, no_stub, misfit}
 use Rattle.al_unit_graph.specs.FaultLists.{finding_if, name_faults, is_missing, mention_faults, is_no_package, is_no_parent, has_no_parent, has_stub, lacks_stub, has_no_stub, parent_faults, is_alike, fits, is_misfit, declaration_faults, own_faults, NameFaultsAreMisnames, OwnFaultsAreBroken}
-use Rattle.al_unit_graph.proofs.BoolLemmas.{not_both, not_true, true_not, not_so, both, and, passed}
+use Rattle.al_unit_graph.proofs.BoolLemmas.{not_both, not_true, true_not, not_so, both, and}
 use Rattle.al_unit_graph.proofs.ClosureLemmas.{found}
-use Rattle.al_unit_graph.proofs.Members.{nowhere, the_one, one, from_flat_map, into_flat_map}
+use Rattle.al_graph.proofs.Members.{any_into, nowhere, the_one, one, from_flat_map, into_flat_map}
 
 alike : (x y : Bool) → is_alike x y ≡ true → x ≡ y
 alike true true is = refl
@@ -51,7 +51,7 @@ pub any : (ns : List (List ℕ)) (stub : List ℕ) → list_any (λ m. bytes_eq 
 any ns stub is = found bytes_eq (λ a b same. (bytes_eq-Decides a b).0 same) ns stub is
 
 pub told_any : (ns : List (List ℕ)) (stub : List ℕ) → Contains ns stub → list_any (λ m. bytes_eq m stub) ns ≡ true
-told_any ns stub c = passed (λ m. bytes_eq m stub) ns stub c ((bytes_eq-Decides stub stub).1 refl)
+told_any ns stub c = any_into (λ m. bytes_eq m stub) ns stub c ((bytes_eq-Decides stub stub).1 refl)
 
 module _ (file : List ℕ) where
   from_if : (b : Bool) (place : Place) (code : ℕ) (f : Finding) → Contains (finding_if b file place code) f → (b ≡ true) × (finding file place code ≡ f)

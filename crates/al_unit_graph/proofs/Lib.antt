@@ -1,4 +1,3 @@
-pub mod Members
 pub mod BoolLemmas
 pub mod TraceLemmas
 pub mod ObsoleteLemmas

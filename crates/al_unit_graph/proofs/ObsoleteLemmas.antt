@@ -10,8 +10,8 @@ use Rattle.al_base.specs.FileNames.{file_name_of}
 use Rattle.al_unit_graph.specs.Headers.{Header, Library}
 use Rattle.al_unit_graph.specs.Library.{unit_at}
 use Rattle.al_unit_graph.specs.Traces.{text_at, is_same_text, is_changed, Meets, IsTouched, HasSameTrace, AreReadAlike, IsObsolete}
-use Rattle.al_unit_graph.proofs.BoolLemmas.{not_both, not_true, not_so, or, passed}
-use Rattle.al_unit_graph.proofs.Members.{first, later}
+use Rattle.al_unit_graph.proofs.BoolLemmas.{not_both, not_true, not_so}
+use Rattle.al_graph.proofs.Members.{or, any_from, any_into}
 use Rattle.al_unit_graph.proofs.TraceLemmas.{traces_are_touched}
 use Rattle.al_unit_graph.proofs.FaultLemmas.{any, told_any}
 
@@ -28,22 +28,14 @@ itself (Some a) = (bytes_eq-Decides a a).1 refl
 told_text : (x y : Option (List ℕ)) → x ≡ y → is_same_text x y ≡ true
 told_text x y same = subst (λ v. is_same_text x v ≡ true) same (itself x)
 
-some_by : (p : List ℕ → Bool) (x : List ℕ) (xs : List (List ℕ)) (b : Bool) → p x ≡ b → (list_any p xs ≡ true → (y : List ℕ) × Contains xs y × (p y ≡ true)) → (b || list_any p xs) ≡ true → (y : List ℕ) × Contains (x ∷ xs) y × (p y ≡ true)
-some_by p x xs true is rest any = (x, first x xs, is)
-some_by p x xs false is rest any = let r = rest any in (r.0, later x xs r.0 r.1, r.2)
-
-some : (p : List ℕ → Bool) (xs : List (List ℕ)) → list_any p xs ≡ true → (y : List ℕ) × Contains xs y × (p y ≡ true)
-some p [] any = absurd (cc)
-some p (x ∷ xs) any = some_by p x xs (p x) refl (some p xs) any
-
 module _ (old new : Library) where
   pub touched_decided : (from : List ℕ) (files : List (List ℕ)) → ((y : List ℕ) → Contains files y ↔ Meets new from y) → Decides (list_any (is_changed old new) files) (IsTouched old new from)
   touched_decided from files met = (
     (λ any.
-        let r = some (is_changed old new) files any in
+        let r = any_from (is_changed old new) files any in
         let fails = not_true (is_same_text (text_at old r.0) (text_at new r.0)) r.2 in
         (r.0, (met r.0).0 r.1, (λ same. not_both (is_same_text (text_at old r.0) (text_at new r.0)) (told_text (text_at old r.0) (text_at new r.0) same) fails))),
-    (λ t. passed (is_changed old new) files t.0 ((met t.0).1 t.1) (not_so (is_same_text (text_at old t.0) (text_at new t.0)) (λ holds. t.2 (same_text (text_at old t.0) (text_at new t.0) holds)))),
+    (λ t. any_into (is_changed old new) files t.0 ((met t.0).1 t.1) (not_so (is_same_text (text_at old t.0) (text_at new t.0)) (λ holds. t.2 (same_text (text_at old t.0) (text_at new t.0) holds)))),
   )
 
   module _ (faulty : List (List ℕ)) (key : Key) (alike : AreReadAlike old new) where

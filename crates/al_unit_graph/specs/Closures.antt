@@ -1,7 +1,7 @@
--- Least sets of units that are closed under steps.
+-- What steps from unit to unit lead to, and lists that take an item once.
 use Rattle.std.specs.Prelude.{◌&&◌, ◌++◌, Bool, List, [], ◌∷◌, if◌then◌else◌}
 use Rattle.std.specs.Option.{option_map_or}
-use Rattle.std.specs.List.{Contains, list_any}
+use Rattle.std.specs.List.{list_any}
 use Rattle.std.specs.Str.{bytes_eq}
 use Rattle.al_base.specs.Batch.{Key}
 use Rattle.al_unit_graph.specs.Headers.{Library}
@@ -19,11 +19,6 @@ needs lib key = (direct lib key ++ body_of lib key) ++ option_map_or (subunits_o
 abbrev pub next : Library → Step → Key → List Key
 next lib Dependence key = direct lib key
 next lib Need key = needs lib key
-
--- the least set that holds the first ones and what one step leads to
-pub data Reached {X : Type 0} (next : X → List X) (first : List X) : X → Type 0 where
-  start : {x : X} → Contains first x → Reached next first x
-  further : {x y : X} → Reached next first x → Contains (next x) y → Reached next first y
 
 abbrev pub is_same_key : Key → Key → Bool
 is_same_key a b = bytes_eq a.0 b.0 && is_kind a.1 b.1

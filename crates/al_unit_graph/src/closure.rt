@@ -5,7 +5,8 @@ ghost use Rattle.al_base.specs.Batch.{key_of, Key};
 ghost use Rattle.al_unit_graph.specs.Dependence.{direct, DependsOn};
 ghost use Rattle.al_unit_graph.specs.Needed.{present, body_of, Needed};
 ghost use Rattle.al_base.specs.declared.unit_key.UnitKind.TheVariants.{Sub};
-ghost use Rattle.al_unit_graph.specs.Closures.{needs, next, Reached, is_same_key, with_item, with_items};
+ghost use Rattle.al_graph.specs.Closing.{Reached};
+ghost use Rattle.al_unit_graph.specs.Closures.{needs, next, is_same_key, with_item, with_items};
 
 use crate::source::Sources;
 use al_base::{Name, NoMemory, UnitKey, UnitKind};

@@ -2,7 +2,8 @@ use Rattle.std.proofs.Common.{◌≡◌, map, subst, ◌∙◌, ap, ◌↔◌}
 use Rattle.std.specs.List.{Contains}
 use Rattle.al_base.specs.Batch.{Key, key_of}
 use Rattle.al_unit_graph.specs.Dependence.{direct}
-use Rattle.al_unit_graph.specs.Closures.{Reached, next}
+use Rattle.al_graph.specs.Closing.{Reached}
+use Rattle.al_unit_graph.specs.Closures.{next}
 use Rattle.al_unit_graph.specs.declared.closure.Step.TheVariants.{Dependence}
 use Rattle.al_unit_graph.proofs.ClosureLemmas.{depends_reached}
 use Rattle.al_unit_graph.proofs.source.Sources.depends.Goals as goal

@@ -3,7 +3,8 @@ use Rattle.std.specs.List.{Contains}
 use Rattle.al_base.specs.Batch.{Key, key_of}
 use Rattle.al_unit_graph.specs.Dependence.{listed}
 use Rattle.al_unit_graph.specs.Library.{declaration_of}
-use Rattle.al_unit_graph.specs.Closures.{Reached, next}
+use Rattle.al_graph.specs.Closing.{Reached}
+use Rattle.al_unit_graph.specs.Closures.{next}
 use Rattle.al_unit_graph.specs.declared.closure.Step.TheVariants.{Need}
 use Rattle.al_unit_graph.proofs.ClosureLemmas.{needed_reached}
 use Rattle.al_unit_graph.proofs.source.Sources.needed.Goals as goal
