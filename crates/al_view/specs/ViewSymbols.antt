@@ -14,7 +14,7 @@ use Rattle.al_view.specs.declared.view.ObjectPlace.TheVariants.{Frame, Static}
 use Rattle.al_view.specs.declared.view.Profile.{Profile}
 use Rattle.al_view.specs.declared.view.SubprogramView.{SubprogramView}
 use Rattle.al_view.specs.declared.view.ViewKind.{ViewKind}
-use Rattle.al_view.specs.declared.view.ViewKind.TheVariants.{OfType, OfSubtype, OfObject, OfNumber, OfLiteral, OfSubprogram, OfTask, OfProtected}
+use Rattle.al_view.specs.declared.view.ViewKind.TheVariants.{OfType, OfSubtype, OfObject, OfNumber, OfLiteral, OfSubprogram, OfTask, OfProtected, OfPackage}
 
 abbrev pub component_symbols : List Component → List Symbol
 component_symbols components = map (λ c. c.subtype.base) components
@@ -59,3 +59,4 @@ symbols_of (OfLiteral l) = l.base ∷ type_symbols l.types
 symbols_of (OfSubprogram s) = subprogram_symbols s
 symbols_of (OfTask t) = t.symbol ∷ []
 symbols_of (OfProtected p) = p.symbol ∷ flat_map (λ o. subprogram_symbols o.subprogram) p.operations ++ component_symbols p.components ++ type_symbols p.types
+symbols_of (OfPackage s) = s ∷ []

@@ -160,6 +160,7 @@ impl Same for ViewKind {
             (ViewKind::OfSubprogram(view), ViewKind::OfSubprogram(other)) => view.is_same(other),
             (ViewKind::OfTask(view), ViewKind::OfTask(other)) => view.is_same(other),
             (ViewKind::OfProtected(view), ViewKind::OfProtected(other)) => view.is_same(other),
+            (ViewKind::OfPackage(symbol), ViewKind::OfPackage(other)) => symbol.is_same(other),
             _ => false,
         }
     }

@@ -31,6 +31,9 @@ pub enum ViewKind {
     OfTask(TaskView),
     /// A single protected object (ARM 9.4).
     OfProtected(ProtectedView),
+    /// A package of the library, which other units see only where its name is mentioned (ARM 10.1.2): its symbol. No
+    /// part of a unit declares one.
+    OfPackage(Symbol),
 }
 
 /// A subtype with the types that it is of.
