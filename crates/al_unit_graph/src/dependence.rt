@@ -23,7 +23,7 @@ pub(crate) fn is_library_body(form: UnitForm) -> bool
 }
 
 /// Whether it is a subprogram's body as a library item.
-pub(crate) fn is_subprogram_body(form: UnitForm) -> bool
+pub fn is_subprogram_body(form: UnitForm) -> bool
     ensures { result ≡ is_subprogram_body form }
 {
     matches!(form, UnitForm::SubprogramBody)

@@ -1,12 +1,11 @@
 // What is wrong with a unit by itself and with what it names.
-ghost use Rattle.std.specs.Prelude.{◌≡◌, ◌++◌, ◌∷◌, [], ◌↔◌, map, IfOk, OnOk};
+ghost use Rattle.std.specs.Prelude.{◌≡◌, ◌++◌, ◌∷◌, [], map, IfOk, OnOk};
 ghost use Rattle.std.specs.Option.{option_map, option_map_or};
-ghost use Rattle.std.specs.List.{Contains, flat_map, list_any};
+ghost use Rattle.std.specs.List.{flat_map, list_any};
 ghost use Rattle.std.specs.Str.{bytes_eq};
-ghost use Rattle.al_base.specs.Batch.{Finding, finding_of};
+ghost use Rattle.al_base.specs.Batch.{finding_of};
 ghost use Rattle.al_unit_graph.specs.Headers.{is_package, is_package_body};
 ghost use Rattle.al_unit_graph.specs.Names.{parent_of};
-ghost use Rattle.al_unit_graph.specs.Faults.{finding, Misnames, BreaksByItself};
 ghost use Rattle.al_unit_graph.specs.FaultLists.{finding_if, name_faults, is_missing, mention_faults, is_no_parent, has_no_parent, has_no_stub, parent_faults, fits, is_misfit, declaration_faults, own_faults};
 ghost use Rattle.al_unit_graph.specs.Views.{mention_seen, header_seen};
 
@@ -55,7 +54,7 @@ fn add_name_faults(
 
 /// What is wrong with the name of a file's unit: it wants another file, or is the implementation's.
 pub fn name_faults(alloc: Global, file: &[u8], header: &Header) -> Result<Vec<Diagnostic>, NoMemory>
-    ensures { IfOk result (λ found. (f : Finding) → Contains (map finding_of found.items) f ↔ Misnames file.now (header_seen header.now) f) }
+    ensures { IfOk result (λ found. map finding_of found.items ≡ name_faults file.now (header_seen header.now)) }
 {
     let mut found = Vec::new(alloc);
     add_name_faults(alloc, file, header, &mut found)?;
@@ -239,7 +238,7 @@ impl Sources {
     /// What is wrong with a unit of the library by itself and with what it names: units that aren't there, a parent that is no
     /// package, a stub that isn't there, a body that doesn't fit.
     pub fn own_faults(&self, file: &[u8], header: &Header) -> Result<Vec<Diagnostic>, NoMemory>
-        ensures { IfOk result (λ found. (f : Finding) → Contains (map finding_of found.items) f ↔ BreaksByItself self.now file.now (header_seen header.now) f) }
+        ensures { IfOk result (λ found. map finding_of found.items ≡ own_faults self.now file.now (header_seen header.now)) }
     {
         let mut found = Vec::new(self.alloc);
         self.add_own_faults(file, header, &mut found)?;

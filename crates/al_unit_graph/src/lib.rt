@@ -13,10 +13,11 @@ mod trace;
 mod units;
 mod wanted;
 
+pub use dependence::is_subprogram_body;
 pub use fault::name_faults;
 pub use header::{Header, Mention, UnitForm};
 pub use laws::{name_faults_are_misnames, own_faults_are_broken, traces_are_touched};
-pub use names::{is_predefined, is_reserved, parent_of};
+pub use names::{ancestors, is_predefined, is_reserved, lineage, parent_of};
 pub use source::{Contents, Source, Sources};
 pub use units::{held, kind_of};
 

@@ -43,7 +43,7 @@ fn descends_from_ada(name: &[u8]) -> bool
 }
 
 /// The names of the ancestors, the farthest first, without the unit's own.
-pub(crate) fn ancestors<'a>(alloc: Global, name: &'a [u8]) -> Result<Vec<&'a [u8]>, NoMemory>
+pub fn ancestors<'a>(alloc: Global, name: &'a [u8]) -> Result<Vec<&'a [u8]>, NoMemory>
     ensures { IfOk result (λ names. map (λ n. n.now) names.items ≡ ancestors name.now) }
 {
     let mut names = Vec::new(alloc);
@@ -56,7 +56,7 @@ pub(crate) fn ancestors<'a>(alloc: Global, name: &'a [u8]) -> Result<Vec<&'a [u8
 }
 
 /// The names of the ancestors, the farthest first, and the unit's own.
-pub(crate) fn lineage<'a>(alloc: Global, name: &'a [u8]) -> Result<Vec<&'a [u8]>, NoMemory>
+pub fn lineage<'a>(alloc: Global, name: &'a [u8]) -> Result<Vec<&'a [u8]>, NoMemory>
     ensures { IfOk result (λ names. map (λ n. n.now) names.items ≡ lineage name.now) }
 {
     let mut names = ancestors(alloc, name)?;

@@ -1,5 +1,6 @@
 // The files of a library, and what they are read as.
-ghost use Rattle.std.specs.Prelude.{◌≡◌, [], OnOk};
+ghost use Rattle.std.specs.Prelude.{◌≡◌, [], map, IfOk, OnOk};
+ghost use Rattle.std.specs.Map.{keys_of};
 ghost use Rattle.std.specs.Option.{option_map};
 ghost use Rattle.std.specs.BTreeMap.{insert_entry};
 ghost use Rattle.al_base.specs.Files.{name_cmp};
@@ -71,6 +72,17 @@ impl Sources {
         ensures { option_map (λ source. source_seen source.now) result ≡ source_at self.now file.now }
     {
         self.files.get(file)
+    }
+
+    /// The names of the files, in the order of their bytes.
+    pub fn file_names(&self) -> Result<Vec<&[u8]>, NoMemory>
+        ensures { IfOk result (λ names. map (λ n. n.now) names.items ≡ keys_of self.now) }
+    {
+        let mut names = Vec::with_capacity(self.alloc, self.files.len())?;
+        for (name, _) in self.files.iter() {
+            names.push(name.as_slice())?;
+        }
+        Ok(names)
     }
 
     /// Whether there is such a file.
