@@ -51,8 +51,8 @@ fn differs(is_unit: bool, was_unit: bool, is_faulty: bool, is_touched: bool) -> 
 }
 
 impl Sources {
-    /// What the unit of a file wants.
-    fn wants(&self, file: &[u8]) -> Result<Vec<Name>, NoMemory>
+    /// What the unit of a file wants; nothing where it holds none.
+    pub fn wants(&self, file: &[u8]) -> Result<Vec<Name>, NoMemory>
         ensures { IfOk result (λ files. files.items ≡ wants self.now file.now) }
     {
         match self.unit_in(file)? {
@@ -78,7 +78,7 @@ impl Sources {
     }
 
     /// Whether a file has another text in an older library, or is there in one of the two alone.
-    fn is_changed(&self, old: &Sources, file: &[u8]) -> bool
+    pub fn is_changed(&self, old: &Sources, file: &[u8]) -> bool
         ensures { result ≡ is_changed old.now self.now file.now }
     {
         !is_same_text(old.text_at(file), self.text_at(file))
@@ -106,7 +106,7 @@ impl Sources {
     }
 
     /// Whether the library has the unit.
-    fn has_unit(&self, key: &UnitKey) -> Result<bool, NoMemory>
+    pub fn has_unit(&self, key: &UnitKey) -> Result<bool, NoMemory>
         ensures { IfOk result (λ is. is ≡ is_some (unit_at self.now (key_of key.now))) }
     {
         Ok(self.unit_at(key.name.as_slice(), key.kind)?.is_some())
