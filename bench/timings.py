@@ -72,14 +72,16 @@ STEP = b"""   procedure Step_%d (Count : in Integer; Total : in out Integer) is
 
 
 def ada_text(size, last=b"end P;\n"):
-    """A package body of about so many bytes, of declarations, statements and expressions of many kinds."""
+    """A package body of so many bytes, of declarations, statements and expressions of many kinds, with blanks before its end."""
     pieces = [b"with Ada.Text_IO; with Other;\npackage body P is\n"]
-    length = len(pieces[0]) + len(last)
-    while length < size:
+    room = size - len(pieces[0]) - len(last)
+    while True:
         number = len(pieces)
-        pieces.append(STEP % (number, number))
-        length += len(pieces[-1])
-    return b"".join(pieces) + last
+        piece = STEP % (number, number)
+        if room < len(piece):
+            return b"".join(pieces) + b" " * room + last
+        pieces.append(piece)
+        room -= len(piece)
 
 
 def compiler_time(text, runs=3):
