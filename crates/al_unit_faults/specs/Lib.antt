@@ -1,0 +1,6 @@
+pub mod Parts
+pub mod Private
+pub mod Cycles
+pub mod Orders
+pub mod GraphFaults
+pub mod Laws
