@@ -1,16 +1,14 @@
 // What library items are, by their trees.
-ghost use Rattle.std.specs.Prelude.{◌≡◌, ◌++◌, map, IfOk, OnOk};
+ghost use Rattle.std.specs.Prelude.{◌≡◌};
 ghost use Rattle.std.specs.Option.{option_map};
 ghost use Rattle.al_tree.specs.DeclarationViews.{compound_seen};
 ghost use Rattle.al_tree.specs.UnitViews.{library_item_seen};
-ghost use Rattle.al_unit_graph.specs.Views.{mention_seen};
-ghost use Rattle.al_header.specs.Units.{item_name, parent_body_name, form_of, mention_of};
+ghost use Rattle.al_header.specs.Units.{form_of, is_private, item_name, needs_body, parent_body_name};
 
-use crate::names::{designator, mention_of};
-use al_base::NoMemory;
+use crate::names::designator;
+use crate::package::package_needs_body;
 use al_tree::{CompoundName, LibraryItem};
-use al_unit_graph::{Mention, UnitForm};
-use std::alloc::Global;
+use al_unit_graph::UnitForm;
 
 /// The name that an item declares or completes; of a subunit the name of its body.
 pub(crate) fn item_name(item: &LibraryItem) -> &CompoundName
@@ -48,16 +46,28 @@ pub(crate) fn form_of(item: &LibraryItem) -> UnitForm
     }
 }
 
-/// Adds these names.
-fn add_names(
-    alloc: Global,
-    names: &[CompoundName],
-    mentions: &mut Vec<Mention>,
-) -> Result<(), NoMemory>
-    ensures { OnOk result (map mention_seen mentions.new.items ≡ map mention_seen mentions.old.items ++ map mention_of (map compound_seen names.now)) }
+/// Whether it is declared with the word private (ARM 10.1.1(12)).
+pub(crate) fn is_private(item: &LibraryItem) -> bool
+    ensures { result ≡ is_private (library_item_seen item.now) }
 {
-    for name in names {
-        mentions.push(mention_of(alloc, name)?)?;
+    match item {
+        LibraryItem::Subprogram(private, _) => private.is_some(),
+        LibraryItem::Package(private, _, _) => private.is_some(),
+        LibraryItem::Body(_, _) => false,
+        LibraryItem::PackageBody(_, _) => false,
+        LibraryItem::Subunit(_, _, _, _, _) => false,
     }
-    Ok(())
+}
+
+/// Whether it is a declaration that a body completes: each of a subprogram, and some of packages.
+pub(crate) fn needs_body(item: &LibraryItem) -> bool
+    ensures { result ≡ needs_body (library_item_seen item.now) }
+{
+    match item {
+        LibraryItem::Subprogram(_, _) => true,
+        LibraryItem::Package(_, _, package) => package_needs_body(package),
+        LibraryItem::Body(_, _) => false,
+        LibraryItem::PackageBody(_, _) => false,
+        LibraryItem::Subunit(_, _, _, _, _) => false,
+    }
 }

@@ -1,5 +1,13 @@
 //! The units of a library of files: what each unit says of itself, from its tree, for the graph of units.
 #![tactic(auto)]
 
+mod context;
+mod header;
 mod item;
+mod laws;
 mod names;
+mod package;
+mod stubs;
+
+pub use header::{header_of, unit_key, unit_place};
+pub use laws::bodies_are_needed;

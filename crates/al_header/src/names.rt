@@ -43,6 +43,25 @@ pub(crate) fn designator(specification: &Specification) -> &CompoundName
     }
 }
 
+/// The full name of a unit: of a subunit with that of its parent body in front (ARM 10.1.3(8)).
+pub(crate) fn full_name(
+    alloc: Global,
+    parent: Option<&CompoundName>,
+    name: &CompoundName,
+) -> Result<Name, NoMemory>
+    ensures { IfOk result (λ n. n ≡ full_name (option_map (λ p. compound_seen p.now) parent.entry) (compound_seen name.now)) }
+{
+    match parent {
+        None => dotted(alloc, name),
+        Some(parent) => {
+            let mut bytes = dotted(alloc, parent)?.into_vec();
+            bytes.push(b'.')?;
+            bytes.extend_from_slice(dotted(alloc, name)?.as_slice())?;
+            Ok(Name::new(bytes))
+        }
+    }
+}
+
 /// Where a name stands.
 pub(crate) fn place_of(name: &CompoundName) -> Place
     ensures { result ≡ place_of (compound_seen name.now) }
