@@ -1,0 +1,2 @@
+pub mod ExpressionsMade
+pub mod StatementsMade

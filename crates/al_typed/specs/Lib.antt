@@ -1,0 +1,7 @@
+pub mod DeclarationTrees
+pub mod ExpressionTrees
+pub mod ExpressionViews
+pub mod Listed
+pub mod StatementTrees
+pub mod StatementViews
+pub mod UnitTrees

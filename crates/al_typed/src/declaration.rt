@@ -1,0 +1,56 @@
+// What a declaration does where it stands (ARM 3.11).
+ghost use Rattle.std.specs.Prelude.{◌≡◌, map, option_map};
+ghost use Rattle.al_typed.specs.DeclarationTrees.{declaration_seen, form_seen, DeclarationFormTree as forms};
+ghost use Rattle.al_typed.specs.ExpressionViews.{value_seen};
+
+use crate::expression::CheckedValue;
+use al_view::{ObjectPlace, Priority, Row, Symbol};
+
+/// A declaration or body that does something where it stands, with the line of its first token.
+#[derive(Drop)]
+pub struct TypedDeclaration {
+    pub line: usize,
+    pub form: DeclarationForm,
+}
+
+/// The value of a component of a protected object (ARM 9.4), which has so many words from this word of the object on.
+#[derive(Drop)]
+pub struct ComponentValue {
+    pub word: u32,
+    pub words: u32,
+    pub value: CheckedValue,
+}
+
+/// What a declaration does.
+#[derive(Drop)]
+pub enum DeclarationForm {
+    /// Objects of so many words each, with their initial value (ARM 3.3.1); without one they begin with zeros.
+    Objects {
+        places: Row<ObjectPlace>,
+        words: u32,
+        value: Option<CheckedValue>,
+    },
+    /// A subprogram's declaration: what tells that its body is elaborated begins with no (ARM 3.11(10)).
+    Subprogram(ObjectPlace),
+    /// A body or stub of what has a declaration of its own: its body is elaborated from here on (ARM 3.11(10), 10.1.3).
+    Elaborated(ObjectPlace),
+    /// A single task (ARM 9.1).
+    Task {
+        symbol: Symbol,
+        priority: Priority,
+    },
+    /// A single protected object (ARM 9.4), with the components that have a value, in order.
+    Protected {
+        symbol: Symbol,
+        values: Vec<ComponentValue>,
+    },
+}
+
+impl TypedDeclaration {
+    /// A declaration with the line of its first token.
+    pub fn new(line: usize, form: DeclarationForm) -> TypedDeclaration
+        ensures { declaration_seen result ≡ record { line = line; form = form_seen form } }
+    {
+        TypedDeclaration { line, form }
+    }
+}

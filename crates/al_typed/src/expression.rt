@@ -1,0 +1,351 @@
+// Expressions with their labels (ARM 4, 8.6).
+ghost use Rattle.std.specs.Prelude.{◌≡◌, IfOk, map};
+ghost use Rattle.al_typed.specs.ExpressionTrees.{TypedTree as typed_trees, FormTree as form_trees, NameTree as name_trees, ValueTree as value_trees, ActualTree as actual_trees, CallTree as call_trees};
+ghost use Rattle.al_typed.specs.ExpressionViews.{actual_seen, actuals_of, call_seen, form_seen, name_seen, typed_seen, value_seen, values_of};
+
+use crate::label::{BinaryOperator, Conversion, Labels, ShortCircuit, UnaryOperator};
+use al_base::NoMemory;
+use al_view::{Bounds, CallKind, Mode, ObjectPlace, Symbol};
+use std::alloc::Global;
+
+/// An expression with its labels.
+#[derive(Drop)]
+#[cycle(expression)]
+pub struct Typed {
+    pub labels: Labels,
+    pub form: Form,
+}
+
+/// What an expression is.
+#[derive(Drop)]
+#[cycle(expression)]
+pub enum Form {
+    /// A literal, a named number, or an attribute that is one number (ARM 2.4, 3.3.2, 3.5(12, 13), 3.6.2): its value is its
+    /// label.
+    Literal,
+    /// An object or a part of one (ARM 3.3).
+    Named(TypedName),
+    Unary(UnaryOperator, Box<Typed>),
+    Binary(BinaryOperator, Box<Typed>, Box<Typed>),
+    ShortCircuit(ShortCircuit, Box<Typed>, Box<Typed>),
+    /// A membership test (ARM 4.5.2(3)): the value, whether it has a `not`, both bounds, and the word of the frame that keeps
+    /// the value meanwhile.
+    Membership {
+        value: Box<Typed>,
+        is_negated: bool,
+        low: Box<Typed>,
+        high: Box<Typed>,
+        slot: u32,
+    },
+    Converted(Conversion, Box<CheckedValue>),
+    /// A positional aggregate (ARM 4.3.3).
+    Aggregate(Vec<CheckedValue>),
+    /// `(others => value)`, of so many components (ARM 4.3.3).
+    Others(u32, Box<CheckedValue>),
+    /// A call of a function (ARM 6.4).
+    Call(TypedCall),
+    /// `Ada.Real_Time.Clock` (ARM D.8(6))
+    Clock,
+}
+
+/// A name of an object or of a part of one: what has an address.
+#[derive(Drop)]
+#[cycle(expression)]
+pub enum TypedName {
+    /// An object, and whether it is a constant (ARM 3.3(13)).
+    Object {
+        place: ObjectPlace,
+        is_constant: bool,
+    },
+    /// A selected component (ARM 4.1.3), from this word of its record on.
+    Component {
+        whole: Box<TypedName>,
+        offset: u32,
+    },
+    /// An indexed component (ARM 4.1.1), of so many words, of an array whose index has these bounds.
+    Indexed {
+        array: Box<TypedName>,
+        index: Box<Typed>,
+        bounds: Bounds,
+        words: u32,
+    },
+}
+
+/// A value with the range that it is checked against where it is stored, passed, returned, converted or qualified
+/// (ARM 3.2.2(11), 4.6, 4.7); none of what isn't scalar.
+#[derive(Drop)]
+#[cycle(expression)]
+pub struct CheckedValue {
+    pub value: Typed,
+    pub bounds: Option<Bounds>,
+}
+
+/// An actual parameter (ARM 6.4.1).
+#[derive(Drop)]
+#[cycle(expression)]
+pub enum Actual {
+    /// Of a formal of mode `in`.
+    In(CheckedValue),
+    /// Of a formal of mode `out` or `in out`, which is copied back: the variable, its number of words, the mode, the ranges of
+    /// the formal and of the variable, and the word of the frame that keeps its address meanwhile.
+    Variable {
+        name: TypedName,
+        words: u32,
+        mode: Mode,
+        formal: Option<Bounds>,
+        actual: Option<Bounds>,
+        slot: u32,
+    },
+}
+
+/// A call (ARM 6.4, 9.5.3).
+#[derive(Drop)]
+#[cycle(expression)]
+pub struct TypedCall {
+    /// The subprogram or entry that is called.
+    pub callee: Symbol,
+    pub kind: CallKind,
+    /// What tells that its body is elaborated (ARM 3.11(10)), where there is something to tell.
+    pub flag: Option<ObjectPlace>,
+    /// In the order of the formals.
+    pub actuals: Vec<Actual>,
+}
+
+impl Typed {
+    /// An expression of this form.
+    #[tactic(auto, using(crate::proofs::ExpressionsMade::typed_made))]
+    pub fn new(labels: Labels, form: Form) -> Typed
+        ensures { typed_seen result ≡ typed_trees.Labelled labels (form_seen form) }
+    {
+        Typed { labels, form }
+    }
+}
+
+impl Form {
+    /// A literal, a named number, or an attribute that is one number.
+    #[tactic(auto, using(crate::proofs::ExpressionsMade::literal_made))]
+    pub fn literal() -> Form
+        ensures { form_seen result ≡ form_trees.LiteralForm }
+    {
+        Form::Literal
+    }
+
+    /// An object or a part of one.
+    #[tactic(auto, using(crate::proofs::ExpressionsMade::named_made))]
+    pub fn named(name: TypedName) -> Form
+        ensures { form_seen result ≡ form_trees.NamedForm (name_seen name) }
+    {
+        Form::Named(name)
+    }
+
+    /// `operator operand`
+    #[tactic(auto, using(crate::proofs::ExpressionsMade::unary_made))]
+    pub fn unary(alloc: Global, operator: UnaryOperator, operand: Typed) -> Result<Form, NoMemory>
+        ensures { IfOk result (λ form. form_seen form ≡ form_trees.UnaryForm operator (typed_seen operand)) }
+    {
+        let operand = Box::new(alloc, operand)?;
+        Ok(Form::Unary(operator, operand))
+    }
+
+    /// `left operator right`
+    #[tactic(auto, using(crate::proofs::ExpressionsMade::binary_made))]
+    pub fn binary(
+        alloc: Global,
+        operator: BinaryOperator,
+        left: Typed,
+        right: Typed,
+    ) -> Result<Form, NoMemory>
+        ensures { IfOk result (λ form. form_seen form ≡ form_trees.BinaryForm operator (typed_seen left) (typed_seen right)) }
+    {
+        let left = Box::new(alloc, left)?;
+        let right = Box::new(alloc, right)?;
+        Ok(Form::Binary(operator, left, right))
+    }
+
+    /// `left and then right` or `left or else right`
+    #[tactic(auto, using(crate::proofs::ExpressionsMade::short_circuit_made))]
+    pub fn short_circuit(
+        alloc: Global,
+        form: ShortCircuit,
+        left: Typed,
+        right: Typed,
+    ) -> Result<Form, NoMemory>
+        ensures { IfOk result (λ made. form_seen made ≡ form_trees.ShortCircuitForm form (typed_seen left) (typed_seen right)) }
+    {
+        let left = Box::new(alloc, left)?;
+        let right = Box::new(alloc, right)?;
+        Ok(Form::ShortCircuit(form, left, right))
+    }
+
+    /// `value [not] in low .. high`
+    #[tactic(auto, using(crate::proofs::ExpressionsMade::membership_made))]
+    pub fn membership(
+        alloc: Global,
+        value: Typed,
+        is_negated: bool,
+        low: Typed,
+        high: Typed,
+        slot: u32,
+    ) -> Result<Form, NoMemory>
+        ensures { IfOk result (λ form. form_seen form ≡ form_trees.MembershipForm (typed_seen value) is_negated (typed_seen low) (typed_seen high) slot) }
+    {
+        let value = Box::new(alloc, value)?;
+        let low = Box::new(alloc, low)?;
+        let high = Box::new(alloc, high)?;
+        Ok(Form::Membership {
+            value,
+            is_negated,
+            low,
+            high,
+            slot,
+        })
+    }
+
+    /// A conversion, a qualified expression, or an attribute or function that is like one.
+    #[tactic(auto, using(crate::proofs::ExpressionsMade::converted_made))]
+    pub fn converted(
+        alloc: Global,
+        conversion: Conversion,
+        operand: CheckedValue,
+    ) -> Result<Form, NoMemory>
+        ensures { IfOk result (λ form. form_seen form ≡ form_trees.ConvertedForm conversion (value_seen operand)) }
+    {
+        let operand = Box::new(alloc, operand)?;
+        Ok(Form::Converted(conversion, operand))
+    }
+
+    /// `(component {, component})`
+    #[tactic(auto, using(crate::proofs::ExpressionsMade::aggregate_made))]
+    pub fn aggregate(components: Vec<CheckedValue>) -> Form
+        ensures { form_seen result ≡ form_trees.AggregateForm (values_of (map value_seen components.items)) }
+    {
+        Form::Aggregate(components)
+    }
+
+    /// `(others => component)`
+    #[tactic(auto, using(crate::proofs::ExpressionsMade::others_made))]
+    pub fn others(alloc: Global, count: u32, component: CheckedValue) -> Result<Form, NoMemory>
+        ensures { IfOk result (λ form. form_seen form ≡ form_trees.OthersForm count (value_seen component)) }
+    {
+        let component = Box::new(alloc, component)?;
+        Ok(Form::Others(count, component))
+    }
+
+    /// A call of a function.
+    #[tactic(auto, using(crate::proofs::ExpressionsMade::call_form_made))]
+    pub fn call(call: TypedCall) -> Form
+        ensures { form_seen result ≡ form_trees.CallForm (call_seen call) }
+    {
+        Form::Call(call)
+    }
+
+    /// The clock.
+    #[tactic(auto, using(crate::proofs::ExpressionsMade::clock_made))]
+    pub fn clock() -> Form
+        ensures { form_seen result ≡ form_trees.ClockForm }
+    {
+        Form::Clock
+    }
+}
+
+impl TypedName {
+    /// An object, and whether it is a constant.
+    #[tactic(auto, using(crate::proofs::ExpressionsMade::object_made))]
+    pub fn object(place: ObjectPlace, is_constant: bool) -> TypedName
+        ensures { name_seen result ≡ name_trees.ObjectName place is_constant }
+    {
+        TypedName::Object { place, is_constant }
+    }
+
+    /// The component of a record from this word of it on.
+    #[tactic(auto, using(crate::proofs::ExpressionsMade::component_made))]
+    pub fn component(alloc: Global, whole: TypedName, offset: u32) -> Result<TypedName, NoMemory>
+        ensures { IfOk result (λ name. name_seen name ≡ name_trees.ComponentName (name_seen whole) offset) }
+    {
+        let whole = Box::new(alloc, whole)?;
+        Ok(TypedName::Component { whole, offset })
+    }
+
+    /// The component, of so many words, of an array whose index has these bounds.
+    #[tactic(auto, using(crate::proofs::ExpressionsMade::indexed_made))]
+    pub fn indexed(
+        alloc: Global,
+        array: TypedName,
+        index: Typed,
+        bounds: Bounds,
+        words: u32,
+    ) -> Result<TypedName, NoMemory>
+        ensures { IfOk result (λ name. name_seen name ≡ name_trees.IndexedName (name_seen array) (typed_seen index) bounds words) }
+    {
+        let array = Box::new(alloc, array)?;
+        let index = Box::new(alloc, index)?;
+        Ok(TypedName::Indexed {
+            array,
+            index,
+            bounds,
+            words,
+        })
+    }
+}
+
+impl CheckedValue {
+    /// A value with the range that it is checked against, where there is one.
+    #[tactic(auto, using(crate::proofs::ExpressionsMade::value_made))]
+    pub fn new(value: Typed, bounds: Option<Bounds>) -> CheckedValue
+        ensures { value_seen result ≡ value_trees.Checked (typed_seen value) bounds }
+    {
+        CheckedValue { value, bounds }
+    }
+}
+
+impl Actual {
+    /// The actual of a formal of mode `in`.
+    #[tactic(auto, using(crate::proofs::ExpressionsMade::in_made))]
+    pub fn passed(value: CheckedValue) -> Actual
+        ensures { actual_seen result ≡ actual_trees.InActual (value_seen value) }
+    {
+        Actual::In(value)
+    }
+
+    /// The actual of a formal of mode `out` or `in out`.
+    #[tactic(auto, using(crate::proofs::ExpressionsMade::variable_made))]
+    pub fn variable(
+        name: TypedName,
+        words: u32,
+        mode: Mode,
+        formal: Option<Bounds>,
+        actual: Option<Bounds>,
+        slot: u32,
+    ) -> Actual
+        ensures { actual_seen result ≡ actual_trees.VariableActual (name_seen name) words mode formal actual slot }
+    {
+        Actual::Variable {
+            name,
+            words,
+            mode,
+            formal,
+            actual,
+            slot,
+        }
+    }
+}
+
+impl TypedCall {
+    /// A call with its actuals in the order of the formals.
+    #[tactic(auto, using(crate::proofs::ExpressionsMade::call_made))]
+    pub fn new(
+        callee: Symbol,
+        kind: CallKind,
+        flag: Option<ObjectPlace>,
+        actuals: Vec<Actual>,
+    ) -> TypedCall
+        ensures { call_seen result ≡ call_trees.Called callee kind flag (actuals_of (map actual_seen actuals.items)) }
+    {
+        TypedCall {
+            callee,
+            kind,
+            flag,
+            actuals,
+        }
+    }
+}

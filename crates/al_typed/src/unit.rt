@@ -1,0 +1,173 @@
+// Units with their labels (ARM 10.1): what there is code for.
+ghost use Rattle.std.specs.Prelude.{◌≡◌, nat_le, Some, None, map, option_map, if◌then◌else◌};
+ghost use Rattle.al_typed.specs.DeclarationTrees.{declaration_seen};
+ghost use Rattle.al_typed.specs.StatementViews.{statement_seen};
+ghost use Rattle.al_typed.specs.UnitTrees.{body_seen, elaboration_seen, unit_seen};
+
+use crate::declaration::TypedDeclaration;
+use crate::statement::TypedStatement;
+use al_base::UnitKey;
+use al_view::{Mode, ObjectPlace, Priority, Row, Symbol};
+
+/// A formal parameter: its mode (ARM 6.1(16)) and its number of words.
+#[derive(Clone, Copy, Debug)]
+pub struct FormalWords {
+    pub mode: Mode,
+    pub words: u32,
+}
+
+/// The entry of a protected object (ARM 9.5.2): the entry, and the component that is its barrier.
+#[derive(Drop)]
+pub struct EntryOf {
+    pub entry: Symbol,
+    pub barrier: ObjectPlace,
+}
+
+/// What has a body.
+#[derive(Drop)]
+pub enum BodyKind {
+    /// ARM 6.3
+    Procedure,
+    /// With the number of words of its result, and the line of its `end` (ARM 6.3, 6.5(20)).
+    Function { words: u32, end: usize },
+    /// ARM 9.1
+    Task,
+    /// A procedure of this protected object (ARM 9.5.1), with the object's entry, which it may open.
+    ProtectedProcedure { object: Symbol, entry: Option<EntryOf> },
+    /// A function of this protected object, with the number of words of its result and the line of its `end`.
+    ProtectedFunction { object: Symbol, words: u32, end: usize },
+    /// The entry of this protected object (ARM 9.5.2) with its barrier.
+    Entry { object: Symbol, barrier: ObjectPlace },
+}
+
+/// What is done when something is elaborated or called: declarations, then statements, with so many words in its frame beside
+/// the parameters.
+#[derive(Drop)]
+pub struct Elaboration {
+    /// The line of the first token.
+    pub line: usize,
+    pub frame: u32,
+    pub declarations: Vec<TypedDeclaration>,
+    pub statements: Vec<TypedStatement>,
+}
+
+/// A body: of what, at which depth of nesting, with which parameters.
+#[derive(Drop)]
+pub struct TypedBody {
+    pub symbol: Symbol,
+    pub kind: BodyKind,
+    pub depth: u32,
+    pub formals: Row<FormalWords>,
+    pub inside: Elaboration,
+}
+
+/// A symbol, and from which of a unit's words on its object or flag lies.
+#[derive(Drop)]
+pub struct DataPlace {
+    pub symbol: Symbol,
+    pub word: u32,
+}
+
+/// The words of a protected object (ARM 9.4) in its unit, and its ceiling (ARM D.3), which is 0 to 30.
+#[derive(Drop)]
+pub struct ProtectedWords {
+    pub symbol: Symbol,
+    pub word: u32,
+    pub words: u32,
+    pub ceiling: Priority,
+}
+
+/// A unit that is free of faults, as there is code for it.
+#[derive(Drop)]
+pub struct TypedUnit {
+    pub unit: UnitKey,
+    /// What is done when it is elaborated (ARM 10.2(9)); none of a subunit.
+    pub elaboration: Option<Elaboration>,
+    /// Its bodies, in the order of their first tokens.
+    pub bodies: Vec<TypedBody>,
+    /// How many words its objects and flags take.
+    pub words: u32,
+    pub objects: Row<DataPlace>,
+    pub protected_objects: Row<ProtectedWords>,
+}
+
+impl ProtectedWords {
+    /// The words of a protected object with this ceiling, where there is such a priority.
+    pub fn new(symbol: Symbol, word: u32, words: u32, ceiling: u64) -> Option<ProtectedWords>
+        ensures { result ≡ (if nat_le ceiling 30 then Some (record { symbol = symbol; word = word; words = words; ceiling = ceiling }) else None) }
+    {
+        let ceiling = Priority::new(ceiling)?;
+        Some(ProtectedWords {
+            symbol,
+            word,
+            words,
+            ceiling,
+        })
+    }
+}
+
+impl Elaboration {
+    /// Declarations, then statements.
+    #[tactic(auto, unfolding(crate::specs::UnitTrees::elaboration_seen))]
+    pub fn new(
+        line: usize,
+        frame: u32,
+        declarations: Vec<TypedDeclaration>,
+        statements: Vec<TypedStatement>,
+    ) -> Elaboration
+        ensures { elaboration_seen result ≡ record { line = line; frame = frame; declarations = map declaration_seen declarations.items; statements = map statement_seen statements.items } }
+    {
+        Elaboration {
+            line,
+            frame,
+            declarations,
+            statements,
+        }
+    }
+}
+
+impl TypedBody {
+    /// A body.
+    #[tactic(auto, unfolding(crate::specs::UnitTrees::body_seen))]
+    pub fn new(
+        symbol: Symbol,
+        kind: BodyKind,
+        depth: u32,
+        formals: Row<FormalWords>,
+        inside: Elaboration,
+    ) -> TypedBody
+        ensures { body_seen result ≡ record { symbol = symbol; kind = kind; depth = depth; formals = formals; inside = elaboration_seen inside } }
+    {
+        TypedBody {
+            symbol,
+            kind,
+            depth,
+            formals,
+            inside,
+        }
+    }
+}
+
+impl TypedUnit {
+    /// A unit with its elaboration and its bodies.
+    #[tactic(auto, unfolding(crate::specs::UnitTrees::unit_seen))]
+    pub fn new(
+        unit: UnitKey,
+        elaboration: Option<Elaboration>,
+        bodies: Vec<TypedBody>,
+        words: u32,
+        objects: Row<DataPlace>,
+        protected_objects: Row<ProtectedWords>,
+    ) -> TypedUnit
+        ensures { unit_seen result ≡ record { unit = unit; elaboration = option_map elaboration_seen elaboration; bodies = map body_seen bodies.items; words = words; objects = objects; protected_objects = protected_objects } }
+    {
+        TypedUnit {
+            unit,
+            elaboration,
+            bodies,
+            words,
+            objects,
+            protected_objects,
+        }
+    }
+}
