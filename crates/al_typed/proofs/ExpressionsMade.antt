@@ -1,5 +1,5 @@
 -- What an expression that was just made is seen as.
-use Rattle.std.proofs.Common.{◌≡◌, ℕ, Bool, List, map, Option, sym, ap, ◌∙◌, Vec, Box, Global}
+use Rattle.std.proofs.Common.{◌≡◌, ℕ, Bool, map, Option, sym, ap, ◌∙◌, Vec, Box, Global}
 use Rattle.al_view.specs.declared.symbol.Symbol.{Symbol}
 use Rattle.al_view.specs.declared.types.Bounds.{Bounds}
 use Rattle.al_view.specs.declared.view.CallKind.{CallKind}

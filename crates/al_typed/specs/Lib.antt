@@ -4,4 +4,5 @@ pub mod ExpressionViews
 pub mod Listed
 pub mod StatementTrees
 pub mod StatementViews
+pub mod Symbols
 pub mod UnitTrees
