@@ -15,7 +15,7 @@ use Rattle.al_graph.proofs.Members.{or, any_from, any_into}
 use Rattle.al_unit_graph.proofs.TraceLemmas.{traces_are_touched}
 use Rattle.al_unit_graph.proofs.FaultLemmas.{any, told_any}
 
-same_text : (x y : Option (List ℕ)) → is_same_text x y ≡ true → x ≡ y
+pub same_text : (x y : Option (List ℕ)) → is_same_text x y ≡ true → x ≡ y
 same_text None None is = refl
 same_text None (Some b) is = absurd (cc)
 same_text (Some a) None is = absurd (cc)
@@ -25,7 +25,7 @@ itself : (x : Option (List ℕ)) → is_same_text x x ≡ true
 itself None = refl
 itself (Some a) = (bytes_eq-Decides a a).1 refl
 
-told_text : (x y : Option (List ℕ)) → x ≡ y → is_same_text x y ≡ true
+pub told_text : (x y : Option (List ℕ)) → x ≡ y → is_same_text x y ≡ true
 told_text x y same = subst (λ v. is_same_text x v ≡ true) same (itself x)
 
 module _ (old new : Library) where

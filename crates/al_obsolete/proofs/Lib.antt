@@ -1,0 +1,5 @@
+pub mod Lists
+pub mod OrderLemmas
+pub mod UnitLemmas
+pub mod TraceLemmas
+pub mod ListLaws
