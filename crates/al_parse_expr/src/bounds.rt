@@ -6,6 +6,7 @@ ghost use Rattle.al_tree.specs.Lexemes.{lexemes};
 ghost use Rattle.al_parse_expr.specs.Parses.{Gives, reading};
 
 use crate::descent::simple_expression;
+use crate::read_or_drop;
 use crate::step::{expect, is_next, skip};
 use crate::stop::Stop;
 use al_lex::Token;
@@ -24,8 +25,8 @@ pub fn range<'a>(
 {
     let rest = expect(source, tokens, Symbol::Range)?;
     let (low, rest) = simple_expression(alloc, source, depth, rest)?;
-    let rest = expect(source, rest, Symbol::DoubleDot)?;
-    let (high, rest) = simple_expression(alloc, source, depth, rest)?;
+    let rest = read_or_drop!(expect(source, rest, Symbol::DoubleDot), low);
+    let (high, rest) = read_or_drop!(simple_expression(alloc, source, depth, rest), low);
     Ok((Range { low, high }, rest))
 }
 
@@ -41,11 +42,11 @@ pub fn discrete_range<'a>(
 {
     let (low, rest) = simple_expression(alloc, source, depth, tokens)?;
     if let Some(rest) = skip(source, rest, Symbol::DoubleDot) {
-        let (high, rest) = simple_expression(alloc, source, depth, rest)?;
+        let (high, rest) = read_or_drop!(simple_expression(alloc, source, depth, rest), low);
         return Ok((DiscreteRange::Bounds(Range { low, high }), rest));
     }
     if is_next(source, rest, Symbol::Range) {
-        let (bounds, rest) = range(alloc, source, depth, rest)?;
+        let (bounds, rest) = read_or_drop!(range(alloc, source, depth, rest), low);
         return Ok((DiscreteRange::MarkRange(low, bounds), rest));
     }
     Ok((DiscreteRange::Mark(low), rest))

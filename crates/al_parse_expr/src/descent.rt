@@ -20,6 +20,7 @@ ghost use Rattle.al_parse_expr.specs.Parses.{Gives, reading};
 use crate::operator::{
     adding_operator, logical_operator, multiplying_operator, negation, relational_operator, sign,
 };
+use crate::read_or_drop;
 use crate::start::{
     begins_added, begins_compared, begins_expressions, begins_multiplied, begins_operator,
     begins_part, begins_primary, begins_related, goes_on,
@@ -46,10 +47,13 @@ pub fn expression<'a>(
     ensures { Gives (λ x. expression_tokens (expression_seen x.0)) (λ x. lexemes source.now x.1.now) result (lexemes source.now tokens.now) (reading depth expression_rule (lexemes source.now tokens.now)) }
 {
     let (first, rest) = relation(alloc, source, depth, tokens)?;
-    match logical_operator(source, rest)? {
+    match read_or_drop!(logical_operator(source, rest), first) {
         None => Ok((Expression::sole_relation(first), rest)),
         Some((operator, rest)) => {
-            let (second, others, rest) = chain(alloc, source, depth, rest, operator)?;
+            let (second, others, rest) = read_or_drop!(
+                chain(alloc, source, depth, rest, operator),
+                first
+            );
             Ok((Expression::logical(operator, first, second, others), rest))
         }
     }
@@ -67,7 +71,10 @@ fn chain<'a>(
     ensures { Gives (λ x. relation_tokens (relation_seen x.0.value) ++ each (λ r. logical_tokens (logical_seen operator) ++ relation_tokens (relation_seen r)) x.1.items) (λ x. lexemes source.now x.2.now) result (lexemes source.now tokens.now) (reading depth (chain_rule (logical_seen operator)) (lexemes source.now tokens.now)) }
 {
     let (second, rest) = relation(alloc, source, depth, tokens)?;
-    let (others, rest) = more_relations(alloc, source, depth, rest, operator)?;
+    let (others, rest) = read_or_drop!(
+        more_relations(alloc, source, depth, rest, operator),
+        second
+    );
     Ok((Box::new(alloc, second)?, others, rest))
 }
 
@@ -176,14 +183,14 @@ fn relation<'a>(
         return Ok((Relation::sole_simple(left), rest));
     }
     if begins_compared(source, rest) {
-        let (operator, rest) = relational_operator(source, rest)?;
-        let (right, rest) = simple_expression(alloc, source, depth, rest)?;
+        let (operator, rest) = read_or_drop!(relational_operator(source, rest), left);
+        let (right, rest) = read_or_drop!(simple_expression(alloc, source, depth, rest), left);
         return Ok((
             Relation::comparison(left, operator, Box::new(alloc, right)?),
             rest,
         ));
     }
-    let (not, low, high, rest) = membership(alloc, source, depth, rest)?;
+    let (not, low, high, rest) = read_or_drop!(membership(alloc, source, depth, rest), left);
     match high {
         None => Ok((Relation::in_mark(left, not, low), rest)),
         Some(high) => Ok((Relation::in_range(left, not, low, high), rest)),
@@ -474,7 +481,7 @@ fn arguments<'a>(
 {
     let (inner, opening, rest) = enter_at(source, depth, tokens, Symbol::LeftParenthesis)?;
     let (first, others, rest) = expressions(alloc, source, inner, rest)?;
-    let rest = expect(source, rest, Symbol::RightParenthesis)?;
+    let rest = read_or_drop!(expect(source, rest, Symbol::RightParenthesis), first);
     Ok((NamePart::arguments(opening, first, others), rest))
 }
 
@@ -514,7 +521,7 @@ fn expressions<'a>(
     ensures { Gives (λ x. expression_tokens (expression_seen x.0) ++ each (λ e. word comma ∷ expression_tokens (expression_seen e)) x.1.items) (λ x. lexemes source.now x.2.now) result (lexemes source.now tokens.now) (reading depth expressions_rule (lexemes source.now tokens.now)) }
 {
     let (first, rest) = expression(alloc, source, depth, tokens)?;
-    let (others, rest) = more_expressions(alloc, source, depth, rest)?;
+    let (others, rest) = read_or_drop!(more_expressions(alloc, source, depth, rest), first);
     Ok((first, others, rest))
 }
 
