@@ -16,21 +16,21 @@ use Rattle.al_lex.proofs.Rising.{places_rise}
 use Rattle.al_syntax.specs.Laws.{FaultsAreFound}
 use Rattle.al_syntax.specs.TreeLaws.{TreesAreFound, SentencesAreTrees}
 use Rattle.al_syntax.specs.UnitTrees.{tokens_of}
-use Rattle.al_header.specs.Readings.{Reading}
+use Rattle.al_unit.specs.Readings.{Reading}
 use Rattle.al_header.specs.Units.{header_of}
 use Rattle.al_unit_graph.specs.Headers.{key_of_unit}
 use Rattle.al_unit_graph.specs.Names.{is_reserved}
 use Rattle.al_image.specs.Images.{is_too_large, program_of, image_bytes}
 use Rattle.al_thin.specs.Batches.{batch, linked, main_unit, order_of, unit_code, unless_faulty}
 use Rattle.al_thin.specs.Findings.{finding, finding_when, name_findings, check_findings, body_findings, unit_findings, or_else, reading_findings, file_findings, findings_of}
-use Rattle.al_thin.specs.Laws.{Reads}
-use Rattle.al_thin.specs.Laws.Reads.{sentence, malformed, no_sentence}
+use Rattle.al_unit.specs.Laws.{Reads}
+use Rattle.al_unit.specs.Laws.Reads.{sentence, malformed, no_sentence}
 use Rattle.al_thin.specs.Orders.{finding_cmp, FindingsAscend}
-use Rattle.al_thin.specs.Readings.{reading_of}
+use Rattle.al_unit.specs.Readings.{reading_of}
 use Rattle.al_thin.specs.ThinTrees.{UnitTree, thin_unit}
 use Rattle.al_thin.proofs.Labels.{labels, labels_rise, label_cmp}
 use Rattle.al_thin.proofs.Picks.{PicksIn, of_file, picks_rise, unit_picks, same_name}
-use Rattle.al_thin.proofs.ReadingLaws.{texts_are_read}
+use Rattle.al_unit.proofs.ReadingLaws.{texts_are_read}
 use Rattle.al_thin.proofs.Sorting.{all_weaker, all_append, sorted_append}
 
 same_number : (n : ℕ) → nat_cmp n n ≡ Equal

@@ -11,14 +11,14 @@ use Rattle.al_base.specs.declared.place.Place.{Place}
 use Rattle.al_base.specs.declared.unit_key.UnitKind.TheVariants.{Decl}
 use Rattle.al_grammar.specs.Grammar.{Label}
 use Rattle.al_syntax.specs.UnitTrees.{CompilationUnitTree}
-use Rattle.al_header.specs.Readings.{Reading}
-use Rattle.al_header.specs.Readings.Reading.{Sentence, Fails}
+use Rattle.al_unit.specs.Readings.{Reading}
+use Rattle.al_unit.specs.Readings.Reading.{Sentence, Fails}
 use Rattle.al_header.specs.Units.{header_of}
 use Rattle.al_unit_graph.specs.Headers.{Header, key_of_unit}
 use Rattle.al_unit_graph.specs.Names.{is_reserved}
 use Rattle.al_thin.specs.ThinTrees.{UnitTree, StatementTree, thin_unit}
 use Rattle.al_thin.specs.ThinTrees.StatementTree.{NullTree, CallTree}
-use Rattle.al_thin.specs.Readings.{reading_of}
+use Rattle.al_unit.specs.Readings.{reading_of}
 use Rattle.al_thin.specs.Findings.{finding, finding_when, label_place, name_findings, statement_findings, call_findings, end_findings, check_findings, body_findings, unit_findings, or_else, reading_findings, file_findings, findings_of}
 use Rattle.al_thin.specs.Laws.{IsRightlyNamed, IsChecked, Breaks, FindingsAreBroken}
 use Rattle.al_thin.specs.Laws.Breaks.{no_unit, other_file, taken_name, not_yet, faulty_declaration, not_visible, other_end_name}

@@ -5,8 +5,6 @@ pub mod NotCalls
 pub mod Thin
 pub mod Bodies
 pub mod BatchLemmas
-pub mod Faults
-pub mod ReadingLaws
 pub mod FindingLaws
 pub mod Labels
 pub mod Picks

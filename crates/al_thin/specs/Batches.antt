@@ -11,10 +11,8 @@ use Rattle.al_image.specs.declared.instruction.Instruction.{Instruction}
 use Rattle.al_image.specs.declared.instruction.Instruction.TheVariants.{PutText, NewLine}
 use Rattle.al_image.specs.Images.{program_of, is_too_large, image_bytes}
 use Rattle.al_image.specs.Runs.{run_of_image}
-use Rattle.al_header.specs.Readings.{Reading}
-use Rattle.al_header.specs.Readings.Reading.{Sentence, Fails}
 use Rattle.al_syntax.specs.UnitTrees.{CompilationUnitTree}
-use Rattle.al_thin.specs.Readings.{reading_of}
+use Rattle.al_unit.specs.Readings.{reading_of, sentence_of}
 use Rattle.al_thin.specs.ThinTrees.{UnitTree, StatementTree, OperationTree, thin_unit}
 use Rattle.al_thin.specs.ThinTrees.StatementTree.{NullTree, CallTree}
 use Rattle.al_thin.specs.ThinTrees.OperationTree.{NewLineTree, PutTree, PutLineTree}
@@ -40,10 +38,6 @@ if_named main unit = if bytes_eq unit.name.text main then Some unit else None
 -- where it is of the thin language and has this name
 abbrev pub named : List ℕ → CompilationUnitTree → Option UnitTree
 named main unit = option_and_then (if_named main) (thin_unit unit)
-
-abbrev pub sentence_of : Reading → Option CompilationUnitTree
-sentence_of (Sentence unit) = Some unit
-sentence_of (Fails place code) = None
 
 -- the unit in the file that the name wants; no file has a name that isn't one
 unfoldable pub unit_in_file : Texts → List ℕ → Option CompilationUnitTree

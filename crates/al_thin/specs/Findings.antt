@@ -7,12 +7,12 @@ use Rattle.al_base.specs.Batch.{Finding}
 use Rattle.al_base.specs.declared.place.Place.{Place}
 use Rattle.al_base.specs.declared.unit_key.UnitKind.TheVariants.{Decl, Body}
 use Rattle.al_grammar.specs.Grammar.{Label}
-use Rattle.al_header.specs.Readings.{Reading}
-use Rattle.al_header.specs.Readings.Reading.{Sentence, Fails}
+use Rattle.al_unit.specs.Readings.{Reading}
+use Rattle.al_unit.specs.Readings.Reading.{Sentence, Fails}
 use Rattle.al_header.specs.Units.{header_of}
 use Rattle.al_unit_graph.specs.Headers.{Header, key_of_unit}
 use Rattle.al_unit_graph.specs.Names.{is_reserved}
-use Rattle.al_thin.specs.Readings.{reading_of}
+use Rattle.al_unit.specs.Readings.{reading_of}
 use Rattle.al_thin.specs.ThinTrees.{UnitTree, StatementTree, thin_unit}
 use Rattle.al_thin.specs.ThinTrees.StatementTree.{NullTree, CallTree}
 

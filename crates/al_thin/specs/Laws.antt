@@ -1,4 +1,4 @@
--- Which reading a text has, and what is wrong with files, each rule by itself.
+-- What is wrong with files, each rule by itself.
 use Rattle.std.specs.Prelude.{ℕ, ◌≡◌, ◌≢◌, ◌≤◌, ◌↔◌, true, false, List, Some, None, Ok, Err}
 use Rattle.std.specs.List.{Contains}
 use Rattle.al_base.specs.Files.{Texts, text_of}
@@ -16,28 +16,15 @@ use Rattle.al_syntax.specs.Rules.{most}
 use Rattle.al_syntax.specs.UnitTrees.{CompilationUnitTree, tokens_of}
 use Rattle.al_syntax.specs.Nesting.{nesting}
 use Rattle.al_tree.specs.Lexemes.{lexemes}
-use Rattle.al_header.specs.Readings.{Reading}
-use Rattle.al_header.specs.Readings.Reading.{Sentence, Fails}
+use Rattle.al_unit.specs.Readings.{Reading}
+use Rattle.al_unit.specs.Readings.Reading.{Sentence, Fails}
 use Rattle.al_header.specs.Units.{header_of}
 use Rattle.al_unit_graph.specs.Headers.{Header, key_of_unit}
 use Rattle.al_unit_graph.specs.Names.{is_reserved}
 use Rattle.al_thin.specs.ThinTrees.{UnitTree, OperationTree, thin_unit}
 use Rattle.al_thin.specs.ThinTrees.StatementTree.{CallTree}
-use Rattle.al_thin.specs.Readings.{reading_of, token_place}
+use Rattle.al_unit.specs.Readings.{reading_of, token_place}
 use Rattle.al_thin.specs.Findings.{finding, findings_of, label_place}
-
--- a text has this reading
-pub data Reads (text : List ℕ) : Reading → Type 0 where
-  -- its tokens are those of the tree, in which no more constructs are open at once than may be
-  sentence : {unit : CompilationUnitTree} (tokens : List Token) → lexed text ≡ Ok tokens → tokens_of unit ≡ lexemes text tokens → nesting unit ≤ most → Reads text (Sentence unit)
-  -- its first malformed lexeme
-  malformed : (fault : LexFault) → lexed text ≡ Err fault → Reads text (Fails fault.place (number_of fault.code))
-  -- the first token behind the longest front that goes on to a unit
-  no_sentence : (tokens : List Token) (n : ℕ) → lexed text ≡ Ok tokens → IsSyntaxFaultAt (lexemes text tokens) n → Reads text (Fails (token_place text tokens n) 101)
-
--- each text has the one reading that is computed
-abbrev pub TextsAreRead : Type 0
-TextsAreRead = (text : List ℕ) (reading : Reading) → (reading_of text ≡ reading) ↔ Reads text reading
 
 -- a unit stands in the file that its name wants, and the name is free (ARM A.1, A.2)
 pub record IsRightlyNamed (file : List ℕ) (header : Header) : Type 0 where

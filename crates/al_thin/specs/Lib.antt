@@ -1,7 +1,5 @@
-pub mod Readings
 pub mod ThinTrees
 pub mod ThinSeen
-pub mod ReadingSeen
 pub mod Findings
 pub mod Batches
 pub mod Compiling

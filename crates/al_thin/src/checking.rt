@@ -5,17 +5,18 @@ ghost use Rattle.al_base.specs.Batch.{finding_of};
 ghost use Rattle.al_tree.specs.Lexemes.{identifier_label};
 ghost use Rattle.al_tree.specs.UnitViews.{unit_seen};
 ghost use Rattle.al_header.specs.Units.{header_of};
-ghost use Rattle.al_thin.specs.ReadingSeen.{reading_seen};
+ghost use Rattle.al_unit.specs.ReadingSeen.{reading_seen};
 ghost use Rattle.al_thin.specs.Findings.{body_findings, call_findings, check_findings, end_findings, finding, finding_when, name_findings, or_else, reading_findings, statement_findings, unit_findings};
 ghost use Rattle.al_thin.specs.ThinSeen.{thin_seen, thin_unit_seen};
 ghost use Rattle.al_thin.specs.ThinTrees.{thin_unit};
 
-use crate::naming::{file_of, unit_key, unit_place};
-use crate::reading::Reading;
+use crate::naming::file_of;
 use crate::statements::ThinStatement;
 use crate::unit::{ThinUnit, thin_unit};
 use al_base::{Diagnostic, Files, Name, NoMemory, Place, UnitKind, file_name_of};
+use al_header::{unit_key, unit_place};
 use al_tree::{CompilationUnit, Identifier};
+use al_unit::Reading;
 use al_unit_graph::is_reserved;
 use std::alloc::Global;
 

@@ -3,20 +3,21 @@ ghost use Rattle.std.specs.Prelude.{◌≡◌, ◌≤◌, ◌<◌, ◌++◌, Som
 ghost use Rattle.al_base.specs.Batch.{finding_of, key_of};
 ghost use Rattle.al_image.specs.Images.{program_of};
 ghost use Rattle.al_tree.specs.UnitViews.{unit_seen};
-ghost use Rattle.al_thin.specs.ReadingSeen.{reading_seen};
+ghost use Rattle.al_unit.specs.ReadingSeen.{reading_seen};
+ghost use Rattle.al_unit.specs.Readings.{sentence_of};
 ghost use Rattle.al_thin.specs.ThinSeen.{thin_unit_seen};
 ghost use Rattle.al_thin.specs.Findings.{file_findings, findings_of};
-ghost use Rattle.al_thin.specs.Batches.{linked, main_unit, named, order_of, sentence_of, unit_code, unit_in_file};
+ghost use Rattle.al_thin.specs.Batches.{linked, main_unit, named, order_of, unit_code, unit_in_file};
 ghost use Rattle.al_thin.specs.Compiling.{compiled_seen, Compiles, HoldsImage, HoldsImageOf};
 
 use crate::checking::add_findings;
 use crate::coding::instructions_of;
 use crate::naming::file_of;
-use crate::reading::{Reading, read};
 use crate::unit::{ThinUnit, thin_unit};
 use al_base::{Diagnostic, Files, Name, NoMemory, UnitKey, UnitKind, is_file_name};
 use al_image::{Image, ProgramError, program};
 use al_tree::CompilationUnit;
+use al_unit::{Reading, read};
 use std::alloc::Global;
 
 /// A program: the order in which its units are elaborated, its image and the image's bytes.

@@ -12,12 +12,11 @@ mod compiling;
 mod laws;
 mod literals;
 mod naming;
-mod reading;
 mod statements;
 mod unit;
 
 pub use compiling::{Compiled, Program, compile};
-pub use laws::{findings_are_broken, findings_ascend, texts_are_read};
+pub use laws::{findings_are_broken, findings_ascend};
 
 #[cfg(test)]
 mod tests;

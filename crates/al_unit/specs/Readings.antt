@@ -7,10 +7,17 @@ use Rattle.al_lex.specs.Codes.{number_of}
 use Rattle.al_lex.specs.Tokens.{lexed, end_place_of}
 use Rattle.al_parse.specs.Faults.{syntax_fault_of}
 use Rattle.al_syntax.specs.UnitTrees.{CompilationUnitTree}
-use Rattle.al_header.specs.Readings.{Reading}
-use Rattle.al_header.specs.Readings.Reading.{Sentence, Fails}
 use Rattle.al_syntax.specs.TreeLaws.{unit_of}
 use Rattle.al_tree.specs.Lexemes.{lexemes}
+
+-- a compilation unit; or no compilation unit, with the place and the number of the first lexical fault, or else of the syntax fault
+pub data Reading : Type 0 where
+  Sentence : CompilationUnitTree → Reading
+  Fails : Place → ℕ → Reading
+
+abbrev pub sentence_of : Reading → Option CompilationUnitTree
+sentence_of (Sentence unit) = Some unit
+sentence_of (Fails place code) = None
 
 -- where a token stands; behind the last one, the end of the text
 abbrev pub token_place : List ℕ → List Token → ℕ → Place

@@ -1,8 +1,8 @@
 // What the text of a file is.
 ghost use Rattle.std.specs.Prelude.{◌≡◌, ◌≤◌, IfOk, length};
 ghost use Rattle.al_lex.specs.Tokens.{lexed};
-ghost use Rattle.al_thin.specs.Readings.{reading_of, token_place};
-ghost use Rattle.al_thin.specs.ReadingSeen.{reading_seen};
+ghost use Rattle.al_unit.specs.Readings.{reading_of, token_place};
+ghost use Rattle.al_unit.specs.ReadingSeen.{reading_seen};
 
 use al_base::{NoMemory, Place};
 use al_lex::{LexError, Token, end_place, lex};
@@ -11,17 +11,22 @@ use al_syntax::{faults_are_found, sentences_are_trees, trees_are_found, trees_ar
 use al_tree::CompilationUnit;
 use std::alloc::Global;
 
-/// What the text of a file is.
+/// What the text of a file is read as.
 #[derive(Drop)]
-pub(crate) enum Reading {
+pub enum Reading {
+    /// A compilation unit.
     Sentence(CompilationUnit),
-    /// The place and the number of what is wrong first.
+    /// The place and the number of the first lexical fault, or else of the syntax fault.
     Fails(Place, u16),
 }
 
 /// Reads a text.
+///
+/// # Errors
+///
+/// `NoMemory` where memory is wanted. A text that is no compilation unit is no error.
 #[tactic(auto, using(crate::proofs::Faults::fault_has_no_unit, crate::proofs::Faults::tree_is_found), unfolding(crate::specs::Readings::reading_of))]
-pub(crate) fn read(alloc: Global, text: &[u8]) -> Result<Reading, NoMemory>
+pub fn read(alloc: Global, text: &[u8]) -> Result<Reading, NoMemory>
     ensures { IfOk result (λ reading. reading_seen reading ≡ reading_of text.now) }
 {
     trees_are_found();

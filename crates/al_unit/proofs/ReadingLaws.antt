@@ -8,11 +8,11 @@ use Rattle.al_syntax.specs.Laws.{FaultsAreFound}
 use Rattle.al_syntax.specs.TreeLaws.{unit_of, TreesAreFound, SentencesAreTrees}
 use Rattle.al_syntax.specs.UnitTrees.{CompilationUnitTree}
 use Rattle.al_tree.specs.Lexemes.{lexemes}
-use Rattle.al_header.specs.Readings.{Reading}
-use Rattle.al_thin.specs.Readings.{reading_of, by_tokens, by_unit}
-use Rattle.al_thin.specs.Laws.{Reads, TextsAreRead}
-use Rattle.al_thin.specs.Laws.Reads.{sentence, malformed, no_sentence}
-use Rattle.al_thin.proofs.Faults.{fault_has_no_unit, fault_is_found, fault_is_told, no_fault_has_unit}
+use Rattle.al_unit.specs.Readings.{Reading}
+use Rattle.al_unit.specs.Readings.{reading_of, by_tokens, by_unit}
+use Rattle.al_unit.specs.Laws.{Reads, TextsAreRead}
+use Rattle.al_unit.specs.Laws.Reads.{sentence, malformed, no_sentence}
+use Rattle.al_unit.proofs.Faults.{fault_has_no_unit, fault_is_found, fault_is_told, no_fault_has_unit}
 
 module _ (trees : TreesAreFound) (sentences : SentencesAreTrees) (faults : FaultsAreFound) (text : List ℕ) where
   by_fault : (tokens : List Token) (fault : Option ℕ) → lexed text ≡ Ok tokens → unit_of (lexemes text tokens) ≡ None → syntax_fault_of (lexemes text tokens) ≡ fault → Reads text (by_unit text tokens None)

@@ -1,0 +1,66 @@
+-- A catalog is what its texts are read as.
+use Rattle.std.proofs.Common.{◌≡◌, ℕ, suc, ◌<◌, true, List, [], ◌∷◌, Option, Some, None, Vec, length, get_or, map, take, is_some, refl, sym, ap, ◌∙◌}
+use Rattle.std.specs.Option.{option_map, option_and_then}
+use Rattle.std.specs.Map.{lookup}
+use Rattle.std.specs.BTreeMap.{insert_entry, is_at}
+use Rattle.std.proofs.lemmas.Map.Made.{lookup-map_values}
+use Rattle.al_base.specs.Batch.{Key}
+use Rattle.al_base.specs.FileLaws.{Ascend}
+use Rattle.al_base.specs.FileNames.{file_name_of}
+use Rattle.al_base.specs.Files.{Texts, name_cmp, text_of}
+use Rattle.al_unit_graph.specs.Headers.{Header, Library}
+use Rattle.al_unit_graph.specs.Library.{unit_at}
+use Rattle.al_unit.specs.declared.reading.Reading.{Reading}
+use Rattle.al_unit.specs.Readings.{Reading as AnyReading, reading_of, sentence_of}
+use Rattle.al_unit.specs.ReadingSeen.{readings_seen}
+use Rattle.al_unit.specs.Catalogs.{source_of, library_of, readings_of, texts_of, tree_in, tree_where, tree_at}
+use Rattle.al_unit.specs.CatalogSeen.{IsCatalog}
+use Rattle.al_unit.proofs.Ascending.{insert_next}
+
+module _ {A : Type 0} (v : A → List ℕ × List ℕ) (xs : List A) (i : ℕ) (a : A) (sorted : Ascend (map v xs)) (within : i < length xs) (is : a ≡ get_or xs i a) where
+  pub next_source : insert_entry name_cmp (library_of (map v (take i xs))) (v a).0 (source_of (v a).1) ≡ library_of (map v (take (suc i) xs))
+  unfolding library_of
+  next_source = insert_next v source_of xs i a sorted within is
+
+  pub next_reading : insert_entry name_cmp (readings_of (map v (take i xs))) (v a).0 (reading_of (v a).1) ≡ readings_of (map v (take (suc i) xs))
+  unfolding readings_of
+  next_reading = insert_next v reading_of xs i a sorted within is
+
+pub no_library : library_of [] ≡ []
+unfolding library_of
+no_library = refl
+
+pub no_readings : readings_of [] ≡ []
+unfolding readings_of
+no_readings = refl
+
+pub texts_of-library_of : (files : Texts) → texts_of (library_of files) ≡ files
+unfolding library_of
+texts_of-library_of [] = refl
+texts_of-library_of (f ∷ fs) = ap (λ gs. f ∷ gs) (texts_of-library_of fs)
+
+pub is_catalog : {Y : Type 0} (lib : Library) (readings : List (Vec ℕ Y × Reading)) (files : Texts) → lib ≡ library_of files → readings_seen readings ≡ readings_of files → IsCatalog lib readings
+is_catalog lib readings files is are =
+    let texts : files ≡ texts_of lib = sym (ap texts_of is ∙ texts_of-library_of files) in
+    record { is_library = is ∙ ap library_of texts; are_readings = are ∙ ap readings_of texts }
+
+-- the tree of a text that was looked up
+read_text : (text : Option (List ℕ)) → option_and_then (λ t. sentence_of (reading_of t)) text ≡ option_and_then sentence_of (option_map reading_of text)
+read_text None = refl
+read_text (Some t) = refl
+
+module _ (files : Texts) (key : Key) where
+  looked_up : (reading : Option AnyReading) → lookup (is_at (name_cmp (file_name_of key))) (readings_of files) ≡ reading → tree_in files (file_name_of key) ≡ option_and_then sentence_of reading
+  unfolding readings_of
+  looked_up reading is =
+      read_text (text_of files (file_name_of key))
+      ∙ ap (option_and_then sentence_of) (sym (lookup-map_values reading_of (is_at (name_cmp (file_name_of key))) files) ∙ is)
+
+  there : (unit : Option Header) → is_some unit ≡ true → tree_where files key unit ≡ tree_in files (file_name_of key)
+  there None is = cc
+  there (Some h) is = refl
+
+  -- the tree of a unit that is there is that of its file's reading
+  pub tree_of_reading : (reading : Option AnyReading) → is_some (unit_at (library_of files) key) ≡ true → lookup (is_at (name_cmp (file_name_of key))) (readings_of files) ≡ reading → tree_at files key ≡ option_and_then sentence_of reading
+  unfolding tree_at
+  tree_of_reading reading is_there is = there (unit_at (library_of files) key) is_there ∙ looked_up reading is

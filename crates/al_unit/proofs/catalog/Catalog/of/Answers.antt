@@ -1,0 +1,33 @@
+use Rattle.std.proofs.Common.{map, sym, ap, ◌∙◌, add-one}
+use Rattle.std.proofs.lemmas.List.{take_all}
+use Rattle.std.specs.BTreeMap.{insert_entry}
+use Rattle.al_base.specs.FileLaws.{Ascend}
+use Rattle.al_base.specs.Files.{name_cmp}
+use Rattle.al_unit.specs.Catalogs.{source_of, texts_of}
+use Rattle.al_unit.specs.Readings.{reading_of}
+use Rattle.al_unit.specs.ReadingSeen.{readings_seen}
+use Rattle.al_unit.proofs.CatalogLemmas.{no_library, no_readings, next_source, next_reading, is_catalog, texts_of-library_of}
+use Rattle.al_unit.proofs.catalog.Catalog.of.Goals as goal
+
+pub loop-name-init : goal.loop-name-init
+loop-name-init c = (c.new-sources.ensures ∙ sym no_library, ap readings_seen c.new-readings.ensures.empty ∙ sym no_readings)
+
+pub loop-name-preserved : goal.loop-name-preserved
+loop-name-preserved c =
+    let sorted : Ascend (map (λ f. (f.0.now, f.1.now.value.items)) c.deref-name-items.result.now) = rw (c.deref-name-items.ensures.value, c.in_ok-list.ensures.list) c.in_ok-list.ensures.ascend in
+    let source = next_source (λ f. (f.0.now, f.1.now.value.items)) c.deref-name-items.result.now c.loop-name.name-index c.loop-name-item.result sorted c.loop-name-test.true c.loop-name-item.is in
+    let reading = next_reading (λ f. (f.0.now, f.1.now.value.items)) c.deref-name-items.result.now c.loop-name.name-index c.loop-name-item.result sorted c.loop-name-test.true c.loop-name-item.is in
+    rw add-one (
+      c.in_ok-add_file.ensures.source ∙ ap (λ s. insert_entry name_cmp s c.loop-name-item.result.0.now (source_of c.loop-name-item.result.1.now.value.items)) c.loop-name.invariant.0 ∙ source,
+      c.in_ok-add_file.ensures.reading ∙ ap (λ r. insert_entry name_cmp r c.loop-name-item.result.0.now (reading_of c.loop-name-item.result.1.now.value.items)) c.loop-name.invariant.1 ∙ reading,
+    )
+
+pub invariant_of-result : goal.invariant_of-result
+invariant_of-result c = is_catalog c.loop-name.sources c.loop-name.readings.entries _ c.loop-name.invariant.0 c.loop-name.invariant.1
+
+pub returns : goal.returns
+returns c =
+    ap texts_of c.loop-name.invariant.0
+    ∙ texts_of-library_of _
+    ∙ ap (map (λ f. (f.0.now, f.1.now.value.items))) (take_all c.loop-name.name-index c.deref-name-items.result.now c.loop-name-test.false ∙ c.deref-name-items.ensures.value)
+    ∙ c.in_ok-list.ensures.list

@@ -1,0 +1,5 @@
+pub mod Readings
+pub mod ReadingSeen
+pub mod Laws
+pub mod Catalogs
+pub mod CatalogSeen

@@ -1,0 +1,150 @@
+// The catalog of a library's files.
+ghost use Rattle.std.specs.Prelude.{◌≡◌, ◌↔◌, ◌⊎◌, map, IfOk, OnOk};
+ghost use Rattle.std.specs.Option.{option_map};
+ghost use Rattle.std.specs.List.{Contains};
+ghost use Rattle.std.specs.BTreeMap.{insert_entry};
+ghost use Rattle.al_base.specs.Batch.{Key, key_of};
+ghost use Rattle.al_base.specs.Files.{name_cmp};
+ghost use Rattle.al_tree.specs.UnitViews.{unit_seen};
+ghost use Rattle.al_unit_graph.specs.Dependence.{DependsOn};
+ghost use Rattle.al_unit_graph.specs.Needed.{Needed};
+ghost use Rattle.al_unit_graph.specs.Views.{contents_seen};
+ghost use Rattle.al_unit.specs.Catalogs.{contents_of, source_of, library_of, tree_at};
+ghost use Rattle.al_unit.specs.Readings.{reading_of, sentence_of};
+ghost use Rattle.al_unit.specs.ReadingSeen.{reading_seen, readings_seen};
+
+use crate::reading::{Reading, read};
+use crate::readings::{insert, reading_at};
+use al_base::{Files, Name, NoMemory, UnitKey, file_name_of};
+use al_header::header_of;
+use al_tree::CompilationUnit;
+use al_unit_graph::{Contents, Source, Sources};
+use std::alloc::Global;
+use std::collections::BTreeMap;
+use std::marker::Model;
+use std::rc::Rc;
+
+/// The files of a library, with what each of them is read as. The texts are shared with the files that it was made of.
+#[derive(Drop)]
+pub struct Catalog {
+    alloc: Global,
+    sources: Sources,
+    readings: BTreeMap<Vec<u8>, Reading>,
+}
+
+impl Model for Catalog {
+    ghost use Rattle.al_base.specs.Files.{Texts};
+    ghost use Rattle.al_unit.specs.Catalogs.{texts_of};
+    ghost use Rattle.al_unit.specs.CatalogSeen.{IsCatalog};
+
+    ghost Value = { Texts };
+
+    ghost view = { λ c. texts_of c.sources };
+
+    ghost invariant = { λ c. IsCatalog c.sources c.readings.entries };
+}
+
+/// What the graph of units needs of a reading.
+fn contents_of(alloc: Global, reading: &Reading) -> Result<Contents, NoMemory>
+    ensures { IfOk result (λ contents. contents_seen contents ≡ contents_of (reading_seen reading.now)) }
+{
+    match reading {
+        Reading::Sentence(unit) => Ok(Contents::Headed(header_of(alloc, unit)?)),
+        Reading::Fails(place, code) => Ok(Contents::Unread(*place, *code)),
+    }
+}
+
+/// The tree of a reading, if any.
+fn sentence_of(reading: &Reading) -> Option<&CompilationUnit>
+    ensures { option_map (λ unit. unit_seen unit.now) result ≡ sentence_of (reading_seen reading.now) }
+{
+    match reading {
+        Reading::Sentence(unit) => Some(unit),
+        Reading::Fails(_, _) => None,
+    }
+}
+
+/// Reads a file and puts it in.
+fn add_file(
+    alloc: Global,
+    file: &[u8],
+    text: &Rc<Vec<u8>>,
+    sources: &mut Sources,
+    readings: &mut BTreeMap<Vec<u8>, Reading>,
+) -> Result<(), NoMemory>
+    ensures source { OnOk result (sources.new ≡ insert_entry name_cmp sources.old file.now (source_of text.now.value.items)) }
+    ensures reading { OnOk result (readings_seen readings.new.entries ≡ insert_entry name_cmp (readings_seen readings.old.entries) file.now (reading_of text.now.value.items)) }
+{
+    let reading = read(alloc, text.as_slice())?;
+    let contents = contents_of(alloc, &reading)?;
+    let text = text.clone()?;
+    let source = Source { text, contents };
+    sources.insert(Name::from_slice(alloc, file)?, source)?;
+    insert(readings, Name::from_slice(alloc, file)?, reading)
+}
+
+impl Catalog {
+    /// Reads all files.
+    ///
+    /// # Errors
+    ///
+    /// `NoMemory` where memory is wanted. What is wrong with the files is no error.
+    pub fn of(alloc: Global, files: &Files) -> Result<Catalog, NoMemory>
+        ensures { IfOk result (λ catalog. catalog ≡ files.now) }
+    {
+        let list = files.shared()?;
+        let mut sources = Sources::new(alloc);
+        let mut readings = BTreeMap::new(alloc);
+        for (name, text) in list.iter() {
+            add_file(alloc, name, text, &mut sources, &mut readings)?;
+        }
+        Ok(Catalog {
+            alloc,
+            sources,
+            readings,
+        })
+    }
+
+    /// The tree of a unit, where the library has it.
+    #[tactic(auto, unfolding(crate::specs::Catalogs::tree_at))]
+    pub fn unit(&self, key: &UnitKey) -> Result<Option<&CompilationUnit>, NoMemory>
+        ensures { IfOk result (λ unit. option_map (λ u. unit_seen u.now) unit ≡ tree_at self.now (key_of key.now)) }
+    {
+        let is_there = self
+            .sources
+            .unit_at(key.name.as_slice(), key.kind)?
+            .is_some();
+        if !is_there {
+            return Ok(None);
+        }
+        let file = file_name_of(self.alloc, key)?;
+        match reading_at(&self.readings, file.as_slice()) {
+            None => Ok(None),
+            Some(reading) => Ok(sentence_of(reading)),
+        }
+    }
+
+    /// What a unit depends on, by way of others too (ARM 10.1.1(26)).
+    pub fn depends(&self, key: &UnitKey) -> Result<Vec<UnitKey>, NoMemory>
+        ensures { IfOk result (λ keys. (y : Key) → Contains (map key_of keys.items) y ↔ DependsOn (library_of self.now) (key_of key.now) y) }
+    {
+        let keys = self.sources.depends(key)?;
+        Ok(keys)
+    }
+
+    /// A unit and what it depends on, by way of others too (ARM 10.1.1(26)).
+    pub fn closure(&self, key: &UnitKey) -> Result<Vec<UnitKey>, NoMemory>
+        ensures { IfOk result (λ keys. (y : Key) → Contains (map key_of keys.items) y ↔ ((key_of key.now ≡ y) ⊎ DependsOn (library_of self.now) (key_of key.now) y)) }
+    {
+        let keys = self.sources.closure(key)?;
+        Ok(keys)
+    }
+
+    /// What a partition with this main unit needs (ARM 10.2(2..7)).
+    pub fn needed(&self, main: &[u8]) -> Result<Vec<UnitKey>, NoMemory>
+        ensures { IfOk result (λ keys. (y : Key) → Contains (map key_of keys.items) y ↔ Needed (library_of self.now) main.now y) }
+    {
+        let keys = self.sources.needed(main)?;
+        Ok(keys)
+    }
+}
