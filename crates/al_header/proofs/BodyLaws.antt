@@ -1,5 +1,5 @@
 -- Which packages need a body, in words.
-use Rattle.std.proofs.Common.{◌≡◌, ℕ, Bool, true, false, ◌||◌, ◌&&◌, ◌⊎◌, inl, inr, List, [], ◌∷◌, ◌++◌, Option, None, Some, codes, refl, sym, ap, ◌∙◌}
+use Rattle.std.proofs.Common.{◌≡◌, ℕ, Bool, true, false, ◌||◌, ◌⊎◌, inl, inr, List, [], ◌∷◌, ◌++◌, Option, None, Some, codes, refl, sym, ap, ◌∙◌}
 use Rattle.std.specs.List.{list_all, list_any, take_while}
 use Rattle.std.proofs.lemmas.List.Folds.{Any-from_list_any, list_any-from_Any}
 use Rattle.std.proofs.lemmas.List.Sums.{AllPass-from_list_all, list_all-from_AllPass}
@@ -17,16 +17,9 @@ use Rattle.al_header.specs.Laws.DeclaresNothing.{use_clause, some_pragma}
 use Rattle.al_header.specs.Laws.IsElaborateBody.{alone, named}
 use Rattle.al_header.specs.Laws.NeedsBody.{completed, asked}
 use Rattle.al_header.proofs.PackageLemmas.{in_front-cons}
+use Rattle.al_unit_graph.proofs.BoolLemmas.{both, and}
 
 -- ---- tests
-
-both : (a b : Bool) → (a && b) ≡ true → (a ≡ true) × (b ≡ true)
-both true b is = (refl, is)
-both false b is = absurd (cc)
-
-and : (a b : Bool) → a ≡ true → b ≡ true → (a && b) ≡ true
-and true b is also = also
-and false b is also = is
 
 either : (a b : Bool) → (a || b) ≡ true → (a ≡ true) ⊎ (b ≡ true)
 either true b is = inl refl

@@ -1,6 +1,7 @@
 -- The declarations of a package, in its two parts.
 use Rattle.std.proofs.Common.{◌≡◌, ℕ, ◌<◌, ◌+◌, Bool, true, false, cond, ◌||◌, ◌&&◌, List, [], ◌∷◌, ◌++◌, length, map, drop, get_or, refl, sym, ap, ◌∙◌, Option, None, Some, drop-cons, arith, suc, zero, ◌≤◌, ◌-◌, unwrap_or}
 use Rattle.std.specs.List.{last_or, list_all, list_any, take_while}
+use Rattle.std.proofs.Math.Bool.{or_assoc}
 use Rattle.std.proofs.lemmas.List.Sums.{take_while-cons}
 use Rattle.std.proofs.lemmas.List.Folds.{list_any-append}
 use Rattle.al_syntax.specs.DeclarationTrees.{DeclarationTree}
@@ -43,10 +44,6 @@ module _ {X : Type 0} (p q : X → Bool) where
       ∙ in_front-cons (f x) (map f (drop (suc i) xs))
       ∙ ap (λ b. b && (q (f x) || list_any q (take_while p (map f (drop (suc i) xs))))) holds
       ∙ ap (λ j. q (f x) || list_any q (take_while p (map f (drop j xs)))) next
-
-or_assoc : (a b c : Bool) → ((a || b) || c) ≡ (a || (b || c))
-or_assoc true b c = refl
-or_assoc false b c = refl
 
 -- ---- in the parts of a package
 
