@@ -7,6 +7,7 @@ use Rattle.al_view.specs.declared.view.ViewKind.{ViewKind}
 use Rattle.al_query.specs.declared.answer.AnswerKind.{AnswerKind}
 use Rattle.al_scope.specs.declared.region.UnitPart.{UnitPart}
 use Rattle.al_scope.specs.declared.hiding.Found.{Found}
+use Rattle.al_view.specs.Named.{Declarations}
 use Rattle.al_scope.specs.Visible.{declared_by, shuts_out, direct}
 
 pub append-assoc : {X : Type 0} (xs ys zs : List X) → (xs ++ ys) ++ zs ≡ xs ++ (ys ++ zs)
@@ -75,5 +76,5 @@ pub found-is : (b c : Bool) (v w : List ViewKind) → b ≡ c → v ≡ w → (l
 found-is b c v w e f = ap (λ (x : Bool). let y : Found = record { begun = x; views = v } in y) e ∙ ap (λ (x : List ViewKind). let y : Found = record { begun = c; views = x } in y) f
 
 -- what a region has, put together
-pub views-are : (t : Query → AnswerKind) (name : List ℕ) (parts ps : List UnitPart) (v own views new : List ViewKind) → new ≡ v ++ own → v ≡ flat_map (declared_by t name) ps → ps ≡ parts → own ≡ views → new ≡ flat_map (declared_by t name) parts ++ views
-views-are t name parts ps v own views new n e p d = n ∙ ap (λ l. l ++ own) (e ∙ ap (flat_map (declared_by t name)) p) ∙ ap (λ (l : List ViewKind). flat_map (declared_by t name) parts ++ l) d
+pub views-are : (t : Query → AnswerKind) (m : Declarations) (name : List ℕ) (parts ps : List UnitPart) (v own views new : List ViewKind) → new ≡ v ++ own → v ≡ flat_map (declared_by t m name) ps → ps ≡ parts → own ≡ views → new ≡ flat_map (declared_by t m name) parts ++ views
+views-are t m name parts ps v own views new n e p d = n ∙ ap (λ l. l ++ own) (e ∙ ap (flat_map (declared_by t m name)) p) ∙ ap (λ (l : List ViewKind). flat_map (declared_by t m name) parts ++ l) d

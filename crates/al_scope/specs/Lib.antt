@@ -1,2 +1,5 @@
 pub mod NameSets
+pub mod Places
+pub mod UseClauses
 pub mod Visible
+pub mod VisibleSet

@@ -3,10 +3,12 @@
 
 mod hiding;
 mod names;
+mod questions;
 mod region;
 mod scope;
 #[cfg(test)]
 mod tests;
+mod uses;
 
 pub use region::UnitPart;
 pub use scope::Scope;

@@ -1,10 +1,12 @@
 // A region: what is declared in it so far, what is begun, and what its use clauses name.
 ghost use Rattle.std.specs.Prelude.{◌≡◌, [], is_ok, if◌then◌else◌};
-ghost use Rattle.al_scope.specs.Visible.{with_begun, with_declared, with_used};
+ghost use Rattle.al_scope.specs.Places.{with_begun, with_declared, with_uses};
+ghost use Rattle.al_scope.specs.UseClauses.{with_package, with_type};
 
 use crate::names::NameSet;
+use crate::uses::UseClauses;
 use al_base::{NoMemory, UnitKey};
-use al_view::{Interface, Part, Row, View};
+use al_view::{Interface, Part, Row, Symbol, View};
 use std::alloc::Global;
 
 /// A part of a unit.
@@ -23,20 +25,20 @@ pub struct Region {
     pub declared: Interface,
     /// The names whose declarations were begun.
     pub begun: NameSet,
-    /// The packages that its use clauses name so far.
-    pub used: NameSet,
+    /// The use clauses that hold in it so far, those round it too.
+    pub uses: UseClauses,
 }
 
 impl Region {
-    /// The region that continues these parts, with nothing of its own yet. It takes no memory.
-    pub fn new(alloc: Global, parts: Row<UnitPart>) -> Self
-        ensures { result ≡ (record { parts = parts; declared = []; begun = []; used = [] }) }
+    /// The region that continues these parts, with nothing of its own yet but these use clauses. It takes no memory.
+    pub fn new(alloc: Global, parts: Row<UnitPart>, uses: UseClauses) -> Self
+        ensures { result ≡ (record { parts = parts; declared = []; begun = []; uses = uses }) }
     {
         Region {
             parts,
             declared: Interface::new(alloc),
             begun: NameSet::new(alloc),
-            used: NameSet::new(alloc),
+            uses,
         }
     }
 
@@ -55,9 +57,16 @@ impl Region {
     }
 
     pub fn use_package(&mut self, package_name: &[u8]) -> Result<(), NoMemory>
-        ensures { self.new ≡ (if is_ok result then with_used package_name.now self.old else self.old) }
+        ensures { self.new ≡ (if is_ok result then with_uses (with_package package_name.now) self.old else self.old) }
     {
-        self.used.insert(package_name)?;
+        self.uses.use_package(package_name)?;
+        Ok(())
+    }
+
+    pub fn use_type(&mut self, symbol: Symbol) -> Result<(), NoMemory>
+        ensures { self.new ≡ (if is_ok result then with_uses (with_type symbol) self.old else self.old) }
+    {
+        self.uses.use_type(symbol)?;
         Ok(())
     }
 }

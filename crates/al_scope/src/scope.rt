@@ -1,78 +1,37 @@
 // The regions round a place, and what they make visible.
-ghost use Rattle.std.specs.Prelude.{◌≡◌, ◌<◌, List, [], ◌∷◌, ◌++◌, ◌↔◌, IfOk, OnErr, OnOk, IsTrue, map, flat_map, length, not, is_ok, if◌then◌else◌};
+ghost use Rattle.std.specs.Prelude.{◌≡◌, ◌<◌, List, [], ◌∷◌, ◌++◌, ◌↔◌, IfOk, OnErr, OnOk, IsTrue, map, length, not, is_ok, if◌then◌else◌};
 ghost use Rattle.al_view.specs.declared.view.ViewKind.{ViewKind};
 ghost use Rattle.al_query.specs.declared.query.Query.{Query};
-ghost use Rattle.al_query.specs.declared.query.Query.TheVariants.{Named};
 ghost use Rattle.al_query.specs.declared.answer.AnswerKind.{AnswerKind};
 ghost use Rattle.al_query.specs.Reads.{Agrees};
 ghost use Rattle.al_scope.specs.declared.region.Region.{Region};
-ghost use Rattle.al_scope.specs.Visible.{Has, IsVisible, declared_by, found_in, has_homograph_in, in_last, potential, used_at, visible_at, with_begun, with_declared, with_used};
+ghost use Rattle.al_scope.specs.Places.{entered, in_last, uses_at, visible_part, with_begun, with_declared, with_mentioned, with_uses};
+ghost use Rattle.al_scope.specs.UseClauses.{with_package, with_type};
+ghost use Rattle.al_scope.specs.Visible.{declared_by, found_in, has_homograph_in, potential, visible_at};
+ghost use Rattle.al_scope.specs.VisibleSet.{Has, IsVisible};
 
 use crate::hiding::{Found, direct_of, has_homograph, use_visible_of};
-use crate::names::NameSet;
+use crate::questions::{ask_each, ask_more, visible_part_of};
 use crate::region::{Region, UnitPart};
-use al_base::{Name, NoMemory};
-use al_query::{Answers, Query, Recorder};
-use al_view::{Row, View, Views, copied_unit};
+use crate::uses::UseClauses;
+use al_base::NoMemory;
+use al_query::{Answers, Recorder};
+use al_view::{Interface, Row, Symbol, View, Views};
 use std::alloc::Global;
 use std::marker::Model;
-
-/// The question of what a part of a unit declares under a name.
-fn query_of(alloc: Global, from: &UnitPart, name: &[u8]) -> Result<Query, NoMemory>
-    ensures { IfOk result (λ query. query ≡ Named from.now.unit from.now.part name.now) }
-{
-    Ok(Query::Named {
-        unit: copied_unit(alloc, &from.unit)?,
-        part: from.part.copy(alloc)?,
-        name: Name::from_slice(alloc, name)?,
-    })
-}
-
-/// Appends what a part of a unit declares under a name.
-fn ask_more<A: Answers>(
-    alloc: Global,
-    views: &mut Views,
-    from: &UnitPart,
-    name: &[u8],
-    recorder: &mut Recorder<A>,
-) -> Result<(), NoMemory>
-    ensures asked { recorder.new.asked ≡ recorder.old.asked }
-    ensures told { IfOk result (λ _. (t : Query → AnswerKind) → Agrees t recorder.new.log → Agrees t recorder.old.log × (views.new ≡ views.old ++ declared_by t name.now from.now)) }
-{
-    let query = query_of(alloc, from, name)?;
-    let answer = recorder.ask(&query)?;
-    views.append(answer.views())?;
-    Ok(())
-}
-
-/// What some parts of units declare under a name.
-fn ask_each<A: Answers>(
-    alloc: Global,
-    parts: &[UnitPart],
-    name: &[u8],
-    recorder: &mut Recorder<A>,
-) -> Result<Views, NoMemory>
-    ensures asked { recorder.new.asked ≡ recorder.old.asked }
-    ensures told { IfOk result (λ views. (t : Query → AnswerKind) → Agrees t recorder.new.log → Agrees t recorder.old.log × (views ≡ flat_map (declared_by t name.now) parts.now)) }
-{
-    let mut views = Views::new(alloc);
-    for part in parts {
-        ask_more(alloc, &mut views, part, name, recorder)?;
-    }
-    Ok(views)
-}
 
 /// What a region has of a name.
 fn find<A: Answers>(
     alloc: Global,
+    mentioned: &Interface,
     region: &Region,
     name: &[u8],
     recorder: &mut Recorder<A>,
 ) -> Result<Found, NoMemory>
     ensures asked { recorder.new.asked ≡ recorder.old.asked }
-    ensures told { IfOk result (λ found. (t : Query → AnswerKind) → Agrees t recorder.new.log → Agrees t recorder.old.log × (found ≡ found_in t name.now region.now)) }
+    ensures told { IfOk result (λ found. (t : Query → AnswerKind) → Agrees t recorder.new.log → Agrees t recorder.old.log × (found ≡ found_in t mentioned.now name.now region.now)) }
 {
-    let mut views = ask_each(alloc, region.parts.as_slice(), name, recorder)?;
+    let mut views = ask_each(alloc, mentioned, region.parts.as_slice(), name, recorder)?;
     views.append(region.declared.views(name))?;
     let begun = region.begun.contains(name);
     Ok(Found { begun, views })
@@ -81,96 +40,120 @@ fn find<A: Answers>(
 /// What each region has of a name.
 fn find_each<A: Answers>(
     alloc: Global,
+    mentioned: &Interface,
     regions: &[Region],
     name: &[u8],
     recorder: &mut Recorder<A>,
 ) -> Result<Vec<Found>, NoMemory>
     ensures asked { recorder.new.asked ≡ recorder.old.asked }
-    ensures told { IfOk result (λ founds. (t : Query → AnswerKind) → Agrees t recorder.new.log → Agrees t recorder.old.log × (founds.items ≡ map (found_in t name.now) regions.now)) }
+    ensures told { IfOk result (λ founds. (t : Query → AnswerKind) → Agrees t recorder.new.log → Agrees t recorder.old.log × (founds.items ≡ map (found_in t mentioned.now name.now) regions.now)) }
 {
     let mut founds = Vec::new(alloc);
     for region in regions {
-        let found = find(alloc, region, name, recorder)?;
+        let found = find(alloc, mentioned, region, name, recorder)?;
         founds.push(found)?;
     }
     Ok(founds)
 }
 
-/// The packages that the use clauses name.
-fn packages_used(alloc: Global, regions: &[Region]) -> Result<NameSet, NoMemory>
-    ensures { IfOk result (λ packages. packages ≡ used_at regions.now) }
-{
-    let mut packages = NameSet::new(alloc);
-    for region in regions {
-        packages.insert_all(&region.used)?;
-    }
-    Ok(packages)
-}
-
-/// What is potentially use-visible of a name.
+/// What is potentially use-visible of a name, by the use clauses that hold in the innermost region.
 fn potential_of<A: Answers>(
     alloc: Global,
+    mentioned: &Interface,
     regions: &[Region],
     name: &[u8],
     recorder: &mut Recorder<A>,
 ) -> Result<Views, NoMemory>
     ensures asked { recorder.new.asked ≡ recorder.old.asked }
-    ensures told { IfOk result (λ views. (t : Query → AnswerKind) → Agrees t recorder.new.log → Agrees t recorder.old.log × (views ≡ potential t name.now regions.now)) }
+    ensures told { IfOk result (λ views. (t : Query → AnswerKind) → Agrees t recorder.new.log → Agrees t recorder.old.log × (views ≡ potential t mentioned.now name.now (uses_at regions.now))) }
 {
-    let packages = packages_used(alloc, regions)?;
-    let parts = packages.visible_parts()?;
-    let views = ask_each(alloc, parts.as_slice(), name, recorder)?;
-    Ok(views)
+    match regions.last() {
+        Some(region) => {
+            let views = region.uses.potential(mentioned, name, recorder)?;
+            Ok(views)
+        }
+        None => Ok(Views::new(alloc)),
+    }
 }
 
-/// The regions round a place, outermost first.
+/// The use clauses that hold in the innermost region.
+fn uses_of(alloc: Global, regions: &[Region]) -> Result<UseClauses, NoMemory>
+    ensures { IfOk result (λ uses. uses ≡ uses_at regions.now) }
+{
+    match regions.last() {
+        Some(region) => {
+            let uses = region.uses.copy()?;
+            Ok(uses)
+        }
+        None => Ok(UseClauses::new(alloc)),
+    }
+}
+
+/// The regions round a place, outermost first, and the library units that are mentioned there.
 #[derive(Drop)]
 pub struct Scope {
     alloc: Global,
+    mentioned: Interface,
     regions: Vec<Region>,
 }
 
 impl Model for Scope {
-    ghost use Rattle.std.specs.Prelude.{List};
-    ghost use Rattle.al_scope.specs.declared.region.Region.{Region};
+    ghost use Rattle.al_scope.specs.Places.{Place};
 
-    ghost Value = { List Region };
+    ghost Value = { Place };
 
-    ghost view = { λ s. s.regions.items };
+    ghost view = { λ s. record { mentioned = s.mentioned; regions = s.regions.items } };
 }
 
 impl Scope {
-    /// A place with no region round it. It takes no memory.
+    /// A place with no region round it, where nothing is mentioned. It takes no memory.
     pub fn new(alloc: Global) -> Self
-        ensures { result ≡ [] }
+        ensures { result ≡ (record { mentioned = []; regions = [] }) }
     {
         Scope {
             alloc,
+            mentioned: Interface::new(alloc),
             regions: Vec::new(alloc),
         }
     }
 
     /// Whether no region is entered.
     pub fn is_empty(&self) -> bool
-        ensures { IsTrue result ↔ (length self.now ≡ 0) }
+        ensures { IsTrue result ↔ (length self.now.regions ≡ 0) }
     {
         self.regions.is_empty()
     }
 
-    /// Enters a region that continues these parts of units (ARM 8.1).
-    pub fn enter(&mut self, parts: Row<UnitPart>) -> Result<(), NoMemory>
-        ensures ok { OnOk result (self.new ≡ self.old ++ (record { parts = parts; declared = []; begun = []; used = [] }) ∷ []) }
-        ensures err { OnErr result (self.new ≡ self.old) }
+    /// The library unit of that full name, in lower case, is mentioned (ARM 10.1.2(6)), with its view: from here on it
+    /// counts as declared in its parent's visible part, a root unit in Standard's (ARM 8.1(9), 10.1.2(8)). The unit that
+    /// the place is in and its ancestors are mentioned too.
+    pub fn mention(&mut self, unit_name: &[u8], view: View) -> Result<(), NoMemory>
+        ensures mentioned { self.new.mentioned ≡ (if is_ok result then with_mentioned unit_name.now view self.old.mentioned else self.old.mentioned) }
+        ensures regions { self.new.regions ≡ self.old.regions }
     {
-        let region = Region::new(self.alloc, parts);
+        if self.mentioned.views(unit_name).is_empty() {
+            self.mentioned.declare(unit_name, view)?;
+        }
+        Ok(())
+    }
+
+    /// Enters a region that continues these parts of units (ARM 8.1). The use clauses round it hold in it.
+    pub fn enter(&mut self, parts: Row<UnitPart>) -> Result<(), NoMemory>
+        ensures ok { OnOk result (self.new.regions ≡ self.old.regions ++ entered parts self.old.regions ∷ []) }
+        ensures err { OnErr result (self.new.regions ≡ self.old.regions) }
+        ensures mentioned { self.new.mentioned ≡ self.old.mentioned }
+    {
+        let uses = uses_of(self.alloc, self.regions.as_slice())?;
+        let region = Region::new(self.alloc, parts, uses);
         self.regions.push(region)?;
         Ok(())
     }
 
     /// Leaves the innermost region.
     pub fn leave(&mut self)
-        requires { 0 < length self.old }
-        ensures { (region : Region) × (self.old ≡ self.new ++ region ∷ []) }
+        requires { 0 < length self.old.regions }
+        ensures regions { (region : Region) × (self.old.regions ≡ self.new.regions ++ region ∷ []) }
+        ensures mentioned { self.new.mentioned ≡ self.old.mentioned }
     {
         let left = self.regions.pop();
         drop(left);
@@ -179,9 +162,10 @@ impl Scope {
     /// Begins a declaration that may not be overloaded: until the region is left it hides outer declarations of its
     /// name (ARM 8.3(15, 16)).
     pub fn start(&mut self, name: &[u8]) -> Result<(), NoMemory>
-        requires { 0 < length self.old }
-        ensures new { self.new ≡ (if is_ok result then in_last (with_begun name.now) self.old else self.old) }
-        ensures depth { length self.new ≡ length self.old }
+        requires { 0 < length self.old.regions }
+        ensures new { self.new.regions ≡ (if is_ok result then in_last (with_begun name.now) self.old.regions else self.old.regions) }
+        ensures depth { length self.new.regions ≡ length self.old.regions }
+        ensures mentioned { self.new.mentioned ≡ self.old.mentioned }
     {
         let last = self.regions.len() - 1;
         let region = &mut self.regions[last];
@@ -191,13 +175,28 @@ impl Scope {
 
     /// A use clause that names the package (ARM 8.4(3)).
     pub fn use_package(&mut self, package_name: &[u8]) -> Result<(), NoMemory>
-        requires { 0 < length self.old }
-        ensures new { self.new ≡ (if is_ok result then in_last (with_used package_name.now) self.old else self.old) }
-        ensures depth { length self.new ≡ length self.old }
+        requires { 0 < length self.old.regions }
+        ensures new { self.new.regions ≡ (if is_ok result then in_last (with_uses (with_package package_name.now)) self.old.regions else self.old.regions) }
+        ensures depth { length self.new.regions ≡ length self.old.regions }
+        ensures mentioned { self.new.mentioned ≡ self.old.mentioned }
     {
         let last = self.regions.len() - 1;
         let region = &mut self.regions[last];
         region.use_package(package_name)?;
+        Ok(())
+    }
+
+    /// A use type clause that names the type (ARM 8.4(4)), which the visible part of its unit declares. The operators of
+    /// a type that a region round the place declares need no clause, as they are declared beside it (ARM 3.2.3(6)).
+    pub fn use_type(&mut self, symbol: Symbol) -> Result<(), NoMemory>
+        requires { 0 < length self.old.regions }
+        ensures new { self.new.regions ≡ (if is_ok result then in_last (with_uses (with_type symbol)) self.old.regions else self.old.regions) }
+        ensures depth { length self.new.regions ≡ length self.old.regions }
+        ensures mentioned { self.new.mentioned ≡ self.old.mentioned }
+    {
+        let last = self.regions.len() - 1;
+        let region = &mut self.regions[last];
+        region.use_type(symbol)?;
         Ok(())
     }
 
@@ -208,21 +207,52 @@ impl Scope {
         view: View,
         recorder: &mut Recorder<A>,
     ) -> Result<bool, NoMemory>
-        requires { 0 < length self.old }
+        requires { 0 < length self.old.regions }
         ensures asked { recorder.new.asked ≡ recorder.old.asked }
-        ensures told { IfOk result (λ fits. (t : Query → AnswerKind) → Agrees t recorder.new.log → Agrees t recorder.old.log × (fits ≡ not (has_homograph_in t name.now view self.old))) }
-        ensures new { IfOk result (λ fits. self.new ≡ (if fits then in_last (with_declared name.now view) self.old else self.old)) }
-        ensures depth { length self.new ≡ length self.old }
-        ensures err { OnErr result (self.new ≡ self.old) }
+        ensures told { IfOk result (λ fits. (t : Query → AnswerKind) → Agrees t recorder.new.log → Agrees t recorder.old.log × (fits ≡ not (has_homograph_in t self.old.mentioned name.now view self.old.regions))) }
+        ensures new { IfOk result (λ fits. self.new.regions ≡ (if fits then in_last (with_declared name.now view) self.old.regions else self.old.regions)) }
+        ensures depth { length self.new.regions ≡ length self.old.regions }
+        ensures mentioned { self.new.mentioned ≡ self.old.mentioned }
+        ensures err { OnErr result (self.new.regions ≡ self.old.regions) }
     {
         let last = self.regions.len() - 1;
-        let found = find(self.alloc, &self.regions[last], name, recorder)?;
+        let found = find(
+            self.alloc,
+            &self.mentioned,
+            &self.regions[last],
+            name,
+            recorder,
+        )?;
         if has_homograph(&view, found.views.as_slice()) {
             return Ok(false);
         }
         let region = &mut self.regions[last];
         region.declare(name, view)?;
         Ok(true)
+    }
+
+    /// What is visible by selection of a name in the package (ARM 4.1.3(4), 8.3(8)), in text order and its mentioned
+    /// children last.
+    pub fn selected<A: Answers>(
+        &self,
+        package_name: &[u8],
+        name: &[u8],
+        recorder: &mut Recorder<A>,
+    ) -> Result<Views, NoMemory>
+        ensures asked { recorder.new.asked ≡ recorder.old.asked }
+        ensures told { IfOk result (λ views. (t : Query → AnswerKind) → Agrees t recorder.new.log → Agrees t recorder.old.log × (views ≡ declared_by t self.now.mentioned name.now (visible_part package_name.now))) }
+    {
+        let part = visible_part_of(self.alloc, package_name)?;
+        let mut views = Views::new(self.alloc);
+        ask_more(
+            self.alloc,
+            &self.mentioned,
+            &part,
+            name,
+            &mut views,
+            recorder,
+        )?;
+        Ok(views)
     }
 
     /// What is visible of a name (ARM 8.3, 8.4): directly visible ones first, innermost region first, then use-visible
@@ -236,8 +266,9 @@ impl Scope {
         ensures told { IfOk result (λ views. (t : Query → AnswerKind) → Agrees t recorder.new.log → Agrees t recorder.old.log × (views ≡ visible_at t name.now self.now)) }
         ensures exactly { IfOk result (λ views. (t : Query → AnswerKind) → Agrees t recorder.new.log → (v : ViewKind) → Has views v ↔ IsVisible t name.now self.now v) }
     {
-        let founds = find_each(self.alloc, self.regions.as_slice(), name, recorder)?;
-        let views = potential_of(self.alloc, self.regions.as_slice(), name, recorder)?;
+        let regions = self.regions.as_slice();
+        let founds = find_each(self.alloc, &self.mentioned, regions, name, recorder)?;
+        let views = potential_of(self.alloc, &self.mentioned, regions, name, recorder)?;
         let mut visible = direct_of(self.alloc, founds.as_slice())?;
         let used = use_visible_of(self.alloc, founds.as_slice(), &views)?;
         visible.append(used.as_slice())?;

@@ -138,18 +138,3 @@ fn functions_of_used_packages_are_both_visible(rt: HostRuntime) -> Result<(), Fa
     assert_eq!(rt; told(alloc, &views)?.as_slice(), [1, 2].as_slice());
     Ok(())
 }
-
-#[test]
-fn hidden_ones_clash_too(rt: HostRuntime) -> Result<(), Fail> {
-    let alloc = rt.alloc();
-    let mut recorder = asking(alloc, number(alloc, 1)?, literal(alloc, b"q", 2)?)?;
-    let mut scope = using_both(alloc)?;
-    scope.enter(Row::empty(alloc))?;
-    assert_eq!(rt;
-        scope.declare(b"x", literal(alloc, b"q", 3)?, &mut recorder)?,
-        true
-    );
-    let views = scope.visible(b"x", &mut recorder)?;
-    assert_eq!(rt; told(alloc, &views)?.as_slice(), [3].as_slice());
-    Ok(())
-}

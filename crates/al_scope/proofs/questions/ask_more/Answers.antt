@@ -1,8 +1,13 @@
 use Rattle.std.proofs.Common.{sym, ◌∙◌, ap, ◌++◌}
 use Rattle.al_query.specs.Answers.{views_of}
-use Rattle.al_scope.proofs.scope.ask_more.Goals as goal
+use Rattle.al_query.specs.declared.query.Query.TheVariants.{Named}
+use Rattle.al_scope.specs.Visible.{children_in}
+use Rattle.al_scope.proofs.HidingLemmas.{append-assoc}
+use Rattle.al_scope.proofs.questions.ask_more.Goals as goal
 
 pub returns-clause-told : goal.returns-clause-told
 returns-clause-told g c t h =
     let told = c.in_ok-answer.ensures.told t h in
-    (told.0, c.in_ok-append.ensures ∙ ap (λ l. c.args.views.now ++ l) (c.views.ensures ∙ ap views_of (sym told.1 ∙ ap t c.in_ok-query.ensures)))
+    let children = children_in c.args.mentioned.now c.args.name.now c.args.from.now in
+    let asked = c.in_ok-append.ensures ∙ ap (λ l. c.args.views.now ++ l) (c.views.ensures ∙ ap views_of (sym told.1 ∙ ap t c.in_ok-query.ensures)) in
+    (told.0, c.in_ok-append_children.ensures ∙ ap (λ l. l ++ children) asked ∙ append-assoc c.args.views.now (views_of (t (Named c.args.from.now.unit c.args.from.now.part c.args.name.now))) children)

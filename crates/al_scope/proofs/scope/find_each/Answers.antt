@@ -10,7 +10,7 @@ loop-region-preserved g c =
       asked = c.in_ok-found.ensures.asked ∙ i.asked;
       told = λ t h. let told = c.in_ok-found.ensures.told t h in
           let before = i.told t told.0 in
-          (before.0, rw (map_more (found_in t c.args.name.now) c.args.regions.now c.loop-region.region-index c.region-item.result (omega arith), ← c.region-item.is, ← before.1, ← told.1) c.in_ok-push.ensures.items);
+          (before.0, rw (map_more (found_in t c.args.mentioned.now c.args.name.now) c.args.regions.now c.loop-region.region-index c.region-item.result (omega arith), ← c.region-item.is, ← before.1, ← told.1) c.in_ok-push.ensures.items);
     }
 
 pub returns-clause-told : goal.returns-clause-told

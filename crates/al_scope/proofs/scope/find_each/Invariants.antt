@@ -8,5 +8,5 @@ use Rattle.al_scope.proofs.scope.find_each.Given as goal
 abbrev pub invariant-loop-region : goal.invariant-loop-region
 invariant-loop-region g l = record {
   asked : l.recorder.asked ≡ l.fn.recorder.asked;
-  told : (t : Query → AnswerKind) → Agrees t l.recorder.log → Agrees t l.fn.recorder.log × (l.founds.items ≡ map (found_in t l.name) (take l.region-index l.regions));
+  told : (t : Query → AnswerKind) → Agrees t l.recorder.log → Agrees t l.fn.recorder.log × (l.founds.items ≡ map (found_in t l.mentioned l.name) (take l.region-index l.regions));
 }

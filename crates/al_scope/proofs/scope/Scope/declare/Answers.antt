@@ -1,6 +1,7 @@
 use Rattle.std.proofs.Common.{◌≡◌, ◌<◌, ◌+◌, ◌-◌, length, arith, sym, ◌∙◌, ap, not}
 use Rattle.std.specs.List.{list_any}
-use Rattle.al_scope.specs.Visible.{with_declared, found_in}
+use Rattle.al_scope.specs.Places.{Place, with_declared}
+use Rattle.al_scope.specs.Visible.{found_in, has_homograph_in}
 use Rattle.al_view.specs.Homographs.{homographs}
 use Rattle.al_scope.specs.declared.hiding.Found.{Found}
 use Rattle.al_scope.proofs.PlaceLemmas.{in_last-is, homograph_in-is}
@@ -9,25 +10,30 @@ use Rattle.al_scope.proofs.scope.Scope.declare.Goals as goal
 pub returns-then-has_homograph-clause-told : goal.returns-then-has_homograph-clause-told
 returns-then-has_homograph-clause-told g c t h =
     let told = c.in_ok-found.ensures.told t h in
-    let some : 0 < length c.self.inside.regions.items = rw c.self.view_is c.requires in
+    let regions = ap (λ (p : Place). p.regions) c.self.view_is in
+    let some : 0 < length c.self.inside.regions.items = rw regions c.requires in
     let last : c.len-last.result - 1 + 1 ≡ length c.self.inside.regions.items = omega (arith, some, c.len-last.ensures, c.self.inside.regions.ok.0) in
-    let is = homograph_in-is t c.args.name.now c.args.view c.self.inside.regions.items (c.len-last.result - 1) c.index.result.now last in
-    let found = told.1 ∙ ap (found_in t c.args.name.now) c.index.ensures in
+    let is = homograph_in-is t c.self.inside.mentioned c.args.name.now c.args.view c.self.inside.regions.items (c.len-last.result - 1) c.index.result.now last in
+    let found = told.1 ∙ ap (found_in t c.self.inside.mentioned c.args.name.now) c.index.ensures in
     let same = c.has_homograph.ensures ∙ ap (list_any (homographs c.args.view)) (c.as_slice.ensures ∙ ap (λ (f : Found). f.views) found) ∙ sym is in
-    (told.0, rw (← c.self.view_is) (ap not (sym c.if-has_homograph.true ∙ same)))
+    let there = ap (λ (p : Place). not (has_homograph_in t p.mentioned c.args.name.now c.args.view p.regions)) c.self.view_is in
+    (told.0, ap not (sym c.if-has_homograph.true ∙ same) ∙ there)
 
 pub returns-clause-told : goal.returns-clause-told
 returns-clause-told g c t h =
     let told = c.in_ok-found.ensures.told t h in
-    let some : 0 < length c.self.inside.regions.items = rw c.self.view_is c.requires in
+    let regions = ap (λ (p : Place). p.regions) c.self.view_is in
+    let some : 0 < length c.self.inside.regions.items = rw regions c.requires in
     let last : c.len-last.result - 1 + 1 ≡ length c.self.inside.regions.items = omega (arith, some, c.len-last.ensures, c.self.inside.regions.ok.0) in
-    let is = homograph_in-is t c.args.name.now c.args.view c.self.inside.regions.items (c.len-last.result - 1) c.index.result.now last in
-    let found = told.1 ∙ ap (found_in t c.args.name.now) c.index.ensures in
+    let is = homograph_in-is t c.self.inside.mentioned c.args.name.now c.args.view c.self.inside.regions.items (c.len-last.result - 1) c.index.result.now last in
+    let found = told.1 ∙ ap (found_in t c.self.inside.mentioned c.args.name.now) c.index.ensures in
     let same = c.has_homograph.ensures ∙ ap (list_any (homographs c.args.view)) (c.as_slice.ensures ∙ ap (λ (f : Found). f.views) found) ∙ sym is in
-    (told.0, rw (← c.self.view_is) (ap not (sym c.if-has_homograph.false ∙ same)))
+    let there = ap (λ (p : Place). not (has_homograph_in t p.mentioned c.args.name.now c.args.view p.regions)) c.self.view_is in
+    (told.0, ap not (sym c.if-has_homograph.false ∙ same) ∙ there)
 
 pub returns-clause-new : goal.returns-clause-new
 returns-clause-new g c =
-    let some : 0 < length c.self.inside.regions.items = rw c.self.view_is c.requires in
+    let regions = ap (λ (p : Place). p.regions) c.self.view_is in
+    let some : 0 < length c.self.inside.regions.items = rw regions c.requires in
     let last : c.len-last.result - 1 + 1 ≡ length c.self.inside.regions.items = omega (arith, some, c.len-last.ensures, c.self.inside.regions.ok.0) in
-    rw (← c.self.view_is) (in_last-is (with_declared c.args.name.now c.args.view) c.self.inside.regions.items (c.len-last.result - 1) c.index_mut-region.result.now c.declare.new.self last (c.in_ok-declare.ensures ∙ ap (with_declared c.args.name.now c.args.view) c.index_mut-region.ensures.value))
+    rw (← regions) (in_last-is (with_declared c.args.name.now c.args.view) c.self.inside.regions.items (c.len-last.result - 1) c.index_mut-region.result.now c.declare.new.self last (c.in_ok-declare.ensures ∙ ap (with_declared c.args.name.now c.args.view) c.index_mut-region.ensures.value))

@@ -1,0 +1,32 @@
+use Rattle.std.proofs.Common.{◌∙◌, ◌++◌, ap, sym}
+use Rattle.al_scope.specs.declared.uses.PackageUse.{PackageUse}
+use Rattle.al_scope.specs.UseClauses.{uses_of}
+use Rattle.al_scope.specs.Visible.{opened_by, potential}
+use Rattle.al_scope.proofs.HidingLemmas.{append-assoc, append-none}
+use Rattle.al_scope.proofs.uses.UseClauses.potential.Goals as goal
+
+pub loop-package_name-preserved : goal.loop-package_name-preserved
+loop-package_name-preserved g c =
+    let i = c.loop-package_name.invariant in
+    let steps = c.in-Some.ensures.steps in
+    let views = c.loop-package_name.views in
+    let mentioned = c.args.mentioned.now in
+    let name = c.args.name.now in
+    record {
+      asked = c.ask_used.ensures.asked ∙ i.asked;
+      told = λ t h. let told = c.in_ok-opened.ensures.told t h in
+          let before = i.told t told.0 in
+          let rest = potential t mentioned name (uses_of c.next.new.self) in
+          let opened = opened_by t mentioned name (c.in-Some.package_name.now.items, c.in-Some.used.now.value) in
+          let one = told.1
+          ∙ ap (λ k. opened_by t mentioned name (k, c.deref.result.now)) c.as_slice.ensures.value
+          ∙ ap (λ (u : PackageUse). opened_by t mentioned name (c.in-Some.package_name.now.items, u)) c.deref.ensures in
+          let more = c.in_ok-append.ensures ∙ ap (λ l. views ++ l) (c.as_slice-in-loop-package_name.ensures ∙ one) in
+          (before.0, ap (λ l. l ++ rest) more ∙ append-assoc views opened rest ∙ ap (λ es. views ++ potential t mentioned name (uses_of es)) (sym steps) ∙ before.1);
+    }
+
+pub returns-clause-told : goal.returns-clause-told
+returns-clause-told g c t h =
+    let told = c.loop-package_name.invariant.told t h in
+    let views = c.loop-package_name.views in
+    (told.0, sym (append-none views) ∙ ap (λ es. views ++ potential t c.args.mentioned.now c.args.name.now (uses_of es)) (sym c.in-None.ensures.steps.0) ∙ told.1)

@@ -1,0 +1,9 @@
+use Rattle.std.proofs.Common.{◌∙◌, ◌++◌, ap, filter}
+use Rattle.al_scope.specs.UseClauses.{opens}
+use Rattle.al_scope.specs.Visible.{declared_by}
+use Rattle.al_scope.proofs.uses.ask_used.Goals as goal
+
+pub returns-clause-told : goal.returns-clause-told
+returns-clause-told g c t h =
+    let told = c.in_ok-ask_more.ensures.told t h in
+    (told.0, c.in_ok-opened.ensures ∙ ap (filter (opens c.args.used.now)) (told.1 ∙ ap (λ l. l ++ declared_by t c.args.mentioned.now c.args.name.now c.in_ok-part.part) c.new-declared.ensures ∙ ap (declared_by t c.args.mentioned.now c.args.name.now) c.in_ok-part.ensures))

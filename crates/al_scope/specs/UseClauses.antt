@@ -1,0 +1,41 @@
+-- Use clauses (ARM 8.4), by the package whose declarations they open.
+use Rattle.std.specs.Prelude.{ℕ, List, [], ◌∷◌, ◌++◌, Bool, true, false, ◌||◌, unwrap_or, map, Vec}
+use Rattle.std.specs.List.{list_any}
+use Rattle.std.specs.Map.{lookup}
+use Rattle.std.specs.BTreeMap.{insert_entry, is_at}
+use Rattle.std.specs.declared.rc.Rc.{Rc}
+use Rattle.al_base.specs.Files.{name_cmp}
+use Rattle.al_view.specs.declared.symbol.Symbol.{Symbol}
+use Rattle.al_view.specs.declared.view.ViewKind.{ViewKind}
+use Rattle.al_view.specs.Operators.{is_operator_of}
+use Rattle.al_scope.specs.declared.uses.PackageUse.{PackageUse}
+
+-- packages, in the order of their names, each with what use clauses say of it
+abbrev pub Uses : Type 0
+Uses = List (List ℕ × PackageUse)
+
+-- what use clauses say of a package that none names
+abbrev pub no_use : PackageUse
+no_use = record { is_named = false; types = [] }
+
+abbrev pub use_of : Uses → List ℕ → PackageUse
+use_of uses package_name = unwrap_or (lookup (is_at (name_cmp package_name)) uses) no_use
+
+-- a use clause more that names the package (ARM 8.4(3))
+abbrev pub with_package : List ℕ → Uses → Uses
+with_package package_name uses = insert_entry name_cmp uses package_name (record (use_of uses package_name) { is_named = true })
+
+-- a use type clause more, for a type that a package declares (ARM 8.4(4))
+abbrev pub with_type : Symbol → Uses → Uses
+with_type s uses =
+    let before = use_of uses s.unit.name in
+    insert_entry name_cmp uses s.unit.name (record before { types = before.types ++ s ∷ [] })
+
+-- what use clauses open of what the package declares (ARM 8.4(8)): all of it where one names the package, the operators
+-- of the types else
+abbrev pub opens : PackageUse → ViewKind → Bool
+opens u v = u.is_named || list_any (is_operator_of v) u.types
+
+-- the entries of a map by name, seen so
+abbrev pub uses_of : {Y W : Type 0} → List (Vec ℕ Y × Rc PackageUse W) → Uses
+uses_of entries = map (λ e. (e.0.items, e.1.value)) entries

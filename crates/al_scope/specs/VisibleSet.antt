@@ -1,0 +1,38 @@
+-- What is visible at a place (ARM 8.3, 8.4), as a set.
+use Rattle.std.specs.Prelude.{◌≡◌, ℕ, List, [], ◌∷◌, false, true, ◌⊎◌}
+use Rattle.std.specs.List.{list_any}
+use Rattle.al_view.specs.declared.symbol.Symbol.{Symbol}
+use Rattle.al_view.specs.declared.view.ViewKind.{ViewKind}
+use Rattle.al_view.specs.Named.{Declarations}
+use Rattle.al_view.specs.Operators.{is_operator_of}
+use Rattle.al_query.specs.declared.query.Query.{Query}
+use Rattle.al_query.specs.declared.answer.AnswerKind.{AnswerKind}
+use Rattle.al_scope.specs.declared.region.Region.{Region}
+use Rattle.al_scope.specs.declared.uses.PackageUse.{PackageUse}
+use Rattle.al_scope.specs.Places.{Place, uses_at, visible_part}
+use Rattle.al_scope.specs.Visible.{clash, declared_by, found_in, potential, shuts_out}
+
+-- a list has an item
+abbrev pub Has : {X : Type 0} → List X → X → Type 0
+Has [] v = ⊥
+Has (x ∷ xs) v = (x ≡ v) ⊎ Has xs v
+
+-- some region declares it, and none further in shuts it out
+abbrev pub IsDirect : (Query → AnswerKind) → Declarations → List ℕ → List Region → ViewKind → Type 0
+IsDirect t m name [] v = ⊥
+IsDirect t m name (r ∷ inner) v =
+    (Has (found_in t m name r).views v × (list_any (λ q. shuts_out v (found_in t m name q)) inner ≡ false)) ⊎ IsDirect t m name inner v
+
+-- a use clause names the package, or a type whose operator it is
+abbrev pub IsOpen : PackageUse → ViewKind → Type 0
+IsOpen u v = (u.is_named ≡ true) ⊎ ((s : Symbol) × Has u.types s × (is_operator_of v s ≡ true))
+
+-- a package that use clauses round the place open declares it, no region shuts it out, and nothing clashes
+abbrev pub IsUseVisible : (Query → AnswerKind) → List ℕ → Place → ViewKind → Type 0
+IsUseVisible t name place v =
+    ((u : List ℕ × PackageUse) × Has (uses_at place.regions) u × Has (declared_by t place.mentioned name (visible_part u.0)) v × IsOpen u.1 v)
+    × (list_any (λ q. shuts_out v (found_in t place.mentioned name q)) place.regions ≡ false)
+    × (clash (potential t place.mentioned name (uses_at place.regions)) ≡ false)
+
+abbrev pub IsVisible : (Query → AnswerKind) → List ℕ → Place → ViewKind → Type 0
+IsVisible t name place v = IsDirect t place.mentioned name place.regions v ⊎ IsUseVisible t name place v
