@@ -1,7 +1,7 @@
 -- Units of a library by file and by key.
-use Rattle.std.proofs.Common.{◌≡◌, ℕ, Bool, true, false, not, List, [], ◌∷◌, Option, Some, None, if◌then◌else◌, refl, ap, subst, sym, ◌∙◌, cond}
+use Rattle.std.proofs.Common.{◌≡◌, ℕ, Bool, true, false, not, List, [], ◌∷◌, Option, Some, None, if◌then◌else◌, refl, ap, subst, sym, ◌∙◌, cond, ◌<◌, length, map, get_or}
 use Rattle.std.specs.Option.{option_and_then}
-use Rattle.std.specs.List.{Contains}
+use Rattle.std.specs.List.{Contains, list_any}
 use Rattle.std.specs.Str.{bytes_eq}
 use Rattle.std.specs.Map.{lookup}
 use Rattle.std.specs.BTreeMap.{is_at}
@@ -18,7 +18,7 @@ use Rattle.al_unit_graph.specs.Names.{is_reserved}
 use Rattle.al_unit_graph.specs.Library.{source_at, is_rightly_named, held, unit_in, is_kind, of_key, unit_at}
 use Rattle.al_unit_graph.specs.Closures.{is_same_key}
 use Rattle.al_unit_graph.proofs.BoolLemmas.{both, and, not_true}
-use Rattle.al_unit_graph.proofs.ClosureLemmas.{same_key}
+use Rattle.al_unit_graph.proofs.ClosureLemmas.{same_key, any_at}
 
 pub then_some : {X Y : Type 0} (f : X → Option Y) (o : Option X) (y : Y) → option_and_then f o ≡ Some y → (x : X) × (o ≡ Some x) × (f x ≡ Some y)
 then_some f None y is = absurd (cc)
@@ -70,6 +70,9 @@ in_file lib file h is =
 pub into_file : (lib : Library) (file : List ℕ) (source : Source) (h : Header) → source_at lib file ≡ Some source → source.contents ≡ Headed h → is_rightly_named file h ≡ true → unit_in lib file ≡ Some h
 into_file lib file source h there headed named = rw there (rw headed (rw named refl))
 
+pub held_here : (file : List ℕ) (h : Header) → is_rightly_named file h ≡ true → held file (Headed h) ≡ Some h
+held_here file h named = rw named refl
+
 -- the unit of a key
 pub at_key : (lib : Library) (key : Key) (h : Header) → unit_at lib key ≡ Some h → (unit_in lib (file_name_of key) ≡ Some h) × (key_of_unit h ≡ key)
 unfolding unit_at
@@ -104,3 +107,7 @@ pub among_files : (lib : Library) (file : List ℕ) (source : Source) → source
 among_files lib file source there =
     let r = entry (is_at (name_cmp file)) lib source there in
     (r.0, r.1, same_name file r.0.0 r.2)
+
+-- a test that passes at one place of a list of slices
+pub any_name : {X : Type 0} (p : List ℕ → Bool) (f : X → List ℕ) (xs : List X) (i : ℕ) (d : X) → i < length xs → p (f (get_or xs i d)) ≡ true → true ≡ list_any p (map f xs)
+any_name p f xs i d within is = sym (any_at p f xs i d within is)

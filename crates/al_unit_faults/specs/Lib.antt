@@ -4,3 +4,5 @@ pub mod Cycles
 pub mod Orders
 pub mod GraphFaults
 pub mod Laws
+pub mod Numbers
+pub mod Spots

@@ -2,4 +2,13 @@
 //! and bodies that don't fit.
 #![tactic(auto)]
 
+mod cycles;
 pub mod laws;
+mod listing;
+mod order;
+mod parts;
+mod private;
+#[cfg(test)]
+mod tests;
+
+pub use listing::faults;

@@ -54,11 +54,11 @@ pub told_any : (ns : List (List ℕ)) (stub : List ℕ) → Contains ns stub →
 told_any ns stub c = any_into (λ m. bytes_eq m stub) ns stub c ((bytes_eq-Decides stub stub).1 refl)
 
 module _ (file : List ℕ) where
-  from_if : (b : Bool) (place : Place) (code : ℕ) (f : Finding) → Contains (finding_if b file place code) f → (b ≡ true) × (finding file place code ≡ f)
+  pub from_if : (b : Bool) (place : Place) (code : ℕ) (f : Finding) → Contains (finding_if b file place code) f → (b ≡ true) × (finding file place code ≡ f)
   from_if true place code f c = (refl, the_one (finding file place code) f c)
   from_if false place code f c = absurd (nowhere f c)
 
-  into_if : (b : Bool) (place : Place) (code : ℕ) → b ≡ true → Contains (finding_if b file place code) (finding file place code)
+  pub into_if : (b : Bool) (place : Place) (code : ℕ) → b ≡ true → Contains (finding_if b file place code) (finding file place code)
   into_if true place code holds = one (finding file place code)
   into_if false place code holds = absurd (cc)
 

@@ -1,0 +1,106 @@
+// All that is wrong with the units of a library as a graph.
+ghost use Rattle.std.specs.Prelude.{◌≡◌, ◌++◌, length, map, IfOk, OnOk};
+ghost use Rattle.al_base.specs.Batch.{finding_of};
+ghost use Rattle.al_unit_graph.specs.Headers.{Headed, key_of_unit};
+ghost use Rattle.al_unit_graph.specs.Library.{held, unit_in};
+ghost use Rattle.al_unit_graph.specs.Views.{header_seen};
+ghost use Rattle.al_unit_faults.specs.Cycles.{depends_on_itself};
+ghost use Rattle.al_unit_faults.specs.Numbers.{TellsCycles, told};
+ghost use Rattle.al_unit_faults.specs.GraphFaults.{rule_faults, header_faults, file_faults, graph_faults};
+
+use crate::cycles::Cycles;
+use crate::order::add_ascending;
+use crate::private::add_private_faults;
+use al_base::{Diagnostic, Name, NoMemory, Place};
+use al_unit_graph::{Contents, Header, Sources, name_faults};
+use std::alloc::Global;
+
+/// What is wrong with a unit whose name is right.
+fn rule_faults(
+    alloc: Global,
+    sources: &Sources,
+    count: usize,
+    cycles: &Cycles,
+    file: &[u8],
+    header: &Header,
+) -> Result<Vec<Diagnostic>, NoMemory>
+    requires count { count ≡ length sources.now }
+    requires cycles { told cycles.now file.now ≡ depends_on_itself sources.now (key_of_unit (header_seen header.now)) }
+    ensures { IfOk result (λ found. map finding_of found.items ≡ rule_faults sources.now file.now (header_seen header.now)) }
+{
+    let mut found = sources.own_faults(file, header)?;
+    if cycles.has(file) {
+        let file = Name::from_slice(alloc, file)?;
+        let place = Place { line: 1, col: 1 };
+        found.push(Diagnostic {
+            file,
+            place,
+            code: 203,
+        })?;
+    }
+    add_private_faults(alloc, sources, count, file, header, &mut found)?;
+    Ok(found)
+}
+
+/// What is wrong with the name of a file's unit, or else with the unit.
+fn header_faults(
+    alloc: Global,
+    sources: &Sources,
+    count: usize,
+    cycles: &Cycles,
+    file: &[u8],
+    header: &Header,
+) -> Result<Vec<Diagnostic>, NoMemory>
+    requires count { count ≡ length sources.now }
+    requires cycles { TellsCycles sources.now cycles.now }
+    requires of_file { unit_in sources.now file.now ≡ held file.now (Headed (header_seen header.now)) }
+    ensures { IfOk result (λ found. map finding_of found.items ≡ header_faults sources.now file.now (header_seen header.now)) }
+{
+    let found = name_faults(alloc, file, header)?;
+    if !found.is_empty() {
+        return Ok(found);
+    }
+    rule_faults(alloc, sources, count, cycles, file, header)
+}
+
+/// Adds what is wrong with a file as a unit, by place and number.
+#[tactic(auto, unfolding(crate::specs::GraphFaults::file_faults))]
+fn add_file_faults(
+    alloc: Global,
+    sources: &Sources,
+    count: usize,
+    cycles: &Cycles,
+    file: &[u8],
+    found: &mut Vec<Diagnostic>,
+) -> Result<(), NoMemory>
+    requires count { count ≡ length sources.now }
+    requires cycles { TellsCycles sources.now cycles.now }
+    ensures { OnOk result (map finding_of found.new.items ≡ map finding_of found.old.items ++ file_faults sources.now file.now) }
+{
+    let Some(source) = sources.source_at(file) else {
+        return Ok(());
+    };
+    match &source.contents {
+        Contents::Headed(header) => {
+            let faults = header_faults(alloc, sources, count, cycles, file, header)?;
+            add_ascending(alloc, file, faults.as_slice(), found)
+        }
+        Contents::Unread(_, _) => Ok(()),
+    }
+}
+
+/// All that is wrong with the units of a library's files as a graph, by file, place and number: where the name of a unit is wrong,
+/// that it wants another file (201) or is reserved (207); elsewhere units and bodies that aren't there (202), cycles (203), private
+/// children that may not be mentioned (204), parents (205), stubs (206) and bodies that don't fit (209). A file that is no unit has
+/// none of these.
+pub fn faults(alloc: Global, sources: &Sources) -> Result<Vec<Diagnostic>, NoMemory>
+    ensures { IfOk result (λ found. map finding_of found.items ≡ graph_faults sources.now) }
+{
+    let files = sources.file_names()?;
+    let cycles = Cycles::of(alloc, sources, files.as_slice())?;
+    let mut found = Vec::new(alloc);
+    for file in files.as_slice() {
+        add_file_faults(alloc, sources, files.len(), &cycles, file, &mut found)?;
+    }
+    Ok(found)
+}
