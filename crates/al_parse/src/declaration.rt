@@ -24,7 +24,7 @@ use al_base::Place;
 use al_lex::Token;
 use al_parse_expr::{
     Stop, compound_name, compound_names, discrete_range, enter, enter_at, expect, expression,
-    identifier, identifiers, is_next, range, skip, word_at,
+    identifier, identifiers, is_next, range, read_or_drop, skip, word_at,
 };
 use al_tree::{
     ArrayDefinition, CommonDeclaration, ComponentDeclaration, Components, CompoundNames,
@@ -77,7 +77,7 @@ fn array_index<'a>(
     ensures { Gives (λ x. discrete_range_tokens (discrete_range_seen x.0) ++ word symbols.RightParenthesis ∷ []) (λ x. lexemes source.now x.1.now) result (lexemes source.now tokens.now) (reading depth (grammar (place constructs.ArrayIndex)) (lexemes source.now tokens.now)) }
 {
     let (index, rest) = discrete_range(alloc, source, depth, tokens)?;
-    let rest = expect(source, rest, Symbol::RightParenthesis)?;
+    let rest = read_or_drop!(expect(source, rest, Symbol::RightParenthesis), index);
     Ok((index, rest))
 }
 
@@ -169,7 +169,7 @@ fn typed<'a>(
     ensures { Gives (λ x. object_type_tokens (object_type_seen x.0) ++ maybe initial_tokens (option_map expression_seen x.1)) (λ x. lexemes source.now x.2.now) result (lexemes source.now tokens.now) (reading depth typed_rule (lexemes source.now tokens.now)) }
 {
     let (of, rest) = object_type(alloc, source, depth, tokens)?;
-    let (value, rest) = initial(alloc, source, depth, rest)?;
+    let (value, rest) = read_or_drop!(initial(alloc, source, depth, rest), of);
     Ok((of, value, rest))
 }
 
@@ -226,7 +226,7 @@ fn component<'a>(
     let (names, rest) = identifiers(alloc, source, tokens)?;
     let rest = expect(source, rest, Symbol::Colon)?;
     let (indication, rest) = subtype_indication(alloc, source, depth, rest)?;
-    let rest = expect(source, rest, Symbol::Semicolon)?;
+    let rest = read_or_drop!(expect(source, rest, Symbol::Semicolon), indication);
     Ok((ComponentDeclaration { names, indication }, rest))
 }
 
@@ -261,7 +261,7 @@ fn components<'a>(
 {
     if is_next(source, tokens, Symbol::Identifier) {
         let (first, rest) = component(alloc, source, depth, tokens)?;
-        let (others, rest) = more_components(alloc, source, depth, rest)?;
+        let (others, rest) = read_or_drop!(more_components(alloc, source, depth, rest), first);
         return Ok((Components::Declared(first, others), rest));
     }
     let rest = expect(source, tokens, Symbol::Null)?;
@@ -280,8 +280,8 @@ fn record_definition<'a>(
     ensures { Gives (λ x. components_tokens (components_seen x.0) ++ labelled symbols.End (place_label x.1) ∷ word symbols.Record ∷ []) (λ x. lexemes source.now x.2.now) result (lexemes source.now tokens.now) (reading depth (grammar (place constructs.RecordDefinition)) (lexemes source.now tokens.now)) }
 {
     let (components, rest) = components(alloc, source, depth, tokens)?;
-    let (end, rest) = word_at(source, rest, Symbol::End)?;
-    let rest = expect(source, rest, Symbol::Record)?;
+    let (end, rest) = read_or_drop!(word_at(source, rest, Symbol::End), components);
+    let rest = read_or_drop!(expect(source, rest, Symbol::Record), components);
     Ok((components, end, rest))
 }
 
@@ -364,7 +364,7 @@ fn subtype_declaration<'a>(
     let (name, rest) = identifier(alloc, source, rest)?;
     let rest = expect(source, rest, Symbol::Is)?;
     let (indication, rest) = subtype_indication(alloc, source, depth, rest)?;
-    let rest = expect(source, rest, Symbol::Semicolon)?;
+    let rest = read_or_drop!(expect(source, rest, Symbol::Semicolon), indication);
     Ok((SubtypeDeclaration { name, indication }, rest))
 }
 

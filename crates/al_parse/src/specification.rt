@@ -24,8 +24,8 @@ use crate::start::{
 use crate::step::flag;
 use al_lex::Token;
 use al_parse_expr::{
-    Stop, compound_name, enter_at, expect, expression, identifier, identifiers, is_next, skip,
-    skip_at, word_at,
+    Stop, compound_name, enter_at, expect, expression, identifier, identifiers, is_next,
+    read_or_drop, skip, skip_at, word_at,
 };
 use al_tree::{
     Aspect, Declaration, Formal, FormalPart, Identifier, NamedEnd, ProtectedComponent,
@@ -136,8 +136,8 @@ pub(crate) fn specification<'a>(
     let (opening, rest) = word_at(source, tokens, Symbol::Function)?;
     let (name, rest) = compound_name(alloc, source, rest)?;
     let (formals, rest) = formal_part(alloc, source, depth, rest)?;
-    let (closing, rest) = word_at(source, rest, Symbol::Return)?;
-    let (mark, rest) = compound_name(alloc, source, rest)?;
+    let (closing, rest) = read_or_drop!(word_at(source, rest, Symbol::Return), formals);
+    let (mark, rest) = read_or_drop!(compound_name(alloc, source, rest), formals);
     Ok((
         Specification::Function(opening, name, formals, closing, mark),
         rest,
@@ -177,7 +177,7 @@ pub(crate) fn task_declaration<'a>(
 {
     let (name, rest) = identifier(alloc, source, tokens)?;
     let (aspect, rest) = aspect(alloc, source, depth, rest)?;
-    let rest = expect(source, rest, Symbol::Semicolon)?;
+    let rest = read_or_drop!(expect(source, rest, Symbol::Semicolon), aspect);
     Ok((name, aspect, rest))
 }
 
@@ -193,7 +193,7 @@ fn operation<'a>(
 {
     if is_specification_next(source, tokens) {
         let (specification, rest) = specification(alloc, source, depth, tokens)?;
-        let rest = expect(source, rest, Symbol::Semicolon)?;
+        let rest = read_or_drop!(expect(source, rest, Symbol::Semicolon), specification);
         return Ok((ProtectedOperation::Subprogram(specification), rest));
     }
     let (opening, rest) = word_at(source, tokens, Symbol::Entry)?;
@@ -403,7 +403,7 @@ fn declaration<'a>(
     }
     if is_subprogram_declaration_next(source, tokens) {
         let (specification, rest) = specification(alloc, source, depth, tokens)?;
-        let rest = expect(source, rest, Symbol::Semicolon)?;
+        let rest = read_or_drop!(expect(source, rest, Symbol::Semicolon), specification);
         return Ok((Declaration::Subprogram(specification), rest));
     }
     if let Some((opening, rest)) = skip_at(source, tokens, Symbol::Task) {

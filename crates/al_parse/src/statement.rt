@@ -25,7 +25,8 @@ use crate::start::is_expression_next;
 use al_base::Place;
 use al_lex::Token;
 use al_parse_expr::{
-    Stop, compound_name, discrete_range, expect, expression, is_next, name_rest, skip, word_at,
+    Stop, compound_name, discrete_range, expect, expression, is_next, name_rest, read_or_drop,
+    skip, word_at,
 };
 use al_tree::{
     Choice, CompoundEnd, CompoundName, Expression, Identifier, Item, LoopEnd, ObjectName,
@@ -45,7 +46,7 @@ pub(crate) fn call_or_assignment<'a>(
 {
     let (parts, rest) = name_rest(alloc, source, depth, tokens)?;
     let (value, rest) = initial(alloc, source, depth, rest)?;
-    let rest = expect(source, rest, Symbol::Semicolon)?;
+    let rest = read_or_drop!(expect(source, rest, Symbol::Semicolon), value);
     let name = ObjectName::new(first, parts);
     match value {
         None => Ok((Statement::call(name), rest)),
@@ -81,7 +82,7 @@ pub(crate) fn return_statement<'a>(
 {
     let (opening, rest) = word_at(source, tokens, Symbol::Return)?;
     let (value, rest) = returned(alloc, source, depth, rest)?;
-    let rest = expect(source, rest, Symbol::Semicolon)?;
+    let rest = read_or_drop!(expect(source, rest, Symbol::Semicolon), value);
     Ok((Statement::returning(opening, value), rest))
 }
 
@@ -116,7 +117,7 @@ pub(crate) fn exit_statement<'a>(
     let (opening, rest) = word_at(source, tokens, Symbol::Exit)?;
     let (name, rest) = end_name(alloc, source, rest)?;
     let (condition, rest) = exit_condition(alloc, source, depth, rest)?;
-    let rest = expect(source, rest, Symbol::Semicolon)?;
+    let rest = read_or_drop!(expect(source, rest, Symbol::Semicolon), condition);
     Ok((Statement::exit(opening, name, condition), rest))
 }
 
@@ -133,7 +134,7 @@ pub(crate) fn delay_statement<'a>(
     let (opening, rest) = word_at(source, tokens, Symbol::Delay)?;
     let rest = expect(source, rest, Symbol::Until)?;
     let (moment, rest) = expression(alloc, source, depth, rest)?;
-    let rest = expect(source, rest, Symbol::Semicolon)?;
+    let rest = read_or_drop!(expect(source, rest, Symbol::Semicolon), moment);
     Ok((Statement::delay(opening, moment), rest))
 }
 
@@ -183,7 +184,7 @@ pub(crate) fn choices<'a>(
     ensures { Gives (λ x. choice_tokens (choice_seen x.0) ++ each (λ c. word symbols.VerticalLine ∷ choice_tokens (choice_seen c)) x.1.items) (λ x. lexemes source.now x.2.now) result (lexemes source.now tokens.now) (reading depth (parted symbols.VerticalLine choice_rule) (lexemes source.now tokens.now)) }
 {
     let (first, rest) = choice(alloc, source, depth, tokens)?;
-    let (others, rest) = more_choices(alloc, source, depth, rest)?;
+    let (others, rest) = read_or_drop!(more_choices(alloc, source, depth, rest), first);
     Ok((first, others, rest))
 }
 

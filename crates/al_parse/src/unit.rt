@@ -31,7 +31,8 @@ use crate::statement::compound_end;
 use al_base::Place;
 use al_lex::Token;
 use al_parse_expr::{
-    Stop, compound_name, compound_names, enter, enter_at, expect, is_next, skip, skip_at, word_at,
+    Stop, compound_name, compound_names, enter, enter_at, expect, is_next, read_or_drop, skip,
+    skip_at, word_at,
 };
 use al_tree::{
     CompilationUnit, CompoundEnd, CompoundName, ContextItem, Declaration, Item, LibraryItem,
@@ -245,7 +246,7 @@ fn private_item<'a>(
     let (opening, rest) = word_at(source, tokens, Symbol::Private)?;
     if is_subprogram_declaration_next(source, rest) {
         let (specification, rest) = specification(alloc, source, depth, rest)?;
-        let rest = expect(source, rest, Symbol::Semicolon)?;
+        let rest = read_or_drop!(expect(source, rest, Symbol::Semicolon), specification);
         return Ok((LibraryItem::Subprogram(Some(opening), specification), rest));
     }
     let (inner, package, rest) = enter_at(source, depth, rest, Symbol::Package)?;
