@@ -3,3 +3,8 @@ pub mod OrderLemmas
 pub mod UnitLemmas
 pub mod TraceLemmas
 pub mod ListLaws
+pub mod KeySetLemmas
+pub mod WantedLemmas
+pub mod ListingLemmas
+pub mod NumberLemmas
+pub mod StepLemmas

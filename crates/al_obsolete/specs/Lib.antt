@@ -1,3 +1,4 @@
 pub mod Orders
 pub mod Units
 pub mod Obsolete
+pub mod Wanted

@@ -1,5 +1,5 @@
 -- Keys of units in order: by the bytes of the names, and of one name the declaration, the body, the subunit.
-use Rattle.std.specs.Prelude.{ℕ, List, []}
+use Rattle.std.specs.Prelude.{ℕ, List, [], map, Vec}
 use Rattle.std.specs.List.{fold}
 use Rattle.std.specs.Ordering.{nat_cmp, ordering_then}
 use Rattle.std.specs.declared.cmp.Ordering.{Ordering}
@@ -20,3 +20,11 @@ key_cmp a b = ordering_then (name_cmp a.0 b.0) (nat_cmp (kind_place a.1) (kind_p
 -- each of the keys once, in that order
 unfoldable pub in_order : List Key → List Key
 in_order keys = fold (insert_key key_cmp) [] keys
+
+-- the keys of a set, seen as keys of units
+abbrev pub keys_seen : {Y : Type 0} → List (Vec ℕ Y × UnitKind) → List Key
+keys_seen keys = map (λ k. (k.0.items, k.1)) keys
+
+-- the names of a set
+abbrev pub names_seen : {Y : Type 0} → List (Vec ℕ Y) → List (List ℕ)
+names_seen names = map (λ n. n.items) names

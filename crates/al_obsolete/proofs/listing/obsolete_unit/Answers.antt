@@ -1,0 +1,35 @@
+use Rattle.std.proofs.Common.{◌≡◌, Bool, cond, List, [], ◌∷◌, Some, Bor, ap, sym, ◌∙◌}
+use Rattle.std.specs.Option.{option_map}
+use Rattle.al_base.specs.Batch.{Key, key_of}
+use Rattle.al_unit_graph.specs.Library.{unit_in}
+use Rattle.al_unit_graph.specs.Views.{header_seen}
+use Rattle.al_unit_graph.specs.declared.header.Header.{Header}
+use Rattle.al_obsolete.specs.Orders.{names_seen}
+use Rattle.al_obsolete.proofs.ListingLemmas.{told, among_seen}
+use Rattle.al_obsolete.proofs.listing.obsolete_unit.Goals as goal
+
+pub returns-then-is_obsolete : goal.returns-then-is_obsolete
+returns-then-is_obsolete c =
+    let old = c.args.built.now in
+    let new = c.args.now.now in
+    let faulty = names_seen c.args.faulty.now.keys in
+    let file = c.args.file.now in
+    let h = header_seen c.in-Some.header.now in
+    let k = key_of c.in_ok-key.key in
+    let there : unit_in new file ≡ Some h = sym c.in_ok-header.ensures ∙ ap (λ o. option_map (λ (u : Bor Header). header_seen u.now) o) c.in-Some.is in
+    let all = told old faulty new file c.args.is_touched h k c.in_ok-was_unit.was_unit c.contains.result c.differs-is_obsolete.result there c.in_ok-key.ensures c.in_ok-was_unit.ensures (c.contains.ensures ∙ among_seen file c.args.faulty.now.keys) c.differs-is_obsolete.ensures in
+    let P : Bool → List Key = λ b. cond b (k ∷ []) [] in
+    ap P (sym c.if-is_obsolete.true) ∙ all
+
+pub returns-else-is_obsolete : goal.returns-else-is_obsolete
+returns-else-is_obsolete c =
+    let old = c.args.built.now in
+    let new = c.args.now.now in
+    let faulty = names_seen c.args.faulty.now.keys in
+    let file = c.args.file.now in
+    let h = header_seen c.in-Some.header.now in
+    let k = key_of c.in_ok-key.key in
+    let there : unit_in new file ≡ Some h = sym c.in_ok-header.ensures ∙ ap (λ o. option_map (λ (u : Bor Header). header_seen u.now) o) c.in-Some.is in
+    let all = told old faulty new file c.args.is_touched h k c.in_ok-was_unit.was_unit c.contains.result c.differs-is_obsolete.result there c.in_ok-key.ensures c.in_ok-was_unit.ensures (c.contains.ensures ∙ among_seen file c.args.faulty.now.keys) c.differs-is_obsolete.ensures in
+    let P : Bool → List Key = λ b. cond b (k ∷ []) [] in
+    ap P (sym c.if-is_obsolete.false) ∙ all
