@@ -1,18 +1,19 @@
 -- The list of all that a unit depends on.
 use Rattle.std.proofs.Common.{◌≡◌, [], Option, Some, None, refl, subst, sym}
 use Rattle.std.specs.Option.{option_map, option_map_or}
+use Rattle.std.specs.Bool.{Decides}
 use Rattle.std.specs.List.{Contains}
 use Rattle.al_base.specs.Batch.{Key}
 use Rattle.al_graph.specs.Closing.{IsEquality, BeginsAt}
-use Rattle.al_graph.proofs.Members.{nowhere, one, into_flat_map}
+use Rattle.al_graph.proofs.Members.{nowhere, one, into_flat_map, any_from, any_into}
 use Rattle.al_graph.proofs.ClosingLemmas.{closing_reached}
 use Rattle.al_unit_graph.specs.Headers.{Header, Library, key_of_unit}
 use Rattle.al_unit_graph.specs.Library.{unit_in, unit_at}
-use Rattle.al_unit_graph.specs.Dependence.{listed, direct, dependences}
+use Rattle.al_unit_graph.specs.Dependence.{listed, direct, dependences, DependsOn}
 use Rattle.al_unit_graph.specs.Closures.{is_same_key}
 use Rattle.al_unit_graph.proofs.ClosureLemmas.{same_key, depends_reached}
-use Rattle.al_unit_faults.specs.Cycles.{unit_keys, all_dependences, DependencesAreAll}
-use Rattle.al_unit_faults.proofs.UnitLemmas.{told_same, in_file, at_key, among_files}
+use Rattle.al_unit_faults.specs.Cycles.{unit_keys, all_dependences, depends_on_itself, DependencesAreAll}
+use Rattle.al_unit_faults.proofs.UnitLemmas.{itself, told_same, in_file, at_key, among_files}
 
 pub keys_are_equal : IsEquality is_same_key
 keys_are_equal a b = (same_key a b, told_same a b)
@@ -44,3 +45,11 @@ dependences_are_all lib key other =
     let r = closing_reached is_same_key (direct lib) (unit_keys lib) (direct lib key) keys_are_equal (begins_at_units lib) other in
     let d = depends_reached lib key other in
     ((λ c. d.0 (r.0 c)), (λ e. r.1 (d.1 e)))
+
+pub itself_decided : (lib : Library) (key : Key) → Decides (depends_on_itself lib key) (DependsOn lib key key)
+itself_decided lib key = (
+  (λ is.
+      let r = any_from (is_same_key key) (all_dependences lib key) is in
+      (dependences_are_all lib key key).0 (subst (λ k. Contains (all_dependences lib key) k) (sym (same_key key r.0 r.2)) r.1)),
+  (λ d. any_into (is_same_key key) (all_dependences lib key) key ((dependences_are_all lib key key).1 d) (itself key)),
+)

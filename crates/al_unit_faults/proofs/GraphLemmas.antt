@@ -3,25 +3,23 @@ use Rattle.std.proofs.Common.{◌≡◌, ℕ, zero, suc, ◌+◌, ◌<◌, ◌�
 use Rattle.std.specs.Option.{is_some, option_map_or}
 use Rattle.std.specs.List.{Contains}
 use Rattle.std.specs.Map.{keys_of}
-use Rattle.std.proofs.lemmas.Bool.{cases_lt}
 use Rattle.std.proofs.lemmas.List.Elements.{Contains-push, Contains-push_cases, Contains-append_left}
 use Rattle.al_base.specs.Batch.{Key}
 use Rattle.al_base.specs.FileNames.{file_name_of}
 use Rattle.al_graph.specs.Graphs.{Step, Reaches, IsOnCycle, Marks, with_step}
 use Rattle.al_graph.specs.Graphs.Reaches.{here, further}
-use Rattle.al_graph.proofs.Members.{nowhere, one, the_one, first, later, from_flat_map, into_flat_map, any_from, any_into}
+use Rattle.al_graph.proofs.Members.{nowhere, one, the_one, first, later, from_flat_map, into_flat_map}
 use Rattle.al_graph.proofs.ReachLemmas.{Reaches-trans}
 use Rattle.al_graph.proofs.StepLemmas.{Step-with_step, Step-added, Step-kept, length-with_step}
 use Rattle.al_unit_graph.specs.Headers.{Header, Library, key_of_unit}
 use Rattle.al_unit_graph.specs.Library.{unit_in, unit_at}
 use Rattle.al_unit_graph.specs.Dependence.{listed, dependences, direct, DependsOn}
 use Rattle.al_unit_graph.specs.Dependence.DependsOn.{directly, through}
-use Rattle.al_unit_graph.specs.Closures.{is_same_key}
-use Rattle.al_unit_graph.proofs.ClosureLemmas.{same_key}
-use Rattle.al_unit_faults.specs.Cycles.{all_dependences, depends_on_itself}
+use Rattle.al_unit_faults.specs.Cycles.{depends_on_itself}
 use Rattle.al_unit_faults.specs.Numbers.{IsNumbering, number_at, node_of, targets, AddsFrom, StepsBelow}
-use Rattle.al_unit_faults.proofs.UnitLemmas.{in_file, at_key, at_own_key, among_files, itself}
-use Rattle.al_unit_faults.proofs.CycleLemmas.{depending_is_unit, dependences_are_all}
+use Rattle.al_unit_faults.proofs.UnitLemmas.{some_is, in_file, at_key, at_own_key, among_files}
+use Rattle.al_unit_faults.proofs.CycleLemmas.{depending_is_unit, itself_decided}
+use Rattle.al_unit_faults.proofs.NumberLemmas.{at_or_before}
 
 -- one step more from a node
 pub no_steps : (g : List (List ℕ)) (from : ℕ) → AddsFrom g g from []
@@ -48,9 +46,6 @@ step_added g h from tos to within so_far = record {
   );
 }
 
-at_or_before : (a i : ℕ) → a < i + 1 → (a < i) ⊎ (a ≡ i)
-at_or_before a i less = elim (cases_lt a i) [ inl h ↦ inl h | inr h ↦ inr (omega (arith, h, less)) ]
-
 default_free : {X : Type 0} (xs : List X) (i : ℕ) (d e : X) → i < length xs → get_or xs i d ≡ get_or xs i e
 default_free [] i d e within = absurd (omega (arith, within))
 default_free (x ∷ xs) zero d e within = refl
@@ -75,9 +70,6 @@ bools : (a b : Bool) → (a ≡ true → b ≡ true) → (b ≡ true → a ≡ t
 bools true b go back = sym (go refl)
 bools false true go back = back refl
 bools false false go back = refl
-
-some_is : {X : Type 0} (x y : X) → Some x ≡ Some y → x ≡ y
-some_is x y is = cc
 
 depends_is_unit : (lib : Library) (x y : Key) → DependsOn lib x y → (h : Header) × (unit_at lib x ≡ Some h)
 depends_is_unit lib x y (directly c) = depending_is_unit lib x y c
@@ -202,14 +194,6 @@ module _ (lib : Library) (files : List (List ℕ)) (ns : List (List ℕ × ℕ))
           let b = into_way z y n.0 j e n.1 too in
           (a.0, a.1, Reaches-trans a.0 n.0 j a.2 (Reaches-trans n.0 b.0 j (further n.0 here b.1) b.2))
 
-      depends_by_list : (x : Key) → depends_on_itself lib x ≡ true → DependsOn lib x x
-      depends_by_list x is =
-          let r = any_from (is_same_key x) (all_dependences lib x) is in
-          (dependences_are_all lib x x).0 (subst (λ k. Contains (all_dependences lib x) k) (sym (same_key x r.0 r.2)) r.1)
-
-      listed_by_depends : (x : Key) → DependsOn lib x x → depends_on_itself lib x ≡ true
-      listed_by_depends x d = any_into (is_same_key x) (all_dependences lib x) x ((dependences_are_all lib x x).1 d) (itself x)
-
       pub cycles_told : (flags : List Bool) → Marks flags (length g) (IsOnCycle g) → (file : List ℕ) (h : Header) → unit_in lib file ≡ Some h → option_map_or (λ n. get_or flags n false) (number_at ns file) false ≡ depends_on_itself lib (key_of_unit h)
       cycles_told flags marks file h is =
           let x = key_of_unit h in
@@ -217,5 +201,5 @@ module _ (lib : Library) (files : List (List ℕ)) (ns : List (List ℕ × ℕ))
           let named = (in_file lib file h is).named in
           let number : number_at ns file ≡ Some n.0 = subst (λ f. number_at ns f ≡ Some n.0) (sym named) (from_node x n.0 n.1).2 in
           rw number (bools (get_or flags n.0 false) (depends_on_itself lib x)
-          (λ set. listed_by_depends x (from_cycle x n.0 n.1 ((marks.1 n.0).0 set)))
-          (λ itself. (marks.1 n.0).1 (into_way x x n.0 n.0 (depends_by_list x itself) n.1 n.1)))
+          (λ set. (itself_decided lib x).1 (from_cycle x n.0 n.1 ((marks.1 n.0).0 set)))
+          (λ itself. (marks.1 n.0).1 (into_way x x n.0 n.0 ((itself_decided lib x).0 itself) n.1 n.1)))

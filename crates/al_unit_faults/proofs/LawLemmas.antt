@@ -21,28 +21,24 @@ use Rattle.al_unit_graph.specs.Faults.{Misnames, BreaksByItself, Breaks}
 use Rattle.al_unit_graph.specs.Faults.Misnames.{other_file, reserved}
 use Rattle.al_unit_graph.specs.Faults.BreaksByItself.{missing_mention, missing_parent_body, missing_declaration, missing_parent, parent_no_package, no_stub, misfit}
 use Rattle.al_unit_graph.specs.Faults.Breaks.{by_itself, cycle, private_child}
-use Rattle.al_unit_graph.proofs.BoolLemmas.{both, and, not_true, not_so, not_both}
+use Rattle.al_unit_graph.proofs.BoolLemmas.{both, and, not_true, true_not, not_so, not_both}
 use Rattle.al_unit_graph.proofs.FaultLemmas.{from_if, into_if, name_faults_are_misnames, own_faults_are_broken}
-use Rattle.al_unit_graph.specs.Closures.{is_same_key}
-use Rattle.al_unit_graph.proofs.ClosureLemmas.{same_key}
 use Rattle.al_unit_faults.specs.Private.{is_private, may_mention_children, is_hidden, private_faults}
-use Rattle.al_unit_faults.specs.Cycles.{all_dependences, depends_on_itself, cycle_faults}
+use Rattle.al_unit_faults.specs.Cycles.{depends_on_itself, cycle_faults}
 use Rattle.al_unit_faults.specs.Orders.{finding_cmp}
 use Rattle.al_unit_faults.specs.GraphFaults.{rule_faults, or_else, header_faults, contents_faults, file_faults, graph_faults}
 use Rattle.al_unit_faults.specs.Laws.{IsFaultOf, FileFaultsAreBroken, GraphFaultsAreBroken, GraphFaultsAscend}
 use Rattle.al_unit_faults.specs.Laws.IsFaultOf.{misnamed, broken}
-use Rattle.al_unit_faults.proofs.UnitLemmas.{among_files, itself}
-use Rattle.al_unit_faults.proofs.CycleLemmas.{dependences_are_all}
+use Rattle.al_unit_faults.proofs.UnitLemmas.{among_files}
+use Rattle.al_unit_faults.proofs.CycleLemmas.{itself_decided}
 use Rattle.al_unit_faults.proofs.PrivateLemmas.{private_told, mentions_are_decided}
 use Rattle.al_unit_faults.proofs.OrderLemmas.{ascending-none, from_ascending, into_ascending, sorted_ascending}
 
 module _ (lib : Library) (file : List ℕ) (h : Header) where
   from_cycle : (f : Finding) → Contains (cycle_faults lib file h) f → Breaks lib file h f
   from_cycle f c =
-      let key = key_of_unit h in
-      let r = from_if file (depends_on_itself lib key) (record { line = 1; col = 1 }) 203 f c in
-      let a = any_from (is_same_key key) (all_dependences lib key) r.0 in
-      subst (λ g. Breaks lib file h g) r.1 (cycle ((dependences_are_all lib key key).0 (subst (λ k. Contains (all_dependences lib key) k) (sym (same_key key a.0 a.2)) a.1)))
+      let r = from_if file (depends_on_itself lib (key_of_unit h)) (record { line = 1; col = 1 }) 203 f c in
+      subst (λ g. Breaks lib file h g) r.1 (cycle ((itself_decided lib (key_of_unit h)).0 r.0))
 
   from_private : (f : Finding) → Contains (flat_map (private_faults lib file h) h.mentions) f → Breaks lib file h f
   from_private f c =
@@ -72,9 +68,7 @@ module _ (lib : Library) (file : List ℕ) (h : Header) where
   into_rule : (f : Finding) → Breaks lib file h f → Contains (rule_faults lib file h) f
   into_rule f (by_itself b) = Contains-append_left (owns ++ cycles) privates f (Contains-append_left owns cycles f ((own_faults_are_broken lib file h f).1 b))
   into_rule f (cycle d) =
-      let key = key_of_unit h in
-      let holds = any_into (is_same_key key) (all_dependences lib key) key ((dependences_are_all lib key key).1 d) (itself key) in
-      Contains-append_left (owns ++ cycles) privates f (Contains-append_right owns cycles f (into_if file (depends_on_itself lib key) (record { line = 1; col = 1 }) 203 holds))
+      Contains-append_left (owns ++ cycles) privates f (Contains-append_right owns cycles f (into_if file (depends_on_itself lib (key_of_unit h)) (record { line = 1; col = 1 }) 203 ((itself_decided lib (key_of_unit h)).1 d)))
   into_rule f (private_child {m = m} {child = child} c l p fails) =
       let may = may_mention_children lib h (parent_of child) in
       let hidden = and (is_private lib child) (not may) ((private_told lib child).1 p) (not_so may (λ holds. fails ((mentions_are_decided lib h (parent_of child)).0 holds))) in
@@ -132,16 +126,12 @@ not_false : (b : Bool) → not b ≡ false → b ≡ true
 not_false true is = refl
 not_false false is = absurd (cc)
 
-turned : (b : Bool) → b ≡ false → not b ≡ true
-turned true is = absurd (cc)
-turned false is = refl
-
 pub rightly_named : (file : List ℕ) (h : Header) → name_faults file h ≡ [] → is_rightly_named file h ≡ true
 unfolding name_faults
 rightly_named file h none =
     let is_it = bytes_eq file (file_name_of (key_of_unit h)) in
     let r = no_two (finding_if (not is_it) file h.place 201) (finding_if (is_reserved h.name) file h.place 207) none in
-    and is_it (not (is_reserved h.name)) (not_false is_it (not_found (not is_it) file h.place 201 r.0)) (turned (is_reserved h.name) (not_found (is_reserved h.name) file h.place 207 r.1))
+    and is_it (not (is_reserved h.name)) (not_false is_it (not_found (not is_it) file h.place 201 r.0)) (true_not (is_reserved h.name) (not_found (is_reserved h.name) file h.place 207 r.1))
 
 -- files without a unit
 pub no_source : (lib : Library) (file : List ℕ) → source_at lib file ≡ None → file_faults lib file ≡ []

@@ -10,7 +10,10 @@ use Rattle.std.proofs.lemmas.Cmp.{tied_itself, alike_right}
 use Rattle.std.proofs.lemmas.Bool.{cases_lt}
 use Rattle.al_base.specs.Files.{name_cmp}
 use Rattle.al_unit_faults.specs.Numbers.{IsNumbering, number_at}
-use Rattle.al_unit_faults.proofs.UnitLemmas.{same_name, told_same_name}
+use Rattle.al_unit_faults.proofs.UnitLemmas.{some_is, same_name, told_same_name}
+
+pub at_or_before : (j i : ℕ) → j < i + 1 → (j < i) ⊎ (j ≡ i)
+at_or_before j i less = elim (cases_lt j i) [ inl h ↦ inl h | inr h ↦ inr (omega (arith, h, less)) ]
 
 module _ {Y : Type 0} where
   abbrev pub names_of : List (Vec ℕ Y × ℕ) → List (List ℕ × ℕ)
@@ -53,9 +56,6 @@ number_other (e ∷ es) k v q apart = step (name_cmp k e.0) refl (number_other e
     step Equal is rest = let off : is_eq (name_cmp q e.0) ≡ false = ap is_eq (sym (alike_right nat_list_cmp_total k e.0 q is)) ∙ apart in rw (is, off) refl
     step Greater is rest = rw is (ap (cond (is_eq (name_cmp q e.0)) (Some e.1)) rest)
 
-some_is : (m n : ℕ) → Some m ≡ Some n → m ≡ n
-some_is m n is = cc
-
 module _ (files : List (List ℕ)) where
   abbrev file_at : ℕ → List ℕ
   file_at i = get_or files i []
@@ -83,11 +83,8 @@ module _ (files : List (List ℕ)) where
         clash : {b : Bool} → b ≡ true → b ≡ false → ⊥
         clash holds fails = cc
 
-    at_or_before : (j : ℕ) → j < i + 1 → (j < i) ⊎ (j ≡ i)
-    at_or_before j less = elim (cases_lt j i) [ inl h ↦ inl h | inr h ↦ inr (omega (arith, h, less)) ]
-
     pub one_more_number : IsNumbering files (i + 1) (with_number ns (file_at i) i)
     one_more_number = record {
       right = λ file n is. right_by file n (is_at (name_cmp file) (file_at i)) refl is;
-      total = λ j less. total_by j (is_at (name_cmp (file_at j)) (file_at i)) refl (at_or_before j less);
+      total = λ j less. total_by j (is_at (name_cmp (file_at j)) (file_at i)) refl (at_or_before j i less);
     }

@@ -14,10 +14,7 @@ use Rattle.al_unit_graph.specs.Library.{source_at, unit_in, unit_at}
 use Rattle.al_unit_graph.specs.Faults.{IsPartOf}
 use Rattle.al_unit_graph.specs.Faults.IsPartOf.{itself, of_body, of_subunit}
 use Rattle.al_unit_faults.specs.Parts.{part_within, part_of, PartsAreTold}
-use Rattle.al_unit_faults.proofs.UnitLemmas.{in_file, at_key, same_name}
-
-some_is : {X : Type 0} (x y : X) → Some x ≡ Some y → x ≡ y
-some_is x y is = cc
+use Rattle.al_unit_faults.proofs.UnitLemmas.{some_is, in_file, at_key, same_name}
 
 none_is : {X : Type 0} (x : X) → None ≡ Some x → ⊥
 none_is x is = cc
