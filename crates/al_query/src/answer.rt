@@ -53,7 +53,8 @@ pub struct Completion {
     pub view: View,
 }
 
-/// What is answered. Of a unit with faults each question has the answer `Nothing`.
+/// What is answered. Of a unit that has faults, or that isn't there, no name has views, no part has names, and each property has
+/// the answer `Nothing`.
 #[derive(Drop)]
 pub enum AnswerKind {
     Nothing,

@@ -1,0 +1,4 @@
+pub mod OneQuestion
+pub mod ReadsLaw
+pub mod Results
+pub mod Tables
