@@ -9,12 +9,14 @@ use Rattle.al_base.specs.FileLaws.{Ascend}
 use Rattle.al_base.specs.FileNames.{file_name_of}
 use Rattle.al_base.specs.Files.{Texts, name_cmp, text_of}
 use Rattle.al_unit_graph.specs.Headers.{Header, Library}
-use Rattle.al_unit_graph.specs.Library.{unit_at}
+use Rattle.al_unit_graph.specs.Library.{source_at, unit_at}
+use Rattle.al_unit_graph.specs.Traces.{text_at}
 use Rattle.al_unit.specs.declared.reading.Reading.{Reading}
 use Rattle.al_unit.specs.Readings.{Reading as AnyReading, reading_of, sentence_of}
 use Rattle.al_unit.specs.ReadingSeen.{readings_seen}
 use Rattle.al_unit.specs.Catalogs.{source_of, library_of, readings_of, texts_of, tree_in, tree_where, tree_at}
 use Rattle.al_unit.specs.CatalogSeen.{IsCatalog}
+use Rattle.al_unit.specs.Laws.{TextsAreReadAlike}
 use Rattle.al_unit.proofs.Ascending.{insert_next}
 
 module _ {A : Type 0} (v : A → List ℕ × List ℕ) (xs : List A) (i : ℕ) (a : A) (sorted : Ascend (map v xs)) (within : i < length xs) (is : a ≡ get_or xs i a) where
@@ -64,3 +66,25 @@ module _ (files : Texts) (key : Key) where
   pub tree_of_reading : (reading : Option AnyReading) → is_some (unit_at (library_of files) key) ≡ true → lookup (is_at (name_cmp (file_name_of key))) (readings_of files) ≡ reading → tree_at files key ≡ option_and_then sentence_of reading
   unfolding tree_at
   tree_of_reading reading is_there is = there (unit_at (library_of files) key) is_there ∙ looked_up reading is
+
+module _ (file : List ℕ) where
+  source_of_file : (files : Texts) → source_at (library_of files) file ≡ option_map source_of (text_of files file)
+  unfolding library_of
+  source_of_file files = lookup-map_values source_of (is_at (name_cmp file)) files
+
+  text_of_source : (text : Option (List ℕ)) → option_map (λ s. s.text) (option_map source_of text) ≡ text
+  text_of_source None = refl
+  text_of_source (Some t) = refl
+
+  text_at-library_of : (files : Texts) → text_at (library_of files) file ≡ text_of files file
+  text_at-library_of files = ap (option_map (λ s. s.text)) (source_of_file files) ∙ text_of_source (text_of files file)
+
+  alike : (old new : Texts) → text_at (library_of old) file ≡ text_at (library_of new) file → source_at (library_of old) file ≡ source_at (library_of new) file
+  alike old new same =
+      source_of_file old
+      ∙ ap (option_map source_of) (sym (text_at-library_of old) ∙ same ∙ text_at-library_of new)
+      ∙ sym (source_of_file new)
+
+-- what the files of two libraries are read as goes by their texts
+pub texts_are_read_alike : TextsAreReadAlike
+texts_are_read_alike old new file = alike file old new

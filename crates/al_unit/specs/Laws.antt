@@ -1,5 +1,6 @@
 -- Which reading a text has, each rule by itself.
 use Rattle.std.specs.Prelude.{ℕ, ◌≡◌, ◌≤◌, ◌↔◌, List, Ok, Err}
+use Rattle.al_base.specs.Files.{Texts}
 use Rattle.al_lex.specs.declared.token.Token.{Token}
 use Rattle.al_lex.specs.declared.token.LexFault.{LexFault}
 use Rattle.al_lex.specs.Codes.{number_of}
@@ -9,6 +10,8 @@ use Rattle.al_syntax.specs.Rules.{most}
 use Rattle.al_syntax.specs.UnitTrees.{CompilationUnitTree, tokens_of}
 use Rattle.al_syntax.specs.Nesting.{nesting}
 use Rattle.al_tree.specs.Lexemes.{lexemes}
+use Rattle.al_unit_graph.specs.Traces.{AreReadAlike}
+use Rattle.al_unit.specs.Catalogs.{library_of}
 use Rattle.al_unit.specs.Readings.{Reading, reading_of, token_place}
 use Rattle.al_unit.specs.Readings.Reading.{Sentence, Fails}
 
@@ -24,3 +27,7 @@ pub data Reads (text : List ℕ) : Reading → Type 0 where
 -- each text has the one reading that is computed
 abbrev pub TextsAreRead : Type 0
 TextsAreRead = (text : List ℕ) (reading : Reading) → (reading_of text ≡ reading) ↔ Reads text reading
+
+-- equal texts are read alike in any two libraries of texts
+abbrev pub TextsAreReadAlike : Type 0
+TextsAreReadAlike = (old new : Texts) → AreReadAlike (library_of old) (library_of new)

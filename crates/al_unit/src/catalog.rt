@@ -3,24 +3,31 @@ ghost use Rattle.std.specs.Prelude.{◌≡◌, ◌↔◌, ◌⊎◌, map, IfOk, 
 ghost use Rattle.std.specs.Option.{option_map};
 ghost use Rattle.std.specs.List.{Contains};
 ghost use Rattle.std.specs.BTreeMap.{insert_entry};
-ghost use Rattle.al_base.specs.Batch.{Key, key_of};
+ghost use Rattle.al_base.specs.Batch.{Key, finding_of, key_of};
 ghost use Rattle.al_base.specs.Files.{name_cmp};
 ghost use Rattle.al_tree.specs.UnitViews.{unit_seen};
 ghost use Rattle.al_unit_graph.specs.Dependence.{DependsOn};
 ghost use Rattle.al_unit_graph.specs.Needed.{Needed};
 ghost use Rattle.al_unit_graph.specs.Views.{contents_seen};
+ghost use Rattle.al_unit_faults.specs.GraphFaults.{graph_faults};
+ghost use Rattle.al_obsolete.specs.Obsolete.{obsolete_of};
+ghost use Rattle.al_obsolete.specs.Orders.{names_seen};
+ghost use Rattle.al_obsolete.specs.Units.{unit_seen as file_unit_seen, units_of};
 ghost use Rattle.al_unit.specs.Catalogs.{contents_of, source_of, library_of, tree_at};
 ghost use Rattle.al_unit.specs.Readings.{reading_of, sentence_of};
 ghost use Rattle.al_unit.specs.ReadingSeen.{reading_seen, readings_seen};
 
+use crate::laws::texts_are_read_alike;
 use crate::reading::{Reading, read};
 use crate::readings::{insert, reading_at};
-use al_base::{Files, Name, NoMemory, UnitKey, file_name_of};
+use al_base::{Diagnostic, Files, Name, NoMemory, UnitKey, file_name_of};
 use al_header::header_of;
+use al_obsolete::{obsolete, units};
 use al_tree::CompilationUnit;
+use al_unit_faults::faults;
 use al_unit_graph::{Contents, Source, Sources};
 use std::alloc::Global;
-use std::collections::BTreeMap;
+use std::collections::{BTreeMap, BTreeSet};
 use std::marker::Model;
 use std::rc::Rc;
 
@@ -42,6 +49,14 @@ impl Model for Catalog {
     ghost view = { λ c. texts_of c.sources };
 
     ghost invariant = { λ c. IsCatalog c.sources c.readings.entries };
+}
+
+/// The files of which a library was built.
+#[derive(Drop)]
+pub struct BuiltFiles {
+    pub catalog: Catalog,
+    /// The names of the files that had a diagnostic.
+    pub faulty: BTreeSet<Vec<u8>>,
 }
 
 /// What the graph of units needs of a reading.
@@ -145,6 +160,32 @@ impl Catalog {
         ensures { IfOk result (λ keys. (y : Key) → Contains (map key_of keys.items) y ↔ Needed (library_of self.now) main.now y) }
     {
         let keys = self.sources.needed(main)?;
+        Ok(keys)
+    }
+
+    /// Each file, in the order of the names, and the unit that it holds, if it is sound.
+    pub fn units(&self) -> Result<Vec<(Name, Option<UnitKey>)>, NoMemory>
+        ensures { IfOk result (λ found. map file_unit_seen found.items ≡ units_of (library_of self.now)) }
+    {
+        let found = units(self.alloc, &self.sources)?;
+        Ok(found)
+    }
+
+    /// What is wrong with the files as units (ARM 10.1), by file, place and number.
+    pub fn faults(&self) -> Result<Vec<Diagnostic>, NoMemory>
+        ensures { IfOk result (λ found. map finding_of found.items ≡ graph_faults (library_of self.now)) }
+    {
+        let found = faults(self.alloc, &self.sources)?;
+        Ok(found)
+    }
+
+    /// The units that are obsolete since the files were built, in the order of their keys (ARM 10.1.4(5, 7)).
+    pub fn obsolete(&self, built: &BuiltFiles) -> Result<Vec<UnitKey>, NoMemory>
+        ensures { IfOk result (λ keys. map key_of keys.items ≡ obsolete_of (library_of built.now.catalog) (names_seen built.now.faulty.keys) (library_of self.now)) }
+    {
+        texts_are_read_alike();
+        let old = &built.catalog;
+        let keys = obsolete(self.alloc, &old.sources, &built.faulty, &self.sources)?;
         Ok(keys)
     }
 }

@@ -1,5 +1,5 @@
 // What texts are read as. The functions do nothing: their contracts are the laws.
-ghost use Rattle.al_unit.specs.Laws.{TextsAreRead};
+ghost use Rattle.al_unit.specs.Laws.{TextsAreRead, TextsAreReadAlike};
 
 use al_syntax::{faults_are_found, sentences_are_trees, trees_are_found};
 
@@ -11,3 +11,8 @@ pub fn texts_are_read()
     sentences_are_trees();
     faults_are_found();
 }
+
+/// What the files of two libraries are read as goes by their texts, so that equal texts are read alike.
+pub fn texts_are_read_alike()
+    ensures { TextsAreReadAlike }
+{}

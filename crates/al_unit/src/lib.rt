@@ -7,6 +7,6 @@ mod laws;
 mod reading;
 mod readings;
 
-pub use catalog::Catalog;
-pub use laws::texts_are_read;
+pub use catalog::{BuiltFiles, Catalog};
+pub use laws::{texts_are_read, texts_are_read_alike};
 pub use reading::{Reading, read};

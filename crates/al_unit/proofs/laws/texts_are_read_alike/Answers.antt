@@ -1,0 +1,5 @@
+use Rattle.al_unit.proofs.CatalogLemmas as lemmas
+use Rattle.al_unit.proofs.laws.texts_are_read_alike.Goals as goal
+
+pub returns : goal.returns
+returns c = lemmas.texts_are_read_alike
