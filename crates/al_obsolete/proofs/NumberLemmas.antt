@@ -1,5 +1,5 @@
 -- Names with their numbers, and what is wanted so far.
-use Rattle.std.proofs.Common.{◌≡◌, ℕ, zero, suc, ◌+◌, ◌<◌, ◌≤◌, Bool, true, false, cond, List, [], ◌∷◌, ◌++◌, ◌⊎◌, inl, inr, Some, Vec, length, get_or, refl, ap, subst, sym, ◌∙◌, append_assoc, arith}
+use Rattle.std.proofs.Common.{◌≡◌, ℕ, ◌+◌, ◌<◌, ◌≤◌, Bool, true, false, cond, List, [], ◌∷◌, ◌++◌, ◌⊎◌, inl, inr, Some, Vec, length, get_or, refl, ap, subst, sym, ◌∙◌, append_assoc, arith}
 use Rattle.std.specs.List.{Contains}
 use Rattle.std.specs.Map.{lookup}
 use Rattle.std.specs.BTreeMap.{insert_entry, is_at}
@@ -17,12 +17,6 @@ use Rattle.al_graph.proofs.Members.{nowhere, first, later, first_or_later}
 use Rattle.al_unit_graph.specs.Headers.{Library}
 use Rattle.al_unit_graph.specs.Traces.{wants}
 use Rattle.al_obsolete.specs.Wanted.{IsAt, AreNumbered, GoesOn, IsWanted, IsWantedTo}
-
--- an item goes by its number alone, where that is within the list
-pub get_alike : {X : Type 0} (xs : List X) (k : ℕ) (d e : X) → k < length xs → get_or xs k d ≡ get_or xs k e
-get_alike [] k d e within = absurd (omega (arith, within))
-get_alike (x ∷ xs) zero d e within = refl
-get_alike (x ∷ xs) (suc k) d e within = get_alike xs k d e (omega (arith, within))
 
 pub goes_on_itself : (names : List (List ℕ)) → GoesOn names names
 goes_on_itself names = ([], sym (append-nil names))

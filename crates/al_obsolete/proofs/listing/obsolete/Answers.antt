@@ -10,7 +10,7 @@ use Rattle.al_unit_graph.specs.Traces.{IsTouched}
 use Rattle.al_obsolete.specs.Orders.{key_cmp, names_seen}
 use Rattle.al_obsolete.specs.Wanted.{AreTouched, obsolete_by, obsolete_in}
 use Rattle.al_obsolete.proofs.ListingLemmas.{obsolete_by_files, obsolete_step}
-use Rattle.al_obsolete.proofs.NumberLemmas.{get_alike}
+use Rattle.std.proofs.lemmas.List.{get_or_default}
 use Rattle.al_obsolete.proofs.listing.obsolete.Goals as goal
 use Rattle.al_obsolete.proofs.listing.obsolete.Goals.{in-Some+in_ok-insert, in_default}
 
@@ -32,7 +32,7 @@ loop-i-preserved c = λ alike.
     let enough : length files ≤ length flags = touched.0 in
     let flagged : i < length flags = omega arith in
     let t = c.index.result.now in
-    let flag : t ≡ get_or flags i false = c.index.ensures ∙ get_alike flags i t false flagged in
+    let flag : t ≡ get_or flags i false = c.index.ensures ∙ get_or_default flags i t false flagged in
     let decided = subst (λ b. Decides b (IsTouched old new (get_or files i []))) (sym flag) (touched.1 i within) in
     let file = get_or-map now items i (record { ref_ptr = (0, 0); now = [] }) [] near in
     let found = c.in_ok-key.field-0 in

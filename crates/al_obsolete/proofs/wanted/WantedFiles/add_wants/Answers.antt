@@ -1,10 +1,10 @@
 use Rattle.std.proofs.Common.{◌≡◌, ◌+◌, ◌<◌, ◌≤◌, [], ◌∷◌, ◌++◌, length, get_or, take, subst, sym, ap, ◌∙◌, arith}
 use Rattle.std.specs.List.{Contains}
 use Rattle.std.proofs.lemmas.Grind.{common_steps}
-use Rattle.std.proofs.lemmas.List.{take_more, take_all}
+use Rattle.std.proofs.lemmas.List.{take_more, take_all, get_or_default}
 use Rattle.al_unit_graph.specs.Traces.{wants}
 use Rattle.al_obsolete.specs.Wanted.{IsAt, IsWantedTo}
-use Rattle.al_obsolete.proofs.NumberLemmas.{get_alike, same_name, longer, goes_on_trans, wanted_push, wanted_end}
+use Rattle.al_obsolete.proofs.NumberLemmas.{same_name, longer, goes_on_trans, wanted_push, wanted_end}
 use Rattle.al_obsolete.proofs.wanted.WantedFiles.add_wants.Goals as goal
 
 pub loop-name-preserved : goal.loop-name-preserved
@@ -22,7 +22,7 @@ loop-name-preserved c =
     let on = c.loop-name.invariant.names in
     let wants_is : ws ≡ wants lib (get_or names1 from []) =
     c.deref-name-items.ensures.value ∙ c.in_ok-wanted.ensures
-    ∙ ap (λ f. wants lib f) (c.as_slice.ensures ∙ sym here ∙ get_alike names0 from file [] from_in ∙ sym (same_name names0 names1 from on from_in)) in
+    ∙ ap (λ f. wants lib f) (c.as_slice.ensures ∙ sym here ∙ get_or_default names0 from file [] from_in ∙ sym (same_name names0 names1 from on from_in)) in
     let names2 = c.number.new.self.names.items in
     let name = c.name-item.result in
     let to = c.in_ok-to.to in
@@ -57,6 +57,6 @@ returns-clause-wanted c =
     let on = c.loop-name.invariant.names in
     let wants_is : ws ≡ wants lib (get_or names1 from []) =
     c.deref-name-items.ensures.value ∙ c.in_ok-wanted.ensures
-    ∙ ap (λ f. wants lib f) (c.as_slice.ensures ∙ sym here ∙ get_alike names0 from file [] from_in ∙ sym (same_name names0 names1 from on from_in)) in
+    ∙ ap (λ f. wants lib f) (c.as_slice.ensures ∙ sym here ∙ get_or_default names0 from file [] from_in ∙ sym (same_name names0 names1 from on from_in)) in
     let ended : length ws ≤ i = c.loop-name-test.false in
     wanted_end lib names1 steps1 from (subst (λ v. IsWantedTo lib names1 steps1 from v) (take_all i ws ended ∙ wants_is) c.loop-name.invariant.wanted)

@@ -1,6 +1,6 @@
 use Rattle.std.proofs.Common.{◌≡◌, ℕ, ◌+◌, ◌<◌, List, [], length, get_or, subst, sym, ap, ◌∙◌, arith}
 use Rattle.al_unit_graph.specs.Traces.{is_changed}
-use Rattle.al_obsolete.proofs.NumberLemmas.{get_alike}
+use Rattle.std.proofs.lemmas.List.{get_or_default}
 use Rattle.al_obsolete.proofs.StepLemmas.{AreThose, those_yes, those_no}
 use Rattle.al_obsolete.proofs.wanted.WantedFiles.changed.Goals as goal
 use Rattle.al_obsolete.proofs.wanted.WantedFiles.changed.Goals.{then-is_changed+in_ok-push, else-is_changed}
@@ -14,7 +14,7 @@ loop-number-preserved c =
     let within : i < length names = omega arith in
     let p = λ (a : ℕ). is_changed c.args.built.now c.args.now.now (get_or names a []) in
     let at : c.as_slice.result.now ≡ get_or names i [] =
-    c.as_slice.ensures ∙ c.name-item.is ∙ ap (λ ns. get_or ns i c.name-item.result) value ∙ get_alike names i c.name-item.result [] within in
+    c.as_slice.ensures ∙ c.name-item.is ∙ ap (λ ns. get_or ns i c.name-item.result) value ∙ get_or_default names i c.name-item.result [] within in
     let told : c.is_changed.result ≡ p i = c.is_changed.ensures ∙ ap (λ f. is_changed c.args.built.now c.args.now.now f) at in
     let P : List ℕ → Type 0 = λ xs. AreThose p (i + 1) xs in
     elim c.if-is_changed.branch [
