@@ -1,3 +1,6 @@
+pub mod DecideLemmas
+pub mod DistinctLemmas
+pub mod GroundLemmas
 pub mod HidingLemmas
 pub mod NameLemmas
 pub mod PlaceLemmas

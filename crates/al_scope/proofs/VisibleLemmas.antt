@@ -29,7 +29,7 @@ has-split [] ys v h = inr h
 has-split (x ∷ xs) ys v (inl e) = inl (inl e)
 has-split (x ∷ xs) ys v (inr h) = elim (has-split xs ys v h) [ inl k ↦ inl (inr k) | inr k ↦ inr k ]
 
-not-false : (b : Bool) → not b ≡ true → b ≡ false
+pub not-false : (b : Bool) → not b ≡ true → b ≡ false
 not-false true h = absurd (cc)
 not-false false h = refl
 

@@ -1,3 +1,4 @@
+pub mod Grounds
 pub mod NameSets
 pub mod Places
 pub mod UseClauses

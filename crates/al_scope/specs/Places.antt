@@ -1,9 +1,10 @@
 -- A place: the list of the regions round it, outermost first, and the library units that are mentioned there.
-use Rattle.std.specs.Prelude.{ℕ, List, [], ◌∷◌, ◌++◌, Bool, ◌&&◌, codes, if◌then◌else◌}
+use Rattle.std.specs.Prelude.{map, flat_map, ℕ, List, [], ◌∷◌, ◌++◌, Bool, ◌&&◌, codes, if◌then◌else◌}
 use Rattle.std.specs.Str.{bytes_eq}
 use Rattle.std.specs.BTreeSet.{insert_key}
 use Rattle.al_base.specs.Files.{name_cmp}
 use Rattle.al_base.specs.declared.unit_key.UnitKind.TheVariants.{Decl}
+use Rattle.al_base.specs.declared.unit_key.UnitKey.{UnitKey}
 use Rattle.al_view.specs.declared.part.Part.TheVariants as part
 use Rattle.al_view.specs.declared.view.ViewKind.{ViewKind}
 use Rattle.al_view.specs.Interfaces.{views_of, with_view}
@@ -11,7 +12,7 @@ use Rattle.al_view.specs.Named.{Declarations}
 use Rattle.al_view.specs.Symbols.{same_kind, same_part}
 use Rattle.al_scope.specs.declared.region.UnitPart.{UnitPart}
 use Rattle.al_scope.specs.declared.region.Region.{Region}
-use Rattle.al_scope.specs.UseClauses.{Uses}
+use Rattle.al_scope.specs.UseClauses.{Uses, package_unit, package_units}
 
 pub record Place : Type 0 where
   -- library units by their full names, each with its view
@@ -20,7 +21,7 @@ pub record Place : Type 0 where
 
 -- the visible part of the package of that name
 abbrev pub visible_part : List ℕ → UnitPart
-visible_part name = record { unit = record { name = name; kind = Decl }; part = part.Visible }
+visible_part name = record { unit = package_unit name; part = part.Visible }
 
 abbrev pub is_visible_part : UnitPart → Bool
 is_visible_part p = same_part p.part part.Visible && same_kind p.unit.kind Decl
@@ -37,11 +38,23 @@ with_mentioned unit v mentioned = first (views_of mentioned unit)
     first [] = with_view mentioned unit v
     first _ = mentioned
 
+-- the units of some parts
+abbrev pub part_units : List UnitPart → List UnitKey
+part_units parts = map (λ p. p.unit) parts
+
+-- the units that regions continue
+abbrev pub region_units : List Region → List UnitKey
+region_units regions = flat_map (λ r. part_units r.parts) regions
+
 -- the use clauses that hold in the innermost region
 abbrev pub uses_at : List Region → Uses
 uses_at [] = []
 uses_at (r ∷ []) = r.uses
 uses_at (r ∷ q ∷ inner) = uses_at (q ∷ inner)
+
+-- the units whose declarations may be visible at a place
+abbrev pub place_units : Place → List UnitKey
+place_units place = region_units place.regions ++ package_units (uses_at place.regions)
 
 -- a region that is entered: nothing is declared in it, and the use clauses round it hold in it too (ARM 8.4(6))
 abbrev pub entered : List UnitPart → List Region → Region

@@ -5,6 +5,8 @@ use Rattle.std.specs.Map.{lookup}
 use Rattle.std.specs.BTreeMap.{insert_entry, is_at}
 use Rattle.std.specs.declared.rc.Rc.{Rc}
 use Rattle.al_base.specs.Files.{name_cmp}
+use Rattle.al_base.specs.declared.unit_key.UnitKey.{UnitKey}
+use Rattle.al_base.specs.declared.unit_key.UnitKind.TheVariants.{Decl}
 use Rattle.al_view.specs.declared.symbol.Symbol.{Symbol}
 use Rattle.al_view.specs.declared.view.ViewKind.{ViewKind}
 use Rattle.al_view.specs.Operators.{is_operator_of}
@@ -30,6 +32,13 @@ abbrev pub with_type : Symbol → Uses → Uses
 with_type s uses =
     let before = use_of uses s.unit.name in
     insert_entry name_cmp uses s.unit.name (record before { types = before.types ++ s ∷ [] })
+
+-- the packages of use clauses
+abbrev pub package_unit : List ℕ → UnitKey
+package_unit name = record { name = name; kind = Decl }
+
+abbrev pub package_units : Uses → List UnitKey
+package_units uses = map (λ u. package_unit u.0) uses
 
 -- what use clauses open of what the package declares (ARM 8.4(8)): all of it where one names the package, the operators
 -- of the types else

@@ -37,6 +37,10 @@ found_in t m name r = record {
 abbrev pub shuts_out : ViewKind → Found → Bool
 shuts_out v f = f.begun || list_any (homographs v) f.views
 
+-- a region decides: what it has of a name shuts out every other declaration of it
+abbrev pub decides : Found → Bool
+decides f = f.begun || not (list_all may_be_overloaded f.views)
+
 -- directly visible (ARM 8.3(14)), innermost region first: what a region declares, but for what a region further in
 -- shuts out
 abbrev pub direct : List Found → List ViewKind

@@ -1,5 +1,5 @@
 -- What is visible at a place (ARM 8.3, 8.4), as a set.
-use Rattle.std.specs.Prelude.{◌≡◌, ℕ, List, [], ◌∷◌, false, true, ◌⊎◌}
+use Rattle.std.specs.Prelude.{◌≡◌, ℕ, List, [], ◌∷◌, false, true, ◌⊎◌, ⊤, map}
 use Rattle.std.specs.List.{list_any}
 use Rattle.al_view.specs.declared.symbol.Symbol.{Symbol}
 use Rattle.al_view.specs.declared.view.ViewKind.{ViewKind}
@@ -7,6 +7,7 @@ use Rattle.al_view.specs.Named.{Declarations}
 use Rattle.al_view.specs.Operators.{is_operator_of}
 use Rattle.al_query.specs.declared.query.Query.{Query}
 use Rattle.al_query.specs.declared.answer.AnswerKind.{AnswerKind}
+use Rattle.al_scope.specs.declared.hiding.Found.{Found}
 use Rattle.al_scope.specs.declared.region.Region.{Region}
 use Rattle.al_scope.specs.declared.uses.PackageUse.{PackageUse}
 use Rattle.al_scope.specs.Places.{Place, uses_at, visible_part}
@@ -36,3 +37,17 @@ IsUseVisible t name place v =
 
 abbrev pub IsVisible : (Query → AnswerKind) → List ℕ → Place → ViewKind → Type 0
 IsVisible t name place v = IsDirect t place.mentioned name place.regions v ⊎ IsUseVisible t name place v
+
+-- no item stands twice
+abbrev pub Once : List ViewKind → Type 0
+Once [] = ⊤
+Once (v ∷ vs) = (Has vs v → ⊥) × Once vs
+
+abbrev pub AllOnce : List Found → Type 0
+AllOnce [] = ⊤
+AllOnce (f ∷ fs) = Once f.views × AllOnce fs
+
+-- where no region has a declaration twice and the use clauses open none twice, none is visible twice
+abbrev pub KeepsOnce : (Query → AnswerKind) → List ℕ → Place → List ViewKind → Type 0
+KeepsOnce t name place views =
+    AllOnce (map (found_in t place.mentioned name) place.regions) → Once (potential t place.mentioned name (uses_at place.regions)) → Once views

@@ -2,7 +2,7 @@
 ghost use Rattle.std.specs.Prelude.{◌≡◌, ◌++◌, IfOk, filter, not};
 ghost use Rattle.std.specs.List.{list_all, list_any};
 ghost use Rattle.al_view.specs.Homographs.{homographs, may_be_overloaded};
-ghost use Rattle.al_scope.specs.Visible.{clash, direct, shuts_out, use_visible};
+ghost use Rattle.al_scope.specs.Visible.{clash, decides, direct, shuts_out, use_visible};
 
 use al_base::NoMemory;
 use al_view::{View, Views};
@@ -79,6 +79,21 @@ fn all_overload(views: &[View]) -> bool
     ensures { result ≡ list_all may_be_overloaded views.now }
 {
     views.iter().all(|view| view.may_be_overloaded())
+}
+
+/// Whether what the region has of the name shuts out every other declaration of it: one that was begun, or one that may
+/// not be overloaded.
+fn is_decided(found: &Found) -> bool
+    ensures { result ≡ decides found.now }
+{
+    found.begun || !all_overload(found.views.as_slice())
+}
+
+/// Whether some region shuts out every other declaration of the name.
+pub fn any_decides(founds: &[Found]) -> bool
+    ensures { result ≡ list_any decides founds.now }
+{
+    founds.iter().any(|found| is_decided(found))
 }
 
 /// Whether several are there that can't all be overloaded.

@@ -1,10 +1,11 @@
 // What units declare under a name, as they are asked.
-ghost use Rattle.std.specs.Prelude.{◌≡◌, ◌++◌, IfOk, flat_map};
+ghost use Rattle.std.specs.Prelude.{◌≡◌, [], ◌∷◌, ◌++◌, IfOk, flat_map};
 ghost use Rattle.al_query.specs.declared.query.Query.{Query};
 ghost use Rattle.al_query.specs.declared.query.Query.TheVariants.{Named};
 ghost use Rattle.al_query.specs.declared.answer.AnswerKind.{AnswerKind};
 ghost use Rattle.al_query.specs.Reads.{Agrees};
-ghost use Rattle.al_scope.specs.Places.{child_name, is_visible_part, visible_part};
+ghost use Rattle.al_scope.specs.Grounds.{StaysGrounded};
+ghost use Rattle.al_scope.specs.Places.{child_name, is_visible_part, part_units, visible_part};
 ghost use Rattle.al_scope.specs.Visible.{children_in, declared_by};
 
 use crate::region::UnitPart;
@@ -86,6 +87,7 @@ pub fn ask_more<A: Answers>(
 ) -> Result<(), NoMemory>
     ensures asked { recorder.new.asked ≡ recorder.old.asked }
     ensures told { IfOk result (λ _. (t : Query → AnswerKind) → Agrees t recorder.new.log → Agrees t recorder.old.log × (views.new ≡ views.old ++ declared_by t mentioned.now name.now from.now)) }
+    ensures grounded { IfOk result (λ _. StaysGrounded (from.now.unit ∷ []) recorder.old.log recorder.new.log) }
 {
     let query = query_of(alloc, from, name)?;
     let answer = recorder.ask(&query)?;
@@ -104,6 +106,7 @@ pub fn ask_each<A: Answers>(
 ) -> Result<Views, NoMemory>
     ensures asked { recorder.new.asked ≡ recorder.old.asked }
     ensures told { IfOk result (λ views. (t : Query → AnswerKind) → Agrees t recorder.new.log → Agrees t recorder.old.log × (views ≡ flat_map (declared_by t mentioned.now name.now) parts.now)) }
+    ensures grounded { IfOk result (λ _. StaysGrounded (part_units parts.now) recorder.old.log recorder.new.log) }
 {
     let mut views = Views::new(alloc);
     for part in parts {

@@ -5,12 +5,13 @@ ghost use Rattle.al_query.specs.declared.query.Query.{Query};
 ghost use Rattle.al_query.specs.declared.answer.AnswerKind.{AnswerKind};
 ghost use Rattle.al_query.specs.Reads.{Agrees};
 ghost use Rattle.al_scope.specs.declared.region.Region.{Region};
-ghost use Rattle.al_scope.specs.Places.{entered, in_last, uses_at, visible_part, with_begun, with_declared, with_mentioned, with_uses};
-ghost use Rattle.al_scope.specs.UseClauses.{with_package, with_type};
-ghost use Rattle.al_scope.specs.Visible.{declared_by, found_in, has_homograph_in, potential, visible_at};
-ghost use Rattle.al_scope.specs.VisibleSet.{Has, IsVisible};
+ghost use Rattle.al_scope.specs.Grounds.{StaysGrounded};
+ghost use Rattle.al_scope.specs.Places.{entered, in_last, part_units, place_units, region_units, uses_at, visible_part, with_begun, with_declared, with_mentioned, with_uses};
+ghost use Rattle.al_scope.specs.UseClauses.{package_unit, package_units, with_package, with_type};
+ghost use Rattle.al_scope.specs.Visible.{declared_by, found_in, has_homograph_in, potential, use_visible, visible_at};
+ghost use Rattle.al_scope.specs.VisibleSet.{Has, IsVisible, KeepsOnce};
 
-use crate::hiding::{Found, direct_of, has_homograph, use_visible_of};
+use crate::hiding::{Found, any_decides, direct_of, has_homograph, use_visible_of};
 use crate::questions::{ask_each, ask_more, visible_part_of};
 use crate::region::{Region, UnitPart};
 use crate::uses::UseClauses;
@@ -30,6 +31,7 @@ fn find<A: Answers>(
 ) -> Result<Found, NoMemory>
     ensures asked { recorder.new.asked ≡ recorder.old.asked }
     ensures told { IfOk result (λ found. (t : Query → AnswerKind) → Agrees t recorder.new.log → Agrees t recorder.old.log × (found ≡ found_in t mentioned.now name.now region.now)) }
+    ensures grounded { IfOk result (λ _. StaysGrounded (part_units region.now.parts) recorder.old.log recorder.new.log) }
 {
     let mut views = ask_each(alloc, mentioned, region.parts.as_slice(), name, recorder)?;
     views.append(region.declared.views(name))?;
@@ -47,6 +49,7 @@ fn find_each<A: Answers>(
 ) -> Result<Vec<Found>, NoMemory>
     ensures asked { recorder.new.asked ≡ recorder.old.asked }
     ensures told { IfOk result (λ founds. (t : Query → AnswerKind) → Agrees t recorder.new.log → Agrees t recorder.old.log × (founds.items ≡ map (found_in t mentioned.now name.now) regions.now)) }
+    ensures grounded { IfOk result (λ _. StaysGrounded (region_units regions.now) recorder.old.log recorder.new.log) }
 {
     let mut founds = Vec::new(alloc);
     for region in regions {
@@ -66,6 +69,7 @@ fn potential_of<A: Answers>(
 ) -> Result<Views, NoMemory>
     ensures asked { recorder.new.asked ≡ recorder.old.asked }
     ensures told { IfOk result (λ views. (t : Query → AnswerKind) → Agrees t recorder.new.log → Agrees t recorder.old.log × (views ≡ potential t mentioned.now name.now (uses_at regions.now))) }
+    ensures grounded { IfOk result (λ _. StaysGrounded (package_units (uses_at regions.now)) recorder.old.log recorder.new.log) }
 {
     match regions.last() {
         Some(region) => {
@@ -74,6 +78,28 @@ fn potential_of<A: Answers>(
         }
         None => Ok(Views::new(alloc)),
     }
+}
+
+/// What is use-visible of a name, of which the regions have this. No package is asked where a region has what shuts out
+/// every other declaration.
+fn used_of<A: Answers>(
+    alloc: Global,
+    mentioned: &Interface,
+    regions: &[Region],
+    founds: &[Found],
+    name: &[u8],
+    recorder: &mut Recorder<A>,
+) -> Result<Views, NoMemory>
+    ensures asked { recorder.new.asked ≡ recorder.old.asked }
+    ensures told { IfOk result (λ used. (t : Query → AnswerKind) → Agrees t recorder.new.log → Agrees t recorder.old.log × (used ≡ use_visible founds.now (potential t mentioned.now name.now (uses_at regions.now)))) }
+    ensures grounded { IfOk result (λ _. StaysGrounded (package_units (uses_at regions.now)) recorder.old.log recorder.new.log) }
+{
+    if any_decides(founds) {
+        return Ok(Views::new(alloc));
+    }
+    let views = potential_of(alloc, mentioned, regions, name, recorder)?;
+    let used = use_visible_of(alloc, founds, &views)?;
+    Ok(used)
 }
 
 /// The use clauses that hold in the innermost region.
@@ -210,6 +236,7 @@ impl Scope {
         requires { 0 < length self.old.regions }
         ensures asked { recorder.new.asked ≡ recorder.old.asked }
         ensures told { IfOk result (λ fits. (t : Query → AnswerKind) → Agrees t recorder.new.log → Agrees t recorder.old.log × (fits ≡ not (has_homograph_in t self.old.mentioned name.now view self.old.regions))) }
+        ensures grounded { IfOk result (λ _. StaysGrounded (region_units self.old.regions) recorder.old.log recorder.new.log) }
         ensures new { IfOk result (λ fits. self.new.regions ≡ (if fits then in_last (with_declared name.now view) self.old.regions else self.old.regions)) }
         ensures depth { length self.new.regions ≡ length self.old.regions }
         ensures mentioned { self.new.mentioned ≡ self.old.mentioned }
@@ -241,6 +268,7 @@ impl Scope {
     ) -> Result<Views, NoMemory>
         ensures asked { recorder.new.asked ≡ recorder.old.asked }
         ensures told { IfOk result (λ views. (t : Query → AnswerKind) → Agrees t recorder.new.log → Agrees t recorder.old.log × (views ≡ declared_by t self.now.mentioned name.now (visible_part package_name.now))) }
+        ensures grounded { IfOk result (λ _. StaysGrounded (package_unit package_name.now ∷ []) recorder.old.log recorder.new.log) }
     {
         let part = visible_part_of(self.alloc, package_name)?;
         let mut views = Views::new(self.alloc);
@@ -264,13 +292,21 @@ impl Scope {
     ) -> Result<Views, NoMemory>
         ensures asked { recorder.new.asked ≡ recorder.old.asked }
         ensures told { IfOk result (λ views. (t : Query → AnswerKind) → Agrees t recorder.new.log → Agrees t recorder.old.log × (views ≡ visible_at t name.now self.now)) }
+        ensures grounded { IfOk result (λ _. StaysGrounded (place_units self.now) recorder.old.log recorder.new.log) }
+        ensures once { IfOk result (λ views. (t : Query → AnswerKind) → Agrees t recorder.new.log → KeepsOnce t name.now self.now views) }
         ensures exactly { IfOk result (λ views. (t : Query → AnswerKind) → Agrees t recorder.new.log → (v : ViewKind) → Has views v ↔ IsVisible t name.now self.now v) }
     {
         let regions = self.regions.as_slice();
         let founds = find_each(self.alloc, &self.mentioned, regions, name, recorder)?;
-        let views = potential_of(self.alloc, &self.mentioned, regions, name, recorder)?;
+        let used = used_of(
+            self.alloc,
+            &self.mentioned,
+            regions,
+            founds.as_slice(),
+            name,
+            recorder,
+        )?;
         let mut visible = direct_of(self.alloc, founds.as_slice())?;
-        let used = use_visible_of(self.alloc, founds.as_slice(), &views)?;
         visible.append(used.as_slice())?;
         Ok(visible)
     }

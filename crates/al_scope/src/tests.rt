@@ -1,10 +1,13 @@
 ghost use Rattle.std.specs.Prelude.{if◌then◌else◌};
 ghost use Rattle.al_query.specs.Queries.{same_query};
 
-use crate::Scope;
+use crate::{Scope, UnitPart};
 use al_base::{Name, NoMemory, UnitKey, UnitKind};
 use al_query::{Answer, AnswerKind, Answers, Query, Recorder};
-use al_view::{LiteralView, Part, Row, StaticValue, Symbol, Types, View, ViewKind, Views};
+use al_view::{
+    CallKind, LiteralView, Part, Profile, Row, StaticValue, SubprogramView, Symbol, Types, View,
+    ViewKind, Views,
+};
 use std::alloc::Global;
 use std::test::Fail;
 
@@ -71,13 +74,18 @@ fn number(alloc: Global, word: i64) -> Result<View, NoMemory> {
     Ok(view)
 }
 
-/// What may be overloaded: a literal of the type T of that package.
-fn literal(alloc: Global, package_name: &[u8], position: u32) -> Result<View, NoMemory> {
-    let base = Symbol {
+/// The type T of that package.
+fn type_of(alloc: Global, package_name: &[u8]) -> Result<Symbol, NoMemory> {
+    Ok(Symbol {
         unit: unit(alloc, package_name)?,
         name: Name::from_slice(alloc, b"t")?,
         number: 0,
-    };
+    })
+}
+
+/// What may be overloaded: a literal of the type T of that package.
+fn literal(alloc: Global, package_name: &[u8], position: u32) -> Result<View, NoMemory> {
+    let base = type_of(alloc, package_name)?;
     let types = Types::new(alloc, Row::empty(alloc))?;
     let view = View::new(
         alloc,
@@ -90,51 +98,326 @@ fn literal(alloc: Global, package_name: &[u8], position: u32) -> Result<View, No
     Ok(view)
 }
 
-/// A place in one region, with use clauses of Q and P.
-fn using_both(alloc: Global) -> Result<Scope, NoMemory> {
-    let mut scope = Scope::new(alloc);
-    scope.enter(Row::empty(alloc))?;
-    if !scope.is_empty() {
-        scope.use_package(b"q")?;
-    }
-    if !scope.is_empty() {
-        scope.use_package(b"p")?;
-    }
-    Ok(scope)
+/// An operator of the type T of that package.
+fn operator(alloc: Global, package_name: &[u8]) -> Result<View, NoMemory> {
+    let view = View::new(
+        alloc,
+        ViewKind::OfSubprogram(SubprogramView {
+            symbol: type_of(alloc, package_name)?,
+            profile: Profile {
+                parameters: Row::empty(alloc),
+                result: None,
+            },
+            types: Types::new(alloc, Row::empty(alloc))?,
+            call: CallKind::Operator {
+                of_type: type_of(alloc, package_name)?,
+            },
+            flag: None,
+        }),
+    )?;
+    Ok(view)
 }
 
-/// The words of the numbers and the positions of the literals among the views.
-fn told(alloc: Global, views: &Views) -> Result<Vec<i64>, NoMemory> {
-    let mut told = Vec::new(alloc);
+/// The package of that name.
+fn package_view(alloc: Global, name: &[u8]) -> Result<View, NoMemory> {
+    let symbol = Symbol {
+        unit: unit(alloc, name)?,
+        name: Name::from_slice(alloc, name)?,
+        number: 0,
+    };
+    let view = View::new(alloc, ViewKind::OfPackage(symbol))?;
+    Ok(view)
+}
+
+/// What a test does to a place, or sees of it. The name that is declared and looked up is X.
+#[derive(Clone, Copy)]
+enum Step<'a> {
+    Enter,
+    /// Enters a region that continues the visible part of that package.
+    Continue(&'a [u8]),
+    Leave,
+    Start,
+    /// Declares a number; 1 where it fits.
+    Number(i64),
+    /// Declares a literal of a type of the package M; 1 where it fits.
+    Literal(u32),
+    UsePackage(&'a [u8]),
+    /// A use clause of the type T of that package.
+    UseType(&'a [u8]),
+    Mention(&'a [u8]),
+    /// What is visible: a digit for each view.
+    See,
+    /// What is selected in that package: a digit for each view.
+    Select(&'a [u8]),
+}
+
+/// The words of the numbers and the positions of the literals as digits, 9 for each other view.
+fn digits(views: &Views) -> i64 {
+    let mut digits: i64 = 0;
     for view in views.as_slice() {
-        match view.kind() {
-            ViewKind::OfNumber(value) => told.push(value.word)?,
-            ViewKind::OfLiteral(literal) => told.push(i64::from(literal.position))?,
-            _ => {}
+        let digit = match view.kind() {
+            ViewKind::OfNumber(value) => value.word,
+            ViewKind::OfLiteral(literal) => i64::from(literal.position),
+            _ => 9,
+        };
+        digits = digits.wrapping_mul(10).wrapping_add(digit);
+    }
+    digits
+}
+
+fn continued(alloc: Global, package_name: &[u8]) -> Result<Row<UnitPart>, NoMemory> {
+    let mut parts = Row::empty(alloc);
+    parts.push(UnitPart {
+        unit: unit(alloc, package_name)?,
+        part: Part::Visible,
+    })?;
+    Ok(parts)
+}
+
+/// Does what wants no region.
+fn take(
+    alloc: Global,
+    scope: &mut Scope,
+    step: Step<'_>,
+    recorder: &mut Recorder<Library>,
+) -> Result<i64, NoMemory> {
+    match step {
+        Step::Enter => scope.enter(Row::empty(alloc))?,
+        Step::Continue(package_name) => scope.enter(continued(alloc, package_name)?)?,
+        Step::Mention(unit_name) => scope.mention(unit_name, package_view(alloc, unit_name)?)?,
+        Step::See => {
+            let views = scope.visible(b"x", recorder)?;
+            return Ok(digits(&views));
+        }
+        Step::Select(package_name) => {
+            let views = scope.selected(package_name, b"x", recorder)?;
+            return Ok(digits(&views));
+        }
+        _ => return take_within(alloc, scope, step, recorder),
+    }
+    Ok(0)
+}
+
+/// Does what wants a region.
+fn take_within(
+    alloc: Global,
+    scope: &mut Scope,
+    step: Step<'_>,
+    recorder: &mut Recorder<Library>,
+) -> Result<i64, NoMemory> {
+    if scope.is_empty() {
+        return Ok(-1);
+    }
+    match step {
+        Step::Leave => scope.leave(),
+        Step::Start => scope.start(b"x")?,
+        Step::Number(word) => {
+            let fits = scope.declare(b"x", number(alloc, word)?, recorder)?;
+            return Ok(i64::from(fits));
+        }
+        Step::Literal(position) => {
+            let fits = scope.declare(b"x", literal(alloc, b"m", position)?, recorder)?;
+            return Ok(i64::from(fits));
+        }
+        Step::UsePackage(package_name) => scope.use_package(package_name)?,
+        Step::UseType(package_name) => scope.use_type(type_of(alloc, package_name)?)?,
+        _ => {}
+    }
+    Ok(0)
+}
+
+/// How many steps give what is wanted, up to the first that doesn't, where P and Q declare these as X.
+fn steps_right(
+    alloc: Global,
+    of_p: View,
+    of_q: View,
+    steps: &[(Step<'_>, i64)],
+) -> Result<usize, NoMemory> {
+    let mut recorder = asking(alloc, of_p, of_q)?;
+    let mut scope = Scope::new(alloc);
+    for (right, (step, wanted)) in steps.iter().enumerate() {
+        if take(alloc, &mut scope, *step, &mut recorder)? != *wanted {
+            return Ok(right);
         }
     }
-    Ok(told)
+    Ok(steps.len())
+}
+
+#[test]
+fn an_empty_answer_is_logged(rt: HostRuntime) -> Result<(), Fail> {
+    let alloc = rt.alloc();
+    let mut recorder = asking(alloc, number(alloc, 1)?, number(alloc, 2)?)?;
+    let scope = Scope::new(alloc);
+    let views = scope.selected(b"r", b"x", &mut recorder)?;
+    assert_eq!(rt; views.as_slice().len(), 0);
+    assert_eq!(rt; recorder.into_log().len(), 1);
+    Ok(())
 }
 
 #[test]
 fn two_variables_of_used_packages_clash(rt: HostRuntime) -> Result<(), Fail> {
     let alloc = rt.alloc();
-    let mut recorder = asking(alloc, number(alloc, 1)?, number(alloc, 2)?)?;
-    let scope = using_both(alloc)?;
-    let views = scope.visible(b"x", &mut recorder)?;
-    assert_eq!(rt; views.as_slice().len(), 0);
-    let views = scope.visible(b"y", &mut recorder)?;
-    assert_eq!(rt; views.as_slice().len(), 0);
-    assert_eq!(rt; recorder.into_log().len(), 4);
+    let steps = [
+        (Step::Enter, 0),
+        (Step::UsePackage(b"q"), 0),
+        (Step::See, 2),
+        (Step::UsePackage(b"p"), 0),
+        (Step::See, 0),
+    ];
+    assert_eq!(rt;
+        steps_right(
+            alloc,
+            number(alloc, 1)?,
+            number(alloc, 2)?,
+            steps.as_slice()
+        )?,
+        5
+    );
+    Ok(())
+}
+
+#[test]
+fn a_block_hides_from_the_start_of_its_declaration(rt: HostRuntime) -> Result<(), Fail> {
+    let alloc = rt.alloc();
+    let steps = [
+        (Step::Enter, 0),
+        (Step::UsePackage(b"p"), 0),
+        (Step::See, 1),
+        (Step::Enter, 0),
+        (Step::Start, 0),
+        (Step::See, 0),
+        (Step::Number(3), 1),
+        (Step::See, 3),
+        (Step::Leave, 0),
+        (Step::See, 1),
+    ];
+    assert_eq!(rt;
+        steps_right(
+            alloc,
+            number(alloc, 1)?,
+            number(alloc, 2)?,
+            steps.as_slice()
+        )?,
+        10
+    );
     Ok(())
 }
 
 #[test]
 fn functions_of_used_packages_are_both_visible(rt: HostRuntime) -> Result<(), Fail> {
     let alloc = rt.alloc();
-    let mut recorder = asking(alloc, literal(alloc, b"p", 1)?, literal(alloc, b"q", 2)?)?;
-    let scope = using_both(alloc)?;
-    let views = scope.visible(b"x", &mut recorder)?;
-    assert_eq!(rt; told(alloc, &views)?.as_slice(), [1, 2].as_slice());
+    let steps = [
+        (Step::Enter, 0),
+        (Step::UsePackage(b"q"), 0),
+        (Step::UsePackage(b"p"), 0),
+        (Step::UsePackage(b"q"), 0),
+        (Step::See, 12),
+        (Step::Literal(3), 1),
+        (Step::See, 312),
+        // a declaration that may not be overloaded keeps them out, also where it is hidden itself
+        (Step::Leave, 0),
+        (Step::Enter, 0),
+        (Step::UsePackage(b"p"), 0),
+        (Step::Number(4), 1),
+        (Step::Literal(5), 0),
+        (Step::Enter, 0),
+        (Step::Literal(5), 1),
+        (Step::See, 5),
+    ];
+    assert_eq!(rt;
+        steps_right(
+            alloc,
+            literal(alloc, b"p", 1)?,
+            literal(alloc, b"q", 2)?,
+            steps.as_slice()
+        )?,
+        15
+    );
+    Ok(())
+}
+
+#[test]
+fn hidden_ones_clash_too(rt: HostRuntime) -> Result<(), Fail> {
+    let alloc = rt.alloc();
+    let steps = [
+        (Step::Enter, 0),
+        (Step::UsePackage(b"p"), 0),
+        (Step::UsePackage(b"q"), 0),
+        (Step::Literal(3), 1),
+        (Step::See, 3),
+    ];
+    assert_eq!(rt;
+        steps_right(
+            alloc,
+            number(alloc, 1)?,
+            literal(alloc, b"q", 2)?,
+            steps.as_slice()
+        )?,
+        5
+    );
+    Ok(())
+}
+
+#[test]
+fn a_used_type_has_its_operators_alone(rt: HostRuntime) -> Result<(), Fail> {
+    let alloc = rt.alloc();
+    let steps = [
+        (Step::Enter, 0),
+        (Step::UseType(b"q"), 0),
+        (Step::See, 0),
+        (Step::UseType(b"p"), 0),
+        (Step::UseType(b"p"), 0),
+        (Step::See, 9),
+        (Step::UsePackage(b"p"), 0),
+        (Step::See, 9),
+    ];
+    assert_eq!(rt;
+        steps_right(
+            alloc,
+            operator(alloc, b"p")?,
+            literal(alloc, b"q", 2)?,
+            steps.as_slice()
+        )?,
+        8
+    );
+    Ok(())
+}
+
+#[test]
+fn a_mentioned_child_is_declared_in_its_parent(rt: HostRuntime) -> Result<(), Fail> {
+    let alloc = rt.alloc();
+    let steps = [
+        // a context clause sees itself alone: no use clause, no parent's region, selection alone
+        (Step::Enter, 0),
+        (Step::Select(b"r"), 0),
+        (Step::Mention(b"r.x"), 0),
+        (Step::Mention(b"r.x"), 0),
+        (Step::See, 0),
+        (Step::Select(b"r"), 9),
+        (Step::Select(b"p"), 1),
+        // elsewhere a use clause of the parent opens it
+        (Step::UsePackage(b"r"), 0),
+        (Step::See, 9),
+        (Step::Leave, 0),
+        // in the parent's own region it is directly visible, and keeps homographs out
+        (Step::Continue(b"r"), 0),
+        (Step::See, 9),
+        (Step::Number(3), 0),
+        (Step::Leave, 0),
+        // a root unit is a child of Standard
+        (Step::Continue(b"standard"), 0),
+        (Step::See, 0),
+        (Step::Mention(b"x"), 0),
+        (Step::See, 9),
+    ];
+    assert_eq!(rt;
+        steps_right(
+            alloc,
+            number(alloc, 1)?,
+            number(alloc, 2)?,
+            steps.as_slice()
+        )?,
+        18
+    );
     Ok(())
 }

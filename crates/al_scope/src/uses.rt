@@ -1,5 +1,5 @@
 // Use clauses, by the package whose declarations they open.
-ghost use Rattle.std.specs.Prelude.{◌≡◌, [], ◌++◌, IfOk, OnErr, OnOk, filter, is_ok, if◌then◌else◌};
+ghost use Rattle.std.specs.Prelude.{◌≡◌, [], ◌∷◌, ◌++◌, IfOk, OnErr, OnOk, filter, is_ok, if◌then◌else◌};
 ghost use Rattle.std.specs.List.{list_any};
 ghost use Rattle.std.specs.BTreeMap.{insert_entry};
 ghost use Rattle.al_base.specs.Files.{name_cmp};
@@ -7,7 +7,8 @@ ghost use Rattle.al_view.specs.Operators.{is_operator_of};
 ghost use Rattle.al_query.specs.declared.query.Query.{Query};
 ghost use Rattle.al_query.specs.declared.answer.AnswerKind.{AnswerKind};
 ghost use Rattle.al_query.specs.Reads.{Agrees};
-ghost use Rattle.al_scope.specs.UseClauses.{no_use, opens, use_of, with_package, with_type};
+ghost use Rattle.al_scope.specs.Grounds.{StaysGrounded};
+ghost use Rattle.al_scope.specs.UseClauses.{no_use, opens, package_unit, package_units, use_of, with_package, with_type};
 ghost use Rattle.al_scope.specs.Visible.{opened_by, potential};
 
 use crate::questions::{ask_more, visible_part_of};
@@ -177,6 +178,7 @@ impl UseClauses {
     ) -> Result<Views, NoMemory>
         ensures asked { recorder.new.asked ≡ recorder.old.asked }
         ensures told { IfOk result (λ views. (t : Query → AnswerKind) → Agrees t recorder.new.log → Agrees t recorder.old.log × (views ≡ potential t mentioned.now name.now self.now)) }
+        ensures grounded { IfOk result (λ _. StaysGrounded (package_units self.now) recorder.old.log recorder.new.log) }
     {
         let mut views = Views::new(self.alloc);
         for (package_name, used) in self.by_package.iter() {
@@ -205,6 +207,7 @@ fn ask_used<A: Answers>(
 ) -> Result<Views, NoMemory>
     ensures asked { recorder.new.asked ≡ recorder.old.asked }
     ensures told { IfOk result (λ views. (t : Query → AnswerKind) → Agrees t recorder.new.log → Agrees t recorder.old.log × (views ≡ opened_by t mentioned.now name.now (package_name.now, used.now))) }
+    ensures grounded { IfOk result (λ _. StaysGrounded (package_unit package_name.now ∷ []) recorder.old.log recorder.new.log) }
 {
     let part = visible_part_of(alloc, package_name)?;
     let mut declared = Views::new(alloc);

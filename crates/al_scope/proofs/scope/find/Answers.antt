@@ -1,3 +1,6 @@
+use Rattle.std.proofs.Common.{ap}
+use Rattle.al_scope.specs.Places.{part_units}
+use Rattle.al_scope.proofs.GroundLemmas.{stays-of}
 use Rattle.al_view.specs.Interfaces.{views_of}
 use Rattle.al_scope.proofs.HidingLemmas.{found-is, views-are}
 use Rattle.al_scope.proofs.scope.find.Goals as goal
@@ -9,3 +12,6 @@ returns-clause-told g c t h =
       found-is _ _ _ _ c.contains-begun.ensures
           (views-are t c.args.mentioned.now c.args.name.now c.args.region.now.parts c.as_slice.result.now c.in_ok-views.views c.views.result.now (views_of c.args.region.now.declared c.args.name.now) c.append.new.self c.in_ok-append.ensures told.1 c.as_slice.ensures c.views.ensures),
     )
+
+pub returns-clause-grounded : goal.returns-clause-grounded
+returns-clause-grounded g c = stays-of (part_units c.as_slice.result.now) (part_units c.args.region.now.parts) c.args.recorder.now.log c.ask_each.new.recorder.log (ap part_units c.as_slice.ensures) c.in_ok-views.ensures.grounded

@@ -1,3 +1,7 @@
+use Rattle.std.proofs.Common.{[], ◌∷◌}
+use Rattle.al_scope.specs.declared.region.UnitPart.{UnitPart}
+use Rattle.al_scope.specs.Places.{visible_part}
+use Rattle.al_scope.proofs.GroundLemmas.{stays-of}
 use Rattle.std.proofs.Common.{◌∙◌, ◌++◌, ap, filter}
 use Rattle.al_scope.specs.UseClauses.{opens}
 use Rattle.al_scope.specs.Visible.{declared_by}
@@ -7,3 +11,6 @@ pub returns-clause-told : goal.returns-clause-told
 returns-clause-told g c t h =
     let told = c.in_ok-ask_more.ensures.told t h in
     (told.0, c.in_ok-opened.ensures ∙ ap (filter (opens c.args.used.now)) (told.1 ∙ ap (λ l. l ++ declared_by t c.args.mentioned.now c.args.name.now c.in_ok-part.part) c.new-declared.ensures ∙ ap (declared_by t c.args.mentioned.now c.args.name.now) c.in_ok-part.ensures))
+
+pub returns-clause-grounded : goal.returns-clause-grounded
+returns-clause-grounded g c = stays-of (c.in_ok-part.part.unit ∷ []) ((visible_part c.args.package_name.now).unit ∷ []) c.args.recorder.now.log c.ask_more.new.recorder.log (ap (λ (p : UnitPart). p.unit ∷ []) c.in_ok-part.ensures) c.in_ok-ask_more.ensures.grounded

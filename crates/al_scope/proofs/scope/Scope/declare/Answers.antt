@@ -1,3 +1,7 @@
+use Rattle.std.proofs.Common.{get_or}
+use Rattle.al_scope.specs.declared.region.Region.{Region}
+use Rattle.al_scope.specs.Places.{part_units, region_units}
+use Rattle.al_scope.proofs.GroundLemmas.{stays-of, stays-one}
 use Rattle.std.proofs.Common.{◌≡◌, ◌<◌, ◌+◌, ◌-◌, length, arith, sym, ◌∙◌, ap, not}
 use Rattle.std.specs.List.{list_any}
 use Rattle.al_scope.specs.Places.{Place, with_declared}
@@ -37,3 +41,21 @@ returns-clause-new g c =
     let some : 0 < length c.self.inside.regions.items = rw regions c.requires in
     let last : c.len-last.result - 1 + 1 ≡ length c.self.inside.regions.items = omega (arith, some, c.len-last.ensures, c.self.inside.regions.ok.0) in
     rw (← regions) (in_last-is (with_declared c.args.name.now c.args.view) c.self.inside.regions.items (c.len-last.result - 1) c.index_mut-region.result.now c.declare.new.self last (c.in_ok-declare.ensures ∙ ap (with_declared c.args.name.now c.args.view) c.index_mut-region.ensures.value))
+
+pub returns-then-has_homograph-clause-grounded : goal.returns-then-has_homograph-clause-grounded
+returns-then-has_homograph-clause-grounded g c =
+    let regions = ap (λ (p : Place). p.regions) c.self.view_is in
+    let some : 0 < length c.self.inside.regions.items = rw regions c.requires in
+    let last : c.len-last.result - 1 < length c.self.inside.regions.items = omega (arith, some, c.len-last.ensures, c.self.inside.regions.ok.0) in
+    let is = ap (λ (r : Region). part_units r.parts) c.index.ensures in
+    let one = stays-of (part_units c.index.result.now.parts) (part_units (get_or c.self.inside.regions.items (c.len-last.result - 1) c.index.result.now).parts) c.args.recorder.now.log c.find.new.recorder.log is c.in_ok-found.ensures.grounded in
+    stays-of (region_units c.self.inside.regions.items) (region_units c.args.self.now.regions) c.args.recorder.now.log c.find.new.recorder.log (ap region_units regions) (stays-one c.self.inside.regions.items (c.len-last.result - 1) c.index.result.now c.args.recorder.now.log c.find.new.recorder.log last one)
+
+pub returns-clause-grounded : goal.returns-clause-grounded
+returns-clause-grounded g c =
+    let regions = ap (λ (p : Place). p.regions) c.self.view_is in
+    let some : 0 < length c.self.inside.regions.items = rw regions c.requires in
+    let last : c.len-last.result - 1 < length c.self.inside.regions.items = omega (arith, some, c.len-last.ensures, c.self.inside.regions.ok.0) in
+    let is = ap (λ (r : Region). part_units r.parts) c.index.ensures in
+    let one = stays-of (part_units c.index.result.now.parts) (part_units (get_or c.self.inside.regions.items (c.len-last.result - 1) c.index.result.now).parts) c.args.recorder.now.log c.find.new.recorder.log is c.in_ok-found.ensures.grounded in
+    stays-of (region_units c.self.inside.regions.items) (region_units c.args.self.now.regions) c.args.recorder.now.log c.find.new.recorder.log (ap region_units regions) (stays-one c.self.inside.regions.items (c.len-last.result - 1) c.index.result.now c.args.recorder.now.log c.find.new.recorder.log last one)

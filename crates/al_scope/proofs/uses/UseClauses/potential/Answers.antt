@@ -1,4 +1,7 @@
-use Rattle.std.proofs.Common.{◌∙◌, ◌++◌, ap, sym}
+use Rattle.al_scope.specs.UseClauses.{package_units}
+use Rattle.al_scope.specs.Places.{visible_part}
+use Rattle.al_scope.proofs.GroundLemmas.{stays-of, stays-then}
+use Rattle.std.proofs.Common.{◌≡◌, ℕ, List, [], ◌∷◌, ◌∙◌, ◌++◌, ap, sym}
 use Rattle.al_scope.specs.declared.uses.PackageUse.{PackageUse}
 use Rattle.al_scope.specs.UseClauses.{uses_of}
 use Rattle.al_scope.specs.Visible.{opened_by, potential}
@@ -14,6 +17,15 @@ loop-package_name-preserved g c =
     let name = c.args.name.now in
     record {
       asked = c.ask_used.ensures.asked ∙ i.asked;
+      grounded = let done = i.grounded.0 in
+          let rest = package_units (uses_of c.next.new.self) in
+          let unit = (visible_part c.in-Some.package_name.now.items).unit in
+          let same : (visible_part c.as_slice.result.now).unit ∷ [] ≡ unit ∷ [] = ap (λ (k : List ℕ). (visible_part k).unit ∷ []) c.as_slice.ensures.value in
+          let one = stays-of ((visible_part c.as_slice.result.now).unit ∷ []) (unit ∷ []) c.loop-package_name.recorder.log c.ask_used.new.recorder.log same c.in_ok-opened.ensures.grounded in (
+            done ++ unit ∷ [],
+            append-assoc done (unit ∷ []) rest ∙ ap (λ es. done ++ package_units (uses_of es)) (sym steps) ∙ i.grounded.1,
+            stays-then done (unit ∷ []) c.args.recorder.now.log c.loop-package_name.recorder.log c.ask_used.new.recorder.log i.grounded.2 one,
+          );
       told = λ t h. let told = c.in_ok-opened.ensures.told t h in
           let before = i.told t told.0 in
           let rest = potential t mentioned name (uses_of c.next.new.self) in
@@ -30,3 +42,9 @@ returns-clause-told g c t h =
     let told = c.loop-package_name.invariant.told t h in
     let views = c.loop-package_name.views in
     (told.0, sym (append-none views) ∙ ap (λ es. views ++ potential t c.args.mentioned.now c.args.name.now (uses_of es)) (sym c.in-None.ensures.steps.0) ∙ told.1)
+
+pub returns-clause-grounded : goal.returns-clause-grounded
+returns-clause-grounded g c =
+    let done = c.loop-package_name.invariant.grounded in
+    let all = sym (append-none done.0) ∙ ap (λ es. done.0 ++ package_units (uses_of es)) (sym c.in-None.ensures.steps.0) ∙ done.1 in
+    stays-of done.0 (package_units c.args.self.now) c.args.recorder.now.log c.loop-package_name.recorder.log all done.2
