@@ -1,5 +1,5 @@
 #!/usr/bin/env python3
-"""timings.py PROGRAM [ada]: times sessions of growing size (with `ada` texts of Ada alone). Each line is the least of three runs, in milliseconds.
+"""timings.py PROGRAM [ada | units]: times sessions of growing size (with a word that part alone). Each line is the least of three runs, in milliseconds.
 
 Where an effort is linear, each doubling doubles the time beyond that of the empty session.
 """
@@ -109,10 +109,51 @@ def texts_of_ada(program):
                 print(f"{'  gcc -c -gnats of the same text':<44} {len(text):>9} {other:>10.1f} ms")
 
 
+def chain(number):
+    """Each unit names the next one but the last, in the order of numbers."""
+    return [number + 1]
+
+
+def star(number):
+    """All units name the first one."""
+    return [0]
+
+
+def layered(number):
+    """Layers of 20 units, each of which names all units of the layer below."""
+    below = number - number % 20 - 20
+    return range(below, below + 20)
+
+
+def packages(shape, count):
+    """So many packages u0, u1, .. of a shape."""
+    stream = []
+    for number in range(count):
+        named = [it for it in shape(number) if 0 <= it < count and it != number]
+        withs = b"".join(b"with U%d; " % it for it in named)
+        stream.append(put(b"u%d.ads" % number, withs + b"package U%d is end U%d;" % (number, number)))
+    return b"".join(stream)
+
+
+def graphs_of_units(program):
+    for shape in (chain, star, layered):
+        for count in doubled(256, 4096):
+            stream = packages(shape, count)
+            # the unit that all others reach, or many of them
+            base = count - 1 if shape is chain else 0
+            touched = put(b"u%d.ads" % base, b"package U%d is private end U%d;" % (base, base))
+            what = shape.__name__
+            row(program, f"{what}: put of so many units", count, stream)
+            row(program, f"{what}: and the units by file", count, stream + b"report units\n")
+            row(program, f"{what}: put and build", count, stream + b"build u0\n")
+            row(program, f"{what}: and an edit and obsolete units", count, stream + b"build u0\n" + touched + b"report obsolete\n")
+
+
 def main():
     program = str(pathlib.Path(sys.argv[1]).resolve())
-    if sys.argv[2:] == ["ada"]:
-        texts_of_ada(program)
+    parts = {"ada": texts_of_ada, "units": graphs_of_units}
+    if sys.argv[2:]:
+        parts[sys.argv[2]](program)
         return
     row(program, "empty session", 0, b"")
     for count in doubled(16, 4096):
@@ -126,6 +167,7 @@ def main():
         statements = b"null;" * (room // 5)
         row(program, "build of a text of so many bytes of statements", size, put(b"p.adb", procedure(b"P", statements)) + b"build p\n")
     texts_of_ada(program)
+    graphs_of_units(program)
     for count in doubled(1024, 65536):
         row(program, "session of so many refused commands", count, b"report order\n" * count)
         row(program, "session of so many puts over one file", count, put(b"hello.adb", HELLO) * count)
