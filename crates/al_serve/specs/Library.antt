@@ -53,9 +53,9 @@ has_image (TooLarge order) = false
 has_image (Made order image) = true
 
 -- why there is nothing to compare with
-abbrev pub unless_built : Option LastBuild → Option Refusal
-unless_built None = Some NotBuilt
-unless_built (Some last) = None
+abbrev pub obsolete_refusal : Option LastBuild → Option Refusal
+obsolete_refusal None = Some NotBuilt
+obsolete_refusal (Some last) = None
 
 -- the units that are obsolete since the last build, if there was one
 abbrev pub obsolete_now : LibraryMeaning → State → Option (List Key)

@@ -6,7 +6,7 @@ use Rattle.al_base.specs.declared.refusal.Refusal.TheVariants.{BadCommand, BadLe
 use Rattle.al_serve.specs.declared.serving.Ended.{Ended}
 use Rattle.al_serve.specs.declared.serving.Ended.TheVariants as ended
 use Rattle.al_serve.specs.Lines.{Command, Put, Delete, Rename, Build, Run, Report, ReportUnits, ReportObsolete, Quit, Bad, BadLength, first}
-use Rattle.al_serve.specs.Library.{State, Meaning, LastBuild, with_now, after_build, run_refusal, unless_built, obsolete_now}
+use Rattle.al_serve.specs.Library.{State, Meaning, LastBuild, with_now, after_build, run_refusal, obsolete_refusal, obsolete_now}
 use Rattle.al_serve.specs.Replies.{ok, refused, build_reply, run_reply, report_of, units_reply, obsolete_reply}
 
 -- a reply, and the library after it
@@ -46,7 +46,7 @@ may_lack_memory m state (Rename old new) = is_none (rename_refusal state.now old
 may_lack_memory m state (Build unit) = true
 may_lack_memory m state (Run steps) = is_none (run_refusal m.library.batch state.built)
 may_lack_memory m state ReportUnits = true
-may_lack_memory m state ReportObsolete = is_none (unless_built state.built)
+may_lack_memory m state ReportObsolete = is_none (obsolete_refusal state.built)
 may_lack_memory m state other = false
 
 -- a command that is marked finds no memory, and changes nothing

@@ -2,7 +2,7 @@
 ghost use Rattle.std.specs.Prelude.{◌≡◌, ◌≤◌, Some, OnOk, OnErr, IfOk, length, map, option_map};
 ghost use Rattle.al_base.specs.Files.{with_file, without_file, with_renamed, put_refusal, delete_refusal, rename_refusal, AnswersRefusal, AnswersFirst};
 ghost use Rattle.al_base.specs.Batch.{key_of};
-ghost use Rattle.al_serve.specs.Library.{State, LibraryMeaning, with_now, after_build, last_batch, unless_built, obsolete_now, file_unit_of};
+ghost use Rattle.al_serve.specs.Library.{State, LibraryMeaning, with_now, after_build, last_batch, obsolete_refusal, obsolete_now, file_unit_of};
 ghost use Rattle.al_serve.specs.Outcomes.{built_seen};
 ghost use Rattle.al_serve.specs.Ran.{AnswersRun};
 
@@ -92,6 +92,6 @@ pub trait UnitLibrary {
     ///
     /// `NotBuilt` where there was no build; else `NoMemory` where memory was wanted and not given.
     fn obsolete(&self) -> Result<Vec<UnitKey>, Refusal>
-        ensures answer { AnswersFirst result (unless_built (state self.now).built) }
+        ensures answer { AnswersFirst result (obsolete_refusal (state self.now).built) }
         ensures ok { IfOk result (λ units. Some (map key_of units.items) ≡ obsolete_now meaning (state self.now)) };
 }
