@@ -29,15 +29,28 @@ pub enum BodyKind {
     /// ARM 6.3
     Procedure,
     /// With the number of words of its result, and the line of its `end` (ARM 6.3, 6.5(20)).
-    Function { words: u32, end: usize },
+    Function {
+        words: u32,
+        end: usize,
+    },
     /// ARM 9.1
     Task,
     /// A procedure of this protected object (ARM 9.5.1), with the object's entry, which it may open.
-    ProtectedProcedure { object: Symbol, entry: Option<EntryOf> },
+    ProtectedProcedure {
+        object: Symbol,
+        entry: Option<EntryOf>,
+    },
     /// A function of this protected object, with the number of words of its result and the line of its `end`.
-    ProtectedFunction { object: Symbol, words: u32, end: usize },
+    ProtectedFunction {
+        object: Symbol,
+        words: u32,
+        end: usize,
+    },
     /// The entry of this protected object (ARM 9.5.2) with its barrier.
-    Entry { object: Symbol, barrier: ObjectPlace },
+    Entry {
+        object: Symbol,
+        barrier: ObjectPlace,
+    },
 }
 
 /// What is done when something is elaborated or called: declarations, then statements, with so many words in its frame beside
