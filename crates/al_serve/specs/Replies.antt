@@ -55,6 +55,11 @@ kind_word Sub = codes "sub"
 abbrev pub key_line : Key → List ℕ
 key_line key = key.0 ++ codes " " ++ kind_word key.1 ++ line_end
 
+-- FILE KIND UNIT, or FILE fault where the file holds no sound unit
+abbrev pub file_line : List ℕ × Option Key → List ℕ
+file_line (file, Some key) = file ++ codes " " ++ kind_word key.1 ++ codes " " ++ key.0 ++ line_end
+file_line (file, None) = file ++ codes " fault\n"
+
 abbrev pub end_word : RunEnd → List ℕ
 end_word Finished = codes "finished"
 end_word Idle = codes "idle"
@@ -101,6 +106,14 @@ abbrev pub report_reply : Subject → Batch → List ℕ
 report_reply Diagnostics batch = listing (codes "diagnostics ") finding_line (findings_of batch)
 report_reply Order batch = order_reply batch
 report_reply Image batch = image_reply batch
+
+abbrev pub units_reply : List (List ℕ × Option Key) → List ℕ
+units_reply files = listing (codes "units ") file_line files
+
+-- the units that are obsolete since the last build, if there was one
+abbrev pub obsolete_reply : Option (List Key) → List ℕ
+obsolete_reply None = refused NotBuilt
+obsolete_reply (Some units) = listing (codes "obsolete ") key_line units
 
 -- what was put out stands on lines of its own
 abbrev pub run_reply : Run → List ℕ
