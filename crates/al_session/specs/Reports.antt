@@ -6,7 +6,7 @@ use Rattle.al_serve.specs.Library.{LastBuild, empty, with_tick}
 use Rattle.al_serve.specs.Session.{session}
 use Rattle.al_session.specs.Library.{meaning}
 use Rattle.al_thin.specs.Batches.{batch}
-use Rattle.al_thin.specs.Orders.{finding_cmp}
+use Rattle.al_unit_faults.specs.Orders.{finding_cmp}
 
 -- what the last build found, in every session, stands by file, place and code, and nothing is told twice
 abbrev pub ReportsAscend : Type 0
