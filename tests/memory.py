@@ -2,9 +2,10 @@
 """memory.py PROGRAM: refuses each growth of memory in turn, in the stored sessions.
 
 Each session is run once for each growth, with that one refused (by refuse.c, built by the kit's clang and loaded before
-the program). It must then write what it always writes; or `refused 10 no-memory` to one put, rename, build or run that
-is not refused otherwise, and to all else what the session without that command writes; or, where the growth is outside
-the session, nothing, with exit status 1. Prints a line for each session, and last `N passed, M failed`.
+the program). It must then write what it always writes; or `refused 10 no-memory` to one put, rename, build, run, report
+of units or report of obsolete units that is not refused otherwise, and to all else what the session without that command
+writes; or, where the growth is outside the session, nothing, with exit status 1. Prints a line for each session, and last
+`N passed, M failed`.
 """
 import pathlib
 import re
@@ -19,6 +20,7 @@ LONGEST = 4096
 REFUSED = b"refused 10 no-memory\n"
 OUTSIDE = "outside the session"
 UNSEEN = "with the plain replies"
+WANT_MEMORY = (b"put ", b"rename ", b"build ", b"run ", b"report units", b"report obsolete")
 
 
 class Refuser:
@@ -61,7 +63,7 @@ def commands_of(session):
 
 
 def may_lack_memory(command, reply):
-    return command.split(b" ")[0] in (b"put", b"rename", b"build", b"run") and not reply.startswith(b"refused ")
+    return command.startswith(WANT_MEMORY) and not reply.startswith(b"refused ")
 
 
 def replies_to(refuser, commands):

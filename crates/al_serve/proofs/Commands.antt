@@ -53,6 +53,8 @@ left_by_simple (simple.Rename old new) more = refl
 left_by_simple (simple.Build unit) more = refl
 left_by_simple (simple.Run steps) more = refl
 left_by_simple (simple.Report subject) more = refl
+left_by_simple simple.ReportUnits more = refl
+left_by_simple simple.ReportObsolete more = refl
 left_by_simple simple.Quit more = refl
 left_by_simple simple.Bad more = refl
 

@@ -4,7 +4,7 @@ use Rattle.std.specs.Io.KnownBytes.{Consumes, IsAtEnd, prepend_known}
 use Rattle.al_serve.specs.Library.{State, Meaning}
 use Rattle.al_serve.specs.declared.serving.Ended.{Ended}
 use Rattle.al_serve.specs.declared.serving.Ended.TheVariants as ended
-use Rattle.al_serve.specs.Lines.{Command, Put, Delete, Rename, Build, Run, Report, Quit, Bad, BadLength, first}
+use Rattle.al_serve.specs.Lines.{Command, Put, Delete, Rename, Build, Run, Report, ReportUnits, ReportObsolete, Quit, Bad, BadLength, first}
 use Rattle.al_serve.specs.Session.{Outcome, answer, over, prepend, after_answer, turn, session}
 use Rattle.al_serve.specs.Acting.{AnswersAndEnds, left_by, MayFollow, IsCommand}
 use Rattle.al_serve.specs.Serving.{IsInput}
@@ -40,6 +40,8 @@ module _ (m : Meaning) (before after : State) (reply : List ℕ) where
   answer_goes (Build unit) ends a none = record { marked = a.1.0; goes = λ go more. rw (a.1.1, a.1.2) refl }
   answer_goes (Run steps) ends a none = record { marked = a.1.0; goes = λ go more. rw (a.1.1, a.1.2) refl }
   answer_goes (Report subject) ends a none = record { marked = a.1.0; goes = λ go more. rw (a.1.1, a.1.2) refl }
+  answer_goes ReportUnits ends a none = record { marked = a.1.0; goes = λ go more. rw (a.1.1, a.1.2) refl }
+  answer_goes ReportObsolete ends a none = record { marked = a.1.0; goes = λ go more. rw (a.1.1, a.1.2) refl }
   answer_goes Bad ends a none = record { marked = a.1.0; goes = λ go more. rw (a.1.1, a.1.2) refl }
   answer_goes Quit ends a none = let e = a.0 in cc
   answer_goes BadLength ends a none = let e = a.0 in cc
@@ -53,6 +55,8 @@ module _ (m : Meaning) (before after : State) (reply : List ℕ) where
   answer_ends (Build unit) ends e a some go rest = let n = a.0 in cc
   answer_ends (Run steps) ends e a some go rest = let n = a.0 in cc
   answer_ends (Report subject) ends e a some go rest = let n = a.0 in cc
+  answer_ends ReportUnits ends e a some go rest = let n = a.0 in cc
+  answer_ends ReportObsolete ends e a some go rest = let n = a.0 in cc
   answer_ends Bad ends e a some go rest = let n = a.0 in cc
 
 -- one turn, whatever may follow

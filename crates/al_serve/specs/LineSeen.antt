@@ -2,7 +2,7 @@
 use Rattle.std.specs.Prelude.{map}
 use Rattle.std.specs.Char.{to_ascii_lowercase}
 use Rattle.al_serve.specs.Lines.{LineKind, PutLine, BadPutLine, WholeLine}
-use Rattle.al_serve.specs.Lines.{Command, Delete, Rename, Build, Run, Report, Quit, Bad}
+use Rattle.al_serve.specs.Lines.{Command, Delete, Rename, Build, Run, Report, ReportUnits, ReportObsolete, Quit, Bad}
 use Rattle.al_serve.specs.declared.line.Line.{Line}
 use Rattle.al_serve.specs.declared.line.Line.TheVariants as line
 use Rattle.al_serve.specs.declared.line.Simple.{Simple}
@@ -14,6 +14,8 @@ simple_seen (simple.Rename old new) = Rename old.now new.now
 simple_seen (simple.Build unit) = Build (map to_ascii_lowercase unit.now)
 simple_seen (simple.Run steps) = Run steps
 simple_seen (simple.Report subject) = Report subject
+simple_seen simple.ReportUnits = ReportUnits
+simple_seen simple.ReportObsolete = ReportObsolete
 simple_seen simple.Quit = Quit
 simple_seen simple.Bad = Bad
 

@@ -17,7 +17,12 @@ pub data Command : Type 0 where
   Build : List ℕ → Command
   -- at most so many events
   Run : ℕ → Command
+  -- of the last build
   Report : Subject → Command
+  -- the files and their units as they are
+  ReportUnits : Command
+  -- the units that are obsolete since the last build
+  ReportObsolete : Command
   Quit : Command
   -- a line of another form
   Bad : Command
@@ -61,6 +66,8 @@ build_line unit = if is_unit_name unit then WholeLine (Build (map to_ascii_lower
 abbrev pub report_line : List ℕ → LineKind
 report_line subject =
     if bytes_eq subject (codes "diagnostics") then WholeLine (Report Diagnostics)
+    else if bytes_eq subject (codes "units") then WholeLine ReportUnits
+    else if bytes_eq subject (codes "obsolete") then WholeLine ReportObsolete
     else if bytes_eq subject (codes "order") then WholeLine (Report Order)
     else if bytes_eq subject (codes "image") then WholeLine (Report Image)
     else WholeLine Bad

@@ -36,8 +36,14 @@ message_of code =
     else if code == 6 then codes "E006 identifier too long"
     else if code == 101 then codes "E101 syntax"
     else if code == 201 then codes "E201 file name"
+    else if code == 202 then codes "E202 missing unit"
+    else if code == 203 then codes "E203 dependence cycle"
+    else if code == 204 then codes "E204 private child"
+    else if code == 205 then codes "E205 missing parent"
+    else if code == 206 then codes "E206 no stub"
     else if code == 207 then codes "E207 reserved unit"
     else if code == 208 then codes "E208 depends on faults"
+    else if code == 209 then codes "E209 body does not fit"
     else if code == 308 then codes "E308 end name"
     else if code == 401 then codes "E401 not visible"
     else codes "E700 not yet"
@@ -54,6 +60,11 @@ kind_word Sub = codes "sub"
 -- UNIT KIND
 abbrev pub key_line : Key → List ℕ
 key_line key = key.0 ++ codes " " ++ kind_word key.1 ++ line_end
+
+-- FILE KIND UNIT, or FILE fault where the file holds no sound unit
+abbrev pub file_line : List ℕ × Option Key → List ℕ
+file_line (file, Some key) = file ++ codes " " ++ kind_word key.1 ++ codes " " ++ key.0 ++ line_end
+file_line (file, None) = file ++ codes " fault\n"
 
 abbrev pub end_word : RunEnd → List ℕ
 end_word Finished = codes "finished"
@@ -101,6 +112,14 @@ abbrev pub report_reply : Subject → Batch → List ℕ
 report_reply Diagnostics batch = listing (codes "diagnostics ") finding_line (findings_of batch)
 report_reply Order batch = order_reply batch
 report_reply Image batch = image_reply batch
+
+abbrev pub units_reply : List (List ℕ × Option Key) → List ℕ
+units_reply files = listing (codes "units ") file_line files
+
+-- the units that are obsolete since the last build, if there was one
+abbrev pub obsolete_reply : Option (List Key) → List ℕ
+obsolete_reply None = refused NotBuilt
+obsolete_reply (Some units) = listing (codes "obsolete ") key_line units
 
 -- what was put out stands on lines of its own
 abbrev pub run_reply : Run → List ℕ

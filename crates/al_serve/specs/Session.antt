@@ -5,9 +5,9 @@ use Rattle.al_base.specs.declared.refusal.Refusal.{Refusal}
 use Rattle.al_base.specs.declared.refusal.Refusal.TheVariants.{BadCommand, BadLength as BadLengthRefusal, NoMemory}
 use Rattle.al_serve.specs.declared.serving.Ended.{Ended}
 use Rattle.al_serve.specs.declared.serving.Ended.TheVariants as ended
-use Rattle.al_serve.specs.Lines.{Command, Put, Delete, Rename, Build, Run, Report, Quit, Bad, BadLength, first}
-use Rattle.al_serve.specs.Library.{State, Meaning, LastBuild, with_now, after_build, run_refusal}
-use Rattle.al_serve.specs.Replies.{ok, refused, build_reply, run_reply, report_of}
+use Rattle.al_serve.specs.Lines.{Command, Put, Delete, Rename, Build, Run, Report, ReportUnits, ReportObsolete, Quit, Bad, BadLength, first}
+use Rattle.al_serve.specs.Library.{State, Meaning, LastBuild, with_now, after_build, run_refusal, obsolete_refusal, obsolete_now}
+use Rattle.al_serve.specs.Replies.{ok, refused, build_reply, run_reply, report_of, units_reply, obsolete_reply}
 
 -- a reply, and the library after it
 pub record Answer : Type 0 where
@@ -23,26 +23,30 @@ edited state (Some refusal) after = record { reply = refused refusal; state = st
 abbrev pub ran : Meaning → ℕ → Option LastBuild → Option Refusal → List ℕ
 ran m steps last (Some refusal) = refused refusal
 ran m steps None None = []
-ran m steps (Some last) None = run_reply (m.run_of last.files last.main m.tick steps)
+ran m steps (Some last) None = run_reply (m.library.run_of last.files last.main m.tick steps)
 
 -- the answer where there is memory enough
 abbrev pub plain : Meaning → State → Command → Answer
 plain m state (Put name text) = edited state (put_refusal state.now name (length text)) (with_file state.now name text)
 plain m state (Delete name) = edited state (delete_refusal state.now name) (without_file state.now name)
 plain m state (Rename old new) = edited state (rename_refusal state.now old new) (with_renamed state.now old new)
-plain m state (Build unit) = record { reply = build_reply unit (m.batch state.now unit); state = after_build state unit }
-plain m state (Run steps) = record { reply = ran m steps state.built (run_refusal m.batch state.built); state = state }
-plain m state (Report subject) = record { reply = report_of m.batch subject state.built; state = state }
+plain m state (Build unit) = record { reply = build_reply unit (m.library.batch state.now unit); state = after_build state unit }
+plain m state (Run steps) = record { reply = ran m steps state.built (run_refusal m.library.batch state.built); state = state }
+plain m state (Report subject) = record { reply = report_of m.library.batch subject state.built; state = state }
+plain m state ReportUnits = record { reply = units_reply (m.library.units_of state.now); state = state }
+plain m state ReportObsolete = record { reply = obsolete_reply (obsolete_now m.library state); state = state }
 plain m state Quit = record { reply = []; state = state }
 plain m state Bad = record { reply = refused BadCommand; state = state }
 plain m state BadLength = record { reply = refused BadLengthRefusal; state = state }
 
--- where a command may find no memory: not at a refusal, a delete, a report or a quit
+-- where a command may find no memory: not at a refusal, a delete, a report of what the last build gave or a quit
 abbrev pub may_lack_memory : Meaning → State → Command → Bool
 may_lack_memory m state (Put name text) = is_none (put_refusal state.now name (length text))
 may_lack_memory m state (Rename old new) = is_none (rename_refusal state.now old new)
 may_lack_memory m state (Build unit) = true
-may_lack_memory m state (Run steps) = is_none (run_refusal m.batch state.built)
+may_lack_memory m state (Run steps) = is_none (run_refusal m.library.batch state.built)
+may_lack_memory m state ReportUnits = true
+may_lack_memory m state ReportObsolete = is_none (obsolete_refusal state.built)
 may_lack_memory m state other = false
 
 -- a command that is marked finds no memory, and changes nothing

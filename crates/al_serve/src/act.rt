@@ -4,7 +4,7 @@ ghost use Rattle.std.specs.Io.KnownBytes.{IsAtEnd};
 ghost use Rattle.al_base.specs.declared.refusal.Refusal.TheVariants.{BadLength as BadLengthRefusal};
 ghost use Rattle.al_stream.specs.Input.{moment, Reads};
 ghost use Rattle.al_serve.specs.Lines.{PutLine};
-ghost use Rattle.al_serve.specs.Library.{meaning};
+ghost use Rattle.al_serve.specs.Library.{with_tick};
 ghost use Rattle.al_serve.specs.ReplySeen.{reply_seen};
 ghost use Rattle.al_serve.specs.Acting.{ActsOn, ActsOnRest, StopsShort, StopsInText};
 
@@ -41,9 +41,9 @@ pub fn act<S: Source, L: UnitLibrary>(
     ensures acted { IfOk result (λ acted. MatchOption acted
         ((L.state library.new ≡ L.state library.old) × IsAtEnd (moment S.ahead S.faults S.pulls source.new buffer.new).ahead
         × Reads (moment S.ahead S.faults S.pulls source.old buffer.old) (moment S.ahead S.faults S.pulls source.new buffer.new) [])
-        (λ acted. ActsOn (meaning L.batch L.run_of tick) (moment S.ahead S.faults S.pulls source.old buffer.old)
+        (λ acted. ActsOn (with_tick L.meaning tick) (moment S.ahead S.faults S.pulls source.old buffer.old)
         (moment S.ahead S.faults S.pulls source.new buffer.new) (L.state library.old) (L.state library.new)
-        (reply_seen L.batch (L.state library.new) acted.reply) acted.ended acted.is_last)) }
+        (reply_seen L.meaning (L.state library.new) acted.reply) acted.ended acted.is_last)) }
     ensures stopped { IfErr result (λ device. (device ≡ Device.Read) × (L.state library.new ≡ L.state library.old)
         × StopsShort (moment S.ahead S.faults S.pulls source.old buffer.old) (moment S.ahead S.faults S.pulls source.new buffer.new)) }
 {
@@ -87,9 +87,9 @@ fn act_on_text<S: Source, L: UnitLibrary>(
 ) -> Result<Acted, Device>
     requires faults { S.faults source.old < 2 ^ 64 - 1 }
     requires pulls { S.pulls source.old + buffer.old.1 < 2 ^ 64 }
-    ensures acted { IfOk result (λ acted. ActsOnRest (meaning L.batch L.run_of tick) (PutLine name.now len)
+    ensures acted { IfOk result (λ acted. ActsOnRest (with_tick L.meaning tick) (PutLine name.now len)
         (moment S.ahead S.faults S.pulls source.old buffer.old) (moment S.ahead S.faults S.pulls source.new buffer.new)
-        (L.state library.old) (L.state library.new) (reply_seen L.batch (L.state library.new) acted.reply) acted.ended) }
+        (L.state library.old) (L.state library.new) (reply_seen L.meaning (L.state library.new) acted.reply) acted.ended) }
     ensures not_last { IfOk result (λ acted. acted.is_last ≡ false) }
     ensures stopped { IfErr result (λ device. (device ≡ Device.Read) × (L.state library.new ≡ L.state library.old)
         × StopsInText name.now len (moment S.ahead S.faults S.pulls source.old buffer.old) (moment S.ahead S.faults S.pulls source.new buffer.new)) }

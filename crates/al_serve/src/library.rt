@@ -1,12 +1,12 @@
 // What a session needs of a library.
-ghost use Rattle.std.specs.Prelude.{◌≡◌, ℕ, ◌≤◌, List, Option, OnOk, OnErr, length, option_map};
-ghost use Rattle.al_base.specs.Files.{Texts, with_file, without_file, with_renamed, put_refusal, delete_refusal, rename_refusal, AnswersRefusal, AnswersFirst};
-ghost use Rattle.al_base.specs.Batch.{Batch, Run};
-ghost use Rattle.al_serve.specs.Library.{State, with_now, after_build, run_refusal, last_batch};
+ghost use Rattle.std.specs.Prelude.{◌≡◌, ◌≤◌, Some, OnOk, OnErr, IfOk, length, map, option_map};
+ghost use Rattle.al_base.specs.Files.{with_file, without_file, with_renamed, put_refusal, delete_refusal, rename_refusal, AnswersRefusal, AnswersFirst};
+ghost use Rattle.al_base.specs.Batch.{key_of};
+ghost use Rattle.al_serve.specs.Library.{State, LibraryMeaning, with_now, after_build, last_batch, obsolete_refusal, obsolete_now, file_unit_of};
 ghost use Rattle.al_serve.specs.Outcomes.{built_seen};
 ghost use Rattle.al_serve.specs.Ran.{AnswersRun};
 
-use al_base::{Diagnostic, NoMemory, Ran, Refusal, UnitKey};
+use al_base::{Diagnostic, Name, NoMemory, Ran, Refusal, UnitKey};
 
 /// What the last build gave.
 #[derive(Clone, Copy)]
@@ -31,12 +31,9 @@ pub struct Built<'a> {
 
 /// A library of compilation units that is edited, built and run.
 pub trait UnitLibrary {
-    /// What compiling files from an empty library gives for a main unit.
-    ghost batch: { Texts → List ℕ → Batch };
-
-    /// What the image of these files puts out for a main unit, with so many instructions between two ticks, in at
-    /// most so many events.
-    ghost run_of: { Texts → List ℕ → ℕ → ℕ → Run };
+    /// What its files mean: what they are compiled to, what their image puts out, which units they hold and which of
+    /// these are obsolete.
+    ghost meaning: { LibraryMeaning };
 
     /// The files, and those of the last build.
     ghost state: { Self → State };
@@ -71,7 +68,7 @@ pub trait UnitLibrary {
 
     /// The last build, if there was one. It takes no memory.
     fn last(&self) -> Option<Built<'_>>
-        ensures { option_map built_seen result ≡ option_map (last_batch batch) (state self.now).built };
+        ensures { option_map built_seen result ≡ option_map (last_batch meaning.batch) (state self.now).built };
 
     /// Runs the image of the last build from its start, for at most so many events, with a tick of the clock after
     /// each `tick` instructions.
@@ -79,5 +76,22 @@ pub trait UnitLibrary {
         requires some { 1 ≤ tick }
         requires few { tick ≤ 10000 }
         requires steps { steps ≤ 1000000000 }
-        ensures { AnswersRun result batch run_of tick steps (state self.now).built };
+        ensures { AnswersRun result meaning.batch meaning.run_of tick steps (state self.now).built };
+
+    /// The files as they are, by name, each with the unit that it holds, if it holds a sound one (ARM 10.1).
+    ///
+    /// # Errors
+    ///
+    /// `NoMemory` where memory was wanted and not given.
+    fn units(&self) -> Result<Vec<(Name, Option<UnitKey>)>, NoMemory>
+        ensures { IfOk result (λ files. map file_unit_of files.items ≡ meaning.units_of (state self.now).now) };
+
+    /// The units that are obsolete since the last build (ARM 10.1.4), by name and kind.
+    ///
+    /// # Errors
+    ///
+    /// `NotBuilt` where there was no build; else `NoMemory` where memory was wanted and not given.
+    fn obsolete(&self) -> Result<Vec<UnitKey>, Refusal>
+        ensures answer { AnswersFirst result (obsolete_refusal (state self.now).built) }
+        ensures ok { IfOk result (λ units. Some (map key_of units.items) ≡ obsolete_now meaning (state self.now)) };
 }

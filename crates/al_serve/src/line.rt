@@ -27,7 +27,12 @@ pub enum Simple<'a> {
     Build(&'a [u8]),
     /// At most so many events.
     Run(u64),
+    /// Of the last build.
     Report(Subject),
+    /// Of the files and their units.
+    ReportUnits,
+    /// Of the units that are obsolete since the last build.
+    ReportObsolete,
     Quit,
     Bad,
 }
@@ -107,6 +112,12 @@ fn report_line<'a>(subject: &[u8]) -> Line<'a>
 {
     if subject == b"diagnostics".as_slice() {
         return Line::Whole(Simple::Report(Subject::Diagnostics));
+    }
+    if subject == b"units".as_slice() {
+        return Line::Whole(Simple::ReportUnits);
+    }
+    if subject == b"obsolete".as_slice() {
+        return Line::Whole(Simple::ReportObsolete);
     }
     if subject == b"order".as_slice() {
         return Line::Whole(Simple::Report(Subject::Order));

@@ -3,9 +3,10 @@ ghost use Rattle.std.specs.Prelude.{◌≡◌, ◌-◌, ◌^◌, ◌<◌, IsOk, 
 ghost use Rattle.std.specs.List.{flat_map};
 ghost use Rattle.al_base.specs.Batch.{finding_of, key_of, run_of};
 ghost use Rattle.al_stream.specs.Output.{Adds};
-ghost use Rattle.al_serve.specs.Replies.{refused, message_of, finding_line, kind_word, key_line, end_word, run_reply};
+ghost use Rattle.al_serve.specs.Library.{file_unit_of};
+ghost use Rattle.al_serve.specs.Replies.{refused, message_of, finding_line, kind_word, key_line, file_line, end_word, run_reply};
 
-use al_base::{Diagnostic, Ran, Refusal, RunEnd, UnitKey, UnitKind};
+use al_base::{Diagnostic, Name, Ran, Refusal, RunEnd, UnitKey, UnitKind};
 use al_stream::{Device, Sink, emit, emit_number};
 
 /// Writes that a command is refused, with the number and the word of the refusal.
@@ -37,8 +38,14 @@ fn message_of(code: u16) -> &'static [u8]
         6 => b"E006 identifier too long",
         101 => b"E101 syntax",
         201 => b"E201 file name",
+        202 => b"E202 missing unit",
+        203 => b"E203 dependence cycle",
+        204 => b"E204 private child",
+        205 => b"E205 missing parent",
+        206 => b"E206 no stub",
         207 => b"E207 reserved unit",
         208 => b"E208 depends on faults",
+        209 => b"E209 body does not fit",
         308 => b"E308 end name",
         401 => b"E401 not visible",
         _ => b"E700 not yet",
@@ -119,6 +126,44 @@ pub fn emit_keys<K: Sink>(
 {
     for key in keys {
         so_far = emit_key(so_far, writer, key);
+    }
+    so_far
+}
+
+// Writes FILE KIND UNIT, or FILE fault.
+fn emit_file_line<K: Sink>(
+    so_far: Result<(), Device>,
+    writer: &mut K,
+    file: &Name,
+    unit: &Option<UnitKey>,
+) -> Result<(), Device>
+    requires { IsOk so_far → K.faults writer.old < 2 ^ 64 - 1 }
+    ensures faults { IsOk result → IsOk so_far × (K.faults writer.new ≡ K.faults writer.old) }
+    ensures told { Adds K.written K.faults writer.old writer.new so_far result (file_line (file_unit_of (file.now, unit.now))) }
+{
+    let so_far = emit(so_far, writer, file.as_slice());
+    let Some(key) = unit else {
+        return emit(so_far, writer, b" fault\n");
+    };
+    let so_far = emit(so_far, writer, b" ");
+    let so_far = emit(so_far, writer, kind_word(key.kind));
+    let so_far = emit(so_far, writer, b" ");
+    let so_far = emit(so_far, writer, key.name.as_slice());
+    emit(so_far, writer, b"\n")
+}
+
+/// Writes a line for each file.
+pub fn emit_file_lines<K: Sink>(
+    mut so_far: Result<(), Device>,
+    writer: &mut K,
+    files: &[(Name, Option<UnitKey>)],
+) -> Result<(), Device>
+    requires { IsOk so_far → K.faults writer.old < 2 ^ 64 - 1 }
+    ensures faults { IsOk result → IsOk so_far × (K.faults writer.new ≡ K.faults writer.old) }
+    ensures told { Adds K.written K.faults writer.old writer.new so_far result (flat_map file_line (map file_unit_of files.now)) }
+{
+    for (file, unit) in files {
+        so_far = emit_file_line(so_far, writer, file, unit);
     }
     so_far
 }

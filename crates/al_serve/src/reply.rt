@@ -1,8 +1,8 @@
 // What is replied to a command.
 use crate::subject::Subject;
-use al_base::{Ran, Refusal};
+use al_base::{Name, Ran, Refusal, UnitKey};
 
-/// A reply. What the library holds is written from there, so that it takes no memory.
+/// A reply. What the last build gave is written as the library holds it, so that it takes no memory.
 #[derive(Drop)]
 pub enum Reply {
     /// No bytes.
@@ -13,5 +13,9 @@ pub enum Reply {
     /// What the build that was just made gave.
     LastBuild,
     Report(Subject),
+    /// The files, each with its sound unit.
+    Units(Vec<(Name, Option<UnitKey>)>),
+    /// The units that are obsolete since the last build.
+    Obsolete(Vec<UnitKey>),
     Ran(Ran),
 }

@@ -3,14 +3,15 @@ ghost use Rattle.std.specs.Prelude.{◌≡◌, ◌-◌, ◌^◌, ◌<◌, IsOk, 
 ghost use Rattle.al_base.specs.Batch.{finding_of, key_of};
 ghost use Rattle.al_stream.specs.Output.{WritesReply, Adds};
 ghost use Rattle.al_serve.specs.Outcomes.{outcome_seen};
+ghost use Rattle.al_serve.specs.Library.{file_unit_of};
 ghost use Rattle.al_serve.specs.ReplySeen.{reply_seen};
-ghost use Rattle.al_serve.specs.Replies.{listing, finding_line, key_line, build_reply, report_reply, order_reply, image_reply, report_of, build_reply_of, built_line, no_main_line, image_text};
+ghost use Rattle.al_serve.specs.Replies.{listing, file_line, finding_line, key_line, build_reply, report_reply, order_reply, image_reply, report_of, build_reply_of, built_line, no_main_line, image_text};
 
 use crate::library::{Outcome, UnitLibrary};
-use crate::pieces::{emit_findings, emit_keys, emit_ran, emit_refusal};
+use crate::pieces::{emit_file_lines, emit_findings, emit_keys, emit_ran, emit_refusal};
 use crate::reply::Reply;
 use crate::subject::Subject;
-use al_base::{Diagnostic, Refusal, UnitKey};
+use al_base::{Diagnostic, Name, Refusal, UnitKey};
 use al_stream::{Device, Sink, emit, emit_hex, emit_number, finish};
 
 // A word and the number of diagnostics, and a line for each.
@@ -45,6 +46,23 @@ fn emit_order<K: Sink>(
     let so_far = emit_number(so_far, writer, order.len());
     let so_far = emit(so_far, writer, b"\n");
     emit_keys(so_far, writer, order)
+}
+
+// A word and the number of files, and a line for each.
+fn emit_units<K: Sink>(
+    so_far: Result<(), Device>,
+    writer: &mut K,
+    word: &[u8],
+    files: &[(Name, Option<UnitKey>)],
+) -> Result<(), Device>
+    requires { IsOk so_far → K.faults writer.old < 2 ^ 64 - 1 }
+    ensures faults { IsOk result → IsOk so_far × (K.faults writer.new ≡ K.faults writer.old) }
+    ensures told { Adds K.written K.faults writer.old writer.new so_far result (listing word.now file_line (map file_unit_of files.now)) }
+{
+    let so_far = emit(so_far, writer, word);
+    let so_far = emit_number(so_far, writer, files.len());
+    let so_far = emit(so_far, writer, b"\n");
+    emit_file_lines(so_far, writer, files)
 }
 
 fn emit_image<K: Sink>(
@@ -194,7 +212,7 @@ pub fn write_reply<K: Sink, L: UnitLibrary>(
 ) -> Result<(), Device>
     requires { K.faults writer.old < 2 ^ 64 - 1 }
     ensures { WritesReply (K.written writer.old) (K.written writer.new) (K.faults writer.old) (K.faults writer.new)
-        (reply_seen L.batch (L.state library.now) reply.now) result }
+        (reply_seen L.meaning (L.state library.now) reply.now) result }
 {
     let so_far = emit_reply(writer, library, reply);
     finish(so_far, writer)
@@ -207,7 +225,7 @@ fn emit_reply<K: Sink, L: UnitLibrary>(
 ) -> Result<(), Device>
     requires { K.faults writer.old < 2 ^ 64 - 1 }
     ensures { WritesReply (K.written writer.old) (K.written writer.new) (K.faults writer.old) (K.faults writer.new)
-        (reply_seen L.batch (L.state library.now) reply.now) result }
+        (reply_seen L.meaning (L.state library.now) reply.now) result }
 {
     match reply {
         Reply::Nothing => Ok(()),
@@ -221,6 +239,8 @@ fn emit_reply<K: Sink, L: UnitLibrary>(
             None => emit_refusal(Ok(()), writer, Refusal::NotBuilt),
             Some(last) => emit_report(Ok(()), writer, *subject, &last.outcome),
         },
+        Reply::Units(files) => emit_units(Ok(()), writer, b"units ", files.as_slice()),
+        Reply::Obsolete(units) => emit_order(Ok(()), writer, b"obsolete ", units.as_slice()),
         Reply::Ran(ran) => emit_ran(Ok(()), writer, ran),
     }
 }

@@ -1,6 +1,6 @@
 // The session.
 ghost use Rattle.std.specs.Prelude.{◌≡◌, ◌+◌, ◌-◌, ◌^◌, ◌<◌, ◌≤◌, ◌⊎◌, IfOk, IsErrOf};
-ghost use Rattle.al_serve.specs.Library.{meaning};
+ghost use Rattle.al_serve.specs.Library.{with_tick};
 ghost use Rattle.al_serve.specs.Serving.{Serves, StopsReading, StopsWriting};
 
 use crate::act::act;
@@ -36,13 +36,13 @@ pub fn serve_within<S: Source, K: Sink, L: UnitLibrary>(
     requires few { tick ≤ 10000 }
 
     // What is written is the replies to what is read, and nothing else.
-    ensures served { IfOk result (Serves (meaning L.batch L.run_of tick) commands (S.ahead reader.old)
+    ensures served { IfOk result (Serves (with_tick L.meaning tick) commands (S.ahead reader.old)
         (K.written writer.old) (K.written writer.new) (L.state library.old) (L.state library.new)) }
 
     // A device that fails leaves a front of them.
-    ensures read { IsErrOf result Device.Read → StopsReading (meaning L.batch L.run_of tick) commands (S.ahead reader.old)
+    ensures read { IsErrOf result Device.Read → StopsReading (with_tick L.meaning tick) commands (S.ahead reader.old)
         (S.ahead reader.new) (K.written writer.old) (K.written writer.new) (L.state library.old) (L.state library.new) }
-    ensures write { IsErrOf result Device.Write → StopsWriting (meaning L.batch L.run_of tick) commands (S.ahead reader.old)
+    ensures write { IsErrOf result Device.Write → StopsWriting (with_tick L.meaning tick) commands (S.ahead reader.old)
         (K.written writer.old) (K.written writer.new) (L.state library.old) (L.state library.new) }
 
     // It fails only where the device failed, or no pull was left.
@@ -85,11 +85,11 @@ pub fn serve<S: Source, K: Sink, L: UnitLibrary>(
     requires write_faults { K.faults writer.old < 2 ^ 64 - 1 }
     requires some { 1 ≤ tick }
     requires few { tick ≤ 10000 }
-    ensures served { IfOk result (Serves (meaning L.batch L.run_of tick) MAX_COMMANDS (S.ahead reader.old)
+    ensures served { IfOk result (Serves (with_tick L.meaning tick) MAX_COMMANDS (S.ahead reader.old)
         (K.written writer.old) (K.written writer.new) (L.state library.old) (L.state library.new)) }
-    ensures read { IsErrOf result Device.Read → StopsReading (meaning L.batch L.run_of tick) MAX_COMMANDS (S.ahead reader.old)
+    ensures read { IsErrOf result Device.Read → StopsReading (with_tick L.meaning tick) MAX_COMMANDS (S.ahead reader.old)
         (S.ahead reader.new) (K.written writer.old) (K.written writer.new) (L.state library.old) (L.state library.new) }
-    ensures write { IsErrOf result Device.Write → StopsWriting (meaning L.batch L.run_of tick) MAX_COMMANDS (S.ahead reader.old)
+    ensures write { IsErrOf result Device.Write → StopsWriting (with_tick L.meaning tick) MAX_COMMANDS (S.ahead reader.old)
         (K.written writer.old) (K.written writer.new) (L.state library.old) (L.state library.new) }
     ensures read_cause { IsErrOf result Device.Read →
         (S.faults reader.new ≡ S.faults reader.old + 1) ⊎ (S.pulls reader.new ≡ S.pulls reader.old + MAX_PULLS) }

@@ -1,13 +1,13 @@
 // A library that compiles all its files anew at each build.
 ghost use Rattle.std.specs.Prelude.{◌≡◌, []};
-ghost use Rattle.al_thin.specs.Batches.{batch, run_of};
 ghost use Rattle.al_serve.specs.Library.{empty};
+ghost use Rattle.al_session.specs.Library.{meaning};
 
 use crate::last_build::LastBuild;
-use al_base::{Files, Name, NoMemory, Ran, Refusal};
+use al_base::{Files, Name, NoMemory, Ran, Refusal, UnitKey};
 use al_image::run;
 use al_serve::{Built, Outcome, UnitLibrary};
-use al_thin::{Compiled, compile};
+use al_thin::{Compiled, compile, obsolete, units};
 use std::alloc::Global;
 use std::marker::Model;
 
@@ -42,9 +42,7 @@ impl Library {
 }
 
 impl UnitLibrary for Library {
-    ghost batch = { batch };
-
-    ghost run_of = { run_of };
+    ghost meaning = { meaning };
 
     ghost state = { λ l. l };
 
@@ -104,5 +102,15 @@ impl UnitLibrary for Library {
             Ok(ran) => Ok(ran),
             Err(NoMemory) => Err(Refusal::NoMemory),
         }
+    }
+
+    fn units(&self) -> Result<Vec<(Name, Option<UnitKey>)>, NoMemory> {
+        units(self.alloc, &self.now)
+    }
+
+    fn obsolete(&self) -> Result<Vec<UnitKey>, Refusal> {
+        let built = self.last.as_ref().ok_or(Refusal::NotBuilt)?;
+        let units = obsolete(self.alloc, &built.files, &self.now)?;
+        Ok(units)
     }
 }

@@ -1,8 +1,8 @@
 // A session over bytes in memory.
 ghost use Rattle.std.specs.Prelude.{◌≡◌, ◌≤◌, List, Bool, true, IfOk};
-ghost use Rattle.al_thin.specs.Batches.{batch, run_of};
-ghost use Rattle.al_serve.specs.Library.{empty, meaning};
+ghost use Rattle.al_serve.specs.Library.{empty, with_tick};
 ghost use Rattle.al_serve.specs.Session.{session};
+ghost use Rattle.al_session.specs.Library.{meaning};
 
 use crate::library::Library;
 use al_serve::serve;
@@ -13,7 +13,7 @@ use std::alloc::Global;
 pub fn serve_bytes(alloc: Global, tick: u32, input: &[u8]) -> Result<Vec<u8>, Device>
     requires some { 1 ≤ tick }
     requires few { tick ≤ 10000 }
-    ensures { IfOk result (λ replies. (marks : List Bool) × (replies.items ≡ (session (meaning batch run_of tick) true 1000000 empty marks input.now).replies)) }
+    ensures { IfOk result (λ replies. (marks : List Bool) × (replies.items ≡ (session (with_tick meaning tick) true 1000000 empty marks input.now).replies)) }
 {
     let mut reader = Counted::new(input);
     let mut writer = Counted::new(Vec::new(alloc));

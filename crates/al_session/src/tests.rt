@@ -17,6 +17,18 @@ fn says_hello(rt: HostRuntime) -> Result<(), Fail> {
     Ok(())
 }
 
+#[test]
+fn reports_of_units(rt: HostRuntime) -> Result<(), Fail> {
+    let commands =
+        b"report units\nreport obsolete\nput n.adb 33\nprocedure N is begin null; end N;\nreport units\nbuild n\nreport obsolete\n";
+    let replies = serve_bytes(rt.alloc(), 100, commands)?;
+    assert_eq!(rt;
+        replies.as_slice(),
+        b"units 0\nrefused 6 not-built\nok\nunits 1\nn.adb body n\nbuilt 1 75\nobsolete 0\n".as_slice()
+    );
+    Ok(())
+}
+
 /// A device that fails at one call, and at each later one.
 #[derive(Drop)]
 struct Failing<D> {

@@ -1,5 +1,5 @@
 -- Bodies of the thin language, by their fields.
-use Rattle.std.proofs.Common.{◌≡◌, ℕ, ◌<◌, Bool, List, [], ◌∷◌, length, map, Option, Some, None, refl, sym, ap, ◌∙◌, arith}
+use Rattle.std.proofs.Common.{◌≡◌, ◌<◌, Bool, List, [], ◌∷◌, length, map, Option, Some, None, refl, sym, ap, ◌∙◌, arith}
 use Rattle.std.specs.Option.{option_map}
 use Rattle.al_grammar.specs.Grammar.{Label}
 use Rattle.al_syntax.specs.StatementTrees.{StatementsTree, CompoundEndTree, BodyTree as body_trees}
@@ -9,7 +9,7 @@ use Rattle.al_tree.specs.StatementViews.{body_seen, compound_end_seen, item_seen
 use Rattle.al_tree.specs.declared.statement.Item.{Item}
 use Rattle.al_tree.specs.declared.statement.SubprogramBody.{SubprogramBody, out-SubprogramBody, roll-out-SubprogramBody}
 use Rattle.al_tree.proofs.StatementsMade.{body_new_seen}
-use Rattle.al_thin.specs.ThinTrees.{UnitTree, StatementTree, sole_end_name, thin_body, thin_parts, thin_statements}
+use Rattle.al_thin.specs.ThinTrees.{StatementTree, sole_end_name, thin_body, thin_parts, thin_statements}
 
 pub body_fields : (b : SubprogramBody) → body_seen b ≡ body_trees.Body (items_of (map item_seen (out-SubprogramBody b).items.items)) (place_label (out-SubprogramBody b).begin) (statements_seen (out-SubprogramBody b).statements) (compound_end_seen (out-SubprogramBody b).end)
 body_fields b = ap body_seen (sym (roll-out-SubprogramBody b)) ∙ body_new_seen (out-SubprogramBody b).items (out-SubprogramBody b).begin (out-SubprogramBody b).statements (out-SubprogramBody b).end

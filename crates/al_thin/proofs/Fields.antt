@@ -1,7 +1,7 @@
 -- What a structure is seen as, by its fields.
-use Rattle.std.proofs.Common.{◌≡◌, ◌<◌, ◌≤◌, List, [], ◌∷◌, length, map, Option, Some, None, is_some, true, false, refl, sym, ap, ◌∙◌, arith, Vec, Global}
+use Rattle.std.proofs.Common.{◌≡◌, ◌<◌, ◌≤◌, List, [], ◌∷◌, length, map, Option, Some, None, refl, sym, ap, ◌∙◌, arith, Vec, Global}
 use Rattle.al_syntax.specs.ExpressionTrees.{SimpleTree as simple_trees, TermTree, TermTree as term_trees, NameTree as name_trees, PartTree as part_trees, ExpressionTree, FactorTree, Sign}
-use Rattle.al_tree.specs.ExpressionViews.{AddedTermTree, MultipliedFactorTree, added_of, added_term_seen, expression_seen, expressions_of, factor_seen, multiplied_factor_seen, multiplied_of, name_seen, part_seen, parts_of, sign_seen, simple_seen, term_seen}
+use Rattle.al_tree.specs.ExpressionViews.{added_of, added_term_seen, expression_seen, expressions_of, factor_seen, multiplied_factor_seen, multiplied_of, name_seen, part_seen, parts_of, sign_seen, simple_seen, term_seen}
 use Rattle.al_tree.specs.Lexemes.{identifier_label, place_label}
 use Rattle.al_tree.specs.declared.expression.SimpleExpression.{SimpleExpression, out-SimpleExpression, roll-out-SimpleExpression}
 use Rattle.al_tree.specs.declared.expression.AddedTerm.{AddedTerm}

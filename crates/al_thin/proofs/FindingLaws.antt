@@ -1,28 +1,35 @@
 -- What is found wrong is what breaks a rule.
-use Rattle.std.proofs.Common.{◌≡◌, ◌≢◌, ℕ, Bool, true, false, not, List, [], ◌∷◌, ◌++◌, ◌⊎◌, inl, inr, Option, Some, None, is_some, cond, refl, ap, subst, sym, ◌∙◌}
+use Rattle.std.proofs.Common.{◌≡◌, ◌≢◌, ℕ, Bool, true, false, not, List, [], ◌∷◌, inl, inr, Option, Some, None, refl, ap, subst, sym, ◌∙◌}
+use Rattle.std.specs.Option.{option_map, option_and_then, option_map_or}
 use Rattle.std.specs.Str.{bytes_eq}
 use Rattle.std.specs.List.{Contains}
+use Rattle.std.specs.Map.{keys_of}
+use Rattle.std.specs.BTreeMap.{is_at}
 use Rattle.std.proofs.lemmas.List.Elements.{Contains-append_left, Contains-append_right, Contains-append_cases}
+use Rattle.std.proofs.lemmas.Map.Made.{lookup-map_values}
 use Rattle.std.proofs.lemmas.Slice.Eq.{bytes_eq-Decides}
-use Rattle.al_base.specs.Files.{Texts, text_of}
-use Rattle.al_base.specs.FileNames.{file_name_of}
+use Rattle.al_base.specs.Files.{Texts, name_cmp, text_of}
 use Rattle.al_base.specs.Batch.{Finding}
 use Rattle.al_base.specs.declared.place.Place.{Place}
-use Rattle.al_base.specs.declared.unit_key.UnitKind.TheVariants.{Decl}
 use Rattle.al_grammar.specs.Grammar.{Label}
 use Rattle.al_syntax.specs.UnitTrees.{CompilationUnitTree}
-use Rattle.al_unit.specs.Readings.{Reading}
+use Rattle.al_unit_graph.specs.Headers.{key_of_unit}
+use Rattle.al_unit_graph.specs.Library.{held, source_at}
+use Rattle.al_unit_faults.specs.Dependents.{depends_on_unfit}
+use Rattle.al_unit_faults.specs.Laws.{IsFaultOf}
+use Rattle.al_unit_faults.proofs.LawLemmas.{file_faults_are_broken, no_unit as no_faults}
+use Rattle.al_unit.specs.Catalogs.{contents_of, source_of, library_of}
+use Rattle.al_unit.specs.Readings.{Reading, reading_of}
 use Rattle.al_unit.specs.Readings.Reading.{Sentence, Fails}
-use Rattle.al_header.specs.Units.{header_of}
-use Rattle.al_unit_graph.specs.Headers.{Header, key_of_unit}
-use Rattle.al_unit_graph.specs.Names.{is_reserved}
 use Rattle.al_thin.specs.ThinTrees.{UnitTree, StatementTree, thin_unit}
 use Rattle.al_thin.specs.ThinTrees.StatementTree.{NullTree, CallTree}
-use Rattle.al_unit.specs.Readings.{reading_of}
-use Rattle.al_thin.specs.Findings.{finding, finding_when, label_place, name_findings, statement_findings, call_findings, end_findings, check_findings, body_findings, unit_findings, or_else, reading_findings, file_findings, findings_of}
-use Rattle.al_thin.specs.Laws.{IsRightlyNamed, IsChecked, Breaks, FindingsAreBroken}
-use Rattle.al_thin.specs.Laws.Breaks.{no_unit, other_file, taken_name, not_yet, faulty_declaration, not_visible, other_end_name}
-use Rattle.al_thin.proofs.Members.{nowhere, the_one, one, from_flat_map, into_flat_map}
+use Rattle.al_thin.specs.Findings.{finding, finding_when, label_place, statement_findings, call_findings, end_findings, check_findings, unit_findings, reading_findings, text_findings, are_some, is_faulty, file_findings, findings_of}
+use Rattle.al_thin.specs.Laws.{BreaksThin, FailsCheck, Breaks, FindingsAreBroken}
+use Rattle.al_thin.specs.Laws.BreaksThin.{not_visible, other_end_name}
+use Rattle.al_thin.specs.Laws.FailsCheck.{not_yet, thin}
+use Rattle.al_thin.specs.Laws.Breaks.{misused, dependent, no_unit, unchecked}
+use Rattle.al_thin.proofs.DependentLaws.{here, faults_in, depends_on_faulty, member_some, told_faults, told_dependent, told_text, from_dependent, into_dependent}
+use Rattle.al_thin.proofs.Members.{nowhere, the_one, one, first, from_flat_map, into_flat_map}
 
 -- tests
 not_both : (b : Bool) → b ≡ true → b ≡ false → ⊥
@@ -32,13 +39,13 @@ not_true : (b : Bool) → not b ≡ true → b ≡ false
 not_true true fails = absurd (cc)
 not_true false fails = refl
 
-not_false : (b : Bool) → not b ≡ false → b ≡ true
-not_false true holds = refl
-not_false false holds = absurd (cc)
-
 true_not : (b : Bool) → (b ≡ true → ⊥) → not b ≡ true
 true_not true fails = absurd (fails refl)
 true_not false fails = refl
+
+never : (b : Bool) → (b ≡ true → ⊥) → b ≡ false
+never true fails = absurd (fails refl)
+never false fails = refl
 
 differ : (a b : List ℕ) → not (bytes_eq a b) ≡ true → a ≢ b
 differ a b fails same = not_both (bytes_eq a b) ((bytes_eq-Decides a b).1 same) (not_true (bytes_eq a b) fails)
@@ -46,10 +53,15 @@ differ a b fails same = not_both (bytes_eq a b) ((bytes_eq-Decides a b).1 same) 
 differing : (a b : List ℕ) → a ≢ b → not (bytes_eq a b) ≡ true
 differing a b fails = true_not (bytes_eq a b) (λ holds. fails ((bytes_eq-Decides a b).0 holds))
 
-first : Place
-first = record { line = 1; col = 1 }
+none_of : (fs : List Finding) → are_some fs ≡ false → fs ≡ []
+none_of [] none = refl
+none_of (f ∷ fs) none = absurd (cc)
 
-module _ (files : Texts) (file : List ℕ) where
+not_some : (fs : List Finding) → ((g : Finding) → Contains fs g → ⊥) → are_some fs ≡ false
+not_some [] none = refl
+not_some (f ∷ fs) none = absurd (none f (first f fs))
+
+module _ (file : List ℕ) where
   from_if : (b : Bool) (at : Place) (code : ℕ) (f : Finding) → Contains (finding_when b file at code) f → (b ≡ true) × (finding file at code ≡ f)
   from_if true at code f c = (refl, the_one (finding file at code) f c)
   from_if false at code f c = absurd (nowhere f c)
@@ -58,102 +70,39 @@ module _ (files : Texts) (file : List ℕ) where
   into_if true at code holds = one (finding file at code)
   into_if false at code holds = absurd (cc)
 
-  no_ifs : (x y : Bool) (at : Place) (m n : ℕ) → finding_when x file at m ++ finding_when y file at n ≡ [] → (x ≡ false) × (y ≡ false)
-  no_ifs true y at m n none = absurd (cc)
-  no_ifs false true at m n none = absurd (cc)
-  no_ifs false false at m n none = (refl, refl)
-
-  ifs : (x y : Bool) (at : Place) (m n : ℕ) → x ≡ false → y ≡ false → finding_when x file at m ++ finding_when y file at n ≡ []
-  ifs true y at m n fails fails_too = absurd (cc)
-  ifs false true at m n fails fails_too = absurd (cc)
-  ifs false false at m n fails fails_too = refl
-
-  rightly_named : (h : Header) → name_findings file h ≡ [] → IsRightlyNamed file h
-  rightly_named h none =
-      let tests = no_ifs (not (bytes_eq file (file_name_of (key_of_unit h)))) (is_reserved h.name) h.place 201 207 none in
-      record {
-        wanted = (bytes_eq-Decides file (file_name_of (key_of_unit h))).0 (not_false (bytes_eq file (file_name_of (key_of_unit h))) tests.0);
-        free = tests.1;
-      }
-
-  no_name_findings : (h : Header) → IsRightlyNamed file h → name_findings file h ≡ []
-  no_name_findings h named =
-      let wanted : bytes_eq file (file_name_of (key_of_unit h)) ≡ true = (bytes_eq-Decides file (file_name_of (key_of_unit h))).1 named.wanted in
-      ifs (not (bytes_eq file (file_name_of (key_of_unit h)))) (is_reserved h.name) h.place 201 207 (ap not wanted) named.free
-
-  -- what is found breaks a rule
-  module _ (unit : CompilationUnitTree) (f : Finding) where
+  -- what the check of a unit finds breaks a rule
+  module _ (u : UnitTree) (f : Finding) where
     abbrev P : Finding → Type 0
-    P g = Breaks files file (Sentence unit) g
+    P g = BreaksThin file u g
 
-    name_breaks : Contains (name_findings file (header_of unit)) f → Breaks files file (Sentence unit) f
-    name_breaks c =
-        let others : Bool = not (bytes_eq file (file_name_of (key_of_unit (header_of unit)))) in
-        let taken : Bool = is_reserved (header_of unit).name in
-        elim (Contains-append_cases (finding_when others file (header_of unit).place 201) (finding_when taken file (header_of unit).place 207) f c) [
-          | inl h ↦ let r = from_if others (header_of unit).place 201 f h in subst P r.1 (other_file (differ file (file_name_of (key_of_unit (header_of unit))) r.0))
-          | inr h ↦ let r = from_if taken (header_of unit).place 207 f h in subst P r.1 (taken_name r.0)
+    statement_breaks : u.with_clause ≡ false → (s : StatementTree) → Contains u.statements s → Contains (statement_findings file s) f → BreaksThin file u f
+    statement_breaks unseen NullTree there c = absurd (nowhere f c)
+    statement_breaks unseen (CallTree place operation) there c = subst P (the_one (finding file place 401) f c) (not_visible unseen there)
+
+    call_breaks : (w : Bool) → u.with_clause ≡ w → Contains (call_findings file w u.statements) f → BreaksThin file u f
+    call_breaks true is c = absurd (nowhere f c)
+    call_breaks false is c =
+        let r = from_flat_map (statement_findings file) u.statements f c in
+        statement_breaks is r.0 r.1 r.2
+
+    end_breaks : (e : Option Label) → u.end_name ≡ e → Contains (end_findings file u.name.text e) f → BreaksThin file u f
+    end_breaks None is c = absurd (nowhere f c)
+    end_breaks (Some e) is c =
+        let r = from_if (not (bytes_eq e.text u.name.text)) (label_place e) 308 f c in
+        subst P r.1 (other_end_name is (differ e.text u.name.text r.0))
+
+    check_breaks : Contains (check_findings file u) f → BreaksThin file u f
+    check_breaks c =
+        elim (Contains-append_cases (call_findings file u.with_clause u.statements) (end_findings file u.name.text u.end_name) f c) [
+          | inl h ↦ call_breaks u.with_clause refl h
+          | inr h ↦ end_breaks u.end_name refl h
         ]
 
-    module _ (thin : UnitTree) where
-      statement_breaks : IsChecked files file unit thin → thin.with_clause ≡ false → (s : StatementTree) → Contains thin.statements s → Contains (statement_findings file s) f → Breaks files file (Sentence unit) f
-      statement_breaks checked unseen NullTree there c = absurd (nowhere f c)
-      statement_breaks checked unseen (CallTree place operation) there c = subst P (the_one (finding file place 401) f c) (not_visible checked unseen there)
-
-      call_breaks : IsChecked files file unit thin → (w : Bool) → thin.with_clause ≡ w → Contains (call_findings file w thin.statements) f → Breaks files file (Sentence unit) f
-      call_breaks checked true is c = absurd (nowhere f c)
-      call_breaks checked false is c =
-          let r = from_flat_map (statement_findings file) thin.statements f c in
-          statement_breaks checked is r.0 r.1 r.2
-
-      end_breaks : IsChecked files file unit thin → (e : Option Label) → thin.end_name ≡ e → Contains (end_findings file thin.name.text e) f → Breaks files file (Sentence unit) f
-      end_breaks checked None is c = absurd (nowhere f c)
-      end_breaks checked (Some e) is c =
-          let r = from_if (not (bytes_eq e.text thin.name.text)) (label_place e) 308 f c in
-          subst P r.1 (other_end_name checked is (differ e.text thin.name.text r.0))
-
-      check_breaks : IsChecked files file unit thin → Contains (check_findings file thin) f → Breaks files file (Sentence unit) f
-      check_breaks checked c =
-          elim (Contains-append_cases (call_findings file thin.with_clause thin.statements) (end_findings file thin.name.text thin.end_name) f c) [
-            | inl h ↦ call_breaks checked thin.with_clause refl h
-            | inr h ↦ end_breaks checked thin.end_name refl h
-          ]
-
-      body_breaks : IsRightlyNamed file (header_of unit) → thin_unit unit ≡ Some thin → (d : Option (List ℕ)) → text_of files (file_name_of (thin.name.text, Decl)) ≡ d → Contains (cond (is_some d) (finding file first 208 ∷ []) (check_findings file thin)) f → Breaks files file (Sentence unit) f
-      unfolding first
-      body_breaks named is_thin (Some d) is c = subst P (the_one (finding file first 208) f c) (faulty_declaration named is_thin (λ none. let e : Some d ≡ None = sym is ∙ none in absurd (cc)))
-      body_breaks named is_thin None is c = check_breaks (record { named = named; is_thin = is_thin; alone = is }) c
-
-    unit_breaks : IsRightlyNamed file (header_of unit) → (t : Option UnitTree) → thin_unit unit ≡ t → Contains (unit_findings files file t) f → Breaks files file (Sentence unit) f
-    unfolding first
-    unit_breaks named None is c = subst P (the_one (finding file first 700) f c) (not_yet named is)
-    unit_breaks named (Some thin) is c = body_breaks thin named is (text_of files (file_name_of (thin.name.text, Decl))) refl c
-
-    sentence_breaks : (ns : List Finding) → name_findings file (header_of unit) ≡ ns → Contains (or_else ns (unit_findings files file (thin_unit unit))) f → Breaks files file (Sentence unit) f
-    sentence_breaks [] is c = unit_breaks (rightly_named (header_of unit) is) (thin_unit unit) refl c
-    sentence_breaks (n ∷ ns) is c = let Q : List Finding → Type 0 = λ gs. Contains gs f in name_breaks (subst Q (sym is) c)
-
-  reading_breaks : (reading : Reading) (f : Finding) → Contains (reading_findings files file reading) f → Breaks files file reading f
-  reading_breaks (Fails place code) f c = let Q : Finding → Type 0 = λ g. Breaks files file (Fails place code) g in subst Q (the_one (finding file place code) f c) no_unit
-  reading_breaks (Sentence unit) f c = sentence_breaks unit f (name_findings file (header_of unit)) refl c
+  unit_fails : (unit : CompilationUnitTree) (f : Finding) (t : Option UnitTree) → thin_unit unit ≡ t → Contains (unit_findings file t) f → FailsCheck file unit f
+  unit_fails unit f None is c = subst (λ g. FailsCheck file unit g) (the_one (finding file here 700) f c) (not_yet is)
+  unit_fails unit f (Some u) is c = thin is (check_breaks u f c)
 
   -- what breaks a rule is found
-  by_name : (ns bs : List Finding) (f : Finding) → Contains ns f → Contains (or_else ns bs) f
-  by_name [] bs f c = absurd (nowhere f c)
-  by_name (n ∷ ns) bs f c = c
-
-  by_body : (ns bs : List Finding) (f : Finding) → ns ≡ [] → Contains bs f → Contains (or_else ns bs) f
-  by_body [] bs f none c = c
-  by_body (n ∷ ns) bs f none c = absurd (cc)
-
-  declared : (thin : UnitTree) (d : Option (List ℕ)) → (d ≢ None) → Contains (cond (is_some d) (finding file first 208 ∷ []) (check_findings file thin)) (finding file first 208)
-  declared thin None some = absurd (some refl)
-  declared thin (Some d) some = one (finding file first 208)
-
-  undeclared : (thin : UnitTree) (d : Option (List ℕ)) (f : Finding) → d ≡ None → Contains (check_findings file thin) f → Contains (cond (is_some d) (finding file first 208 ∷ []) (check_findings file thin)) f
-  undeclared thin None f none c = c
-  undeclared thin (Some d) f none c = absurd (cc)
-
   unseen : (w : Bool) (statements : List StatementTree) (s : StatementTree) (f : Finding) → w ≡ false → Contains statements s → Contains (statement_findings file s) f → Contains (call_findings file w statements) f
   unseen false statements s f none there c = into_flat_map (statement_findings file) statements s f there c
   unseen true statements s f none there c = absurd (cc)
@@ -163,46 +112,75 @@ module _ (files : Texts) (file : List ℕ) where
       let Q : Option Label → Type 0 = λ o. Contains (end_findings file name o) (finding file (label_place i) 308) in
       subst Q (sym is) (into_if (not (bytes_eq i.text name)) (label_place i) 308 (differing i.text name differs))
 
-  by_thin : (unit : CompilationUnitTree) (thin : UnitTree) (f : Finding) → IsRightlyNamed file (header_of unit) → thin_unit unit ≡ Some thin → Contains (body_findings files file thin) f → Contains (reading_findings files file (Sentence unit)) f
-  by_thin unit thin f named is c =
-      let Q : Option UnitTree → Type 0 = λ t. Contains (unit_findings files file t) f in
-      by_body (name_findings file (header_of unit)) (unit_findings files file (thin_unit unit)) f (no_name_findings (header_of unit) named) (subst Q (sym is) c)
+  broken_found : (u : UnitTree) (f : Finding) → BreaksThin file u f → Contains (check_findings file u) f
+  broken_found u f (not_visible {place} {operation} none there) =
+      Contains-append_left (call_findings file u.with_clause u.statements) (end_findings file u.name.text u.end_name) (finding file place 401)
+      (unseen u.with_clause u.statements (CallTree place operation) (finding file place 401) none there (one (finding file place 401)))
+  broken_found u f (other_end_name {end_name} is differs) =
+      Contains-append_right (call_findings file u.with_clause u.statements) (end_findings file u.name.text u.end_name) (finding file (label_place end_name) 308)
+      (ended u.name.text u.end_name end_name is differs)
 
-  checked_found : (unit : CompilationUnitTree) (thin : UnitTree) (f : Finding) → IsChecked files file unit thin → Contains (check_findings file thin) f → Contains (reading_findings files file (Sentence unit)) f
-  unfolding first
-  checked_found unit thin f checked c =
-      by_thin unit thin f checked.named checked.is_thin (undeclared thin (text_of files (file_name_of (thin.name.text, Decl))) f checked.alone c)
+  failed_found : (unit : CompilationUnitTree) (f : Finding) → FailsCheck file unit f → Contains (unit_findings file (thin_unit unit)) f
+  failed_found unit f (not_yet is) = subst (λ t. Contains (unit_findings file t) (finding file here 700)) (sym is) (one (finding file here 700))
+  failed_found unit f (thin {u} is b) = subst (λ t. Contains (unit_findings file t) f) (sym is) (broken_found u f b)
 
-  found : (reading : Reading) (f : Finding) → Breaks files file reading f → Contains (reading_findings files file reading) f
-  unfolding first
-  found reading f (no_unit {place} {code}) = one (finding file place code)
-  found reading f (other_file {unit} differs) =
-      let h : Header = header_of unit in
-      by_name (name_findings file h) (unit_findings files file (thin_unit unit)) (finding file h.place 201)
-      (Contains-append_left (finding_when (not (bytes_eq file (file_name_of (key_of_unit h)))) file h.place 201) (finding_when (is_reserved h.name) file h.place 207) (finding file h.place 201)
-      (into_if (not (bytes_eq file (file_name_of (key_of_unit h)))) h.place 201 (differing file (file_name_of (key_of_unit h)) differs)))
-  found reading f (taken_name {unit} taken) =
-      let h : Header = header_of unit in
-      by_name (name_findings file h) (unit_findings files file (thin_unit unit)) (finding file h.place 207)
-      (Contains-append_right (finding_when (not (bytes_eq file (file_name_of (key_of_unit h)))) file h.place 201) (finding_when (is_reserved h.name) file h.place 207) (finding file h.place 207)
-      (into_if (is_reserved h.name) h.place 207 taken))
-  found reading f (not_yet {unit} named is) =
-      let Q : Option UnitTree → Type 0 = λ t. Contains (unit_findings files file t) (finding file first 700) in
-      by_body (name_findings file (header_of unit)) (unit_findings files file (thin_unit unit)) (finding file first 700) (no_name_findings (header_of unit) named) (subst Q (sym is) (one (finding file first 700)))
-  found reading f (faulty_declaration {unit} {thin} named is some) =
-      by_thin unit thin (finding file first 208) named is (declared thin (text_of files (file_name_of (thin.name.text, Decl))) some)
-  found reading f (not_visible {unit} {thin} {place} {operation} checked none there) =
-      checked_found unit thin (finding file place 401) checked
-      (Contains-append_left (call_findings file thin.with_clause thin.statements) (end_findings file thin.name.text thin.end_name) (finding file place 401)
-      (unseen thin.with_clause thin.statements (CallTree place operation) (finding file place 401) none there (one (finding file place 401))))
-  found reading f (other_end_name {unit} {thin} {end_name} checked is differs) =
-      checked_found unit thin (finding file (label_place end_name) 308) checked
-      (Contains-append_right (call_findings file thin.with_clause thin.statements) (end_findings file thin.name.text thin.end_name) (finding file (label_place end_name) 308)
-      (ended thin.name.text thin.end_name end_name is differs))
+module _ (files : Texts) (file : List ℕ) where
+  no_fault : are_some (faults_in files file) ≡ false → (g : Finding) → IsFaultOf (library_of files) file g → ⊥
+  no_fault none g i = nowhere g (subst (λ fs. Contains fs g) (none_of (faults_in files file) none) ((file_faults_are_broken (library_of files) file g).1 i))
+
+  faultless : ((g : Finding) → IsFaultOf (library_of files) file g → ⊥) → are_some (faults_in files file) ≡ false
+  faultless none = not_some (faults_in files file) (λ g c. none g ((file_faults_are_broken (library_of files) file g).0 c))
+
+  reading_breaks : are_some (faults_in files file) ≡ false → depends_on_faulty files file ≡ false → (text : List ℕ) → text_of files file ≡ Some text → (r : Reading) → reading_of text ≡ r → (f : Finding) → Contains (reading_findings file r) f → Breaks files file f
+  reading_breaks none free text at (Fails place code) is f c = subst (λ g. Breaks files file g) (the_one (finding file place code) f c) (no_unit at is)
+  reading_breaks none free text at (Sentence unit) is f c =
+      unchecked (no_fault none) (λ d. not_both (depends_on_faulty files file) (into_dependent files file d) free) at is (unit_fails file unit f (thin_unit unit) refl c)
+
+  text_breaks : are_some (faults_in files file) ≡ false → depends_on_faulty files file ≡ false → (o : Option (List ℕ)) → text_of files file ≡ o → (f : Finding) → Contains (option_map_or (reading_findings file) (option_map reading_of o) []) f → Breaks files file f
+  text_breaks none free None at f c = absurd (nowhere f c)
+  text_breaks none free (Some text) at f c = reading_breaks none free text at (reading_of text) refl f c
+
+  file_breaks : (a : Bool) → are_some (faults_in files file) ≡ a → (b : Bool) → depends_on_faulty files file ≡ b → (f : Finding) → Contains (file_findings files file) f → Breaks files file f
+  file_breaks true some b depends f c = misused ((file_faults_are_broken (library_of files) file f).0 (subst (λ fs. Contains fs f) (told_faults files file some) c))
+  file_breaks false none true depends f c =
+      let is = the_one (finding file here 208) f (subst (λ fs. Contains fs f) (told_dependent files file none depends) c) in
+      subst (λ g. Breaks files file g) is (dependent (no_fault none) (from_dependent files file depends))
+  file_breaks false none false free f c = text_breaks none free (text_of files file) refl f (subst (λ fs. Contains fs f) (told_text files file none free) c)
+
+  -- the source of a file
+  source_is : source_at (library_of files) file ≡ option_map source_of (text_of files file)
+  unfolding library_of
+  source_is = lookup-map_values source_of (is_at (name_cmp file)) files
+
+  in_text : (text : List ℕ) (r : Reading) (f : Finding) → text_of files file ≡ Some text → reading_of text ≡ r → Contains (reading_findings file r) f → Contains (text_findings files file) f
+  in_text text r f at is c =
+      let there : text_findings files file ≡ reading_findings file r = ap (λ o. option_map_or (reading_findings file) (option_map reading_of o) []) at ∙ ap (reading_findings file) is in
+      subst (λ fs. Contains fs f) (sym there) c
+
+  told_in_text : are_some (faults_in files file) ≡ false → depends_on_faulty files file ≡ false → (f : Finding) → Contains (text_findings files file) f → Contains (file_findings files file) f
+  told_in_text none free f c = subst (λ fs. Contains fs f) (sym (told_text files file none free)) c
+
+  broken_is_found : (f : Finding) → Breaks files file f → Contains (file_findings files file) f
+  broken_is_found f (misused i) =
+      let c = (file_faults_are_broken (library_of files) file f).1 i in
+      subst (λ fs. Contains fs f) (sym (told_faults files file (member_some (faults_in files file) f c))) c
+  broken_is_found f (dependent none d) =
+      subst (λ fs. Contains fs (finding file here 208)) (sym (told_dependent files file (faultless none) (into_dependent files file d))) (one (finding file here 208))
+  broken_is_found f (no_unit {text} {place} {code} at is) =
+      let source = source_is ∙ ap (option_map source_of) at in
+      let contents = ap contents_of is in
+      let none = ap are_some (no_faults (library_of files) file (source_of text) place code source contents) in
+      let free : depends_on_faulty files file ≡ false =
+      ap (λ o. option_map_or (λ h. depends_on_unfit (library_of files) (is_faulty files) (key_of_unit h)) (option_and_then (λ s. held file s.contents) o) false) source
+      ∙ ap (λ k. option_map_or (λ h. depends_on_unfit (library_of files) (is_faulty files) (key_of_unit h)) (held file k) false) contents in
+      told_in_text none free (finding file place code) (in_text text (Fails place code) (finding file place code) at is (one (finding file place code)))
+  broken_is_found f (unchecked {text} {unit} none free at is fails) =
+      told_in_text (faultless none) (never (depends_on_faulty files file) (λ depends. free (from_dependent files file depends))) f
+      (in_text text (Sentence unit) f at is (failed_found file unit f fails))
 
 pub findings_are_broken : FindingsAreBroken
 unfolding findings_of
 findings_are_broken files f = (
-  (λ c. let r = from_flat_map (file_findings files) files f c in (r.0.0, r.0.1, r.1, reading_breaks files r.0.0 (reading_of r.0.1) f r.2)),
-  (λ r. into_flat_map (file_findings files) files (r.0, r.1) f r.2 (found files r.0 (reading_of r.1) f r.3)),
+  (λ c. let r = from_flat_map (file_findings files) (keys_of files) f c in (r.0, r.1, file_breaks files r.0 (are_some (faults_in files r.0)) refl (depends_on_faulty files r.0) refl f r.2)),
+  (λ r. into_flat_map (file_findings files) (keys_of files) r.0 f r.1 (broken_is_found files r.0 f r.2)),
 )

@@ -5,6 +5,8 @@ pub mod NotCalls
 pub mod Thin
 pub mod Bodies
 pub mod BatchLemmas
+pub mod FindingLemmas
+pub mod DependentLaws
 pub mod FindingLaws
 pub mod Labels
 pub mod Picks

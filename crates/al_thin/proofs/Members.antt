@@ -14,13 +14,13 @@ module _ {X : Type 0} where
   pub one : (a : X) → Contains (a ∷ []) a
   one a = Contains-push [] a
 
-  first : (a : X) (xs : List X) → Contains (a ∷ xs) a
+  pub first : (a : X) (xs : List X) → Contains (a ∷ xs) a
   first a xs = Contains-append_left (a ∷ []) xs a (one a)
 
-  later : (a : X) (xs : List X) (x : X) → Contains xs x → Contains (a ∷ xs) x
+  pub later : (a : X) (xs : List X) (x : X) → Contains xs x → Contains (a ∷ xs) x
   later a xs x c = Contains-append_right (a ∷ []) xs x c
 
-  first_or_later : (a : X) (xs : List X) (x : X) → Contains (a ∷ xs) x → (a ≡ x) ⊎ Contains xs x
+  pub first_or_later : (a : X) (xs : List X) (x : X) → Contains (a ∷ xs) x → (a ≡ x) ⊎ Contains xs x
   first_or_later a xs x c = elim (Contains-append_cases (a ∷ []) xs x c) [ inl h ↦ inl (the_one a x h) | inr h ↦ inr h ]
 
 module _ {X Y : Type 0} (g : X → List Y) where

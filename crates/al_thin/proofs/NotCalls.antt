@@ -1,5 +1,5 @@
 -- Statements that are no calls, and where a call stands.
-use Rattle.std.proofs.Common.{◌≡◌, None, refl, sym, ap, ◌∙◌}
+use Rattle.std.proofs.Common.{◌≡◌, None, sym, ap, ◌∙◌}
 use Rattle.al_tree.specs.ExpressionViews.{name_seen}
 use Rattle.al_tree.specs.StatementViews.{if_seen, case_seen}
 use Rattle.al_tree.specs.declared.expression.ObjectName.{ObjectName, out-ObjectName}

@@ -28,7 +28,7 @@ use Rattle.al_syntax.specs.UnitTrees.LibraryItemTree.{LibraryBody}
 use Rattle.al_thin.specs.ThinTrees.{StatementTree, OperationTree, called, is_nothing, in_front, procedure_name, sole_end_name, thin_body, thin_context, thin_item, thin_more, thin_parts, thin_statement, thin_statements, thin_unit}
 use Rattle.al_thin.specs.ThinTrees.StatementTree.{CallTree}
 use Rattle.al_thin.specs.Findings.{finding, finding_when, label_place, statement_findings, call_findings, end_findings, check_findings}
-use Rattle.al_thin.specs.Orders.{finding_cmp}
+use Rattle.al_unit_faults.specs.Orders.{finding_cmp}
 use Rattle.al_thin.proofs.Labels.{labels, labels-append, label_cmp}
 
 equal : (o : Ordering) → is_eq o ≡ true → o ≡ Equal
@@ -38,6 +38,11 @@ equal Greater is = cc
 
 pub same_name : (name : List ℕ) → name_cmp name name ≡ Equal
 same_name name = equal (name_cmp name name) (is_eq-slice_cmp name name ∙ (bytes_eq-Decides name name).1 refl)
+
+grouped : (x y z : Ordering) → ordering_then x (ordering_then y z) ≡ ordering_then (ordering_then x y) z
+grouped Less y z = refl
+grouped Equal y z = refl
+grouped Greater y z = refl
 
 module _ (file : List ℕ) where
   -- some of the labels, with the code of what is found there
@@ -67,7 +72,9 @@ module _ (file : List ℕ) where
 
   by_place : (l m : Label) (c d : ℕ) → label_cmp l m ≡ Less → finding_cmp (finding file (label_place l) c) (finding file (label_place m) d) ≡ Less
   by_place l m c d less =
-      ap (λ o. ordering_then o (ordering_then (label_cmp l m) (nat_cmp c d))) (same_name file) ∙ ap (λ o. ordering_then o (nat_cmp c d)) less
+      ap (λ o. ordering_then o (ordering_then (nat_cmp l.line m.line) (ordering_then (nat_cmp l.col m.col) (nat_cmp c d)))) (same_name file)
+      ∙ grouped (nat_cmp l.line m.line) (nat_cmp l.col m.col) (nat_cmp c d)
+      ∙ ap (λ o. ordering_then o (nat_cmp c d)) less
 
   after : (l : Label) (c : ℕ) (ls : List Label) (fs : List Finding) → Picks ls fs → AllByRecursion (λ m. label_cmp l m ≡ Less) ls → AllByRecursion (λ f. finding_cmp (finding file (label_place l) c) f ≡ Less) fs
   after l c [] fs (none) all = tt

@@ -1,6 +1,6 @@
 -- Statements that are all thin, one after another.
 use Rattle.std.proofs.Common.{◌≡◌, List, [], ◌∷◌, ◌++◌, map, Option, Some, None, refl, sym, ap, ◌∙◌, append_assoc, append-nil}
-use Rattle.al_syntax.specs.StatementTrees.{StatementTree as AnyStatement, StatementsTree as statements_trees}
+use Rattle.al_syntax.specs.StatementTrees.{StatementsTree as statements_trees}
 use Rattle.al_tree.specs.StatementViews.{more_statements_of, statement_seen, statements_seen}
 use Rattle.al_tree.specs.declared.statement.Statement.{Statement}
 use Rattle.al_tree.specs.declared.statement.Statements.{Statements, out-Statements, roll-out-Statements}

@@ -2,7 +2,7 @@
 use Rattle.std.specs.Prelude.{ℕ, List, [], ◌∷◌, Option, Some, None, bytes_eq, option_and_then, if◌then◌else◌}
 use Rattle.std.specs.List.{flat_map}
 use Rattle.al_base.specs.Names.{is_file_name}
-use Rattle.al_base.specs.Files.{Texts, text_of}
+use Rattle.al_base.specs.Files.{Texts}
 use Rattle.al_base.specs.FileNames.{file_name_of}
 use Rattle.al_base.specs.Batch.{Batch, Faulty, NoMain, TooLarge, Made, Key, Finding, Run}
 use Rattle.al_base.specs.declared.unit_key.UnitKind.TheVariants.{Body}
@@ -12,7 +12,7 @@ use Rattle.al_image.specs.declared.instruction.Instruction.TheVariants.{PutText,
 use Rattle.al_image.specs.Images.{program_of, is_too_large, image_bytes}
 use Rattle.al_image.specs.Runs.{run_of_image}
 use Rattle.al_syntax.specs.UnitTrees.{CompilationUnitTree}
-use Rattle.al_unit.specs.Readings.{reading_of, sentence_of}
+use Rattle.al_unit.specs.Catalogs.{tree_at}
 use Rattle.al_thin.specs.ThinTrees.{UnitTree, StatementTree, OperationTree, thin_unit}
 use Rattle.al_thin.specs.ThinTrees.StatementTree.{NullTree, CallTree}
 use Rattle.al_thin.specs.ThinTrees.OperationTree.{NewLineTree, PutTree, PutLineTree}
@@ -39,13 +39,11 @@ if_named main unit = if bytes_eq unit.name.text main then Some unit else None
 abbrev pub named : List ℕ → CompilationUnitTree → Option UnitTree
 named main unit = option_and_then (if_named main) (thin_unit unit)
 
--- the unit in the file that the name wants; no file has a name that isn't one
+-- the sound body of that name; no file has a name that isn't one
 unfoldable pub unit_in_file : Texts → List ℕ → Option CompilationUnitTree
-unit_in_file files main =
-    let file = file_name_of (main, Body) in
-    if is_file_name file then option_and_then (λ text. sentence_of (reading_of text)) (text_of files file) else None
+unit_in_file files main = if is_file_name (file_name_of (main, Body)) then tree_at files (main, Body) else None
 
--- the main unit is the procedure of that name in that file
+-- the main unit is that body, where it is a procedure of the thin language
 unfoldable pub main_unit : Texts → List ℕ → Option UnitTree
 main_unit files main = option_and_then (named main) (unit_in_file files main)
 

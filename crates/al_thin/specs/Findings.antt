@@ -1,18 +1,17 @@
 -- What a build finds wrong in the files.
-use Rattle.std.specs.Prelude.{ℕ, Bool, true, false, not, List, [], ◌∷◌, ◌++◌, Option, Some, None, is_some, bytes_eq, codes, if◌then◌else◌}
+use Rattle.std.specs.Prelude.{ℕ, Bool, true, false, not, ◌||◌, List, [], ◌∷◌, ◌++◌, Option, Some, None, option_map, bytes_eq, if◌then◌else◌}
+use Rattle.std.specs.Option.{option_map_or}
 use Rattle.std.specs.List.{flat_map}
+use Rattle.std.specs.Map.{keys_of}
 use Rattle.al_base.specs.Files.{Texts, text_of}
-use Rattle.al_base.specs.FileNames.{file_name_of}
 use Rattle.al_base.specs.Batch.{Finding}
 use Rattle.al_base.specs.declared.place.Place.{Place}
-use Rattle.al_base.specs.declared.unit_key.UnitKind.TheVariants.{Decl, Body}
 use Rattle.al_grammar.specs.Grammar.{Label}
-use Rattle.al_unit.specs.Readings.{Reading}
+use Rattle.al_unit_faults.specs.Dependents.{is_dependent}
+use Rattle.al_unit_faults.specs.GraphFaults.{file_faults}
+use Rattle.al_unit.specs.Catalogs.{library_of}
+use Rattle.al_unit.specs.Readings.{Reading, reading_of}
 use Rattle.al_unit.specs.Readings.Reading.{Sentence, Fails}
-use Rattle.al_header.specs.Units.{header_of}
-use Rattle.al_unit_graph.specs.Headers.{Header, key_of_unit}
-use Rattle.al_unit_graph.specs.Names.{is_reserved}
-use Rattle.al_unit.specs.Readings.{reading_of}
 use Rattle.al_thin.specs.ThinTrees.{UnitTree, StatementTree, thin_unit}
 use Rattle.al_thin.specs.ThinTrees.StatementTree.{NullTree, CallTree}
 
@@ -27,12 +26,6 @@ label_place l = record { line = l.line; col = l.col }
 abbrev pub finding_when : Bool → List ℕ → Place → ℕ → List Finding
 finding_when true file place code = finding file place code ∷ []
 finding_when false file place code = []
-
--- the unit stands in another file than its name wants, or has a name that isn't free (ARM A.1, A.2)
-abbrev pub name_findings : List ℕ → Header → List Finding
-name_findings file header =
-    finding_when (not (bytes_eq file (file_name_of (key_of_unit header)))) file header.place 201
-    ++ finding_when (is_reserved header.name) file header.place 207
 
 -- Ada.Text_IO is visible by a with clause alone (ARM 10.1.2, 8.3)
 abbrev pub statement_findings : List ℕ → StatementTree → List Finding
@@ -51,31 +44,36 @@ end_findings file name (Some end_name) = finding_when (not (bytes_eq end_name.te
 abbrev pub check_findings : List ℕ → UnitTree → List Finding
 check_findings file unit = call_findings file unit.with_clause unit.statements ++ end_findings file unit.name.text unit.end_name
 
--- A body depends on the declaration of its name, where there is a file for one (ARM 10.1.1). No declaration is of the thin language,
--- so that file has a fault, and the body isn't checked.
-abbrev pub body_findings : Texts → List ℕ → UnitTree → List Finding
-body_findings files file unit =
-    if is_some (text_of files (file_name_of (unit.name.text, Decl)))
-    then finding file (record { line = 1; col = 1 }) 208 ∷ []
-    else check_findings file unit
-
 -- what isn't of the thin language isn't compiled yet
-abbrev pub unit_findings : Texts → List ℕ → Option UnitTree → List Finding
-unit_findings files file None = finding file (record { line = 1; col = 1 }) 700 ∷ []
-unit_findings files file (Some unit) = body_findings files file unit
+abbrev pub unit_findings : List ℕ → Option UnitTree → List Finding
+unit_findings file None = finding file (record { line = 1; col = 1 }) 700 ∷ []
+unit_findings file (Some unit) = check_findings file unit
 
--- a unit is looked at where its name is right
-abbrev pub or_else : List Finding → List Finding → List Finding
-or_else [] others = others
-or_else (f ∷ fs) others = f ∷ fs
+-- of a text that is no unit its first lexical fault, or else its syntax fault; of a unit what its check finds
+abbrev pub reading_findings : List ℕ → Reading → List Finding
+reading_findings file (Fails place code) = finding file place code ∷ []
+reading_findings file (Sentence unit) = unit_findings file (thin_unit unit)
 
-abbrev pub reading_findings : Texts → List ℕ → Reading → List Finding
-reading_findings files file (Fails place code) = finding file place code ∷ []
-reading_findings files file (Sentence unit) = or_else (name_findings file (header_of unit)) (unit_findings files file (thin_unit unit))
+-- what is found in the text of a file
+abbrev pub text_findings : Texts → List ℕ → List Finding
+text_findings files file = option_map_or (reading_findings file) (option_map reading_of (text_of files file)) []
 
-abbrev pub file_findings : Texts → List ℕ × List ℕ → List Finding
-file_findings files (file, text) = reading_findings files file (reading_of text)
+abbrev pub are_some : List Finding → Bool
+are_some [] = false
+are_some (f ∷ fs) = true
+
+-- a file is faulty by itself: its unit among the others (ARM 10.1), or its text
+abbrev pub is_faulty : Texts → List ℕ → Bool
+is_faulty files file = are_some (file_faults (library_of files) file) || are_some (text_findings files file)
+
+-- What is wrong with a file: with its unit among the others; or else that the unit depends on one that isn't sound, or whose file is
+-- faulty by itself (ARM 10.1.1(26)); or else in its text.
+unfoldable pub file_findings : Texts → List ℕ → List Finding
+file_findings files file =
+    if are_some (file_faults (library_of files) file) then file_faults (library_of files) file
+    else if is_dependent (library_of files) (is_faulty files) file then finding file (record { line = 1; col = 1 }) 208 ∷ []
+    else text_findings files file
 
 -- all that is found, by file, place and code
 unfoldable pub findings_of : Texts → List Finding
-findings_of files = flat_map (file_findings files) files
+findings_of files = flat_map (file_findings files) (keys_of files)

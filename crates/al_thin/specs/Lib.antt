@@ -1,6 +1,8 @@
 pub mod ThinTrees
 pub mod ThinSeen
 pub mod Findings
+pub mod FindingsSeen
+pub mod Units
 pub mod Batches
 pub mod Compiling
 pub mod Laws

@@ -1,5 +1,5 @@
 -- Units of the thin language, as the definitions see them.
-use Rattle.std.specs.Prelude.{ℕ, List, map}
+use Rattle.std.specs.Prelude.{map}
 use Rattle.std.specs.Option.{option_map}
 use Rattle.al_tree.specs.Lexemes.{identifier_label}
 use Rattle.al_thin.specs.declared.unit.ThinUnit.{ThinUnit}

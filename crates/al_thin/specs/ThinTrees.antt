@@ -3,7 +3,7 @@
 use Rattle.std.specs.Prelude.{ℕ, Bool, true, false, ◌&&◌, List, [], ◌∷◌, Option, Some, None, option_map, option_and_then, bytes_eq, codes, if◌then◌else◌}
 use Rattle.al_base.specs.declared.place.Place.{Place}
 use Rattle.al_grammar.specs.Grammar.{Label}
-use Rattle.al_syntax.specs.ExpressionTrees.{ExpressionTree, RelationTree, SimpleTree, TermTree, FactorTree, PrimaryTree, ExpressionsTree, NameTree, PartsTree, PartTree}
+use Rattle.al_syntax.specs.ExpressionTrees.{ExpressionTree, RelationTree, SimpleTree, TermTree, FactorTree, PrimaryTree, NameTree, PartsTree, PartTree}
 use Rattle.al_syntax.specs.ExpressionTrees.ExpressionTree.{SoleRelation}
 use Rattle.al_syntax.specs.ExpressionTrees.RelationTree.{SoleSimple}
 use Rattle.al_syntax.specs.ExpressionTrees.SimpleTree.{SimpleExpression}

@@ -1,94 +1,69 @@
-// What is wrong in a file.
+// What is found in a text.
 ghost use Rattle.std.specs.Prelude.{◌≡◌, ◌++◌, ◌∷◌, [], OnOk, map, option_map};
 ghost use Rattle.std.specs.List.{flat_map};
 ghost use Rattle.al_base.specs.Batch.{finding_of};
 ghost use Rattle.al_tree.specs.Lexemes.{identifier_label};
 ghost use Rattle.al_tree.specs.UnitViews.{unit_seen};
-ghost use Rattle.al_header.specs.Units.{header_of};
 ghost use Rattle.al_unit.specs.ReadingSeen.{reading_seen};
-ghost use Rattle.al_thin.specs.Findings.{body_findings, call_findings, check_findings, end_findings, finding, finding_when, name_findings, or_else, reading_findings, statement_findings, unit_findings};
+ghost use Rattle.al_thin.specs.Findings.{call_findings, check_findings, end_findings, finding, finding_when, reading_findings, statement_findings, unit_findings};
 ghost use Rattle.al_thin.specs.ThinSeen.{thin_seen, thin_unit_seen};
 ghost use Rattle.al_thin.specs.ThinTrees.{thin_unit};
 
-use crate::naming::file_of;
 use crate::statements::ThinStatement;
 use crate::unit::{ThinUnit, thin_unit};
-use al_base::{Diagnostic, Files, Name, NoMemory, Place, UnitKind, file_name_of};
-use al_header::{unit_key, unit_place};
+use al_base::{Diagnostic, Name, NoMemory, Place};
 use al_tree::{CompilationUnit, Identifier};
 use al_unit::Reading;
-use al_unit_graph::is_reserved;
 use std::alloc::Global;
 
 /// Where a text begins.
-const FIRST_PLACE: Place = Place { line: 1, col: 1 };
+pub(crate) const FIRST_PLACE: Place = Place { line: 1, col: 1 };
 
-/// Adds what is wrong in a file that was read so.
+/// Adds what is found in a text that was read so.
 pub(crate) fn add_findings(
     alloc: Global,
-    files: &Files,
     file: &[u8],
     reading: &Reading,
     found: &mut Vec<Diagnostic>,
 ) -> Result<(), NoMemory>
-    ensures { OnOk result (map finding_of found.new.items ≡ map finding_of found.old.items ++ reading_findings files.now file.now (reading_seen reading.now)) }
+    ensures { OnOk result (map finding_of found.new.items ≡ map finding_of found.old.items ++ reading_findings file.now (reading_seen reading.now)) }
 {
     match reading {
         Reading::Fails(place, code) => add(alloc, file, *place, *code, found),
-        Reading::Sentence(unit) => add_sentence_findings(alloc, files, file, unit, found),
+        Reading::Sentence(unit) => add_sentence_findings(alloc, file, unit, found),
     }
 }
 
-/// Adds what is wrong with a unit: it is looked at where its name is right.
+/// Adds what the check of a unit finds.
 fn add_sentence_findings(
     alloc: Global,
-    files: &Files,
     file: &[u8],
     unit: &CompilationUnit,
     found: &mut Vec<Diagnostic>,
 ) -> Result<(), NoMemory>
-    ensures { OnOk result (map finding_of found.new.items ≡ map finding_of found.old.items ++ or_else (name_findings file.now (header_of (unit_seen unit.now))) (unit_findings files.now file.now (thin_unit (unit_seen unit.now)))) }
-{
-    let before = found.len();
-    add_name_findings(alloc, file, unit, found)?;
-    if found.len() > before {
-        return Ok(());
-    }
-    add_compiled_findings(alloc, files, file, unit, found)
-}
-
-/// Adds what is wrong with a unit whose name is right.
-fn add_compiled_findings(
-    alloc: Global,
-    files: &Files,
-    file: &[u8],
-    unit: &CompilationUnit,
-    found: &mut Vec<Diagnostic>,
-) -> Result<(), NoMemory>
-    ensures { OnOk result (map finding_of found.new.items ≡ map finding_of found.old.items ++ unit_findings files.now file.now (thin_unit (unit_seen unit.now))) }
+    ensures { OnOk result (map finding_of found.new.items ≡ map finding_of found.old.items ++ unit_findings file.now (thin_unit (unit_seen unit.now))) }
 {
     let thin = thin_unit(alloc, unit)?;
-    add_unit_findings(alloc, files, file, &thin, found)
+    add_unit_findings(alloc, file, &thin, found)
 }
 
 /// Adds what is wrong with a unit as one of the thin language.
 fn add_unit_findings(
     alloc: Global,
-    files: &Files,
     file: &[u8],
     unit: &Option<ThinUnit<'_>>,
     found: &mut Vec<Diagnostic>,
 ) -> Result<(), NoMemory>
-    ensures { OnOk result (map finding_of found.new.items ≡ map finding_of found.old.items ++ unit_findings files.now file.now (option_map thin_unit_seen unit.now)) }
+    ensures { OnOk result (map finding_of found.new.items ≡ map finding_of found.old.items ++ unit_findings file.now (option_map thin_unit_seen unit.now)) }
 {
     match unit {
         None => add(alloc, file, FIRST_PLACE, 700, found),
-        Some(unit) => add_body_findings(alloc, files, file, unit, found),
+        Some(unit) => add_check_findings(alloc, file, unit, found),
     }
 }
 
 /// Adds a finding at a place.
-fn add(
+pub(crate) fn add(
     alloc: Global,
     file: &[u8],
     place: Place,
@@ -117,47 +92,6 @@ fn add_when(
         add(alloc, file, place, code, found)
     } else {
         Ok(())
-    }
-}
-
-/// Adds what is wrong with the name of a unit.
-fn add_name_findings(
-    alloc: Global,
-    file: &[u8],
-    unit: &CompilationUnit,
-    found: &mut Vec<Diagnostic>,
-) -> Result<(), NoMemory>
-    ensures { OnOk result (map finding_of found.new.items ≡ map finding_of found.old.items ++ name_findings file.now (header_of (unit_seen unit.now))) }
-{
-    let key = unit_key(alloc, unit)?;
-    let place = unit_place(unit);
-    let wanted = file_name_of(alloc, &key)?;
-    add_when(alloc, file != wanted.as_slice(), file, place, 201, found)?;
-    add_when(
-        alloc,
-        is_reserved(key.name.as_slice()),
-        file,
-        place,
-        207,
-        found,
-    )
-}
-
-/// Adds what is wrong with a body whose name is right.
-fn add_body_findings(
-    alloc: Global,
-    files: &Files,
-    file: &[u8],
-    unit: &ThinUnit<'_>,
-    found: &mut Vec<Diagnostic>,
-) -> Result<(), NoMemory>
-    ensures { OnOk result (map finding_of found.new.items ≡ map finding_of found.old.items ++ body_findings files.now file.now (thin_unit_seen unit.now)) }
-{
-    let declaration = file_of(alloc, unit.name.name.as_slice(), UnitKind::Decl)?;
-    if files.get(declaration.as_slice()).is_some() {
-        add(alloc, file, FIRST_PLACE, 208, found)
-    } else {
-        add_check_findings(alloc, file, unit, found)
     }
 }
 

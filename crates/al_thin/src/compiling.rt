@@ -1,23 +1,19 @@
 // Compiles all files.
-ghost use Rattle.std.specs.Prelude.{◌≡◌, ◌≤◌, ◌<◌, ◌++◌, Some, IfOk, IfSome, OnOk, length, map, option_map};
-ghost use Rattle.al_base.specs.Batch.{finding_of, key_of};
+ghost use Rattle.std.specs.Prelude.{◌≡◌, ◌≤◌, ◌<◌, Some, IfOk, IfSome, length, map, option_map};
+ghost use Rattle.al_base.specs.Batch.{key_of};
 ghost use Rattle.al_image.specs.Images.{program_of};
 ghost use Rattle.al_tree.specs.UnitViews.{unit_seen};
-ghost use Rattle.al_unit.specs.ReadingSeen.{reading_seen};
-ghost use Rattle.al_unit.specs.Readings.{sentence_of};
 ghost use Rattle.al_thin.specs.ThinSeen.{thin_unit_seen};
-ghost use Rattle.al_thin.specs.Findings.{file_findings, findings_of};
 ghost use Rattle.al_thin.specs.Batches.{linked, main_unit, named, order_of, unit_code, unit_in_file};
 ghost use Rattle.al_thin.specs.Compiling.{compiled_seen, Compiles, HoldsImage, HoldsImageOf};
 
-use crate::checking::add_findings;
 use crate::coding::instructions_of;
-use crate::naming::file_of;
+use crate::findings::findings_of;
 use crate::unit::{ThinUnit, thin_unit};
-use al_base::{Diagnostic, Files, Name, NoMemory, UnitKey, UnitKind, is_file_name};
+use al_base::{Diagnostic, Files, Name, NoMemory, UnitKey, UnitKind, file_name_of, is_file_name};
 use al_image::{Image, ProgramError, program};
 use al_tree::CompilationUnit;
-use al_unit::{Reading, read};
+use al_unit::Catalog;
 use std::alloc::Global;
 
 /// A program: the order in which its units are elaborated, its image and the image's bytes.
@@ -48,13 +44,14 @@ pub enum Compiled {
 pub fn compile(alloc: Global, files: &Files, main: &[u8]) -> Result<Compiled, NoMemory>
     ensures { IfOk result (λ compiled. Compiles compiled files.now main.now) }
 {
-    let found = findings_of(alloc, files)?;
+    let catalog = Catalog::of(alloc, files)?;
+    let found = findings_of(alloc, &catalog)?;
     if !found.is_empty() {
         return Ok(Compiled::Faulty(found));
     }
-    match unit_in_file(alloc, files, main)? {
+    match unit_in_file(alloc, &catalog, main)? {
         None => Ok(Compiled::NoMain),
-        Some(unit) => compile_unit(alloc, main, &unit),
+        Some(unit) => compile_unit(alloc, main, unit),
     }
 }
 
@@ -77,61 +74,26 @@ fn compile_unit(alloc: Global, main: &[u8], unit: &CompilationUnit) -> Result<Co
     }
 }
 
-/// What is wrong with the files.
-#[tactic(auto, unfolding(crate::specs::Findings::findings_of))]
-fn findings_of(alloc: Global, files: &Files) -> Result<Vec<Diagnostic>, NoMemory>
-    ensures { IfOk result (λ found. map finding_of found.items ≡ findings_of files.now) }
-{
-    let list = files.list()?;
-    let mut found = Vec::new(alloc);
-    for (name, text) in list.iter() {
-        add_file_findings(alloc, files, name, text, &mut found)?;
-    }
-    Ok(found)
-}
-
-/// Adds what is wrong with a file.
-fn add_file_findings(
-    alloc: Global,
-    files: &Files,
-    name: &[u8],
-    text: &[u8],
-    found: &mut Vec<Diagnostic>,
-) -> Result<(), NoMemory>
-    ensures { OnOk result (map finding_of found.new.items ≡ map finding_of found.old.items ++ file_findings files.now (name.now, text.now)) }
-{
-    let reading = read(alloc, text)?;
-    add_findings(alloc, files, name, &reading, found)
-}
-
-/// The unit in the file that the name wants.
+/// The sound body of the name.
 #[tactic(auto, using(crate::proofs::MainNames::main_name_fits), unfolding(crate::specs::Batches::unit_in_file))]
-fn unit_in_file(
+fn unit_in_file<'a>(
     alloc: Global,
-    files: &Files,
+    catalog: &'a Catalog,
     main: &[u8],
-) -> Result<Option<CompilationUnit>, NoMemory>
-    ensures unit { IfOk result (λ unit. option_map unit_seen unit ≡ unit_in_file files.now main.now) }
+) -> Result<Option<&'a CompilationUnit>, NoMemory>
+    ensures unit { IfOk result (λ unit. option_map (λ u. unit_seen u.now) unit ≡ unit_in_file catalog.now main.now) }
     ensures name { IfOk result (λ unit. IfSome unit (λ u. (0 < length main.now) × (length main.now ≤ 255))) }
 {
-    let file = file_of(alloc, main, UnitKind::Body)?;
+    let name = Name::from_slice(alloc, main)?;
+    let key = UnitKey {
+        name,
+        kind: UnitKind::Body,
+    };
+    let file = file_name_of(alloc, &key)?;
     if !is_file_name(file.as_slice()) {
         return Ok(None);
     }
-    match files.get(file.as_slice()) {
-        None => Ok(None),
-        Some(text) => Ok(sentence_of(read(alloc, text)?)),
-    }
-}
-
-/// The unit that was read, if any.
-fn sentence_of(reading: Reading) -> Option<CompilationUnit>
-    ensures { option_map unit_seen result ≡ sentence_of (reading_seen reading) }
-{
-    match reading {
-        Reading::Fails(_, _) => None,
-        Reading::Sentence(unit) => Some(unit),
-    }
+    catalog.unit(&key)
 }
 
 /// Makes the program of a main unit.

@@ -9,14 +9,16 @@ mod calls;
 mod checking;
 mod coding;
 mod compiling;
+mod findings;
 mod laws;
+mod listing;
 mod literals;
-mod naming;
 mod statements;
 mod unit;
 
 pub use compiling::{Compiled, Program, compile};
 pub use laws::{findings_are_broken, findings_ascend};
+pub use listing::{obsolete, units};
 
 #[cfg(test)]
 mod tests;

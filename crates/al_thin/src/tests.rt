@@ -1,5 +1,5 @@
 // Worked values.
-use crate::{Compiled, compile};
+use crate::{Compiled, compile, units};
 use al_base::{Files, Refusal};
 use std::alloc::Global;
 use std::process::Abort;
@@ -129,12 +129,56 @@ fn other_units_are_not_compiled_yet(rt: HostRuntime) -> Result<(), Fail> {
     put(alloc, &mut files, b"p.ads", b"package Ada.Q is end Ada.Q;")?;
     let compiled = compile(alloc, &files, b"m")?;
     let wanted: [(&'static [u8], usize, usize, u16); 5] = [
-        (b"a~b.ads", 1, 1, 700),
-        (b"m-s.adb", 1, 1, 700),
+        (b"a~b.ads", 1, 9, 205),
+        (b"m-s.adb", 1, 24, 206),
         (b"m.adb", 1, 1, 700),
         (b"p.ads", 1, 9, 201),
         (b"p.ads", 1, 9, 207),
     ];
     expect_faulty(&rt, &compiled, &wanted);
+    Ok(())
+}
+
+#[test]
+fn dependents_of_faulty_units_are_not_checked(rt: HostRuntime) -> Result<(), Fail> {
+    let alloc = rt.alloc();
+    let mut files = Files::new(alloc);
+    put(alloc, &mut files, b"a.ads", b"package A is end A;")?;
+    put(
+        alloc,
+        &mut files,
+        b"a-b.ads",
+        b"with C; package A.B is end A.B;",
+    )?;
+    put(
+        alloc,
+        &mut files,
+        b"c.adb",
+        b"procedure C is begin null; end C;",
+    )?;
+    put(
+        alloc,
+        &mut files,
+        b"d.adb",
+        b"with A~B; procedure D is begin null; end;",
+    )?;
+    put(
+        alloc,
+        &mut files,
+        b"e.adb",
+        b"with A; procedure E is begin null; end E;",
+    )?;
+    let compiled = compile(alloc, &files, b"c")?;
+    let wanted: [(&'static [u8], usize, usize, u16); 4] = [
+        (b"a-b.ads", 1, 17, 201),
+        (b"a.ads", 1, 1, 700),
+        (b"d.adb", 1, 7, 1),
+        (b"e.adb", 1, 1, 208),
+    ];
+    expect_faulty(&rt, &compiled, &wanted);
+    let found = units(alloc, &files)?;
+    assert_eq!(rt; found.len(), 5);
+    assert!(rt; found[0].1.is_none());
+    assert!(rt; found[1].1.is_some());
     Ok(())
 }

@@ -1,7 +1,7 @@
 -- A catalog is what its texts are read as.
 use Rattle.std.proofs.Common.{◌≡◌, ℕ, suc, ◌<◌, true, List, [], ◌∷◌, Option, Some, None, Vec, length, get_or, map, take, is_some, refl, sym, ap, ◌∙◌}
 use Rattle.std.specs.Option.{option_map, option_and_then}
-use Rattle.std.specs.Map.{lookup}
+use Rattle.std.specs.Map.{keys_of, lookup}
 use Rattle.std.specs.BTreeMap.{insert_entry, is_at}
 use Rattle.std.proofs.lemmas.Map.Made.{lookup-map_values}
 use Rattle.al_base.specs.Batch.{Key}
@@ -88,3 +88,13 @@ module _ (file : List ℕ) where
 -- what the files of two libraries are read as goes by their texts
 pub texts_are_read_alike : TextsAreReadAlike
 texts_are_read_alike old new file = alike file old new
+
+-- what a file is read as, looked up
+pub reading_of_file : (files : Texts) (file : List ℕ) → lookup (is_at (name_cmp file)) (readings_of files) ≡ option_map reading_of (text_of files file)
+unfolding readings_of
+reading_of_file files file = lookup-map_values reading_of (is_at (name_cmp file)) files
+
+pub names_of-library_of : (files : Texts) → keys_of (library_of files) ≡ keys_of files
+unfolding library_of
+names_of-library_of [] = refl
+names_of-library_of (f ∷ fs) = ap (λ ns. f.0 ∷ ns) (names_of-library_of fs)

@@ -1,15 +1,18 @@
 // The catalog of a library's files.
-ghost use Rattle.std.specs.Prelude.{◌≡◌, ◌↔◌, ◌⊎◌, map, IfOk, OnOk};
+ghost use Rattle.std.specs.Prelude.{◌≡◌, ◌↔◌, ◌⊎◌, ℕ, Bool, List, map, IfOk, OnOk};
 ghost use Rattle.std.specs.Option.{option_map};
 ghost use Rattle.std.specs.List.{Contains};
 ghost use Rattle.std.specs.BTreeMap.{insert_entry};
+ghost use Rattle.std.specs.Map.{keys_of};
 ghost use Rattle.al_base.specs.Batch.{Key, finding_of, key_of};
-ghost use Rattle.al_base.specs.Files.{name_cmp};
+ghost use Rattle.al_base.specs.Files.{name_cmp, text_of};
 ghost use Rattle.al_tree.specs.UnitViews.{unit_seen};
 ghost use Rattle.al_unit_graph.specs.Dependence.{DependsOn};
 ghost use Rattle.al_unit_graph.specs.Needed.{Needed};
 ghost use Rattle.al_unit_graph.specs.Views.{contents_seen};
-ghost use Rattle.al_unit_faults.specs.GraphFaults.{graph_faults};
+ghost use Rattle.al_unit_faults.specs.Dependents.{TellsDependents};
+ghost use Rattle.al_unit_faults.specs.FilesSeen.{file_faults_seen};
+ghost use Rattle.al_unit_faults.specs.GraphFaults.{file_faults, graph_faults};
 ghost use Rattle.al_obsolete.specs.Obsolete.{obsolete_of};
 ghost use Rattle.al_obsolete.specs.Orders.{names_seen};
 ghost use Rattle.al_obsolete.specs.Units.{unit_seen as file_unit_seen, units_of};
@@ -24,7 +27,7 @@ use al_base::{Diagnostic, Files, Name, NoMemory, UnitKey, file_name_of};
 use al_header::header_of;
 use al_obsolete::{obsolete, units};
 use al_tree::CompilationUnit;
-use al_unit_faults::faults;
+use al_unit_faults::{Dependents, FileFaults, faults, faults_by_file};
 use al_unit_graph::{Contents, Source, Sources};
 use std::alloc::Global;
 use std::collections::{BTreeMap, BTreeSet};
@@ -139,6 +142,13 @@ impl Catalog {
         }
     }
 
+    /// What a file is read as.
+    pub fn reading(&self, file: &[u8]) -> Option<&Reading>
+        ensures { option_map (λ reading. reading_seen reading.now) result ≡ option_map reading_of (text_of self.now file.now) }
+    {
+        reading_at(&self.readings, file)
+    }
+
     /// What a unit depends on, by way of others too (ARM 10.1.1(26)).
     pub fn depends(&self, key: &UnitKey) -> Result<Vec<UnitKey>, NoMemory>
         ensures { IfOk result (λ keys. (y : Key) → Contains (map key_of keys.items) y ↔ DependsOn (library_of self.now) (key_of key.now) y) }
@@ -177,6 +187,23 @@ impl Catalog {
     {
         let found = faults(self.alloc, &self.sources)?;
         Ok(found)
+    }
+
+    /// The same file by file, in the order of the names: also the files that have none.
+    pub fn faults_by_file(&self) -> Result<Vec<FileFaults>, NoMemory>
+        ensures { IfOk result (λ found. map file_faults_seen found.items ≡ map (λ file. (file, file_faults (library_of self.now) file)) (keys_of self.now)) }
+    {
+        let found = faults_by_file(self.alloc, &self.sources)?;
+        Ok(found)
+    }
+
+    /// The files whose units depend on a unit that isn't sound, or on one whose file is marked: the flags mark files, in the order of
+    /// their names.
+    pub fn dependents(&self, flags: &[bool]) -> Result<Dependents, NoMemory>
+        ensures { IfOk result (λ dependents. (marked : List ℕ → Bool) → flags.now ≡ map marked (keys_of self.now) → TellsDependents (library_of self.now) marked dependents) }
+    {
+        let dependents = Dependents::of(self.alloc, &self.sources, flags)?;
+        Ok(dependents)
     }
 
     /// The units that are obsolete since the files were built, in the order of their keys (ARM 10.1.4(5, 7)).

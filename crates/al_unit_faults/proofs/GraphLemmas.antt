@@ -66,7 +66,7 @@ from_listed (Some x) y c = ap (λ k. Some k) (the_one x y c)
 into_listed : {X : Type 0} (o : Option X) (y : X) → o ≡ Some y → Contains (listed o) y
 into_listed o y is = subst (λ p. Contains (listed p) y) (sym is) (one y)
 
-bools : (a b : Bool) → (a ≡ true → b ≡ true) → (b ≡ true → a ≡ true) → a ≡ b
+pub bools : (a b : Bool) → (a ≡ true → b ≡ true) → (b ≡ true → a ≡ true) → a ≡ b
 bools true b go back = sym (go refl)
 bools false true go back = back refl
 bools false false go back = refl
@@ -86,7 +86,7 @@ module _ (lib : Library) (files : List (List ℕ)) (ns : List (List ℕ × ℕ))
   node_by key n None at is = absurd (cc)
   node_by key n (Some h) at is = (h, at, is)
 
-  from_node : (key : Key) (n : ℕ) → node key ≡ Some n → (h : Header) × (unit_at lib key ≡ Some h) × (number_at ns (file_name_of key) ≡ Some n)
+  pub from_node : (key : Key) (n : ℕ) → node key ≡ Some n → (h : Header) × (unit_at lib key ≡ Some h) × (number_at ns (file_name_of key) ≡ Some n)
   from_node key n is = node_by key n (unit_at lib key) refl is
 
   into_node : (key : Key) (n : ℕ) (h : Header) → unit_at lib key ≡ Some h → number_at ns (file_name_of key) ≡ Some n → node key ≡ Some n
@@ -135,7 +135,7 @@ module _ (lib : Library) (files : List (List ℕ)) (ns : List (List ℕ × ℕ))
         let same : file_at c.0 ≡ file = default_free files c.0 [] file c.1 ∙ c.2 in
         (r.0, subst (λ f. number_at ns f ≡ Some r.0) same r.1)
 
-    has_node : (x : Key) (h : Header) → unit_at lib x ≡ Some h → (n : ℕ) × (node x ≡ Some n)
+    pub has_node : (x : Key) (h : Header) → unit_at lib x ≡ Some h → (n : ℕ) × (node x ≡ Some n)
     has_node x h at =
         let r = at_key lib x h at in
         let held = in_file lib (file_name_of x) h r.0 in
@@ -146,7 +146,7 @@ module _ (lib : Library) (files : List (List ℕ)) (ns : List (List ℕ × ℕ))
 
     module _ (g : List (List ℕ)) (below : StepsBelow lib files ns (length files) g) where
       -- what the file of a node gives
-      same_unit : (x : Key) (i : ℕ) → node x ≡ Some i → unit_in lib (file_at i) ≡ unit_at lib x
+      pub same_unit : (x : Key) (i : ℕ) → node x ≡ Some i → unit_in lib (file_at i) ≡ unit_at lib x
       same_unit x i is =
           let a = from_node x i is in
           ap (λ f. unit_in lib f) (numbering.right (file_name_of x) i a.2).1 ∙ (at_key lib x a.0 a.1).0 ∙ sym a.1
@@ -162,7 +162,7 @@ module _ (lib : Library) (files : List (List ℕ)) (ns : List (List ℕ × ℕ))
           let d = subst (λ o. Contains (option_map_or (dependences lib) o []) y) (sym (same_unit x i is)) c in
           (below.steps i j).1 (within, into_flat_map (λ key. listed (node key)) (option_map_or (dependences lib) (unit_in lib (file_at i)) []) y j d (into_listed (node y) j too))
 
-      from_way : (x : Key) (i j : ℕ) → node x ≡ Some i → Reaches g i j → (y : Key) × (node y ≡ Some j) × ((x ≡ y) ⊎ DependsOn lib x y)
+      pub from_way : (x : Key) (i j : ℕ) → node x ≡ Some i → Reaches g i j → (y : Key) × (node y ≡ Some j) × ((x ≡ y) ⊎ DependsOn lib x y)
       from_way x i j is here = (x, is, inl refl)
       from_way x i j is (further b r s) =
           let p = from_way x i b is r in
@@ -185,7 +185,7 @@ module _ (lib : Library) (files : List (List ℕ)) (ns : List (List ℕ × ℕ))
             | inr d ↦ through (directly p.1) (subst (λ k. DependsOn lib p.0 k) back d)
           ]
 
-      into_way : (x y : Key) (i j : ℕ) → DependsOn lib x y → node x ≡ Some i → node y ≡ Some j → (b : ℕ) × Step g i b × Reaches g b j
+      pub into_way : (x y : Key) (i j : ℕ) → DependsOn lib x y → node x ≡ Some i → node y ≡ Some j → (b : ℕ) × Step g i b × Reaches g b j
       into_way x y i j (directly c) is too = (j, into_step x y i j is c too, here)
       into_way x y i j (through {y = z} d e) is too =
           let u = depends_is_unit lib z y e in

@@ -6,3 +6,4 @@ pub mod OrderLemmas
 pub mod NumberLemmas
 pub mod GraphLemmas
 pub mod LawLemmas
+pub mod DependentLemmas

@@ -6,3 +6,5 @@ pub mod GraphFaults
 pub mod Laws
 pub mod Numbers
 pub mod Spots
+pub mod Dependents
+pub mod FilesSeen

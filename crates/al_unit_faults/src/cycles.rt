@@ -19,7 +19,7 @@ pub(crate) struct Numbers {
 
 impl Numbers {
     /// The files by their places in the list.
-    fn of(alloc: Global, files: &[&[u8]]) -> Result<Numbers, NoMemory>
+    pub(crate) fn of(alloc: Global, files: &[&[u8]]) -> Result<Numbers, NoMemory>
         ensures { IfOk result (λ numbers. IsNumbering (map (λ n. n.now) files.now) (length files.now) (numbers_seen numbers)) }
     {
         let mut places = BTreeMap::new(alloc);
@@ -31,14 +31,14 @@ impl Numbers {
     }
 
     /// The number of a file.
-    fn at(&self, file: &[u8]) -> Option<usize>
+    pub(crate) fn at(&self, file: &[u8]) -> Option<usize>
         ensures { result ≡ number_at (numbers_seen self.now) file.now }
     {
         self.places.get(file).copied()
     }
 
     /// The number of the file that holds a unit, where the library has the unit.
-    fn of_unit(
+    pub(crate) fn of_unit(
         &self,
         alloc: Global,
         sources: &Sources,
@@ -86,7 +86,7 @@ fn add_steps(graph: &mut Graph, from: usize, targets: &[usize]) -> Result<(), No
 }
 
 /// The graph of the files, in which steps lead from a unit to those on which it depends by itself.
-fn graph_of(
+pub(crate) fn graph_of(
     alloc: Global,
     sources: &Sources,
     files: &[&[u8]],

@@ -3,6 +3,7 @@
 #![tactic(auto)]
 
 mod cycles;
+mod dependents;
 pub mod laws;
 mod listing;
 mod order;
@@ -11,4 +12,5 @@ mod private;
 #[cfg(test)]
 mod tests;
 
-pub use listing::faults;
+pub use dependents::Dependents;
+pub use listing::{FileFaults, faults, faults_by_file};

@@ -1,6 +1,8 @@
 // All that is wrong with the units of a library as a graph.
 ghost use Rattle.std.specs.Prelude.{◌≡◌, ◌++◌, length, map, IfOk, OnOk};
+ghost use Rattle.std.specs.Map.{keys_of};
 ghost use Rattle.al_base.specs.Batch.{finding_of};
+ghost use Rattle.al_unit_faults.specs.FilesSeen.{file_faults_seen};
 ghost use Rattle.al_unit_graph.specs.Headers.{Headed, key_of_unit};
 ghost use Rattle.al_unit_graph.specs.Library.{held, unit_in};
 ghost use Rattle.al_unit_graph.specs.Views.{header_seen};
@@ -103,4 +105,27 @@ pub fn faults(alloc: Global, sources: &Sources) -> Result<Vec<Diagnostic>, NoMem
         add_file_faults(alloc, sources, files.len(), &cycles, file, &mut found)?;
     }
     Ok(found)
+}
+
+/// What is wrong with a file as a unit, by place and number.
+#[derive(Drop)]
+pub struct FileFaults {
+    pub file: Name,
+    pub faults: Vec<Diagnostic>,
+}
+
+/// The same file by file, in the order of the names: also the files that have none.
+pub fn faults_by_file(alloc: Global, sources: &Sources) -> Result<Vec<FileFaults>, NoMemory>
+    ensures { IfOk result (λ all. map file_faults_seen all.items ≡ map (λ file. (file, file_faults sources.now file)) (keys_of sources.now)) }
+{
+    let files = sources.file_names()?;
+    let cycles = Cycles::of(alloc, sources, files.as_slice())?;
+    let mut all = Vec::new(alloc);
+    for file in files.as_slice() {
+        let mut faults = Vec::new(alloc);
+        add_file_faults(alloc, sources, files.len(), &cycles, file, &mut faults)?;
+        let file = Name::from_slice(alloc, file)?;
+        all.push(FileFaults { file, faults })?;
+    }
+    Ok(all)
 }

@@ -2,7 +2,7 @@ use Rattle.std.proofs.Common.{◌≡◌, ◌<◌, false, length, refl, ap, ◌�
 use Rattle.std.proofs.lemmas.Result.{err_from_is_err_and}
 use Rattle.al_serve.specs.Lines.{PutLine, BadPutLine, WholeLine, BadLength, line_of}
 use Rattle.al_serve.specs.LineSeen.{simple_seen}
-use Rattle.al_serve.specs.Library.{meaning}
+use Rattle.al_serve.specs.Library.{with_tick}
 use Rattle.al_serve.specs.ReplySeen.{reply_seen}
 use Rattle.al_serve.proofs.Commands.{first_open, acts_on_line, acts_on_last_put, acts_on_put, stops_in_put, simple_whole}
 use Rattle.al_serve.proofs.act.act.Goals as goal
@@ -28,13 +28,13 @@ returns-then-is_last-clause-acted g c =
       | else-not-has_end-via-then-not-has_end+else-is_empty w ↦ grind (arith, w.if-is_empty.false, c.as_slice-line.ensures)
       | else-not-has_end-via-else-not-has_end w ↦ cc
     ] in
-    acts_on_last_put (meaning g.L.UnitLibrary.batch g.L.UnitLibrary.run_of c.args.tick) _ _ c.read_line.new.line c.in-Put.name.now c.in-Put.len read (c.in-Put.ensures.says ∙ ap line_of c.as_slice-line.ensures) some _ _ _ _ _ (c.bad_length.ensures.ended, ap (reply_seen g.L.UnitLibrary.batch (g.L.UnitLibrary.state c.args.library.now)) c.bad_length.ensures.reply, refl)
+    acts_on_last_put (with_tick g.L.UnitLibrary.meaning c.args.tick) _ _ c.read_line.new.line c.in-Put.name.now c.in-Put.len read (c.in-Put.ensures.says ∙ ap line_of c.as_slice-line.ensures) some _ _ _ _ _ (c.bad_length.ensures.ended, ap (reply_seen g.L.UnitLibrary.meaning (g.L.UnitLibrary.state c.args.library.now)) c.bad_length.ensures.reply, refl)
 
 pub returns-in_ok-acted-in-Put-clause-acted : goal.returns-in_ok-acted-in-Put-clause-acted
 returns-in_ok-acted-in-Put-clause-acted g c =
     let read = rw c.if-is_last.false at c.in_ok-has_end.ensures in
     let acted = c.in_ok-acted-in-Put.ensures in
-    acts_on_put (meaning g.L.UnitLibrary.batch g.L.UnitLibrary.run_of c.args.tick) _ _ _ c.read_line.new.line (PutLine c.in-Put.name.now c.in-Put.len) read (c.in-Put.ensures.says ∙ ap line_of c.as_slice-line.ensures) _ _ _ _ _ acted.not_last acted.acted
+    acts_on_put (with_tick g.L.UnitLibrary.meaning c.args.tick) _ _ _ c.read_line.new.line (PutLine c.in-Put.name.now c.in-Put.len) read (c.in-Put.ensures.says ∙ ap line_of c.as_slice-line.ensures) _ _ _ _ _ acted.not_last acted.acted
 
 pub returns-in-BadPut-clause-acted : goal.returns-in-BadPut-clause-acted
 returns-in-BadPut-clause-acted g c =
@@ -43,7 +43,7 @@ returns-in-BadPut-clause-acted g c =
       | else-not-has_end-via-else-not-has_end w ↦ let t = w.if-not-has_end.false in cc
     ] in
     let bad = c.bad_length-in-BadPut.ensures in
-    acts_on_line (meaning g.L.UnitLibrary.batch g.L.UnitLibrary.run_of c.args.tick) _ _ c.read_line.new.line c.in_ok-has_end.has_end BadPutLine BadLength c.in_ok-has_end.ensures (c.in-BadPut.ensures.says ∙ ap line_of c.as_slice-line.ensures) some (λ at_end more. refl) _ _ _ _ _ (bad.ended, ap (reply_seen g.L.UnitLibrary.batch (g.L.UnitLibrary.state c.args.library.now)) bad.reply, refl) (λ none. let e = bad.ended in cc)
+    acts_on_line (with_tick g.L.UnitLibrary.meaning c.args.tick) _ _ c.read_line.new.line c.in_ok-has_end.has_end BadPutLine BadLength c.in_ok-has_end.ensures (c.in-BadPut.ensures.says ∙ ap line_of c.as_slice-line.ensures) some (λ at_end more. refl) _ _ _ _ _ (bad.ended, ap (reply_seen g.L.UnitLibrary.meaning (g.L.UnitLibrary.state c.args.library.now)) bad.reply, refl) (λ none. let e = bad.ended in cc)
 
 pub returns-in-Whole-clause-acted : goal.returns-in-Whole-clause-acted
 returns-in-Whole-clause-acted g c =
@@ -51,4 +51,4 @@ returns-in-Whole-clause-acted g c =
       | else-not-has_end-via-then-not-has_end+else-is_empty w ↦ grind (arith, w.if-is_empty.false, c.as_slice-line.ensures)
       | else-not-has_end-via-else-not-has_end w ↦ let t = w.if-not-has_end.false in cc
     ] in
-    acts_on_line (meaning g.L.UnitLibrary.batch g.L.UnitLibrary.run_of c.args.tick) _ _ c.read_line.new.line c.in_ok-has_end.has_end (WholeLine (simple_seen c.in-Whole.command)) (simple_seen c.in-Whole.command) c.in_ok-has_end.ensures (c.in-Whole.ensures.says ∙ ap line_of c.as_slice-line.ensures) some (simple_whole c.in-Whole.command) _ _ _ _ _ c.answer-reply.ensures (λ none. refl)
+    acts_on_line (with_tick g.L.UnitLibrary.meaning c.args.tick) _ _ c.read_line.new.line c.in_ok-has_end.has_end (WholeLine (simple_seen c.in-Whole.command)) (simple_seen c.in-Whole.command) c.in_ok-has_end.ensures (c.in-Whole.ensures.says ∙ ap line_of c.as_slice-line.ensures) some (simple_whole c.in-Whole.command) _ _ _ _ _ c.answer-reply.ensures (λ none. refl)

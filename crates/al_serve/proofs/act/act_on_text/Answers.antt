@@ -22,7 +22,7 @@ returns-then-not-branch-clause-acted g c =
         last = true;
         reads = read.1;
         is_text = text_short c.args.name.now c.args.len read.0 short.0;
-        answers = (bad.ended, ap (reply_seen g.L.UnitLibrary.batch (g.L.UnitLibrary.state c.args.library.now)) bad.reply, refl);
+        answers = (bad.ended, ap (reply_seen g.L.UnitLibrary.meaning (g.L.UnitLibrary.state c.args.library.now)) bad.reply, refl);
         at_end = λ _. short.1;
         goes_on = λ none. cc;
       }
@@ -32,7 +32,7 @@ returns-then-not-branch-clause-acted g c =
         last = false;
         reads = read.1;
         is_text = text_bad c.args.name.now c.args.len read.0 wrong.0 wrong.1;
-        answers = (bad.ended, ap (reply_seen g.L.UnitLibrary.batch (g.L.UnitLibrary.state c.args.library.now)) bad.reply, refl);
+        answers = (bad.ended, ap (reply_seen g.L.UnitLibrary.meaning (g.L.UnitLibrary.state c.args.library.now)) bad.reply, refl);
         at_end = λ e. cc;
         goes_on = λ none. refl;
       }

@@ -1,4 +1,4 @@
-use Rattle.std.proofs.Common.{◌≡◌, sym, ◌∙◌}
+use Rattle.std.proofs.Common.{sym, ◌∙◌}
 use Rattle.al_thin.proofs.Fields.{sole_term, more_terms}
 use Rattle.al_thin.proofs.literals.simple_literal.Goals as goal
 

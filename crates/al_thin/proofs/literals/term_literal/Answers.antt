@@ -1,4 +1,4 @@
-use Rattle.std.proofs.Common.{◌≡◌, sym, ◌∙◌}
+use Rattle.std.proofs.Common.{sym, ◌∙◌}
 use Rattle.al_thin.proofs.Fields.{sole_factor, more_factors}
 use Rattle.al_thin.proofs.literals.term_literal.Goals as goal
 

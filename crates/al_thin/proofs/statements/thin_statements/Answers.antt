@@ -1,4 +1,4 @@
-use Rattle.std.proofs.Common.{◌≡◌, List, [], ◌∷◌, ◌++◌, map, sym, ap, ◌∙◌}
+use Rattle.std.proofs.Common.{[], ◌∷◌, ◌++◌, map, ap, ◌∙◌}
 use Rattle.al_thin.specs.ThinSeen.{thin_seen}
 use Rattle.al_thin.proofs.Thin.{first_is_not, first_is}
 use Rattle.al_thin.proofs.statements.thin_statements.Goals as goal

@@ -1,0 +1,10 @@
+use Rattle.std.proofs.Common.{◌≡◌, [], map, take}
+use Rattle.std.specs.List.{fold}
+use Rattle.std.specs.BTreeSet.{insert_key}
+use Rattle.al_base.specs.Batch.{finding_of}
+use Rattle.al_base.specs.Files.{name_cmp}
+use Rattle.al_obsolete.specs.Orders.{names_seen}
+use Rattle.al_thin.proofs.listing.files_of.Given as goal
+
+abbrev pub invariant-loop-d : goal.invariant-loop-d
+invariant-loop-d l = names_seen l.files.keys ≡ fold (insert_key name_cmp) [] (map (λ f. f.file) (map finding_of (take l.d-index l.found)))

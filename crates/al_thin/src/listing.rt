@@ -1,0 +1,68 @@
+// The units of a library's files, and those that are obsolete.
+ghost use Rattle.std.specs.Prelude.{◌≡◌, [], IfOk, map};
+ghost use Rattle.std.specs.List.{fold};
+ghost use Rattle.std.specs.BTreeSet.{insert_key};
+ghost use Rattle.al_base.specs.Batch.{finding_of, key_of};
+ghost use Rattle.al_base.specs.Files.{name_cmp};
+ghost use Rattle.al_obsolete.specs.Orders.{names_seen};
+ghost use Rattle.al_obsolete.specs.Units.{unit_seen};
+ghost use Rattle.al_thin.specs.Units.{faulty_files, obsolete_of, units_of};
+
+use crate::findings::findings_of;
+use al_base::{Diagnostic, Files, Name, NoMemory, UnitKey};
+use al_unit::{BuiltFiles, Catalog};
+use std::alloc::Global;
+use std::collections::BTreeSet;
+
+/// Each file, in the order of the names, and the unit that it holds, if it is sound.
+///
+/// # Errors
+///
+/// `NoMemory` where memory was wanted and not given.
+#[tactic(auto, unfolding(crate::specs::Units::units_of))]
+pub fn units(alloc: Global, files: &Files) -> Result<Vec<(Name, Option<UnitKey>)>, NoMemory>
+    ensures { IfOk result (λ found. map unit_seen found.items ≡ units_of files.now) }
+{
+    let catalog = Catalog::of(alloc, files)?;
+    catalog.units()
+}
+
+/// The units of the files that are obsolete since these were built, in the order of their keys (ARM 10.1.4(5, 7)).
+///
+/// # Errors
+///
+/// `NoMemory` where memory was wanted and not given.
+#[tactic(auto, unfolding(crate::specs::Units::obsolete_of))]
+pub fn obsolete(alloc: Global, built: &Files, now: &Files) -> Result<Vec<UnitKey>, NoMemory>
+    ensures { IfOk result (λ keys. map key_of keys.items ≡ obsolete_of built.now now.now) }
+{
+    let old = Catalog::of(alloc, built)?;
+    let faulty = faulty_files(alloc, &old)?;
+    let built = BuiltFiles {
+        catalog: old,
+        faulty,
+    };
+    let catalog = Catalog::of(alloc, now)?;
+    catalog.obsolete(&built)
+}
+
+/// The files in which a build finds something wrong.
+#[tactic(auto, unfolding(crate::specs::Units::faulty_files))]
+fn faulty_files(alloc: Global, catalog: &Catalog) -> Result<BTreeSet<Vec<u8>>, NoMemory>
+    ensures { IfOk result (λ files. names_seen files.keys ≡ faulty_files catalog.now) }
+{
+    let found = findings_of(alloc, catalog)?;
+    files_of(alloc, found.as_slice())
+}
+
+/// The files of what was found.
+fn files_of(alloc: Global, found: &[Diagnostic]) -> Result<BTreeSet<Vec<u8>>, NoMemory>
+    ensures { IfOk result (λ files. names_seen files.keys ≡ fold (insert_key name_cmp) [] (map (λ f. f.file) (map finding_of found.now))) }
+{
+    let mut files = BTreeSet::new(alloc);
+    for d in found {
+        let name = Vec::from_slice(alloc, d.file.as_slice())?;
+        files.insert(name)?;
+    }
+    Ok(files)
+}
