@@ -5,6 +5,8 @@ mod check;
 mod checked;
 mod interface;
 mod one_question;
+#[cfg(test)]
+mod tests;
 
 pub use check::UnitCheck;
 pub use checked::Checked;
