@@ -12,4 +12,6 @@ pub use laws::{texts_are_read, texts_are_read_alike};
 pub use reading::{Reading, read};
 
 #[cfg(test)]
+mod fault_tests;
+#[cfg(test)]
 mod tests;

@@ -1,14 +1,15 @@
 // Worked libraries.
-use crate::Catalog;
+use crate::{BuiltFiles, Catalog};
 use al_base::{Diagnostic, Files, Name, NoMemory, Refusal, UnitKey, UnitKind};
 use std::alloc::Global;
+use std::collections::BTreeSet;
 use std::test::Fail;
 
 /// The name and the text of a file.
-type Text = (&'static [u8], &'static [u8]);
+pub(crate) type Text = (&'static [u8], &'static [u8]);
 
 /// A file, a line, a column and a number.
-type Fault = (&'static [u8], usize, usize, u16);
+pub(crate) type Fault = (&'static [u8], usize, usize, u16);
 
 fn put(alloc: Global, files: &mut Files, name: &[u8], text: &[u8]) -> Result<(), Refusal> {
     let Ok(text) = Vec::from_slice(alloc, text) else {
@@ -38,7 +39,7 @@ fn is_at(diagnostic: &Diagnostic, fault: &Fault) -> bool {
 }
 
 /// Whether the faults of these files as units are just these.
-fn has_faults(alloc: Global, texts: &[Text], wanted: &[Fault]) -> Result<bool, Refusal> {
+pub(crate) fn has_faults(alloc: Global, texts: &[Text], wanted: &[Fault]) -> Result<bool, Refusal> {
     let catalog = catalog_of(alloc, texts)?;
     match catalog.faults() {
         Ok(found) => {
@@ -105,70 +106,77 @@ fn trees_are_lent(rt: HostRuntime) -> Result<(), Fail> {
 }
 
 #[test]
-fn child_in_a_file_of_another_name(rt: HostRuntime) -> Result<(), Fail> {
-    let texts: [Text; 3] = [
+fn what_a_main_procedure_needs(rt: HostRuntime) -> Result<(), Fail> {
+    let catalog = catalog_of(rt.alloc(), &CHILD)?;
+    let needed = catalog.needed(b"m")?;
+    let parts: [(&'static [u8], UnitKind); 3] = [
+        (b"a", UnitKind::Decl),
+        (b"a.b", UnitKind::Decl),
+        (b"m", UnitKind::Body),
+    ];
+    assert!(rt; are_just(needed.as_slice(), &parts));
+    Ok(())
+}
+
+#[test]
+fn units_stand_by_file(rt: HostRuntime) -> Result<(), Fail> {
+    let catalog = catalog_of(rt.alloc(), &CHILD)?;
+    let units = catalog.units()?;
+    let files = [b"a.ads".as_slice(), b"a~b.ads", b"m.adb"];
+    assert_eq!(rt; units.len(), 3);
+    assert!(rt;
+        units.iter().zip(files).all(|(unit, file)| unit.0.as_slice() == file && unit.1.is_some())
+    );
+    Ok(())
+}
+
+/// How many units of some files are obsolete since those others were built, of which none had a diagnostic.
+fn count_obsolete(alloc: Global, built: &[Text], now: &[Text]) -> Result<usize, Refusal> {
+    let catalog = catalog_of(alloc, built)?;
+    let faulty = BTreeSet::new(alloc);
+    let built = BuiltFiles { catalog, faulty };
+    let now = catalog_of(alloc, now)?;
+    match now.obsolete(&built) {
+        Ok(keys) => Ok(keys.len()),
+        Err(_) => Err(Refusal::NoMemory),
+    }
+}
+
+#[test]
+fn clients_of_a_changed_child_are_obsolete(rt: HostRuntime) -> Result<(), Fail> {
+    let now: [Text; 3] = [
         (b"a.ads", b"package A is end A;"),
-        (b"a-b.ads", b"package A.B is end A.B;"),
+        (b"a~b.ads", b"package A.B is X : Integer; end A.B;"),
         (b"m.adb", b"with A.B; procedure M is begin null; end M;"),
     ];
-    let wanted: [Fault; 2] = [(b"a-b.ads", 1, 9, 201), (b"m.adb", 1, 6, 202)];
-    assert!(rt; has_faults(rt.alloc(), &texts, &wanted)?);
+    assert_eq!(rt; count_obsolete(rt.alloc(), &CHILD, &now)?, 2);
     Ok(())
 }
 
+const SUBUNIT: [Text; 2] = [
+    (
+        b"m.adb",
+        b"procedure M is procedure S is separate; begin S; end M;",
+    ),
+    (
+        b"m-s.adb",
+        b"separate (M) procedure S is begin null; end S;",
+    ),
+];
+
 #[test]
-fn body_that_is_not_needed(rt: HostRuntime) -> Result<(), Fail> {
-    let texts: [Text; 3] = [
-        (b"z.ads", b"package Z is end Z;"),
-        (b"z.adb", b"package body Z is end Z;"),
+fn subunit_has_no_declaration(rt: HostRuntime) -> Result<(), Fail> {
+    let now: [Text; 3] = [
         (
-            b"main.adb",
-            b"with Z; procedure Main is begin null; end Main;",
+            b"m.adb",
+            b"procedure M is procedure S is separate; begin S; end M;",
         ),
+        (
+            b"m-s.adb",
+            b"separate (M) procedure S is begin null; end S;",
+        ),
+        (b"m-s.ads", b"?"),
     ];
-    assert!(rt; has_faults(rt.alloc(), &texts, &[(b"z.adb", 1, 14, 209)])?);
-    Ok(())
-}
-
-#[test]
-fn pragma_makes_a_body_needed(rt: HostRuntime) -> Result<(), Fail> {
-    let texts: [Text; 2] = [
-        (b"z.ads", b"package Z is pragma Elaborate_Body; end Z;"),
-        (b"z.adb", b"package body Z is end Z;"),
-    ];
-    assert!(rt; has_faults(rt.alloc(), &texts, &[])?);
-    Ok(())
-}
-
-#[test]
-fn private_child_of_a_public_client(rt: HostRuntime) -> Result<(), Fail> {
-    let texts: [Text; 3] = [
-        (b"p.ads", b"package P is end P;"),
-        (b"p-c.ads", b"private package P.C is end P.C;"),
-        (b"p-d.ads", b"with P.C; package P.D is end P.D;"),
-    ];
-    assert!(rt; has_faults(rt.alloc(), &texts, &[(b"p-d.ads", 1, 6, 204)])?);
-    Ok(())
-}
-
-#[test]
-fn private_child_of_a_private_client(rt: HostRuntime) -> Result<(), Fail> {
-    let texts: [Text; 3] = [
-        (b"p.ads", b"package P is end P;"),
-        (b"p-c.ads", b"private package P.C is end P.C;"),
-        (b"p-d.ads", b"with P.C; private package P.D is end P.D;"),
-    ];
-    assert!(rt; has_faults(rt.alloc(), &texts, &[])?);
-    Ok(())
-}
-
-#[test]
-fn packages_that_mention_each_other(rt: HostRuntime) -> Result<(), Fail> {
-    let texts: [Text; 2] = [
-        (b"a.ads", b"with B; package A is end A;"),
-        (b"b.ads", b"with A; package B is end B;"),
-    ];
-    let wanted: [Fault; 2] = [(b"a.ads", 1, 1, 203), (b"b.ads", 1, 1, 203)];
-    assert!(rt; has_faults(rt.alloc(), &texts, &wanted)?);
+    assert_eq!(rt; count_obsolete(rt.alloc(), &SUBUNIT, &now)?, 0);
     Ok(())
 }
