@@ -4,5 +4,6 @@ pub mod ObsoleteLemmas
 pub mod MeetLemmas
 pub mod FaultLemmas
 pub mod ClosureLemmas
+pub mod SeenLemmas
 pub mod SourceLemmas
 pub mod NameLemmas

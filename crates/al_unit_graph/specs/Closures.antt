@@ -1,5 +1,5 @@
 -- What steps from unit to unit lead to, and lists that take an item once.
-use Rattle.std.specs.Prelude.{◌&&◌, ◌++◌, Bool, List, [], ◌∷◌, if◌then◌else◌}
+use Rattle.std.specs.Prelude.{◌≡◌, ◌&&◌, ◌++◌, Bool, List, [], ◌∷◌, if◌then◌else◌}
 use Rattle.std.specs.Option.{option_map_or}
 use Rattle.std.specs.List.{list_any}
 use Rattle.std.specs.Str.{bytes_eq}
@@ -30,3 +30,7 @@ with_item is_same xs x = if list_any (λ y. is_same y x) xs then xs else xs ++ x
 abbrev pub with_items : {X : Type 0} → (X → X → Bool) → List X → List X → List X
 with_items is_same xs [] = xs
 with_items is_same xs (y ∷ ys) = with_items is_same (with_item is_same xs y) ys
+
+-- two lists of which each has the items of the other
+pub record AreAlike {X : Type 0} (is_same : X → X → Bool) (xs ys : List X) : Type 0 where
+  pub alike : (x : X) → list_any (λ y. is_same y x) xs ≡ list_any (λ y. is_same y x) ys

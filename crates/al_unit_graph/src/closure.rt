@@ -1,13 +1,14 @@
 // What units depend on and need, by way of others too.
 ghost use Rattle.std.specs.Prelude.{◌≡◌, ◌++◌, ◌∷◌, [], ◌↔◌, ◌⊎◌, map, IfOk, OnOk};
-ghost use Rattle.std.specs.List.{Contains, list_any, flat_map};
+ghost use Rattle.std.specs.List.{Contains, flat_map};
 ghost use Rattle.al_base.specs.Batch.{key_of, Key};
 ghost use Rattle.al_unit_graph.specs.Dependence.{direct, DependsOn};
 ghost use Rattle.al_unit_graph.specs.Needed.{present, body_of, Needed};
 ghost use Rattle.al_base.specs.declared.unit_key.UnitKind.TheVariants.{Sub};
 ghost use Rattle.al_graph.specs.Closing.{Reached};
-ghost use Rattle.al_unit_graph.specs.Closures.{needs, next, is_same_key, with_item, with_items};
+ghost use Rattle.al_unit_graph.specs.Closures.{needs, next};
 
+use crate::key_list::{KeyList, copy_of};
 use crate::source::Sources;
 use al_base::{Name, NoMemory, UnitKey, UnitKind};
 use std::alloc::Global;
@@ -19,50 +20,6 @@ pub(crate) enum Step {
     Dependence,
     /// To what it needs in a partition (ARM 10.2(2..7)).
     Need,
-}
-
-/// Whether two keys are of one unit.
-fn is_same_key(a: &UnitKey, b: &UnitKey) -> bool
-    ensures { result ≡ is_same_key (key_of a.now) (key_of b.now) }
-{
-    a.name.as_slice() == b.name.as_slice() && a.kind == b.kind
-}
-
-/// Whether the key is one of these.
-fn contains_key(keys: &[UnitKey], key: &UnitKey) -> bool
-    ensures { result ≡ list_any (λ k. is_same_key k (key_of key.now)) (map key_of keys.now) }
-{
-    for k in keys {
-        if is_same_key(k, key) {
-            return true;
-        }
-    }
-    false
-}
-
-/// Adds a key, where it isn't there yet.
-fn add_new(alloc: Global, keys: &mut Vec<UnitKey>, key: &UnitKey) -> Result<(), NoMemory>
-    ensures { OnOk result (map key_of keys.new.items ≡ with_item is_same_key (map key_of keys.old.items) (key_of key.now)) }
-{
-    if !contains_key(keys.as_slice(), key) {
-        let name = Name::from_slice(alloc, key.name.as_slice())?;
-        keys.push(UnitKey {
-            name,
-            kind: key.kind,
-        })?;
-    }
-    Ok(())
-}
-
-/// Adds the keys that aren't there yet.
-
-fn add_all(alloc: Global, keys: &mut Vec<UnitKey>, more: &[UnitKey]) -> Result<(), NoMemory>
-    ensures { OnOk result (map key_of keys.new.items ≡ with_items is_same_key (map key_of keys.old.items) (map key_of more.now)) }
-{
-    for key in more {
-        add_new(alloc, keys, key)?;
-    }
-    Ok(())
 }
 
 impl Sources {
@@ -149,20 +106,20 @@ impl Sources {
         }
     }
 
-    /// What the first units lead to by steps, these too.
+    /// What the first units lead to by steps, these too. Each unit is looked at once.
     fn reached(&self, step: Step, first: &[UnitKey]) -> Result<Vec<UnitKey>, NoMemory>
         ensures { IfOk result (λ keys. (y : Key) → Contains (map key_of keys.items) y ↔ Reached (next self.now step) (map key_of first.now) y) }
     {
-        let mut keys = Vec::new(self.alloc);
-        add_all(self.alloc, &mut keys, first)?;
+        let mut list = KeyList::new(self.alloc);
+        list.add_all(first)?;
         for i in 0..usize::MAX {
-            if i >= keys.len() {
-                return Ok(keys);
+            if i >= list.keys.len() {
+                return Ok(list.keys);
             }
-            let more = self.next(step, &keys[i])?;
-            add_all(self.alloc, &mut keys, more.as_slice())?;
+            let more = self.next(step, &list.keys[i])?;
+            list.add_all(more.as_slice())?;
         }
-        Ok(keys)
+        Ok(list.keys)
     }
 
     /// What the unit depends on, by way of others too.
@@ -179,7 +136,7 @@ impl Sources {
         ensures { IfOk result (λ keys. (y : Key) → Contains (map key_of keys.items) y ↔ ((key_of key.now ≡ y) ⊎ DependsOn self.now (key_of key.now) y)) }
     {
         let mut first = Vec::new(self.alloc);
-        add_new(self.alloc, &mut first, key)?;
+        first.push(copy_of(self.alloc, key)?)?;
         let keys = self.reached(Step::Dependence, first.as_slice())?;
         Ok(keys)
     }

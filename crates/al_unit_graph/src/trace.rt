@@ -1,37 +1,16 @@
 // Whether a unit is obsolete (ARM 10.1.4(5, 7)).
-ghost use Rattle.std.specs.Prelude.{◌≡◌, ◌↔◌, ◌&&◌, ◌||◌, not, ℕ, List, true, map, IfOk, OnOk, bytes_eq};
+ghost use Rattle.std.specs.Prelude.{◌≡◌, ◌↔◌, ◌&&◌, ◌||◌, not, ℕ, List, true, map, IfOk};
 ghost use Rattle.std.specs.Bool.{Decides};
 ghost use Rattle.std.specs.List.{Contains, list_any};
 ghost use Rattle.std.specs.Option.{is_some, option_map};
 ghost use Rattle.al_unit_graph.specs.Library.{unit_at};
 ghost use Rattle.al_base.specs.Batch.{key_of};
-ghost use Rattle.al_unit_graph.specs.Closures.{with_item, with_items};
 ghost use Rattle.al_unit_graph.specs.Traces.{wants, is_same_text, is_changed, Meets, IsTouched, TellsObsolete};
 
 use crate::fault::contains_name;
+use crate::name_list::NameList;
 use crate::source::Sources;
 use al_base::{Name, NoMemory, UnitKey, file_name_of};
-use std::alloc::Global;
-
-/// Adds a name, where it isn't there yet.
-fn add_new(alloc: Global, names: &mut Vec<Name>, name: &Name) -> Result<(), NoMemory>
-    ensures { OnOk result (names.new.items ≡ with_item bytes_eq names.old.items name.now) }
-{
-    if !contains_name(names.as_slice(), name.as_slice()) {
-        names.push(Name::from_slice(alloc, name.as_slice())?)?;
-    }
-    Ok(())
-}
-
-/// Adds the names that aren't there yet.
-fn add_all(alloc: Global, names: &mut Vec<Name>, more: &[Name]) -> Result<(), NoMemory>
-    ensures { OnOk result (names.new.items ≡ with_items bytes_eq names.old.items more.now) }
-{
-    for name in more {
-        add_new(alloc, names, name)?;
-    }
-    Ok(())
-}
 
 fn is_same_text(a: Option<&[u8]>, b: Option<&[u8]>) -> bool
     ensures { result ≡ is_same_text (option_map (λ t. t.now) a.entry) (option_map (λ t. t.now) b.entry) }
@@ -61,20 +40,20 @@ impl Sources {
         }
     }
 
-    /// The files that a file meets: itself, and what the units in them want.
+    /// The files that a file meets: itself, and what the units in them want. Each file is looked at once.
     pub fn meets(&self, first: &[u8]) -> Result<Vec<Name>, NoMemory>
         ensures { IfOk result (λ files. (y : List ℕ) → Contains files.items y ↔ Meets self.now first.now y) }
     {
-        let mut files = Vec::new(self.alloc);
-        files.push(Name::from_slice(self.alloc, first)?)?;
+        let mut files = NameList::new(self.alloc);
+        files.add(first)?;
         for i in 0..usize::MAX {
-            if i >= files.len() {
-                return Ok(files);
+            if i >= files.names.len() {
+                return Ok(files.names);
             }
-            let more = self.wants(files[i].as_slice())?;
-            add_all(self.alloc, &mut files, more.as_slice())?;
+            let more = self.wants(files.names[i].as_slice())?;
+            files.add_all(more.as_slice())?;
         }
-        Ok(files)
+        Ok(files.names)
     }
 
     /// Whether a file has another text in an older library, or is there in one of the two alone.
