@@ -1,4 +1,4 @@
-use Rattle.std.proofs.Common.{◌≡◌, List, ℕ, map, ap, subst, ◌∙◌}
+use Rattle.std.proofs.Common.{◌≡◌, map, ap, ◌∙◌}
 use Rattle.std.specs.Map.{keys_of}
 use Rattle.al_unit_faults.specs.GraphFaults.{file_faults}
 use Rattle.al_unit.specs.Catalogs.{library_of}
