@@ -7,7 +7,7 @@ use Rattle.al_view.proofs.HomographLemmas.{homographs-Decides}
 use Rattle.al_scope.specs.declared.hiding.Found.{Found}
 use Rattle.al_scope.specs.Visible.{clash, direct, shuts_out, use_visible}
 use Rattle.al_scope.specs.VisibleSet.{AllOnce, Has, Once}
-use Rattle.al_scope.proofs.VisibleLemmas.{has-left, has-split}
+use Rattle.al_scope.proofs.VisibleLemmas.{filter-has, has-left, has-split}
 
 -- each declaration is a homograph of itself
 homographs-self : (v : ViewKind) → homographs v v ≡ true
@@ -20,7 +20,7 @@ pub or-right : (a b : Bool) → b ≡ true → (a || b) ≡ true
 or-right true b h = refl
 or-right false b h = h
 
-any-self : (vs : List ViewKind) (v : ViewKind) → Has vs v → list_any (homographs v) vs ≡ true
+pub any-self : (vs : List ViewKind) (v : ViewKind) → Has vs v → list_any (homographs v) vs ≡ true
 any-self [] v h = absurd h
 any-self (x ∷ xs) v (inl e) = subst (λ (y : ViewKind). (homographs v y || list_any (homographs v) xs) ≡ true) (sym e) (ap (λ b. b || list_any (homographs v) xs) (homographs-self v))
 any-self (x ∷ xs) v (inr h) = or-right (homographs v x) (list_any (homographs v) xs) (any-self xs v h)
@@ -39,15 +39,15 @@ direct-shut (f ∷ inner) v h =
           ap (λ b. b || list_any (shuts_out v) inner) (own-shut f v both.0)
     ]
 
-once-filter : (p : ViewKind → Bool) (xs : List ViewKind) → Once xs → Once (filter (λ x. not (p x)) xs)
+pub once-filter : (p : ViewKind → Bool) (xs : List ViewKind) → Once xs → Once (filter p xs)
 once-filter p [] h = tt
 once-filter p (x ∷ xs) h = at (p x) (once-filter p xs h.1)
   where
-    at : (b : Bool) → Once (filter (λ y. not (p y)) xs) → Once (cond (not b) (x ∷ filter (λ y. not (p y)) xs) (filter (λ y. not (p y)) xs))
-    at true more = more
-    at false more = (λ k. h.0 (has-left p xs x k).0, more)
+    at : (b : Bool) → Once (filter p xs) → Once (cond b (x ∷ filter p xs) (filter p xs))
+    at false more = more
+    at true more = (λ k. h.0 (filter-has p xs x k).0, more)
 
-once-join : (xs ys : List ViewKind) → Once xs → Once ys → ((v : ViewKind) → Has xs v → Has ys v → ⊥) → Once (xs ++ ys)
+pub once-join : (xs ys : List ViewKind) → Once xs → Once ys → ((v : ViewKind) → Has xs v → Has ys v → ⊥) → Once (xs ++ ys)
 once-join [] ys one two apart = two
 once-join (x ∷ xs) ys one two apart = (λ k. elim (has-split xs ys x k) [ inl i ↦ one.0 i | inr i ↦ apart x (inl refl) i ], once-join xs ys one.1 two (λ v i j. apart v (inr i) j))
 
@@ -59,12 +59,12 @@ once-direct : (fs : List Found) → AllOnce fs → Once (direct fs)
 once-direct [] h = tt
 once-direct (f ∷ inner) h = once-join (direct inner) (filter (λ x. not (list_any (shuts_out x) inner)) f.views)
     (once-direct inner h.1)
-    (once-filter (λ x. list_any (shuts_out x) inner) f.views h.0)
+    (once-filter (λ x. not (list_any (shuts_out x) inner)) f.views h.0)
     (λ v i j. not-both (λ x. list_any (shuts_out x) inner) f.views v (direct-shut inner v i) j)
 
-pub once-visible : (fs : List Found) (vs : List ViewKind) → AllOnce fs → Once vs → Once (direct fs ++ use_visible fs vs)
-once-visible fs vs one two = at (clash vs)
+pub once-visible : (fs : List Found) (vs : List ViewKind) → AllOnce fs → Once (use_visible fs vs) → Once (direct fs ++ use_visible fs vs)
+once-visible fs vs one two = at (clash vs) two
   where
-    at : (b : Bool) → Once (direct fs ++ cond b [] (filter (λ v. not (list_any (shuts_out v) fs)) vs))
-    at true = once-join (direct fs) [] (once-direct fs one) tt (λ v i j. j)
-    at false = once-join (direct fs) (filter (λ v. not (list_any (shuts_out v) fs)) vs) (once-direct fs one) (once-filter (λ x. list_any (shuts_out x) fs) vs two) (λ v i j. not-both (λ x. list_any (shuts_out x) fs) vs v (direct-shut fs v i) j)
+    at : (b : Bool) → Once (cond b [] (filter (λ v. not (list_any (shuts_out v) fs)) vs)) → Once (direct fs ++ cond b [] (filter (λ v. not (list_any (shuts_out v) fs)) vs))
+    at true more = once-join (direct fs) [] (once-direct fs one) tt (λ v i j. j)
+    at false more = once-join (direct fs) (filter (λ v. not (list_any (shuts_out v) fs)) vs) (once-direct fs one) more (λ v i j. not-both (λ x. list_any (shuts_out x) fs) vs v (direct-shut fs v i) j)

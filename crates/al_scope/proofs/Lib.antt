@@ -1,8 +1,10 @@
 pub mod DecideLemmas
+pub mod DeclareLemmas
 pub mod DistinctLemmas
 pub mod GroundLemmas
 pub mod HidingLemmas
 pub mod NameLemmas
+pub mod OnceLemmas
 pub mod PlaceLemmas
 pub mod UseLemmas
 pub mod VisibleLemmas

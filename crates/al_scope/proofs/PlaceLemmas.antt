@@ -1,12 +1,14 @@
 -- The innermost region of a place.
-use Rattle.std.proofs.Common.{◌≡◌, ℕ, ◌+◌, ◌-◌, zero, suc, List, [], ◌∷◌, length, set, get_or, slice_get, Some, refl, ap, arith}
+use Rattle.std.proofs.Common.{◌≡◌, ℕ, ◌+◌, ◌-◌, zero, suc, List, [], ◌∷◌, length, set, get_or, slice_get, Some, None, refl, ap, arith}
 use Rattle.std.specs.List.{list_any}
+use Rattle.std.specs.List.Sorted.{IsStrictlySortedBy}
 use Rattle.al_query.specs.declared.query.Query.{Query}
 use Rattle.al_view.specs.declared.view.ViewKind.{ViewKind}
 use Rattle.al_query.specs.declared.answer.AnswerKind.{AnswerKind}
 use Rattle.al_scope.specs.declared.region.Region.{Region}
 use Rattle.al_view.specs.Named.{Declarations}
 use Rattle.al_scope.specs.Places.{in_last, uses_at}
+use Rattle.al_scope.specs.UseClauses.{EachOnce}
 use Rattle.al_scope.specs.Visible.{has_homograph_in, found_in}
 use Rattle.al_view.specs.Homographs.{homographs}
 
@@ -41,3 +43,17 @@ uses_at-is (x ∷ y ∷ ys) (suc n) r h e =
 pub uses_at-last : (xs : List Region) (r : Region) → slice_get xs (length xs - 1) ≡ Some r → uses_at xs ≡ r.uses
 uses_at-last [] r h = absurd (cc)
 uses_at-last (x ∷ xs) r h = uses_at-is (x ∷ xs) (length (x ∷ xs) - 1) r (omega arith) h
+
+-- a list that has a last item isn't without one
+none-last : (xs : List Region) (n : ℕ) → n + 1 ≡ length xs → slice_get xs n ≡ None → ⊥
+none-last [] n h e = absurd (omega arith)
+none-last (x ∷ xs) zero h e = absurd (cc)
+none-last (x ∷ []) (suc n) h e = absurd (omega arith)
+none-last (x ∷ y ∷ ys) (suc n) h e =
+    let less : n + 1 ≡ length (y ∷ ys) = omega arith in
+    none-last (y ∷ ys) n less e
+
+pub each-none : (xs : List Region) → slice_get xs (length xs - 1) ≡ None → EachOnce (uses_at xs)
+unfolding IsStrictlySortedBy
+each-none [] e = tt
+each-none (x ∷ xs) e = absurd (none-last (x ∷ xs) (length (x ∷ xs) - 1) (omega arith) e)

@@ -2,16 +2,17 @@
 use Rattle.std.proofs.Common.{◌≡◌, ℕ, cond, List, [], ◌∷◌, Some, Vec, refl, ap}
 use Rattle.std.specs.declared.rc.Rc.{Rc}
 use Rattle.std.specs.Option.{option_map}
-use Rattle.std.specs.List.{AllZip}
+use Rattle.std.specs.List.{AllByRecursion, AllZip}
+use Rattle.std.specs.List.Sorted.{IsStrictlySortedBy}
 use Rattle.std.specs.Vec.{vec_len}
 use Rattle.std.specs.Ordering.{nat_cmp, match_ordering, is_eq}
 use Rattle.std.specs.declared.cmp.Ordering.TheVariants.{Less, Equal, Greater}
 use Rattle.std.specs.Cmp.Lexicographic.{slice_cmp}
-use Rattle.std.specs.Map.{lookup}
+use Rattle.std.specs.Map.{keys_of, lookup}
 use Rattle.std.specs.BTreeMap.{insert_entry, is_at}
 use Rattle.al_base.specs.Files.{name_cmp}
 use Rattle.al_scope.specs.declared.uses.PackageUse.{PackageUse}
-use Rattle.al_scope.specs.UseClauses.{uses_of}
+use Rattle.al_scope.specs.UseClauses.{EachOnce, uses_of}
 
 module _ {Y W : Type 0} where
   -- a look-up by bytes
@@ -48,3 +49,13 @@ uses_of-clone (e ∷ es) (f ∷ fs) same =
     let name = copied_items e.0.items f.0.items same.0.0.0 in
     let used = same.0.1 in
     cc
+
+-- the names ascend
+pub sorted_uses : {Y W : Type 0} (es : List (Vec ℕ Y × Rc PackageUse W)) → IsStrictlySortedBy (λ x y. slice_cmp nat_cmp x.items y.items) (keys_of es) → EachOnce (uses_of es)
+unfolding IsStrictlySortedBy
+sorted_uses {Y = Y} {W = W} [] h = tt
+sorted_uses {Y = Y} {W = W} (e ∷ es) h = (all e es h.0, sorted_uses es h.1)
+  where
+    all : (e : Vec ℕ Y × Rc PackageUse W) (es : List (Vec ℕ Y × Rc PackageUse W)) → AllByRecursion (λ y. slice_cmp nat_cmp e.0.items y.items ≡ Less) (keys_of es) → AllByRecursion (λ n. name_cmp e.0.items n ≡ Less) (keys_of (uses_of es))
+    all e [] h = tt
+    all e (f ∷ es) h = (h.0, all e es h.1)

@@ -118,7 +118,7 @@ has-filter p (x ∷ xs) v h k = at (p x) refl h (λ m. has-filter p xs v m k)
     at true i (inl e) more = inl e
     at true i (inr m) more = inr (more m)
 
-filter-has : (p : ViewKind → Bool) (xs : List ViewKind) (v : ViewKind) → Has (filter p xs) v → Has xs v × (p v ≡ true)
+pub filter-has : (p : ViewKind → Bool) (xs : List ViewKind) (v : ViewKind) → Has (filter p xs) v → Has xs v × (p v ≡ true)
 filter-has p [] v h = absurd h
 filter-has p (x ∷ xs) v h = at (p x) refl h (filter-has p xs v)
   where
@@ -134,7 +134,7 @@ flat-has f [] v u h k = absurd h
 flat-has f (x ∷ us) v u (inl e) k = has-join (f x) (flat_map f us) v (inl (subst (λ y. Has (f y) v) (sym e) k))
 flat-has f (x ∷ us) v u (inr h) k = has-join (f x) (flat_map f us) v (inr (flat-has f us v u h k))
 
-has-flat : {X : Type 0} (f : X → List ViewKind) (us : List X) (v : ViewKind) → Has (flat_map f us) v → (u : X) × Has us u × Has (f u) v
+pub has-flat : {X : Type 0} (f : X → List ViewKind) (us : List X) (v : ViewKind) → Has (flat_map f us) v → (u : X) × Has us u × Has (f u) v
 has-flat f [] v h = absurd h
 has-flat f (x ∷ us) v h =
     elim (has-split (f x) (flat_map f us) v h) [

@@ -1,7 +1,8 @@
 -- Use clauses (ARM 8.4), by the package whose declarations they open.
 use Rattle.std.specs.Prelude.{ℕ, List, [], ◌∷◌, ◌++◌, Bool, true, false, ◌||◌, unwrap_or, map, Vec}
 use Rattle.std.specs.List.{list_any}
-use Rattle.std.specs.Map.{lookup}
+use Rattle.std.specs.List.Sorted.{IsStrictlySortedBy}
+use Rattle.std.specs.Map.{keys_of, lookup}
 use Rattle.std.specs.BTreeMap.{insert_entry, is_at}
 use Rattle.std.specs.declared.rc.Rc.{Rc}
 use Rattle.al_base.specs.Files.{name_cmp}
@@ -15,6 +16,10 @@ use Rattle.al_scope.specs.declared.uses.PackageUse.{PackageUse}
 -- packages, in the order of their names, each with what use clauses say of it
 abbrev pub Uses : Type 0
 Uses = List (List ℕ × PackageUse)
+
+-- no package stands twice, as the names ascend
+abbrev pub EachOnce : Uses → Type 0
+EachOnce uses = IsStrictlySortedBy name_cmp (keys_of uses)
 
 -- what use clauses say of a package that none names
 abbrev pub no_use : PackageUse

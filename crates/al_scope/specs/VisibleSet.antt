@@ -3,6 +3,7 @@ use Rattle.std.specs.Prelude.{◌≡◌, ℕ, List, [], ◌∷◌, false, true, 
 use Rattle.std.specs.List.{list_any}
 use Rattle.al_view.specs.declared.symbol.Symbol.{Symbol}
 use Rattle.al_view.specs.declared.view.ViewKind.{ViewKind}
+use Rattle.al_view.specs.Homographs.{may_be_overloaded}
 use Rattle.al_view.specs.Named.{Declarations}
 use Rattle.al_view.specs.Operators.{is_operator_of}
 use Rattle.al_query.specs.declared.query.Query.{Query}
@@ -11,6 +12,7 @@ use Rattle.al_scope.specs.declared.hiding.Found.{Found}
 use Rattle.al_scope.specs.declared.region.Region.{Region}
 use Rattle.al_scope.specs.declared.uses.PackageUse.{PackageUse}
 use Rattle.al_scope.specs.Places.{Place, uses_at, visible_part}
+use Rattle.al_scope.specs.UseClauses.{Uses}
 use Rattle.al_scope.specs.Visible.{clash, declared_by, found_in, potential, shuts_out}
 
 -- a list has an item
@@ -47,7 +49,26 @@ abbrev pub AllOnce : List Found → Type 0
 AllOnce [] = ⊤
 AllOnce (f ∷ fs) = Once f.views × AllOnce fs
 
--- where no region has a declaration twice and the use clauses open none twice, none is visible twice
+-- no region has a declaration of the name twice
+abbrev pub HasOnce : (Query → AnswerKind) → List ℕ → Place → Type 0
+HasOnce t name place = AllOnce (map (found_in t place.mentioned name) place.regions)
+
+-- no package that use clauses open declares anything twice under the name
+abbrev pub DeclareOnce : (Query → AnswerKind) → Declarations → List ℕ → Uses → Type 0
+DeclareOnce t m name [] = ⊤
+DeclareOnce t m name (u ∷ us) = Once (declared_by t m name (visible_part u.0)) × DeclareOnce t m name us
+
+-- no two packages declare one and the same thing that may be overloaded under the name
+abbrev pub AreApart : (Query → AnswerKind) → Declarations → List ℕ → Type 0
+AreApart t m name =
+    (a b : List ℕ) (v : ViewKind) → may_be_overloaded v ≡ true
+    → Has (declared_by t m name (visible_part a)) v → Has (declared_by t m name (visible_part b)) v → a ≡ b
+
+-- where no region and no package has a declaration twice, and packages share none, none stands twice in the list
 abbrev pub KeepsOnce : (Query → AnswerKind) → List ℕ → Place → List ViewKind → Type 0
 KeepsOnce t name place views =
-    AllOnce (map (found_in t place.mentioned name) place.regions) → Once (potential t place.mentioned name (uses_at place.regions)) → Once views
+    HasOnce t name place → DeclareOnce t place.mentioned name (uses_at place.regions) → AreApart t place.mentioned name → Once views
+
+-- where no region had a declaration twice, none has one twice
+abbrev pub StaysOnce : (Query → AnswerKind) → Place → Place → Type 0
+StaysOnce t old new = (name : List ℕ) → HasOnce t name old → HasOnce t name new

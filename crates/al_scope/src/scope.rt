@@ -7,9 +7,9 @@ ghost use Rattle.al_query.specs.Reads.{Agrees};
 ghost use Rattle.al_scope.specs.declared.region.Region.{Region};
 ghost use Rattle.al_scope.specs.Grounds.{StaysGrounded};
 ghost use Rattle.al_scope.specs.Places.{entered, in_last, part_units, place_units, region_units, uses_at, visible_part, with_begun, with_declared, with_mentioned, with_uses};
-ghost use Rattle.al_scope.specs.UseClauses.{package_unit, package_units, with_package, with_type};
+ghost use Rattle.al_scope.specs.UseClauses.{EachOnce, package_unit, package_units, with_package, with_type};
 ghost use Rattle.al_scope.specs.Visible.{declared_by, found_in, has_homograph_in, potential, use_visible, visible_at};
-ghost use Rattle.al_scope.specs.VisibleSet.{Has, IsVisible, KeepsOnce};
+ghost use Rattle.al_scope.specs.VisibleSet.{AreApart, DeclareOnce, Has, IsVisible, KeepsOnce, Once, StaysOnce};
 
 use crate::hiding::{Found, any_decides, direct_of, has_homograph, use_visible_of};
 use crate::questions::{ask_each, ask_more, visible_part_of};
@@ -70,6 +70,7 @@ fn potential_of<A: Answers>(
     ensures asked { recorder.new.asked ≡ recorder.old.asked }
     ensures told { IfOk result (λ views. (t : Query → AnswerKind) → Agrees t recorder.new.log → Agrees t recorder.old.log × (views ≡ potential t mentioned.now name.now (uses_at regions.now))) }
     ensures grounded { IfOk result (λ _. StaysGrounded (package_units (uses_at regions.now)) recorder.old.log recorder.new.log) }
+    ensures each { IfOk result (λ _. EachOnce (uses_at regions.now)) }
 {
     match regions.last() {
         Some(region) => {
@@ -93,6 +94,7 @@ fn used_of<A: Answers>(
     ensures asked { recorder.new.asked ≡ recorder.old.asked }
     ensures told { IfOk result (λ used. (t : Query → AnswerKind) → Agrees t recorder.new.log → Agrees t recorder.old.log × (used ≡ use_visible founds.now (potential t mentioned.now name.now (uses_at regions.now)))) }
     ensures grounded { IfOk result (λ _. StaysGrounded (package_units (uses_at regions.now)) recorder.old.log recorder.new.log) }
+    ensures once { IfOk result (λ used. (t : Query → AnswerKind) → Agrees t recorder.new.log → DeclareOnce t mentioned.now name.now (uses_at regions.now) → AreApart t mentioned.now name.now → Once used) }
 {
     if any_decides(founds) {
         return Ok(Views::new(alloc));
@@ -238,6 +240,7 @@ impl Scope {
         ensures told { IfOk result (λ fits. (t : Query → AnswerKind) → Agrees t recorder.new.log → Agrees t recorder.old.log × (fits ≡ not (has_homograph_in t self.old.mentioned name.now view self.old.regions))) }
         ensures grounded { IfOk result (λ _. StaysGrounded (region_units self.old.regions) recorder.old.log recorder.new.log) }
         ensures new { IfOk result (λ fits. self.new.regions ≡ (if fits then in_last (with_declared name.now view) self.old.regions else self.old.regions)) }
+        ensures once { IfOk result (λ _. (t : Query → AnswerKind) → Agrees t recorder.new.log → StaysOnce t self.old self.new) }
         ensures depth { length self.new.regions ≡ length self.old.regions }
         ensures mentioned { self.new.mentioned ≡ self.old.mentioned }
         ensures err { OnErr result (self.new.regions ≡ self.old.regions) }

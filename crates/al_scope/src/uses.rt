@@ -8,7 +8,7 @@ ghost use Rattle.al_query.specs.declared.query.Query.{Query};
 ghost use Rattle.al_query.specs.declared.answer.AnswerKind.{AnswerKind};
 ghost use Rattle.al_query.specs.Reads.{Agrees};
 ghost use Rattle.al_scope.specs.Grounds.{StaysGrounded};
-ghost use Rattle.al_scope.specs.UseClauses.{no_use, opens, package_unit, package_units, use_of, with_package, with_type};
+ghost use Rattle.al_scope.specs.UseClauses.{EachOnce, no_use, opens, package_unit, package_units, use_of, with_package, with_type};
 ghost use Rattle.al_scope.specs.Visible.{opened_by, potential};
 
 use crate::questions::{ask_more, visible_part_of};
@@ -179,6 +179,7 @@ impl UseClauses {
         ensures asked { recorder.new.asked ≡ recorder.old.asked }
         ensures told { IfOk result (λ views. (t : Query → AnswerKind) → Agrees t recorder.new.log → Agrees t recorder.old.log × (views ≡ potential t mentioned.now name.now self.now)) }
         ensures grounded { IfOk result (λ _. StaysGrounded (package_units self.now) recorder.old.log recorder.new.log) }
+        ensures each { IfOk result (λ _. EachOnce self.now) }
     {
         let mut views = Views::new(self.alloc);
         for (package_name, used) in self.by_package.iter() {

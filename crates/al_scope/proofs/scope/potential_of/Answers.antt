@@ -1,9 +1,10 @@
-use Rattle.al_scope.specs.UseClauses.{package_units}
+use Rattle.std.proofs.Common.{subst}
+use Rattle.al_scope.specs.UseClauses.{EachOnce, Uses, package_units}
 use Rattle.al_scope.specs.Places.{uses_at}
 use Rattle.al_scope.proofs.GroundLemmas.{stays-none, stays-of}
 use Rattle.std.proofs.Common.{sym, ◌∙◌, ap}
 use Rattle.al_scope.specs.Visible.{potential}
-use Rattle.al_scope.proofs.PlaceLemmas.{uses_at-last}
+use Rattle.al_scope.proofs.PlaceLemmas.{each-none, uses_at-last}
 use Rattle.al_scope.proofs.scope.potential_of.Goals as goal
 
 pub returns-in_ok-views-in-Some-clause-told : goal.returns-in_ok-views-in-Some-clause-told
@@ -18,3 +19,9 @@ returns-in_ok-views-in-Some-clause-grounded g c =
 
 pub returns-in-None-clause-grounded : goal.returns-in-None-clause-grounded
 returns-in-None-clause-grounded g c = stays-none (package_units (uses_at c.args.regions.now)) c.args.recorder.now.log
+
+pub returns-in_ok-views-in-Some-clause-each : goal.returns-in_ok-views-in-Some-clause-each
+returns-in_ok-views-in-Some-clause-each g c = subst (λ (us : Uses). EachOnce us) (sym (uses_at-last c.args.regions.now c.in-Some.region.now (sym c.in-Some.ensures.value))) c.in_ok-views-in-Some.ensures.each
+
+pub returns-in-None-clause-each : goal.returns-in-None-clause-each
+returns-in-None-clause-each g c = each-none c.args.regions.now (sym c.in-None.ensures.value)

@@ -1,4 +1,7 @@
-use Rattle.std.proofs.Common.{◌∙◌, ap, sym}
+use Rattle.std.proofs.Common.{◌∙◌, List, ap, subst, sym}
+use Rattle.al_view.specs.declared.view.ViewKind.{ViewKind}
+use Rattle.al_scope.specs.VisibleSet.{Once}
+use Rattle.al_scope.proofs.OnceLemmas.{once-used}
 use Rattle.al_scope.specs.UseClauses.{package_units}
 use Rattle.al_scope.specs.Places.{uses_at}
 use Rattle.al_scope.specs.Visible.{potential, use_visible}
@@ -17,3 +20,11 @@ pub returns-clause-told : goal.returns-clause-told
 returns-clause-told g c t h =
     let told = c.in_ok-views.ensures.told t h in
     (told.0, c.in_ok-used.ensures ∙ ap (use_visible c.args.founds.now) told.1)
+
+pub returns-then-any_decides-clause-once : goal.returns-then-any_decides-clause-once
+returns-then-any_decides-clause-once g c t h one apart = subst (λ (l : List ViewKind). Once l) (sym c.new.ensures) tt
+
+pub returns-clause-once : goal.returns-clause-once
+returns-clause-once g c t h one apart =
+    subst (λ (l : List ViewKind). Once l) (sym (returns-clause-told g c t h).1)
+    (once-used t c.args.mentioned.now c.args.name.now (uses_at c.args.regions.now) c.args.founds.now c.in_ok-views.ensures.each one apart)

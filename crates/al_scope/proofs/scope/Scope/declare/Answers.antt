@@ -1,3 +1,5 @@
+use Rattle.std.proofs.Common.{false, set}
+use Rattle.al_scope.proofs.VisibleLemmas.{not-false}
 use Rattle.std.proofs.Common.{get_or}
 use Rattle.al_scope.specs.declared.region.Region.{Region}
 use Rattle.al_scope.specs.Places.{part_units, region_units}
@@ -9,6 +11,7 @@ use Rattle.al_scope.specs.Visible.{found_in, has_homograph_in}
 use Rattle.al_view.specs.Homographs.{homographs}
 use Rattle.al_scope.specs.declared.hiding.Found.{Found}
 use Rattle.al_scope.proofs.PlaceLemmas.{in_last-is, homograph_in-is}
+use Rattle.al_scope.proofs.DeclareLemmas.{stays-declared}
 use Rattle.al_scope.proofs.scope.Scope.declare.Goals as goal
 
 pub returns-then-has_homograph-clause-told : goal.returns-then-has_homograph-clause-told
@@ -59,3 +62,12 @@ returns-clause-grounded g c =
     let is = ap (λ (r : Region). part_units r.parts) c.index.ensures in
     let one = stays-of (part_units c.index.result.now.parts) (part_units (get_or c.self.inside.regions.items (c.len-last.result - 1) c.index.result.now).parts) c.args.recorder.now.log c.find.new.recorder.log is c.in_ok-found.ensures.grounded in
     stays-of (region_units c.self.inside.regions.items) (region_units c.args.self.now.regions) c.args.recorder.now.log c.find.new.recorder.log (ap region_units regions) (stays-one c.self.inside.regions.items (c.len-last.result - 1) c.index.result.now c.args.recorder.now.log c.find.new.recorder.log last one)
+
+pub returns-clause-once : goal.returns-clause-once
+returns-clause-once g c t h =
+    let fits = (returns-clause-told g c t h).1 in
+    let none : has_homograph_in t c.args.self.now.mentioned c.args.name.now c.args.view c.args.self.now.regions ≡ false = not-false (has_homograph_in t c.args.self.now.mentioned c.args.name.now c.args.view c.args.self.now.regions) (sym fits) in
+    stays-declared t c.args.name.now c.args.view c.args.self.now c.self.inside.mentioned (set c.self.inside.regions.items (c.len-last.result - 1) c.declare.new.self) none (returns-clause-new g c) (ap (λ (p : Place). p.mentioned) c.self.view_is)
+
+pub returns-then-has_homograph-clause-once : goal.returns-then-has_homograph-clause-once
+returns-then-has_homograph-clause-once g c t h name one = one

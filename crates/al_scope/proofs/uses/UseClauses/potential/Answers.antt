@@ -1,4 +1,6 @@
-use Rattle.al_scope.specs.UseClauses.{package_units}
+use Rattle.std.proofs.Common.{subst}
+use Rattle.al_scope.specs.UseClauses.{EachOnce, Uses, package_units}
+use Rattle.al_scope.proofs.UseLemmas.{sorted_uses}
 use Rattle.al_scope.specs.Places.{visible_part}
 use Rattle.al_scope.proofs.GroundLemmas.{stays-of, stays-then}
 use Rattle.std.proofs.Common.{◌≡◌, ℕ, List, [], ◌∷◌, ◌∙◌, ◌++◌, ap, sym}
@@ -48,3 +50,6 @@ returns-clause-grounded g c =
     let done = c.loop-package_name.invariant.grounded in
     let all = sym (append-none done.0) ∙ ap (λ es. done.0 ++ package_units (uses_of es)) (sym c.in-None.ensures.steps.0) ∙ done.1 in
     stays-of done.0 (package_units c.args.self.now) c.args.recorder.now.log c.loop-package_name.recorder.log all done.2
+
+pub returns-clause-each : goal.returns-clause-each
+returns-clause-each g c = subst (λ (us : Uses). EachOnce us) c.self.view_is (sorted_uses c.self.inside.by_package.entries c.iter-package_name-items.ensures.ordered)
