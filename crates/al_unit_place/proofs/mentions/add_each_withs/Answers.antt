@@ -1,0 +1,32 @@
+use Rattle.std.proofs.Common.{◌≡◌, ◌∙◌, ◌++◌, arith, take, ap, refl, sym}
+use Rattle.std.proofs.lemmas.List.{take_all}
+use Rattle.std.specs.List.{flat_map}
+use Rattle.al_scope.proofs.GroundLemmas.{stays-none}
+use Rattle.al_unit_place.specs.UnitPlaces.{lineages, withs_of}
+use Rattle.al_unit_place.proofs.PlaceLemmas.{append-none, names-more, stays-at, stays-both}
+use Rattle.al_unit_place.proofs.mentions.add_each_withs.Goals as goal
+
+pub loop-unit-init : goal.loop-unit-init
+loop-unit-init g c = record {
+  grounded = stays-none c.args.units.now c.args.recorder.now.log;
+  asked = refl;
+  told = λ t h. (h, sym (append-none c.args.names.now.items));
+}
+
+pub loop-unit-preserved : goal.loop-unit-preserved
+loop-unit-preserved g c =
+    let i = c.loop-unit.invariant in
+    let unit = c.unit-item.result in
+    record {
+      asked = c.add_withs.ensures.asked ∙ i.asked;
+      grounded = stays-both c.args.units.now c.args.recorder.now.log c.loop-unit.recorder.log c.add_withs.new.recorder.log i.grounded (stays-at c.args.units.now c.loop-unit.unit-index unit c.loop-unit.recorder.log c.add_withs.new.recorder.log (omega arith) c.unit-item.is c.in_ok-add_withs.ensures.grounded);
+      told = λ t h. let told = c.in_ok-add_withs.ensures.told t h in
+          let before = i.told t told.0 in
+          (before.0, names-more (λ u. lineages (withs_of t u)) c.args.units.now c.loop-unit.unit-index unit c.args.names.now.items c.loop-unit.names.items c.add_withs.new.names.items (omega arith) c.unit-item.is before.1 told.1);
+    }
+
+pub returns-clause-told : goal.returns-clause-told
+returns-clause-told g c t h =
+    let before = c.loop-unit.invariant.told t h in
+    let all : take c.loop-unit.unit-index c.args.units.now ≡ c.args.units.now = take_all c.loop-unit.unit-index c.args.units.now (omega arith) in
+    (before.0, before.1 ∙ ap (λ us. c.args.names.now.items ++ flat_map (λ u. lineages (withs_of t u)) us) all)

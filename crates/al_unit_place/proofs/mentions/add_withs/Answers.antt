@@ -1,0 +1,21 @@
+use Rattle.std.proofs.Common.{◌≡◌, ◌∙◌, ◌++◌, ap, sym}
+use Rattle.al_query.specs.Answers.{context_of}
+use Rattle.al_query.specs.declared.query.Query.TheVariants.{Of}
+use Rattle.al_query.specs.declared.query.Property.TheVariants.{Context}
+use Rattle.al_unit_place.specs.UnitPlaces.{lineages, withs_if_told}
+use Rattle.al_unit_place.proofs.PlaceLemmas.{append-none}
+use Rattle.al_unit_place.proofs.mentions.add_withs.Goals as goal
+
+pub returns-in-Some-clause-told : goal.returns-in-Some-clause-told
+returns-in-Some-clause-told g c t h =
+    let told = c.in_ok-answer.ensures.told t h in
+    let asked : t (Of c.args.unit.now Context) ≡ c.in_ok-answer.answer = ap t (sym c.in_ok-query.ensures) ∙ told.1 in
+    let same = c.in-Some.ensures ∙ ap context_of (sym asked) in
+    (told.0, c.in_ok-add_lineages-in-Some.ensures ∙ ap (λ us. c.args.names.now.items ++ lineages us) c.as_slice.ensures ∙ ap (λ o. c.args.names.now.items ++ lineages (withs_if_told o)) same)
+
+pub returns-clause-told : goal.returns-clause-told
+returns-clause-told g c t h =
+    let told = c.in_ok-answer.ensures.told t h in
+    let asked : t (Of c.args.unit.now Context) ≡ c.in_ok-answer.answer = ap t (sym c.in_ok-query.ensures) ∙ told.1 in
+    let same = c.in-None.ensures ∙ ap context_of (sym asked) in
+    (told.0, sym (append-none c.args.names.now.items) ∙ ap (λ o. c.args.names.now.items ++ lineages (withs_if_told o)) same)

@@ -1,0 +1,20 @@
+use Rattle.std.proofs.Common.{◌≡◌, ◌∙◌, ap, sym}
+use Rattle.al_query.specs.Answers.{context_of}
+use Rattle.al_query.specs.declared.query.Query.TheVariants.{Of}
+use Rattle.al_query.specs.declared.query.Property.TheVariants.{Context}
+use Rattle.al_unit_place.specs.UnitPlaces.{uses_if_told, with_clauses}
+use Rattle.al_unit_place.proofs.parts.use_part.Goals as goal
+
+pub returns-in-Some-clause-told : goal.returns-in-Some-clause-told
+returns-in-Some-clause-told g c t h =
+    let told = c.in_ok-answer.ensures.told t h in
+    let part = c.args.part.now in
+    let asked : t (Of part.unit Context) ≡ c.in_ok-answer.answer = ap t (sym c.in_ok-query.ensures) ∙ told.1 in
+    (told.0, c.in_ok-use_context-in-Some.ensures.regions ∙ ap (λ o. with_clauses (uses_if_told o part.part) c.args.scope.now.regions) (c.in-Some.ensures ∙ ap context_of (sym asked)))
+
+pub returns-clause-told : goal.returns-clause-told
+returns-clause-told g c t h =
+    let told = c.in_ok-answer.ensures.told t h in
+    let part = c.args.part.now in
+    let asked : t (Of part.unit Context) ≡ c.in_ok-answer.answer = ap t (sym c.in_ok-query.ensures) ∙ told.1 in
+    (told.0, ap (λ o. with_clauses (uses_if_told o part.part) c.args.scope.now.regions) (c.in-None.ensures ∙ ap context_of (sym asked)))

@@ -1,0 +1,53 @@
+use Rattle.std.proofs.Common.{◌≡◌, ◌||◌, true, false, ◌∙◌, [], ◌∷◌, arith, take, ap, refl, sym}
+use Rattle.std.proofs.lemmas.List.{take_all}
+use Rattle.al_query.specs.Answers.{is_private_of}
+use Rattle.al_query.specs.Queries.{unit_of}
+use Rattle.al_query.specs.declared.query.Query.TheVariants.{Of}
+use Rattle.al_query.specs.declared.query.Property.TheVariants.{IsPrivate}
+use Rattle.al_scope.proofs.GroundLemmas.{stays-ask, stays-none}
+use Rattle.al_unit_place.specs.UnitPlaces.{some_private}
+use Rattle.al_unit_place.proofs.PlaceLemmas.{none-more, some-at, stays-at, stays-both}
+use Rattle.al_unit_place.proofs.unit_place.some_are_private.Goals as goal
+
+pub loop-unit-init : goal.loop-unit-init
+loop-unit-init g c = record {
+  grounded = stays-none c.args.units.now c.args.recorder.now.log;
+  asked = refl;
+  told = λ t h. (h, refl);
+}
+
+pub loop-unit-preserved : goal.loop-unit-preserved
+loop-unit-preserved g c =
+    let i = c.loop-unit.invariant in
+    let unit = c.unit-item.result in
+    record {
+      asked = c.ask.ensures.asked ∙ i.asked;
+      grounded = let one = stays-ask c.loop-unit.recorder.log c.ask.new.self.log c.in_ok-query.query unit c.in_ok-answer.answer (ap unit_of c.in_ok-query.ensures) c.in_ok-answer.ensures.grounded in
+          stays-both c.args.units.now c.args.recorder.now.log c.loop-unit.recorder.log c.ask.new.self.log i.grounded (stays-at c.args.units.now c.loop-unit.unit-index unit c.loop-unit.recorder.log c.ask.new.self.log (omega arith) c.unit-item.is one);
+      told = λ t h. let told = c.in_ok-answer.ensures.told t h in
+          let before = i.told t told.0 in
+          let asked : t (Of unit IsPrivate) ≡ c.in_ok-answer.answer = ap t (sym c.in_ok-query.ensures) ∙ told.1 in
+          let no : some_private t (unit ∷ []) ≡ false = ap (λ a. is_private_of a || false) asked ∙ ap (λ b. b || false) (sym c.is_private.ensures ∙ c.if-is_private.false) in
+          (before.0, none-more t c.args.units.now c.loop-unit.unit-index unit (omega arith) c.unit-item.is before.1 no);
+    }
+
+pub returns-then-is_private-clause-told : goal.returns-then-is_private-clause-told
+returns-then-is_private-clause-told g c t h =
+    let unit = c.unit-item.result in
+    let told = c.in_ok-answer.ensures.told t h in
+    let before = c.loop-unit.invariant.told t told.0 in
+    let asked : t (Of unit IsPrivate) ≡ c.in_ok-answer.answer = ap t (sym c.in_ok-query.ensures) ∙ told.1 in
+    let yes : some_private t (unit ∷ []) ≡ true = ap (λ a. is_private_of a || false) asked ∙ ap (λ b. b || false) (sym c.is_private.ensures ∙ c.if-is_private.true) in
+    (before.0, sym (some-at t c.args.units.now c.loop-unit.unit-index unit (omega arith) c.unit-item.is yes))
+
+pub returns-clause-told : goal.returns-clause-told
+returns-clause-told g c t h =
+    let before = c.loop-unit.invariant.told t h in
+    let all : take c.loop-unit.unit-index c.args.units.now ≡ c.args.units.now = take_all c.loop-unit.unit-index c.args.units.now (omega arith) in
+    (before.0, sym (ap (some_private t) (sym all) ∙ before.1))
+
+pub returns-then-is_private-clause-grounded : goal.returns-then-is_private-clause-grounded
+returns-then-is_private-clause-grounded g c =
+    let unit = c.unit-item.result in
+    let one = stays-ask c.loop-unit.recorder.log c.ask.new.self.log c.in_ok-query.query unit c.in_ok-answer.answer (ap unit_of c.in_ok-query.ensures) c.in_ok-answer.ensures.grounded in
+    stays-both c.args.units.now c.args.recorder.now.log c.loop-unit.recorder.log c.ask.new.self.log c.loop-unit.invariant.grounded (stays-at c.args.units.now c.loop-unit.unit-index unit c.loop-unit.recorder.log c.ask.new.self.log (omega arith) c.unit-item.is one)

@@ -1,0 +1,126 @@
+-- The place at the start of the text of a library unit (ARM 8.1, 8.4, 10.1), told from answers.
+use Rattle.std.specs.Prelude.{ℕ, List, [], ◌∷◌, ◌++◌, Bool, true, ◌&&◌, ◌||◌, not, Option, Some, None, map, filter, codes, if◌then◌else◌}
+use Rattle.std.specs.List.{flat_map, list_any}
+use Rattle.std.specs.Str.{bytes_eq}
+use Rattle.al_base.specs.declared.unit_key.UnitKey.{UnitKey}
+use Rattle.al_base.specs.declared.unit_key.UnitKind.TheVariants.{Decl}
+use Rattle.al_unit_graph.specs.Names.{ancestors, lineage}
+use Rattle.al_view.specs.declared.part.Part.{Part}
+use Rattle.al_view.specs.declared.part.Part.TheVariants as part
+use Rattle.al_view.specs.Symbols.{same_kind, same_part}
+use Rattle.al_query.specs.declared.query.Query.{Query}
+use Rattle.al_query.specs.declared.query.Query.TheVariants.{Of}
+use Rattle.al_query.specs.declared.query.Property.TheVariants.{Context, IsPrivate}
+use Rattle.al_query.specs.declared.answer.AnswerKind.{AnswerKind}
+use Rattle.al_query.specs.declared.answer.ContextView.{ContextView}
+use Rattle.al_query.specs.declared.answer.UseClause.{UseClause}
+use Rattle.al_query.specs.declared.answer.UseClause.TheVariants.{Package, «Type»}
+use Rattle.al_query.specs.declared.answer.UseInPart.{UseInPart}
+use Rattle.al_query.specs.Answers.{context_of, is_private_of}
+use Rattle.al_scope.specs.declared.region.Region.{Region}
+use Rattle.al_scope.specs.declared.region.UnitPart.{UnitPart}
+use Rattle.al_scope.specs.Places.{entered, in_last, visible_part, with_uses}
+use Rattle.al_scope.specs.UseClauses.{Uses, package_unit, with_package, with_type}
+use Rattle.al_unit_place.specs.declared.own.OwnText.{OwnText}
+
+-- whether a use clause stands in the part; in what stands before a stub, where it stands in the body before that stub
+abbrev pub stands_in : Part → UseInPart → Bool
+stands_in (part.Stub name) u = same_part u.part part.Body && list_any (bytes_eq name) u.before
+stands_in p u = same_part p u.part
+
+-- the use clauses that stand in a part
+abbrev pub inside : List UseInPart → Part → List UseClause
+inside uses p = map (λ u. u.clause) (filter (stands_in p) uses)
+
+-- the use clauses that hold in a region which continues the part: those of the unit's context clause, which are told with
+-- any part but the private one, that a visible one goes before, and those that stand in it (ARM 8.4(6, 7))
+abbrev pub uses_with : ContextView → Part → List UseClause
+uses_with c p = (if same_part p part.Private then [] else c.uses) ++ inside c.uses_inside p
+
+-- none where no context is answered
+abbrev pub uses_if_told : Option ContextView → Part → List UseClause
+uses_if_told None p = []
+uses_if_told (Some c) p = uses_with c p
+
+abbrev pub part_uses : (Query → AnswerKind) → UnitPart → List UseClause
+part_uses t p = uses_if_told (context_of (t (Of p.unit Context))) p.part
+
+-- one more use clause
+abbrev pub with_clause : UseClause → Uses → Uses
+with_clause (Package unit) = with_package unit.name
+with_clause («Type» symbol) = with_type symbol
+
+-- use clauses of the innermost region, one after the other
+abbrev pub with_clauses : List UseClause → List Region → List Region
+with_clauses [] rs = rs
+with_clauses (c ∷ cs) rs = with_clauses cs (in_last (with_uses (with_clause c)) rs)
+
+-- a region is entered that continues these parts (ARM 8.1); their use clauses hold in it
+abbrev pub continued : (Query → AnswerKind) → List UnitPart → List Region → List Region
+continued t parts rs = with_clauses (flat_map (part_uses t) parts) (rs ++ entered parts rs ∷ [])
+
+abbrev pub part_of : UnitKey → Part → UnitPart
+part_of unit p = record { unit = unit; part = p }
+
+-- the parts of a declaration that are seen: its visible part, and its private part or not
+abbrev pub declaration_parts : UnitKey → Bool → List UnitPart
+declaration_parts unit sees_private = part_of unit part.Visible ∷ (if sees_private then part_of unit part.Private ∷ [] else [])
+
+-- whether one of the units is private (ARM 10.1.1(12))
+abbrev pub some_private : (Query → AnswerKind) → List UnitKey → Bool
+some_private t units = list_any (λ u. is_private_of (t (Of u IsPrivate))) units
+
+-- the regions of ancestors, the farthest first (ARM 8.1). An ancestor's private part, with its use clauses, is seen by private
+-- descendants, and by what isn't the visible part of a descendant (ARM 8.2(5), 8.4(7), 10.1.1(12)).
+abbrev pub inward : (Query → AnswerKind) → Bool → List UnitKey → List Region → List Region
+inward t sees [] rs = rs
+inward t sees (a ∷ nearer) rs = inward t sees nearer (continued t (declaration_parts a (sees || some_private t nearer)) rs)
+
+-- a unit's ancestors (ARM 10.1.1(11)), the farthest first; Standard is left out
+abbrev pub ancestor_units : List ℕ → List UnitKey
+ancestor_units name = map package_unit (ancestors name)
+
+abbrev pub is_declaration : UnitKey → Bool
+is_declaration unit = same_kind unit.kind Decl
+
+-- the parts that the unit's own region continues: a body its declaration's
+abbrev pub own_parts : UnitKey → List UnitPart
+own_parts unit = if is_declaration unit then [] else declaration_parts (package_unit unit.name) true
+
+-- whether the start of the unit's text sees its ancestors' private parts, whatever these are
+abbrev pub sees_all : OwnText → Bool
+sees_all own = own.is_private || not (is_declaration own.unit)
+
+-- the region of Standard, in which each other one lies (ARM 10.1.1(1), A.1)
+abbrev pub standard_parts : List UnitPart
+standard_parts = visible_part (codes "standard") ∷ []
+
+-- the regions round the start of the text of a library unit, where these are round all units: Standard's, its ancestors' and its
+-- own
+abbrev pub unit_regions : (Query → AnswerKind) → OwnText → List Region → List Region
+unit_regions t own rs =
+    let round = inward t (sees_all own) (ancestor_units own.unit.name) (rs ++ entered standard_parts rs ∷ []) in
+    with_clauses own.uses (continued t (own_parts own.unit) round)
+
+-- the units that are asked: the ancestors, and the declaration of a body
+abbrev pub asked_units : UnitKey → List UnitKey
+asked_units unit = ancestor_units unit.name ++ (if is_declaration unit then [] else package_unit unit.name ∷ [])
+
+-- the units that with clauses name, where a context is answered
+abbrev pub withs_if_told : Option ContextView → List UnitKey
+withs_if_told None = []
+withs_if_told (Some c) = c.withs
+
+abbrev pub withs_of : (Query → AnswerKind) → UnitKey → List UnitKey
+withs_of t u = withs_if_told (context_of (t (Of u Context)))
+
+-- the names of some units, each behind those of its ancestors
+abbrev pub lineages : List UnitKey → List (List ℕ)
+lineages units = flat_map (λ u. lineage u.name) units
+
+-- the names of the library units that are mentioned at the start of the text of a library unit, where its own with clauses, its
+-- declaration's and its ancestors' hold (ARM 10.1.2(6, 7), 10.1.6): its own, and those of the units of these clauses, each
+-- behind those of its ancestors. One may stand several times.
+abbrev pub mentioned_names : (Query → AnswerKind) → OwnText → List (List ℕ)
+mentioned_names t own =
+    (lineage own.unit.name ++ lineages own.withs) ++ flat_map (λ u. lineages (withs_of t u)) (asked_units own.unit)

@@ -1,0 +1,118 @@
+// The library units that are mentioned at the start of the text of a library unit.
+ghost use Rattle.std.specs.Prelude.{◌≡◌, ◌∷◌, [], ◌++◌, IfOk, OnOk};
+ghost use Rattle.std.specs.List.{flat_map};
+ghost use Rattle.al_unit_graph.specs.Names.{lineage};
+ghost use Rattle.al_query.specs.declared.query.Query.{Query};
+ghost use Rattle.al_query.specs.declared.answer.AnswerKind.{AnswerKind};
+ghost use Rattle.al_query.specs.Reads.{Agrees};
+ghost use Rattle.al_scope.specs.Grounds.{StaysGrounded};
+ghost use Rattle.al_unit_place.specs.UnitPlaces.{asked_units, lineages, mentioned_names, withs_of};
+
+use crate::own::OwnText;
+use crate::parts::property_of;
+use crate::unit_place::{ancestors_of, declaration_of};
+use al_base::{Name, NoMemory, UnitKey, UnitKind};
+use al_query::{Answers, Property, Recorder};
+use al_unit_graph::lineage;
+use std::alloc::Global;
+
+/// Adds a name.
+fn add_name(alloc: Global, name: &[u8], names: &mut Vec<Name>) -> Result<(), NoMemory>
+    ensures { OnOk result (names.new.items ≡ names.old.items ++ name.now ∷ []) }
+{
+    let name = Name::from_slice(alloc, name)?;
+    names.push(name)?;
+    Ok(())
+}
+
+/// Adds the names of the unit's ancestors and its own.
+fn add_lineage(alloc: Global, unit: &UnitKey, names: &mut Vec<Name>) -> Result<(), NoMemory>
+    ensures { OnOk result (names.new.items ≡ names.old.items ++ lineage unit.now.name) }
+{
+    let slices = lineage(alloc, unit.name.as_slice())?;
+    for slice in slices.as_slice() {
+        add_name(alloc, slice, names)?;
+    }
+    Ok(())
+}
+
+/// Adds the names of the units and of their ancestors.
+fn add_lineages(alloc: Global, units: &[UnitKey], names: &mut Vec<Name>) -> Result<(), NoMemory>
+    ensures { OnOk result (names.new.items ≡ names.old.items ++ lineages units.now) }
+{
+    for unit in units {
+        add_lineage(alloc, unit, names)?;
+    }
+    Ok(())
+}
+
+/// Adds the names that the with clauses of a unit mention.
+fn add_withs<A: Answers>(
+    alloc: Global,
+    unit: &UnitKey,
+    names: &mut Vec<Name>,
+    recorder: &mut Recorder<A>,
+) -> Result<(), NoMemory>
+    ensures asked { recorder.new.asked ≡ recorder.old.asked }
+    ensures told { OnOk result ((t : Query → AnswerKind) → Agrees t recorder.new.log → Agrees t recorder.old.log × (names.new.items ≡ names.old.items ++ lineages (withs_of t unit.now))) }
+    ensures grounded { OnOk result (StaysGrounded (unit.now ∷ []) recorder.old.log recorder.new.log) }
+{
+    let query = property_of(alloc, unit, Property::Context)?;
+    let answer = recorder.ask(&query)?;
+    match answer.context() {
+        Some(context) => {
+            add_lineages(alloc, context.withs.as_slice(), names)?;
+            Ok(())
+        }
+        None => Ok(()),
+    }
+}
+
+/// Adds the names that the with clauses of the units mention.
+fn add_each_withs<A: Answers>(
+    alloc: Global,
+    units: &[UnitKey],
+    names: &mut Vec<Name>,
+    recorder: &mut Recorder<A>,
+) -> Result<(), NoMemory>
+    ensures asked { recorder.new.asked ≡ recorder.old.asked }
+    ensures told { OnOk result ((t : Query → AnswerKind) → Agrees t recorder.new.log → Agrees t recorder.old.log × (names.new.items ≡ names.old.items ++ flat_map (λ u. lineages (withs_of t u)) units.now)) }
+    ensures grounded { OnOk result (StaysGrounded units.now recorder.old.log recorder.new.log) }
+{
+    for unit in units {
+        add_withs(alloc, unit, names, recorder)?;
+    }
+    Ok(())
+}
+
+/// The units that are asked: the ancestors, and the declaration of a body.
+fn asked_units_of(alloc: Global, unit: &UnitKey) -> Result<Vec<UnitKey>, NoMemory>
+    ensures { IfOk result (λ units. units.items ≡ asked_units unit.now) }
+{
+    let mut units = ancestors_of(alloc, unit.name.as_slice())?;
+    if matches!(unit.kind, UnitKind::Decl) {
+        return Ok(units);
+    }
+    let declaration = declaration_of(alloc, unit.name.as_slice())?;
+    units.push(declaration)?;
+    Ok(units)
+}
+
+/// The names of the library units that are mentioned at the start of the text of a library unit, one maybe several times
+/// (ARM 10.1.2(6 to 8), 10.1.6). Who makes the place mentions them, each with its view.
+pub fn mentioned<A: Answers>(
+    alloc: Global,
+    own: &OwnText,
+    recorder: &mut Recorder<A>,
+) -> Result<Vec<Name>, NoMemory>
+    ensures asked { recorder.new.asked ≡ recorder.old.asked }
+    ensures told { IfOk result (λ names. (t : Query → AnswerKind) → Agrees t recorder.new.log → Agrees t recorder.old.log × (names.items ≡ mentioned_names t own.now)) }
+    ensures grounded { IfOk result (λ _. StaysGrounded (asked_units own.now.unit) recorder.old.log recorder.new.log) }
+{
+    let mut names = Vec::new(alloc);
+    add_lineage(alloc, &own.unit, &mut names)?;
+    add_lineages(alloc, own.withs.as_slice(), &mut names)?;
+    let units = asked_units_of(alloc, &own.unit)?;
+    add_each_withs(alloc, units.as_slice(), &mut names, recorder)?;
+    Ok(names)
+}

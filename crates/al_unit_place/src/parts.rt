@@ -1,0 +1,113 @@
+// Regions that continue parts of units.
+ghost use Rattle.std.specs.Prelude.{◌≡◌, ◌+◌, ◌<◌, [], ◌∷◌, IfOk, length};
+ghost use Rattle.std.specs.List.{flat_map};
+ghost use Rattle.al_query.specs.declared.query.Query.{Query};
+ghost use Rattle.al_query.specs.declared.query.Query.TheVariants.{Of};
+ghost use Rattle.al_query.specs.declared.answer.AnswerKind.{AnswerKind};
+ghost use Rattle.al_query.specs.Reads.{Agrees};
+ghost use Rattle.al_scope.specs.Grounds.{StaysGrounded};
+ghost use Rattle.al_scope.specs.Places.{part_units};
+ghost use Rattle.al_unit_place.specs.UnitPlaces.{continued, part_uses, with_clauses};
+
+use crate::clauses::use_context;
+use al_base::{NoMemory, UnitKey};
+use al_query::{Answers, Property, Query, Recorder};
+use al_scope::{Scope, UnitPart};
+use al_view::{Row, copied_unit};
+use std::alloc::Global;
+
+/// The same part once more.
+fn copied_part(alloc: Global, part: &UnitPart) -> Result<UnitPart, NoMemory>
+    ensures { IfOk result (λ copy. copy ≡ part.now) }
+{
+    Ok(UnitPart {
+        unit: copied_unit(alloc, &part.unit)?,
+        part: part.part.copy(alloc)?,
+    })
+}
+
+/// The same parts once more.
+fn copied_parts(alloc: Global, parts: &[UnitPart]) -> Result<Row<UnitPart>, NoMemory>
+    ensures { IfOk result (λ copy. copy ≡ parts.now) }
+{
+    let mut copy = Row::empty(alloc);
+    for part in parts {
+        let part = copied_part(alloc, part)?;
+        copy.push(part)?;
+    }
+    Ok(copy)
+}
+
+/// The question for a property of a unit.
+pub fn property_of(alloc: Global, unit: &UnitKey, property: Property) -> Result<Query, NoMemory>
+    ensures { IfOk result (λ query. query ≡ Of unit.now property) }
+{
+    Ok(Query::Of {
+        unit: copied_unit(alloc, unit)?,
+        property,
+    })
+}
+
+/// The use clauses that the innermost region has by continuing the part.
+fn use_part<A: Answers>(
+    alloc: Global,
+    scope: &mut Scope,
+    part: &UnitPart,
+    recorder: &mut Recorder<A>,
+) -> Result<(), NoMemory>
+    requires { 0 < length scope.old.regions }
+    ensures asked { recorder.new.asked ≡ recorder.old.asked }
+    ensures told { IfOk result (λ _. (t : Query → AnswerKind) → Agrees t recorder.new.log → Agrees t recorder.old.log × (scope.new.regions ≡ with_clauses (part_uses t part.now) scope.old.regions)) }
+    ensures grounded { IfOk result (λ _. StaysGrounded (part.now.unit ∷ []) recorder.old.log recorder.new.log) }
+    ensures depth { length scope.new.regions ≡ length scope.old.regions }
+    ensures mentioned { scope.new.mentioned ≡ scope.old.mentioned }
+{
+    let query = property_of(alloc, &part.unit, Property::Context)?;
+    let answer = recorder.ask(&query)?;
+    match answer.context() {
+        Some(context) => {
+            use_context(alloc, scope, context, &part.part)?;
+            Ok(())
+        }
+        None => Ok(()),
+    }
+}
+
+/// The use clauses that the innermost region has by continuing the parts.
+fn use_parts<A: Answers>(
+    alloc: Global,
+    scope: &mut Scope,
+    parts: &[UnitPart],
+    recorder: &mut Recorder<A>,
+) -> Result<(), NoMemory>
+    requires { 0 < length scope.old.regions }
+    ensures asked { recorder.new.asked ≡ recorder.old.asked }
+    ensures told { IfOk result (λ _. (t : Query → AnswerKind) → Agrees t recorder.new.log → Agrees t recorder.old.log × (scope.new.regions ≡ with_clauses (flat_map (part_uses t) parts.now) scope.old.regions)) }
+    ensures grounded { IfOk result (λ _. StaysGrounded (part_units parts.now) recorder.old.log recorder.new.log) }
+    ensures depth { length scope.new.regions ≡ length scope.old.regions }
+    ensures mentioned { scope.new.mentioned ≡ scope.old.mentioned }
+{
+    for part in parts {
+        use_part(alloc, scope, part, recorder)?;
+    }
+    Ok(())
+}
+
+/// Enters a region that continues the parts; their use clauses hold in it.
+pub fn continue_parts<A: Answers>(
+    alloc: Global,
+    scope: &mut Scope,
+    parts: &[UnitPart],
+    recorder: &mut Recorder<A>,
+) -> Result<(), NoMemory>
+    ensures asked { recorder.new.asked ≡ recorder.old.asked }
+    ensures told { IfOk result (λ _. (t : Query → AnswerKind) → Agrees t recorder.new.log → Agrees t recorder.old.log × (scope.new.regions ≡ continued t parts.now scope.old.regions)) }
+    ensures grounded { IfOk result (λ _. StaysGrounded (part_units parts.now) recorder.old.log recorder.new.log) }
+    ensures depth { IfOk result (λ _. length scope.new.regions ≡ length scope.old.regions + 1) }
+    ensures mentioned { scope.new.mentioned ≡ scope.old.mentioned }
+{
+    let copy = copied_parts(alloc, parts)?;
+    scope.enter(copy)?;
+    use_parts(alloc, scope, parts, recorder)?;
+    Ok(())
+}
