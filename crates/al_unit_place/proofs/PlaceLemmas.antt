@@ -16,7 +16,7 @@ use Rattle.al_scope.specs.declared.region.Region.{Region}
 use Rattle.al_scope.specs.declared.region.UnitPart.{UnitPart}
 use Rattle.al_scope.specs.Grounds.{AllKnown, StaysGrounded}
 use Rattle.al_scope.specs.Places.{in_last, part_units, with_uses}
-use Rattle.al_unit_place.specs.UnitPlaces.{continued, declaration_parts, inside, inward, part_uses, some_private, stands_in, with_clause, with_clauses}
+use Rattle.al_unit_place.specs.UnitPlaces.{at_stubs, continued, declaration_parts, inside, inward, part_uses, some_private, stands_in, stub_parts, with_clause, with_clauses}
 
 -- use clauses
 
@@ -55,6 +55,22 @@ append-none (x ∷ xs) = ap (λ l. x ∷ l) (append-none xs)
 flat_map-push : {X Y : Type 0} (f : X → List Y) (xs : List X) (x : X) → flat_map f (xs ++ x ∷ []) ≡ flat_map f xs ++ f x
 flat_map-push f [] x = append-none (f x)
 flat_map-push f (y ∷ ys) x = ap (λ l. f y ++ l) (flat_map-push f ys x) ∙ sym (append-assoc (f y) (flat_map f ys) (f x))
+
+-- what one more gives
+pub flat_map-more : {X Y : Type 0} (f : X → List Y) (xs : List X) (i : ℕ) (x : X) → i < length xs → x ≡ get_or xs i x → flat_map f (take (i + 1) xs) ≡ flat_map f (take i xs) ++ f x
+flat_map-more f xs i x h e =
+    let more : take (i + 1) xs ≡ take i xs ++ x ∷ [] = take_more xs i x h ∙ ap (λ y. take i xs ++ y ∷ []) (sym e) in
+    ap (flat_map f) more ∙ flat_map-push f (take i xs) x
+
+at_stubs-join : (t : Query → AnswerKind) (xs ys : List UnitPart) (rs : List Region) → at_stubs t (xs ++ ys) rs ≡ at_stubs t ys (at_stubs t xs rs)
+at_stubs-join t [] ys rs = refl
+at_stubs-join t (x ∷ xs) ys rs = at_stubs-join t xs ys (continued t (stub_parts x) rs)
+
+-- the region of one more body
+pub at_stubs-more : (t : Query → AnswerKind) (ps : List UnitPart) (i : ℕ) (p : UnitPart) (rs before after : List Region) → i < length ps → p ≡ get_or ps i p → before ≡ at_stubs t (take i ps) rs → after ≡ continued t (stub_parts p) before → after ≡ at_stubs t (take (i + 1) ps) rs
+at_stubs-more t ps i p rs before after h e b a =
+    let more : take (i + 1) ps ≡ take i ps ++ p ∷ [] = take_more ps i p h ∙ ap (λ x. take i ps ++ x ∷ []) (sym e) in
+    a ∙ ap (continued t (stub_parts p)) b ∙ sym (ap (λ l. at_stubs t l rs) more ∙ at_stubs-join t (take i ps) (p ∷ []) rs)
 
 -- the use clauses of one more part
 pub part_uses-more : (t : Query → AnswerKind) (ps : List UnitPart) (i : ℕ) (p : UnitPart) (rs before after : List Region) → i < length ps → p ≡ get_or ps i p → before ≡ with_clauses (flat_map (part_uses t) (take i ps)) rs → after ≡ with_clauses (part_uses t p) before → after ≡ with_clauses (flat_map (part_uses t) (take (i + 1) ps)) rs
@@ -158,9 +174,14 @@ stays-turned u us old mid new one two known grounded all =
     (second.0, λ v k. second.1 v (first.1 v k))
 
 -- of a body's declaration, by its parts
-pub stays-own : (u : UnitKey) (b : Bool) (old new : List (Query × AnswerKind)) → StaysGrounded (part_units (cond b [] (declaration_parts u true))) old new → StaysGrounded (cond b [] (u ∷ [])) old new
-stays-own u true old new one = one
-stays-own u false old new one = stays-parts u true old new one
+pub stays-own : (u : UnitKey) (b : Bool) (old new : List (Query × AnswerKind)) → StaysGrounded (part_units (cond b (declaration_parts u true) [])) old new → StaysGrounded (cond b (u ∷ []) []) old new
+stays-own u true old new one = stays-parts u true old new one
+stays-own u false old new one = one
+
+-- and of the body
+pub stays-stub : (u : UnitKey) (b : Bool) (p : UnitPart) (old new : List (Query × AnswerKind)) → StaysGrounded (part_units (cond b (declaration_parts u true) [] ++ p ∷ [])) old new → StaysGrounded (cond b (u ∷ []) [] ++ p.unit ∷ []) old new
+stays-stub u true p old new one known grounded all = one known grounded (all.0, (all.0, all.1))
+stays-stub u false p old new one known grounded all = one known grounded all
 
 pub map-after : {X Y Z : Type 0} (f : Y → Z) (g : X → Y) (xs : List X) → map (λ x. f (g x)) xs ≡ map f (map g xs)
 map-after f g [] = refl

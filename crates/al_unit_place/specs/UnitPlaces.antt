@@ -1,9 +1,9 @@
--- The place at the start of the text of a library unit (ARM 8.1, 8.4, 10.1), told from answers.
+-- The place at the start of the text of a unit (ARM 8.1, 8.4, 10.1), told from answers.
 use Rattle.std.specs.Prelude.{ℕ, List, [], ◌∷◌, ◌++◌, Bool, true, ◌&&◌, ◌||◌, not, Option, Some, None, map, filter, codes, if◌then◌else◌}
 use Rattle.std.specs.List.{flat_map, list_any}
 use Rattle.std.specs.Str.{bytes_eq}
 use Rattle.al_base.specs.declared.unit_key.UnitKey.{UnitKey}
-use Rattle.al_base.specs.declared.unit_key.UnitKind.TheVariants.{Decl}
+use Rattle.al_base.specs.declared.unit_key.UnitKind.TheVariants.{Decl, Body}
 use Rattle.al_unit_graph.specs.Names.{ancestors, lineage}
 use Rattle.al_view.specs.declared.part.Part.{Part}
 use Rattle.al_view.specs.declared.part.Part.TheVariants as part
@@ -83,28 +83,57 @@ ancestor_units name = map package_unit (ancestors name)
 abbrev pub is_declaration : UnitKey → Bool
 is_declaration unit = same_kind unit.kind Decl
 
--- the parts that the unit's own region continues: a body its declaration's
-abbrev pub own_parts : UnitKey → List UnitPart
-own_parts unit = if is_declaration unit then [] else declaration_parts (package_unit unit.name) true
+abbrev pub is_body : UnitKey → Bool
+is_body unit = same_kind unit.kind Body
 
--- whether the start of the unit's text sees its ancestors' private parts, whatever these are
+-- the parts that a unit's own region continues: a library unit's body its declaration's; a declaration and a subunit continue none
+abbrev pub own_parts : UnitKey → List UnitPart
+own_parts unit = if is_body unit then declaration_parts (package_unit unit.name) true else []
+
+-- whether the place sees the ancestors' private parts, whatever these are: it is not in a declaration, in a private one, or in
+-- its private part
 abbrev pub sees_all : OwnText → Bool
-sees_all own = own.is_private || not (is_declaration own.unit)
+sees_all own = (own.is_private || own.in_private_part) || not (is_declaration own.unit)
+
+-- the name of the library unit, of a subunit that of the one in whose body its outermost stub stands (ARM 10.1.3(8))
+abbrev pub outermost : List ℕ → List UnitPart → List ℕ
+outermost name [] = name
+outermost name (stub ∷ inner) = stub.unit.name
+
+abbrev pub library_name : OwnText → List ℕ
+library_name own = outermost own.unit.name own.stubs
+
+-- the region of a body at a stub: what stands before the stub, and what the body's region continues
+abbrev pub stub_parts : UnitPart → List UnitPart
+stub_parts stub = own_parts stub.unit ++ stub ∷ []
+
+-- the regions of the bodies round a subunit at their stubs, outermost first (ARM 8.1, 10.1.3(8))
+abbrev pub at_stubs : (Query → AnswerKind) → List UnitPart → List Region → List Region
+at_stubs t [] rs = rs
+at_stubs t (stub ∷ inner) rs = at_stubs t inner (continued t (stub_parts stub) rs)
 
 -- the region of Standard, in which each other one lies (ARM 10.1.1(1), A.1)
 abbrev pub standard_parts : List UnitPart
 standard_parts = visible_part (codes "standard") ∷ []
 
--- the regions round the start of the text of a library unit, where these are round all units: Standard's, its ancestors' and its
--- own
+-- the regions round the start of a unit's text, where these are round all units: Standard's, the library unit's ancestors', of a
+-- subunit those of the bodies round it, and the unit's own
 abbrev pub unit_regions : (Query → AnswerKind) → OwnText → List Region → List Region
 unit_regions t own rs =
-    let round = inward t (sees_all own) (ancestor_units own.unit.name) (rs ++ entered standard_parts rs ∷ []) in
-    with_clauses own.uses (continued t (own_parts own.unit) round)
+    let round = inward t (sees_all own) (ancestor_units (library_name own)) (rs ++ entered standard_parts rs ∷ []) in
+    with_clauses own.uses (continued t (own_parts own.unit) (at_stubs t own.stubs round))
 
--- the units that are asked: the ancestors, and the declaration of a body
-abbrev pub asked_units : UnitKey → List UnitKey
-asked_units unit = ancestor_units unit.name ++ (if is_declaration unit then [] else package_unit unit.name ∷ [])
+-- the declaration of a library unit's body
+abbrev pub own_declaration : UnitKey → List UnitKey
+own_declaration unit = if is_body unit then package_unit unit.name ∷ [] else []
+
+-- the units whose region a body continues at a stub
+abbrev pub stub_units : UnitPart → List UnitKey
+stub_units stub = own_declaration stub.unit ++ stub.unit ∷ []
+
+-- the units that are asked: the ancestors, the bodies round a subunit, and the declarations of bodies
+abbrev pub asked_units : OwnText → List UnitKey
+asked_units own = (ancestor_units (library_name own) ++ flat_map stub_units own.stubs) ++ own_declaration own.unit
 
 -- the units that with clauses name, where a context is answered
 abbrev pub withs_if_told : Option ContextView → List UnitKey
@@ -118,9 +147,9 @@ withs_of t u = withs_if_told (context_of (t (Of u Context)))
 abbrev pub lineages : List UnitKey → List (List ℕ)
 lineages units = flat_map (λ u. lineage u.name) units
 
--- the names of the library units that are mentioned at the start of the text of a library unit, where its own with clauses, its
--- declaration's and its ancestors' hold (ARM 10.1.2(6, 7), 10.1.6): its own, and those of the units of these clauses, each
--- behind those of its ancestors. One may stand several times.
+-- the names of the library units that are mentioned at the start of a unit's text, where its own with clauses, its
+-- declaration's, its ancestors' and those of the bodies round a subunit hold (ARM 10.1.2(6, 7), 10.1.6): the library unit's, and
+-- those of the units of these clauses, each behind those of its ancestors. One may stand several times.
 abbrev pub mentioned_names : (Query → AnswerKind) → OwnText → List (List ℕ)
 mentioned_names t own =
-    (lineage own.unit.name ++ lineages own.withs) ++ flat_map (λ u. lineages (withs_of t u)) (asked_units own.unit)
+    (lineage (library_name own) ++ lineages own.withs) ++ flat_map (λ u. lineages (withs_of t u)) (asked_units own)

@@ -1,4 +1,4 @@
-//! The place at the start of the text of a library unit: the regions round it, and the use clauses that hold there.
+//! The place at the start of the text of a unit: the regions round it, and the use clauses that hold there.
 #![tactic(auto)]
 
 mod clauses;

@@ -1,4 +1,4 @@
-// The library units that are mentioned at the start of the text of a library unit.
+// The library units that are mentioned at the start of the text of a unit.
 ghost use Rattle.std.specs.Prelude.{◌≡◌, ◌∷◌, [], ◌++◌, IfOk, OnOk};
 ghost use Rattle.std.specs.List.{flat_map};
 ghost use Rattle.al_unit_graph.specs.Names.{lineage};
@@ -6,14 +6,16 @@ ghost use Rattle.al_query.specs.declared.query.Query.{Query};
 ghost use Rattle.al_query.specs.declared.answer.AnswerKind.{AnswerKind};
 ghost use Rattle.al_query.specs.Reads.{Agrees};
 ghost use Rattle.al_scope.specs.Grounds.{StaysGrounded};
-ghost use Rattle.al_unit_place.specs.UnitPlaces.{asked_units, lineages, mentioned_names, withs_of};
+ghost use Rattle.al_unit_place.specs.UnitPlaces.{asked_units, lineages, mentioned_names, own_declaration, stub_units, withs_of};
 
 use crate::own::OwnText;
 use crate::parts::property_of;
-use crate::unit_place::{ancestors_of, declaration_of};
+use crate::unit_place::{ancestors_of, declaration_of, library_name_of};
 use al_base::{Name, NoMemory, UnitKey, UnitKind};
 use al_query::{Answers, Property, Recorder};
+use al_scope::UnitPart;
 use al_unit_graph::lineage;
+use al_view::copied_unit;
 use std::alloc::Global;
 
 /// Adds a name.
@@ -26,10 +28,10 @@ fn add_name(alloc: Global, name: &[u8], names: &mut Vec<Name>) -> Result<(), NoM
 }
 
 /// Adds the names of the unit's ancestors and its own.
-fn add_lineage(alloc: Global, unit: &UnitKey, names: &mut Vec<Name>) -> Result<(), NoMemory>
-    ensures { OnOk result (names.new.items ≡ names.old.items ++ lineage unit.now.name) }
+fn add_lineage(alloc: Global, name: &[u8], names: &mut Vec<Name>) -> Result<(), NoMemory>
+    ensures { OnOk result (names.new.items ≡ names.old.items ++ lineage name.now) }
 {
-    let slices = lineage(alloc, unit.name.as_slice())?;
+    let slices = lineage(alloc, name)?;
     for slice in slices.as_slice() {
         add_name(alloc, slice, names)?;
     }
@@ -41,7 +43,7 @@ fn add_lineages(alloc: Global, units: &[UnitKey], names: &mut Vec<Name>) -> Resu
     ensures { OnOk result (names.new.items ≡ names.old.items ++ lineages units.now) }
 {
     for unit in units {
-        add_lineage(alloc, unit, names)?;
+        add_lineage(alloc, unit.name.as_slice(), names)?;
     }
     Ok(())
 }
@@ -85,20 +87,49 @@ fn add_each_withs<A: Answers>(
     Ok(())
 }
 
-/// The units that are asked: the ancestors, and the declaration of a body.
-fn asked_units_of(alloc: Global, unit: &UnitKey) -> Result<Vec<UnitKey>, NoMemory>
-    ensures { IfOk result (λ units. units.items ≡ asked_units unit.now) }
+/// Adds the declaration of a library unit's body.
+fn add_declaration(alloc: Global, unit: &UnitKey, units: &mut Vec<UnitKey>) -> Result<(), NoMemory>
+    ensures { OnOk result (units.new.items ≡ units.old.items ++ own_declaration unit.now) }
 {
-    let mut units = ancestors_of(alloc, unit.name.as_slice())?;
-    if matches!(unit.kind, UnitKind::Decl) {
-        return Ok(units);
+    if !matches!(unit.kind, UnitKind::Body) {
+        return Ok(());
     }
     let declaration = declaration_of(alloc, unit.name.as_slice())?;
     units.push(declaration)?;
+    Ok(())
+}
+
+/// Adds the units whose region a body continues at the stub.
+fn add_stub(alloc: Global, stub: &UnitPart, units: &mut Vec<UnitKey>) -> Result<(), NoMemory>
+    ensures { OnOk result (units.new.items ≡ units.old.items ++ stub_units stub.now) }
+{
+    add_declaration(alloc, &stub.unit, units)?;
+    let unit = copied_unit(alloc, &stub.unit)?;
+    units.push(unit)?;
+    Ok(())
+}
+
+/// Adds the units whose regions bodies continue at the stubs.
+fn add_stubs(alloc: Global, stubs: &[UnitPart], units: &mut Vec<UnitKey>) -> Result<(), NoMemory>
+    ensures { OnOk result (units.new.items ≡ units.old.items ++ flat_map stub_units stubs.now) }
+{
+    for stub in stubs {
+        add_stub(alloc, stub, units)?;
+    }
+    Ok(())
+}
+
+/// The units that are asked: the ancestors, the bodies round a subunit, and the declarations of bodies.
+fn asked_units_of(alloc: Global, own: &OwnText) -> Result<Vec<UnitKey>, NoMemory>
+    ensures { IfOk result (λ units. units.items ≡ asked_units own.now) }
+{
+    let mut units = ancestors_of(alloc, library_name_of(own))?;
+    add_stubs(alloc, own.stubs.as_slice(), &mut units)?;
+    add_declaration(alloc, &own.unit, &mut units)?;
     Ok(units)
 }
 
-/// The names of the library units that are mentioned at the start of the text of a library unit, one maybe several times
+/// The names of the library units that are mentioned at the start of the text of a unit, one maybe several times
 /// (ARM 10.1.2(6 to 8), 10.1.6). Who makes the place mentions them, each with its view.
 pub fn mentioned<A: Answers>(
     alloc: Global,
@@ -107,12 +138,13 @@ pub fn mentioned<A: Answers>(
 ) -> Result<Vec<Name>, NoMemory>
     ensures asked { recorder.new.asked ≡ recorder.old.asked }
     ensures told { IfOk result (λ names. (t : Query → AnswerKind) → Agrees t recorder.new.log → Agrees t recorder.old.log × (names.items ≡ mentioned_names t own.now)) }
-    ensures grounded { IfOk result (λ _. StaysGrounded (asked_units own.now.unit) recorder.old.log recorder.new.log) }
+    ensures grounded { IfOk result (λ _. StaysGrounded (asked_units own.now) recorder.old.log recorder.new.log) }
 {
+    let library = library_name_of(own);
     let mut names = Vec::new(alloc);
-    add_lineage(alloc, &own.unit, &mut names)?;
+    add_lineage(alloc, library, &mut names)?;
     add_lineages(alloc, own.withs.as_slice(), &mut names)?;
-    let units = asked_units_of(alloc, &own.unit)?;
+    let units = asked_units_of(alloc, own)?;
     add_each_withs(alloc, units.as_slice(), &mut names, recorder)?;
     Ok(names)
 }

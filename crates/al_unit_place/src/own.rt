@@ -1,6 +1,7 @@
 // What a unit's own text says.
 use al_base::UnitKey;
 use al_query::UseClause;
+use al_scope::UnitPart;
 use al_view::Row;
 
 /// What a unit's own text says of its place, which no other unit is asked for.
@@ -9,8 +10,13 @@ pub struct OwnText {
     pub unit: UnitKey,
     /// Whether it is a private unit (ARM 10.1.1(12)).
     pub is_private: bool,
+    /// Whether the place is the start of its private part, and not of its text (ARM 7.1(6)).
+    pub in_private_part: bool,
+    /// Of a subunit the stubs round it, outermost first, each by what stands before it in its body (ARM 10.1.3(8)): that of the
+    /// library unit's body, and one for each subunit round this one. None of a library unit.
+    pub stubs: Row<UnitPart>,
     /// The units that its with clauses name.
     pub withs: Row<UnitKey>,
-    /// The use clauses of its context clause, as resolved.
+    /// The use clauses of its context clause, as resolved; at the start of a private part those of the visible part too.
     pub uses: Row<UseClause>,
 }

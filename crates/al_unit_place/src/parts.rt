@@ -17,7 +17,7 @@ use al_view::{Row, copied_unit};
 use std::alloc::Global;
 
 /// The same part once more.
-fn copied_part(alloc: Global, part: &UnitPart) -> Result<UnitPart, NoMemory>
+pub fn copied_part(alloc: Global, part: &UnitPart) -> Result<UnitPart, NoMemory>
     ensures { IfOk result (λ copy. copy ≡ part.now) }
 {
     Ok(UnitPart {

@@ -1,16 +1,17 @@
-// The place at the start of the text of a library unit.
+// The place at the start of the text of a unit.
 ghost use Rattle.std.specs.Prelude.{◌≡◌, ◌+◌, ◌<◌, [], ◌∷◌, ◌++◌, ◌||◌, IfOk, drop, length};
+ghost use Rattle.std.specs.List.{flat_map};
 ghost use Rattle.al_query.specs.declared.query.Query.{Query};
 ghost use Rattle.al_query.specs.declared.answer.AnswerKind.{AnswerKind};
 ghost use Rattle.al_query.specs.Reads.{Agrees};
 ghost use Rattle.al_scope.specs.Grounds.{StaysGrounded};
 ghost use Rattle.al_scope.specs.Places.{entered};
 ghost use Rattle.al_scope.specs.UseClauses.{package_unit};
-ghost use Rattle.al_unit_place.specs.UnitPlaces.{ancestor_units, asked_units, continued, declaration_parts, inward, own_parts, sees_all, some_private, standard_parts, unit_regions};
+ghost use Rattle.al_unit_place.specs.UnitPlaces.{ancestor_units, asked_units, at_stubs, continued, declaration_parts, inward, library_name, outermost, own_parts, sees_all, some_private, standard_parts, stub_parts, stub_units, unit_regions};
 
 use crate::clauses::use_each;
 use crate::own::OwnText;
-use crate::parts::{continue_parts, property_of};
+use crate::parts::{continue_parts, copied_part, property_of};
 use al_base::{Name, NoMemory, UnitKey, UnitKind};
 use al_query::{Answers, Property, Recorder};
 use al_scope::{Scope, UnitPart};
@@ -165,7 +166,7 @@ fn enter_standard(alloc: Global, scope: &mut Scope) -> Result<(), NoMemory>
 fn own_parts_of(alloc: Global, unit: &UnitKey) -> Result<Row<UnitPart>, NoMemory>
     ensures { IfOk result (λ parts. parts ≡ own_parts unit.now) }
 {
-    if matches!(unit.kind, UnitKind::Decl) {
+    if !matches!(unit.kind, UnitKind::Body) {
         return Ok(Row::empty(alloc));
     }
     let declaration = declaration_of(alloc, unit.name.as_slice())?;
@@ -173,9 +174,71 @@ fn own_parts_of(alloc: Global, unit: &UnitKey) -> Result<Row<UnitPart>, NoMemory
     Ok(parts)
 }
 
-/// Enters the regions round the start of the text of a library unit: Standard's, its ancestors' and its own (ARM 8.1, 10.1.1),
-/// with the use clauses that hold there (ARM 8.4(6, 7)). Only other units are asked: the ancestors, and the declaration of
-/// a body.
+/// The parts of a body's region at a stub.
+fn stub_parts_of(alloc: Global, stub: &UnitPart) -> Result<Row<UnitPart>, NoMemory>
+    ensures { IfOk result (λ parts. parts ≡ stub_parts stub.now) }
+{
+    let mut parts = own_parts_of(alloc, &stub.unit)?;
+    let before = copied_part(alloc, stub)?;
+    parts.push(before)?;
+    Ok(parts)
+}
+
+/// Enters the region of a body at a stub.
+fn enter_stub<A: Answers>(
+    alloc: Global,
+    scope: &mut Scope,
+    stub: &UnitPart,
+    recorder: &mut Recorder<A>,
+) -> Result<(), NoMemory>
+    ensures asked { recorder.new.asked ≡ recorder.old.asked }
+    ensures told { IfOk result (λ _. (t : Query → AnswerKind) → Agrees t recorder.new.log → Agrees t recorder.old.log × (scope.new.regions ≡ continued t (stub_parts stub.now) scope.old.regions)) }
+    ensures grounded { IfOk result (λ _. StaysGrounded (stub_units stub.now) recorder.old.log recorder.new.log) }
+    ensures mentioned { scope.new.mentioned ≡ scope.old.mentioned }
+{
+    let parts = stub_parts_of(alloc, stub)?;
+    continue_parts(alloc, scope, parts.as_slice(), recorder)?;
+    Ok(())
+}
+
+/// Enters the regions of the bodies round a subunit at their stubs, outermost first.
+fn enter_stubs<A: Answers>(
+    alloc: Global,
+    scope: &mut Scope,
+    stubs: &[UnitPart],
+    recorder: &mut Recorder<A>,
+) -> Result<(), NoMemory>
+    ensures asked { recorder.new.asked ≡ recorder.old.asked }
+    ensures told { IfOk result (λ _. (t : Query → AnswerKind) → Agrees t recorder.new.log → Agrees t recorder.old.log × (scope.new.regions ≡ at_stubs t stubs.now scope.old.regions)) }
+    ensures grounded { IfOk result (λ _. StaysGrounded (flat_map stub_units stubs.now) recorder.old.log recorder.new.log) }
+    ensures mentioned { scope.new.mentioned ≡ scope.old.mentioned }
+{
+    for stub in stubs {
+        enter_stub(alloc, scope, stub, recorder)?;
+    }
+    Ok(())
+}
+
+/// The name of the library unit in whose body the outermost stub stands; where there is none, this name.
+fn outermost<'a>(name: &'a [u8], stubs: &'a [UnitPart]) -> &'a [u8]
+    ensures { result.now ≡ outermost name.now stubs.now }
+{
+    match stubs {
+        [stub, ..] => stub.unit.name.as_slice(),
+        [] => name,
+    }
+}
+
+/// The name of the library unit, of a subunit that of the one whose body it is part of.
+pub fn library_name_of(own: &OwnText) -> &[u8]
+    ensures { result.now ≡ library_name own.now }
+{
+    outermost(own.unit.name.as_slice(), own.stubs.as_slice())
+}
+
+/// Enters the regions round the start of a unit's text: Standard's, the ancestors', of a subunit those of the bodies round it at
+/// their stubs, and its own (ARM 8.1, 10.1.1, 10.1.3(8)), with the use clauses that hold there (ARM 8.4(6, 7)). Only other units
+/// are asked: the ancestors, the bodies round a subunit, and the declarations of bodies.
 pub fn enter_unit<A: Answers>(
     alloc: Global,
     scope: &mut Scope,
@@ -184,22 +247,24 @@ pub fn enter_unit<A: Answers>(
 ) -> Result<(), NoMemory>
     ensures asked { recorder.new.asked ≡ recorder.old.asked }
     ensures told { IfOk result (λ _. (t : Query → AnswerKind) → Agrees t recorder.new.log → Agrees t recorder.old.log × (scope.new.regions ≡ unit_regions t own.now scope.old.regions)) }
-    ensures grounded { IfOk result (λ _. StaysGrounded (asked_units own.now.unit) recorder.old.log recorder.new.log) }
+    ensures grounded { IfOk result (λ _. StaysGrounded (asked_units own.now) recorder.old.log recorder.new.log) }
     ensures mentioned { scope.new.mentioned ≡ scope.old.mentioned }
 {
     enter_standard(alloc, scope)?;
-    let units = ancestors_of(alloc, own.unit.name.as_slice())?;
+    let library = library_name_of(own);
+    let units = ancestors_of(alloc, library)?;
     let sees = sees_all_parts(own);
     enter_ancestors(alloc, scope, units.as_slice(), sees, recorder)?;
+    enter_stubs(alloc, scope, own.stubs.as_slice(), recorder)?;
     let parts = own_parts_of(alloc, &own.unit)?;
     continue_parts(alloc, scope, parts.as_slice(), recorder)?;
     use_each(alloc, scope, own.uses.as_slice())?;
     Ok(())
 }
 
-/// Whether the start of the unit's text sees its ancestors' private parts, whatever these are.
+/// Whether the place sees the ancestors' private parts, whatever these are.
 fn sees_all_parts(own: &OwnText) -> bool
     ensures { result ≡ sees_all own.now }
 {
-    own.is_private || !matches!(own.unit.kind, UnitKind::Decl)
+    own.is_private || own.in_private_part || !matches!(own.unit.kind, UnitKind::Decl)
 }
