@@ -58,8 +58,19 @@ fn answer(alloc: Global, view: View) -> Result<Answer, NoMemory> {
 
 /// Asks the library whose P and Q declare these as X.
 fn asking(alloc: Global, of_p: View, of_q: View) -> Result<Recorder<Library>, NoMemory> {
+    let x_of_p = x_of(alloc, b"p")?;
+    asking_of(alloc, x_of_p, of_p, of_q)
+}
+
+/// Asks the library that answers this to the question, and whose Q declares that as X.
+fn asking_of(
+    alloc: Global,
+    x_of_p: Query,
+    of_p: View,
+    of_q: View,
+) -> Result<Recorder<Library>, NoMemory> {
     let library = Library {
-        x_of_p: x_of(alloc, b"p")?,
+        x_of_p,
         x_of_q: x_of(alloc, b"q")?,
         of_p: answer(alloc, of_p)?,
         of_q: answer(alloc, of_q)?,
@@ -135,6 +146,8 @@ enum Step<'a> {
     Enter,
     /// Enters a region that continues the visible part of that package.
     Continue(&'a [u8]),
+    /// Enters a region that continues its visible and private part.
+    ContinueBoth(&'a [u8]),
     Leave,
     Start,
     /// Declares a number; 1 where it fits.
@@ -174,6 +187,15 @@ fn continued(alloc: Global, package_name: &[u8]) -> Result<Row<UnitPart>, NoMemo
     Ok(parts)
 }
 
+fn both_continued(alloc: Global, package_name: &[u8]) -> Result<Row<UnitPart>, NoMemory> {
+    let mut parts = continued(alloc, package_name)?;
+    parts.push(UnitPart {
+        unit: unit(alloc, package_name)?,
+        part: Part::Private,
+    })?;
+    Ok(parts)
+}
+
 /// Does what wants no region.
 fn take(
     alloc: Global,
@@ -184,6 +206,7 @@ fn take(
     match step {
         Step::Enter => scope.enter(Row::empty(alloc))?,
         Step::Continue(package_name) => scope.enter(continued(alloc, package_name)?)?,
+        Step::ContinueBoth(package_name) => scope.enter(both_continued(alloc, package_name)?)?,
         Step::Mention(unit_name) => scope.mention(unit_name, package_view(alloc, unit_name)?)?,
         Step::See => {
             let views = scope.visible(b"x", recorder)?;
@@ -233,7 +256,16 @@ fn steps_right(
     of_q: View,
     steps: &[(Step<'_>, i64)],
 ) -> Result<usize, NoMemory> {
-    let mut recorder = asking(alloc, of_p, of_q)?;
+    let recorder = asking(alloc, of_p, of_q)?;
+    steps_answered(alloc, recorder, steps)
+}
+
+/// The same, where these questions are asked.
+fn steps_answered(
+    alloc: Global,
+    mut recorder: Recorder<Library>,
+    steps: &[(Step<'_>, i64)],
+) -> Result<usize, NoMemory> {
     let mut scope = Scope::new(alloc);
     for (right, (step, wanted)) in steps.iter().enumerate() {
         if take(alloc, &mut scope, *step, &mut recorder)? != *wanted {
@@ -419,5 +451,113 @@ fn a_mentioned_child_is_declared_in_its_parent(rt: HostRuntime) -> Result<(), Fa
         )?,
         18
     );
+    Ok(())
+}
+
+/// How many steps give what is wanted, where P declares the number 1 and Q the number 2 as X.
+fn steps_among_numbers(alloc: Global, steps: &[(Step<'_>, i64)]) -> Result<usize, NoMemory> {
+    let of_p = number(alloc, 1)?;
+    let of_q = number(alloc, 2)?;
+    let right = steps_right(alloc, of_p, of_q, steps)?;
+    Ok(right)
+}
+
+#[test]
+fn context_clauses_see_themselves_alone(rt: HostRuntime) -> Result<(), Fail> {
+    let alloc = rt.alloc();
+    // the place of a declaration whose context clause uses P
+    let declaration = [
+        (Step::Enter, 0),
+        (Step::UsePackage(b"p"), 0),
+        (Step::See, 1),
+    ];
+    // that of its body's context clause, which sees nothing of it, and the root unit X from its with clause on
+    let context = [
+        (Step::Enter, 0),
+        (Step::See, 0),
+        (Step::Number(3), 1),
+        (Step::See, 3),
+    ];
+    assert_eq!(rt; steps_among_numbers(alloc, declaration.as_slice())?, 3);
+    assert_eq!(rt; steps_among_numbers(alloc, context.as_slice())?, 4);
+    Ok(())
+}
+
+#[test]
+fn components_hide_for_those_after_them(rt: HostRuntime) -> Result<(), Fail> {
+    let alloc = rt.alloc();
+    let steps = [
+        (Step::Continue(b"p"), 0),
+        (Step::Enter, 0),
+        (Step::See, 1),
+        // X is one of the components of a list: none of the list sees it
+        (Step::Start, 0),
+        (Step::See, 0),
+        (Step::Number(3), 1),
+        (Step::See, 3),
+        // a component X more is refused, and the first one stays
+        (Step::Number(4), 0),
+        (Step::See, 3),
+        (Step::Leave, 0),
+        (Step::See, 1),
+    ];
+    assert_eq!(rt; steps_among_numbers(alloc, steps.as_slice())?, 11);
+    Ok(())
+}
+
+#[test]
+fn a_parent_keeps_children_of_its_names_out(rt: HostRuntime) -> Result<(), Fail> {
+    let alloc = rt.alloc();
+    let steps = [
+        // the parent declares a literal X: no child X, which may not be overloaded
+        (Step::Continue(b"p"), 0),
+        (Step::Number(3), 0),
+        (Step::See, 1),
+        (Step::Leave, 0),
+        // a child that isn't mentioned keeps nothing out
+        (Step::Continue(b"r"), 0),
+        (Step::Number(3), 1),
+        (Step::See, 3),
+    ];
+    let of_p = literal(alloc, b"p", 1)?;
+    let of_q = number(alloc, 2)?;
+    assert_eq!(rt; steps_right(alloc, of_p, of_q, steps.as_slice())?, 7);
+    Ok(())
+}
+
+/// How many steps give what is wanted, where the question is answered by the number 1 and Q declares the number 2 as X.
+fn steps_about(alloc: Global, query: Query, steps: &[(Step<'_>, i64)]) -> Result<usize, NoMemory> {
+    let of_p = number(alloc, 1)?;
+    let of_q = number(alloc, 2)?;
+    let recorder = asking_of(alloc, query, of_p, of_q)?;
+    steps_answered(alloc, recorder, steps)
+}
+
+#[test]
+fn private_parts_and_standard_keep_names_out(rt: HostRuntime) -> Result<(), Fail> {
+    let alloc = rt.alloc();
+    // the private part of R declares X: R has no child X, and where the part isn't continued it hides nothing
+    let in_private = Query::Named {
+        unit: unit(alloc, b"r")?,
+        part: Part::Private,
+        name: Name::from_slice(alloc, b"x")?,
+    };
+    let parent = [
+        (Step::ContinueBoth(b"r"), 0),
+        (Step::Number(3), 0),
+        (Step::See, 1),
+        (Step::Leave, 0),
+        (Step::Continue(b"r"), 0),
+        (Step::Number(3), 1),
+    ];
+    assert_eq!(rt; steps_about(alloc, in_private, parent.as_slice())?, 6);
+    // Standard declares X: there is no root unit X
+    let root = [
+        (Step::Continue(b"standard"), 0),
+        (Step::Number(3), 0),
+        (Step::See, 1),
+    ];
+    let in_standard = x_of(alloc, b"standard")?;
+    assert_eq!(rt; steps_about(alloc, in_standard, root.as_slice())?, 3);
     Ok(())
 }
