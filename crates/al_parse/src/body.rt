@@ -31,8 +31,8 @@ use crate::step::flag;
 use al_base::Place;
 use al_lex::Token;
 use al_parse_expr::{
-    Stop, discrete_range, enter, enter_at, expect, expression, identifier, is_next, skip, skip_at,
-    word_at,
+    Stop, append, boxed, discrete_range, enter, enter_at, expect, expression, identifier, is_next,
+    skip, skip_at, word_at,
 };
 use al_tree::{
     Alternative, BlockStatement, Branch, CaseStatement, DeclaredStatements, ElsifBranch,
@@ -70,7 +70,7 @@ fn more_statements<'a>(
     let mut rest = tokens;
     'more: while is_statement_next(source, rest) {
         let (next, after) = statement(alloc, source, depth, rest)?;
-        items.push(next)?;
+        append(&mut items, next)?;
         rest = after;
     }
     Ok((items, rest))
@@ -164,10 +164,13 @@ fn behind_label<'a>(
     let rest = expect(source, tokens, Symbol::Colon)?;
     if is_loop_next(source, rest) {
         let (statement, rest) = loop_statement(alloc, source, depth, rest)?;
-        return Ok((Statement::looping(Some(name), statement), rest));
+        return Ok((
+            Statement::looping(Some(name), boxed(alloc, statement)?),
+            rest,
+        ));
     }
     let (statement, rest) = block_statement(alloc, source, depth, rest)?;
-    Ok((Statement::block(Some(name), statement), rest))
+    Ok((Statement::block(Some(name), boxed(alloc, statement)?), rest))
 }
 
 /// A statement that holds others.
@@ -183,19 +186,19 @@ fn compound_statement<'a>(
     if is_next(source, tokens, Symbol::If) {
         let (inner, opening, rest) = enter_at(source, depth, tokens, Symbol::If)?;
         let (statement, rest) = if_statement(alloc, source, inner, opening, rest)?;
-        return Ok((Statement::branching(statement), rest));
+        return Ok((Statement::branching(boxed(alloc, statement)?), rest));
     }
     if is_next(source, tokens, Symbol::Case) {
         let (inner, opening, rest) = enter_at(source, depth, tokens, Symbol::Case)?;
         let (statement, rest) = case_statement(alloc, source, inner, opening, rest)?;
-        return Ok((Statement::case(statement), rest));
+        return Ok((Statement::case(boxed(alloc, statement)?), rest));
     }
     if is_loop_next(source, tokens) {
         let (statement, rest) = loop_statement(alloc, source, depth, tokens)?;
-        return Ok((Statement::looping(None, statement), rest));
+        return Ok((Statement::looping(None, boxed(alloc, statement)?), rest));
     }
     let (statement, rest) = block_statement(alloc, source, depth, tokens)?;
-    Ok((Statement::block(None, statement), rest))
+    Ok((Statement::block(None, boxed(alloc, statement)?), rest))
 }
 
 /// Behind `if` (ARM 5.3).
@@ -266,7 +269,7 @@ fn elsifs<'a>(
     let mut rest = tokens;
     'more: while is_next(source, rest, Symbol::Elsif) {
         let (next, after) = elsif(alloc, source, depth, rest)?;
-        items.push(next)?;
+        append(&mut items, next)?;
         rest = after;
     }
     Ok((items, rest))
@@ -345,7 +348,7 @@ fn more_alternatives<'a>(
     let mut rest = tokens;
     'more: while is_next(source, rest, Symbol::When) {
         let (next, after) = alternative(alloc, source, depth, rest)?;
-        items.push(next)?;
+        append(&mut items, next)?;
         rest = after;
     }
     Ok((items, rest))
@@ -506,7 +509,7 @@ pub(crate) fn items<'a>(
     let mut rest = tokens;
     'more: while is_item_next(source, rest) {
         let (next, after) = item(alloc, source, depth, rest)?;
-        items.push(next)?;
+        append(&mut items, next)?;
         rest = after;
     }
     Ok((items, rest))
@@ -715,7 +718,7 @@ fn operation_bodies<'a>(
     let mut rest = tokens;
     'more: while is_operation_body_next(source, rest) {
         let (next, after) = operation_body(alloc, source, depth, rest)?;
-        items.push(next)?;
+        append(&mut items, next)?;
         rest = after;
     }
     Ok((items, rest))

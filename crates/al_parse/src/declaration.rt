@@ -10,7 +10,7 @@ ghost use Rattle.al_syntax.specs.Notation.{opens, opens_at, the, ◌∣◌, ◌�
 ghost use Rattle.al_syntax.specs.Rules.{grammar};
 ghost use Rattle.al_syntax.specs.Symbols.{Symbol as symbols};
 ghost use Rattle.al_syntax.specs.Words.{labelled, word};
-ghost use Rattle.al_tree.specs.DeclarationViews.{array_seen, common_seen, component_seen, components_seen, compounds_seen, discrete_range_seen, identifiers_seen, indication_seen, object_form_seen, object_seen, object_type_seen, pragma_arguments_seen, pragma_seen, range_seen, subtype_seen, type_definition_seen, type_seen, use_seen};
+ghost use Rattle.al_tree.specs.DeclarationViews.{array_seen, boxed_range_seen, common_seen, component_seen, components_seen, compounds_seen, discrete_range_seen, identifiers_seen, indication_seen, object_form_seen, object_seen, object_type_seen, pragma_arguments_seen, pragma_seen, subtype_seen, type_definition_seen, type_seen, use_seen};
 ghost use Rattle.al_tree.specs.ExpressionViews.{expression_seen};
 ghost use Rattle.al_tree.specs.Lexemes.{lexemes, place_label};
 ghost use Rattle.std.specs.Prelude.{[], map, option_map, ◌++◌, ◌∷◌};
@@ -23,8 +23,8 @@ use crate::step::flag;
 use al_base::Place;
 use al_lex::Token;
 use al_parse_expr::{
-    Stop, compound_name, compound_names, discrete_range, enter, enter_at, expect, expression,
-    identifier, identifiers, is_next, range, read_or_drop, skip, word_at,
+    Stop, append, boxed, compound_name, compound_names, discrete_range, enter, enter_at, expect,
+    expression, identifier, identifiers, is_next, range, read_or_drop, skip, word_at,
 };
 use al_tree::{
     ArrayDefinition, CommonDeclaration, ComponentDeclaration, Components, CompoundNames,
@@ -41,8 +41,8 @@ fn constraint<'a>(
     source: &[u8],
     depth: u32,
     tokens: &'a [Token],
-) -> Result<(Option<Range>, &'a [Token]), Stop>
-    ensures { Gives (λ x. maybe range_tokens (option_map range_seen x.0)) (λ x. lexemes source.now x.1.now) result (lexemes source.now tokens.now) (reading depth (Opt range_rule) (lexemes source.now tokens.now)) }
+) -> Result<(Option<Box<Range>>, &'a [Token]), Stop>
+    ensures { Gives (λ x. maybe range_tokens (option_map boxed_range_seen x.0)) (λ x. lexemes source.now x.1.now) result (lexemes source.now tokens.now) (reading depth (Opt range_rule) (lexemes source.now tokens.now)) }
 {
     if !is_next(source, tokens, Symbol::Range) {
         return Ok((None, tokens));
@@ -155,7 +155,7 @@ fn object_type<'a>(
         return Ok((ObjectType::Named(indication), rest));
     }
     let (array, rest) = array_definition(alloc, source, depth, tokens)?;
-    Ok((ObjectType::Array(array), rest))
+    Ok((ObjectType::Array(boxed(alloc, array)?), rest))
 }
 
 /// The type of an object and perhaps its value.
@@ -243,7 +243,7 @@ fn more_components<'a>(
     let mut rest = tokens;
     'more: while is_next(source, rest, Symbol::Identifier) {
         let (next, after) = component(alloc, source, depth, rest)?;
-        items.push(next)?;
+        append(&mut items, next)?;
         rest = after;
     }
     Ok((items, rest))
@@ -325,7 +325,7 @@ fn type_definition<'a>(
     }
     if is_next(source, tokens, Symbol::Array) {
         let (array, rest) = array_definition(alloc, source, depth, tokens)?;
-        return Ok((TypeDefinition::Array(array), rest));
+        return Ok((TypeDefinition::Array(boxed(alloc, array)?), rest));
     }
     let (inner, rest) = enter(source, depth, tokens, Symbol::Record)?;
     let (components, end, rest) = record_definition(alloc, source, inner, rest)?;

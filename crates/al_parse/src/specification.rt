@@ -24,7 +24,7 @@ use crate::start::{
 use crate::step::flag;
 use al_lex::Token;
 use al_parse_expr::{
-    Stop, compound_name, enter_at, expect, expression, identifier, identifiers, is_next,
+    Stop, append, compound_name, enter_at, expect, expression, identifier, identifiers, is_next,
     read_or_drop, skip, skip_at, word_at,
 };
 use al_tree::{
@@ -71,7 +71,7 @@ fn more_formals<'a>(
     let mut rest = tokens;
     'more: while let Some(behind) = skip(source, rest, Symbol::Semicolon) {
         let (next, after) = formal(alloc, source, behind)?;
-        items.push(next)?;
+        append(&mut items, next)?;
         rest = after;
     }
     Ok((items, rest))
@@ -215,7 +215,7 @@ fn operations<'a>(
     let mut rest = tokens;
     'more: while is_operation_next(source, rest) {
         let (next, after) = operation(alloc, source, depth, rest)?;
-        items.push(next)?;
+        append(&mut items, next)?;
         rest = after;
     }
     Ok((items, rest))
@@ -259,7 +259,7 @@ fn protected_components<'a>(
     let mut rest = tokens;
     'more: while is_next(source, rest, Symbol::Identifier) {
         let (next, after) = protected_component(alloc, source, depth, rest)?;
-        items.push(next)?;
+        append(&mut items, next)?;
         rest = after;
     }
     Ok((items, rest))
@@ -435,7 +435,7 @@ pub(crate) fn declarations<'a>(
     let mut rest = tokens;
     'more: while is_declaration_next(source, rest) {
         let (next, after) = declaration(alloc, source, depth, rest)?;
-        items.push(next)?;
+        append(&mut items, next)?;
         rest = after;
     }
     Ok((items, rest))

@@ -25,8 +25,8 @@ use crate::start::is_expression_next;
 use al_base::Place;
 use al_lex::Token;
 use al_parse_expr::{
-    Stop, compound_name, discrete_range, expect, expression, is_next, name_rest, read_or_drop,
-    skip, word_at,
+    Stop, append, compound_name, discrete_range, expect, expression, is_next, name_rest,
+    read_or_drop, skip, word_at,
 };
 use al_tree::{
     Choice, CompoundEnd, CompoundName, Expression, Identifier, Item, LoopEnd, ObjectName,
@@ -168,7 +168,7 @@ fn more_choices<'a>(
     let mut rest = tokens;
     'more: while let Some(behind) = skip(source, rest, Symbol::VerticalLine) {
         let (next, after) = choice(alloc, source, depth, behind)?;
-        items.push(next)?;
+        append(&mut items, next)?;
         rest = after;
     }
     Ok((items, rest))

@@ -31,8 +31,8 @@ use crate::statement::compound_end;
 use al_base::Place;
 use al_lex::Token;
 use al_parse_expr::{
-    Stop, compound_name, compound_names, enter, enter_at, expect, is_next, read_or_drop, skip,
-    skip_at, word_at,
+    Stop, append, compound_name, compound_names, enter, enter_at, expect, is_next, read_or_drop,
+    skip, skip_at, word_at,
 };
 use al_tree::{
     CompilationUnit, CompoundEnd, CompoundName, ContextItem, Declaration, Item, LibraryItem,
@@ -76,7 +76,7 @@ fn context_items<'a>(
     let mut rest = tokens;
     'more: while is_context_next(source, rest) {
         let (next, after) = context_item(alloc, source, depth, rest)?;
-        items.push(next)?;
+        append(&mut items, next)?;
         rest = after;
     }
     Ok((items, rest))

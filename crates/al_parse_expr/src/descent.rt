@@ -17,6 +17,7 @@ ghost use Rattle.al_parse_expr.specs.Logical.{behind_rule, chain_rule};
 ghost use Rattle.al_parse_expr.specs.Names.{GivesParts, part_rule};
 ghost use Rattle.al_parse_expr.specs.Parses.{Gives, reading};
 
+use crate::keep::{append, boxed};
 use crate::operator::{
     adding_operator, logical_operator, multiplying_operator, negation, relational_operator, sign,
 };
@@ -93,7 +94,7 @@ fn more_relations<'a>(
     let mut rest = tokens;
     'more: while begins_operator(source, rest, operator) {
         let (relation, after) = behind_operator(alloc, source, depth, rest, operator)?;
-        relations.push(relation)?;
+        append(&mut relations, relation)?;
         rest = after;
     }
     Ok((relations, rest))
@@ -273,7 +274,7 @@ fn more_terms<'a>(
     let mut rest = tokens;
     'more: while begins_added(source, rest) {
         let (term, after) = added_term(alloc, source, depth, rest)?;
-        terms.push(term)?;
+        append(&mut terms, term)?;
         rest = after;
     }
     Ok((terms, rest))
@@ -325,7 +326,7 @@ fn more_factors<'a>(
     let mut rest = tokens;
     'more: while begins_multiplied(source, rest) {
         let (factor, after) = multiplied_factor(alloc, source, depth, rest)?;
-        factors.push(factor)?;
+        append(&mut factors, factor)?;
         rest = after;
     }
     Ok((factors, rest))
@@ -435,7 +436,7 @@ fn name_parts<'a>(
     let mut rest = tokens;
     'more: while goes_on(source, rest) {
         let (part, after) = part(alloc, source, depth, rest)?;
-        parts.push(part)?;
+        append(&mut parts, part)?;
         rest = after;
     }
     Ok((parts, rest))
@@ -482,7 +483,10 @@ fn arguments<'a>(
     let (inner, opening, rest) = enter_at(source, depth, tokens, Symbol::LeftParenthesis)?;
     let (first, others, rest) = expressions(alloc, source, inner, rest)?;
     let rest = read_or_drop!(expect(source, rest, Symbol::RightParenthesis), first);
-    Ok((NamePart::arguments(opening, first, others), rest))
+    Ok((
+        NamePart::arguments(opening, boxed(alloc, first)?, others),
+        rest,
+    ))
 }
 
 /// What stands between parentheses that no name is in front of: an expression, or an aggregate (ARM 4.3.3).
@@ -539,7 +543,7 @@ fn more_expressions<'a>(
     let mut rest = tokens;
     'more: while let Some(after) = skip(source, rest, Symbol::Comma) {
         let (expression, after) = expression(alloc, source, depth, after)?;
-        expressions.push(expression)?;
+        append(&mut expressions, expression)?;
         rest = after;
     }
     Ok((expressions, rest))
@@ -558,7 +562,7 @@ pub fn name_rest<'a>(
     let mut rest = tokens;
     'more: while begins_part(source, rest) {
         let (part, after) = part(alloc, source, depth, rest)?;
-        parts.push(part)?;
+        append(&mut parts, part)?;
         rest = after;
     }
     Ok((parts, rest))

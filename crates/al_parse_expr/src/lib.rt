@@ -7,6 +7,7 @@
 
 mod bounds;
 mod descent;
+mod keep;
 mod list;
 mod operator;
 mod start;
@@ -15,6 +16,7 @@ mod stop;
 
 pub use bounds::{discrete_range, range};
 pub use descent::{expression, name_rest, simple_expression};
+pub use keep::{append, boxed};
 pub use list::{compound_name, compound_names, identifiers};
 pub use step::{
     enter, enter_at, expect, identifier, is_next, number, skip, skip_at, string, word_at,

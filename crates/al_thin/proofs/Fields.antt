@@ -1,5 +1,5 @@
 -- What a structure is seen as, by its fields.
-use Rattle.std.proofs.Common.{◌≡◌, ◌<◌, ◌≤◌, List, [], ◌∷◌, length, map, Option, Some, None, refl, sym, ap, ◌∙◌, arith, Vec, Global}
+use Rattle.std.proofs.Common.{◌≡◌, ◌<◌, ◌≤◌, List, [], ◌∷◌, length, map, Option, Some, None, refl, sym, ap, ◌∙◌, arith, Vec, Box, Global}
 use Rattle.al_syntax.specs.ExpressionTrees.{SimpleTree as simple_trees, TermTree, TermTree as term_trees, NameTree as name_trees, PartTree as part_trees, ExpressionTree, FactorTree, Sign}
 use Rattle.al_tree.specs.ExpressionViews.{added_of, added_term_seen, expression_seen, expressions_of, factor_seen, multiplied_factor_seen, multiplied_of, name_seen, part_seen, parts_of, sign_seen, simple_seen, term_seen}
 use Rattle.al_tree.specs.Lexemes.{identifier_label, place_label}
@@ -72,17 +72,17 @@ more_arguments : (l : Label) (e : ExpressionTree) (es : List Expression) → 1 �
 more_arguments l e [] some = absurd (omega (arith, some))
 more_arguments l e (f ∷ fs) some = refl
 
-module _ (part : NamePart) (opening : Place) (first : Expression) (others : Vec Expression Global) (is : part ≡ Arguments opening first others) (es : List Expression) (same : es ≡ others.items) where
-  seen : part_argument (part_trees.Arguments (place_label opening) (expression_seen first) (expressions_of (map expression_seen es))) ≡ part_argument (part_seen part)
+module _ (part : NamePart) (opening : Place) (first : Box Expression Global) (others : Vec Expression Global) (is : part ≡ Arguments opening first others) (es : List Expression) (same : es ≡ others.items) where
+  seen : part_argument (part_trees.Arguments (place_label opening) (expression_seen first.value) (expressions_of (map expression_seen es))) ≡ part_argument (part_seen part)
   seen =
-      ap (λ (fs : List Expression). part_argument (part_trees.Arguments (place_label opening) (expression_seen first) (expressions_of (map expression_seen fs)))) same
+      ap (λ (fs : List Expression). part_argument (part_trees.Arguments (place_label opening) (expression_seen first.value) (expressions_of (map expression_seen fs)))) same
       ∙ ap part_argument (sym (part_arguments_seen opening first others) ∙ ap part_seen (sym is))
 
-  pub argument_alone : length es < 1 → Some (expression_seen first) ≡ part_argument (part_seen part)
-  argument_alone none = one_argument (place_label opening) (expression_seen first) es none ∙ seen
+  pub argument_alone : length es < 1 → Some (expression_seen first.value) ≡ part_argument (part_seen part)
+  argument_alone none = one_argument (place_label opening) (expression_seen first.value) es none ∙ seen
 
   pub argument_not_alone : 1 ≤ length es → None ≡ part_argument (part_seen part)
-  argument_not_alone some = more_arguments (place_label opening) (expression_seen first) es some ∙ seen
+  argument_not_alone some = more_arguments (place_label opening) (expression_seen first.value) es some ∙ seen
 
 pub parts_not_alone : (ps : List NamePart) → 2 ≤ length ps → None ≡ sole_argument (parts_of (map part_seen ps))
 parts_not_alone [] some = absurd (omega (arith, some))

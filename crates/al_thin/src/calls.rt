@@ -38,7 +38,7 @@ fn part_argument(part: &NamePart) -> Option<&Expression>
 {
     match part {
         NamePart::Arguments(_, argument, others) => match others.as_slice() {
-            [] => Some(argument),
+            [] => Some(&**argument),
             [_, ..] => None,
         },
         NamePart::Selector(_) => None,

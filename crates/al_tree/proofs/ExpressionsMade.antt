@@ -204,13 +204,13 @@ part_selector_seen name = ap part_seen (sym (rolls-Selector name)) ∙ by_layers
 pub part_selector_tokens : (name : Identifier) → part_tokens (part_seen (Selector name)) ≡ word symbols.Dot ∷ labelled symbols.Identifier (identifier_label name) ∷ []
 part_selector_tokens name = ap part_tokens (part_selector_seen name)
 
-pub part_arguments_seen : (opening : Place) (first : Expression) (others : Vec Expression Global) → part_seen (Arguments opening first others) ≡ part_trees.Arguments (place_label opening) (expression_seen first) (expressions_of (map expression_seen others.items))
+pub part_arguments_seen : (opening : Place) (first : Box Expression Global) (others : Vec Expression Global) → part_seen (Arguments opening first others) ≡ part_trees.Arguments (place_label opening) (expression_seen first.value) (expressions_of (map expression_seen others.items))
 unfolding expression_seen part_seen
 part_arguments_seen opening first others = ap part_seen (sym (rolls-Arguments opening first others)) ∙ by_layers fold-roll-NamePart (layer.Arguments opening first others)
 
-pub part_arguments_tokens : (opening : Place) (first : Expression) (others : Vec Expression Global) → part_tokens (part_seen (Arguments opening first others)) ≡ labelled symbols.LeftParenthesis (place_label opening) ∷ (expression_tokens (expression_seen first) ++ (each (λ e. word symbols.Comma ∷ expression_tokens (expression_seen e)) others.items ++ word symbols.RightParenthesis ∷ []))
+pub part_arguments_tokens : (opening : Place) (first : Box Expression Global) (others : Vec Expression Global) → part_tokens (part_seen (Arguments opening first others)) ≡ labelled symbols.LeftParenthesis (place_label opening) ∷ (expression_tokens (expression_seen first.value) ++ (each (λ e. word symbols.Comma ∷ expression_tokens (expression_seen e)) others.items ++ word symbols.RightParenthesis ∷ []))
 part_arguments_tokens opening first others = ap part_tokens (part_arguments_seen opening first others)
-    ∙ ap (λ (ts : List Lexeme). labelled symbols.LeftParenthesis (place_label opening) ∷ (expression_tokens (expression_seen first) ++ (ts ++ word symbols.RightParenthesis ∷ []))) (expressions_each others.items)
+    ∙ ap (λ (ts : List Lexeme). labelled symbols.LeftParenthesis (place_label opening) ∷ (expression_tokens (expression_seen first.value) ++ (ts ++ word symbols.RightParenthesis ∷ []))) (expressions_each others.items)
 
 pub part_attribute_seen : (name : Identifier) → part_seen (Attribute name) ≡ part_trees.Attribute (identifier_label name)
 unfolding part_seen

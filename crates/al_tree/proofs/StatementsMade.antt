@@ -97,32 +97,32 @@ statement_delay_seen opening moment = ap statement_seen (sym (rolls-Delay openin
 pub statement_delay_tokens : (opening : Place) (moment : Expression) → statement_tokens (statement_seen (Delay opening moment)) ≡ labelled symbols.Delay (place_label opening) ∷ word symbols.Until ∷ (expression_tokens (expression_seen moment) ++ word symbols.Semicolon ∷ [])
 statement_delay_tokens opening moment = ap statement_tokens (statement_delay_seen opening moment)
 
-pub statement_branching_seen : (statement : IfStatement) → statement_seen (If statement) ≡ if_seen statement
+pub statement_branching_seen : (statement : Box IfStatement Global) → statement_seen (If statement) ≡ if_seen statement.value
 unfolding if_seen statement_seen
 statement_branching_seen statement = ap statement_seen (sym (rolls-If statement)) ∙ by_layers fold-roll-Statement (layer.If statement)
 
-pub statement_branching_tokens : (statement : IfStatement) → statement_tokens (statement_seen (If statement)) ≡ statement_tokens (if_seen statement)
+pub statement_branching_tokens : (statement : Box IfStatement Global) → statement_tokens (statement_seen (If statement)) ≡ statement_tokens (if_seen statement.value)
 statement_branching_tokens statement = ap statement_tokens (statement_branching_seen statement)
 
-pub statement_case_seen : (statement : CaseStatement) → statement_seen (Case statement) ≡ case_seen statement
+pub statement_case_seen : (statement : Box CaseStatement Global) → statement_seen (Case statement) ≡ case_seen statement.value
 unfolding case_seen statement_seen
 statement_case_seen statement = ap statement_seen (sym (rolls-Case statement)) ∙ by_layers fold-roll-Statement (layer.Case statement)
 
-pub statement_case_tokens : (statement : CaseStatement) → statement_tokens (statement_seen (Case statement)) ≡ statement_tokens (case_seen statement)
+pub statement_case_tokens : (statement : Box CaseStatement Global) → statement_tokens (statement_seen (Case statement)) ≡ statement_tokens (case_seen statement.value)
 statement_case_tokens statement = ap statement_tokens (statement_case_seen statement)
 
-pub statement_looping_seen : (name : Option Identifier) (statement : LoopStatement) → statement_seen (Loop name statement) ≡ statement_trees.LoopStatement (option_map identifier_label name) (loop_seen statement)
+pub statement_looping_seen : (name : Option Identifier) (statement : Box LoopStatement Global) → statement_seen (Loop name statement) ≡ statement_trees.LoopStatement (option_map identifier_label name) (loop_seen statement.value)
 unfolding loop_seen statement_seen
 statement_looping_seen name statement = ap statement_seen (sym (rolls-Loop name statement)) ∙ by_layers fold-roll-Statement (layer.Loop name statement)
 
-pub statement_looping_tokens : (name : Option Identifier) (statement : LoopStatement) → statement_tokens (statement_seen (Loop name statement)) ≡ maybe label_tokens (option_map identifier_label name) ++ loop_tokens (loop_seen statement)
+pub statement_looping_tokens : (name : Option Identifier) (statement : Box LoopStatement Global) → statement_tokens (statement_seen (Loop name statement)) ≡ maybe label_tokens (option_map identifier_label name) ++ loop_tokens (loop_seen statement.value)
 statement_looping_tokens name statement = ap statement_tokens (statement_looping_seen name statement)
 
-pub statement_block_seen : (name : Option Identifier) (statement : BlockStatement) → statement_seen (Block name statement) ≡ statement_trees.BlockStatement (option_map identifier_label name) (block_seen statement)
+pub statement_block_seen : (name : Option Identifier) (statement : Box BlockStatement Global) → statement_seen (Block name statement) ≡ statement_trees.BlockStatement (option_map identifier_label name) (block_seen statement.value)
 unfolding block_seen statement_seen
 statement_block_seen name statement = ap statement_seen (sym (rolls-Block name statement)) ∙ by_layers fold-roll-Statement (layer.Block name statement)
 
-pub statement_block_tokens : (name : Option Identifier) (statement : BlockStatement) → statement_tokens (statement_seen (Block name statement)) ≡ maybe label_tokens (option_map identifier_label name) ++ block_tokens (block_seen statement)
+pub statement_block_tokens : (name : Option Identifier) (statement : Box BlockStatement Global) → statement_tokens (statement_seen (Block name statement)) ≡ maybe label_tokens (option_map identifier_label name) ++ block_tokens (block_seen statement.value)
 statement_block_tokens name statement = ap statement_tokens (statement_block_seen name statement)
 
 pub if_new_seen : (opening : Place) (first : Branch) (others : Vec ElsifBranch Global) (otherwise : Option Statements) (end : Place) (closing : Place) → if_seen (roll-IfStatement (record { opening = opening; first = first; others = others; otherwise = otherwise; end = end; closing = closing })) ≡ statement_trees.IfStatement (place_label opening) (branch_seen first) (elsifs_of (map elsif_seen others.items)) (else_of (option_map statements_seen otherwise)) (place_label end) (place_label closing)

@@ -1,5 +1,6 @@
 -- What the program's declarations without bodies are as plain data.
-use Rattle.std.specs.Prelude.{map, option_map}
+use Rattle.std.specs.declared.alloc.Global.{Global}
+use Rattle.std.specs.Prelude.{Box, map, option_map}
 use Rattle.al_syntax.specs.DeclarationTrees.{IdentifiersTree, CompoundNameTree, CompoundNamesTree, RangeTree, DiscreteRangeTree, DiscreteRangeTree as discrete_range_trees, SubtypeIndicationTree, ArrayTree, ObjectTypeTree, ObjectTypeTree as object_type_trees, ObjectFormTree, ObjectFormTree as object_form_trees, ObjectTree, ComponentTree, ComponentsTree, ComponentsTree as components_trees, TypeDefinitionTree, TypeDefinitionTree as type_definition_trees, TypeTree, SubtypeTree, UseTree, PragmaArgumentsTree, PragmaTree, FormalTree, FormalPartTree, SpecificationTree, SpecificationTree as specification_trees, AspectTree, TaskTree, ProtectedOperationTree, ProtectedOperationTree as protected_operation_trees, ProtectedComponentTree, ProtectedPrivateTree, ProtectedTree, CommonTree, CommonTree as common_trees, DeclarationTree, DeclarationTree as declaration_trees}
 use Rattle.al_tree.specs.declared.names.Identifiers.{Identifiers}
 use Rattle.al_tree.specs.declared.names.CompoundName.{CompoundName}
@@ -54,20 +55,23 @@ compounds_seen n = record { first = compound_seen n.first; others = map compound
 abbrev pub range_seen : Range → RangeTree
 range_seen r = record { low = simple_seen r.low; high = simple_seen r.high }
 
+abbrev pub boxed_range_seen : Box Range Global → RangeTree
+boxed_range_seen r = range_seen r.value
+
 abbrev pub discrete_range_seen : DiscreteRange → DiscreteRangeTree
 discrete_range_seen (discrete_ranges.Mark s) = discrete_range_trees.SoleMark (simple_seen s)
-discrete_range_seen (discrete_ranges.Bounds r) = discrete_range_trees.Bounds (range_seen r)
-discrete_range_seen (discrete_ranges.MarkRange s r) = discrete_range_trees.MarkRange (simple_seen s) (range_seen r)
+discrete_range_seen (discrete_ranges.Bounds r) = discrete_range_trees.Bounds (range_seen r.value)
+discrete_range_seen (discrete_ranges.MarkRange s r) = discrete_range_trees.MarkRange (simple_seen s) (range_seen r.value)
 
 abbrev pub indication_seen : SubtypeIndication → SubtypeIndicationTree
-indication_seen s = record { mark = compound_seen s.mark; constraint = option_map range_seen s.constraint }
+indication_seen s = record { mark = compound_seen s.mark; constraint = option_map boxed_range_seen s.constraint }
 
 abbrev pub array_seen : ArrayDefinition → ArrayTree
 array_seen a = record { opening = place_label a.opening; index = discrete_range_seen a.index; component = indication_seen a.component }
 
 abbrev pub object_type_seen : ObjectType → ObjectTypeTree
 object_type_seen (object_types.Named s) = object_type_trees.NamedType (indication_seen s)
-object_type_seen (object_types.Array a) = object_type_trees.AnonymousArray (array_seen a)
+object_type_seen (object_types.Array a) = object_type_trees.AnonymousArray (array_seen a.value)
 
 abbrev pub object_form_seen : ObjectForm → ObjectFormTree
 object_form_seen (object_forms.Typed c t i) = object_form_trees.TypedObject c (object_type_seen t) (option_map expression_seen i)
@@ -84,10 +88,10 @@ components_seen components.Null = components_trees.NullComponents
 components_seen (components.Declared c cs) = components_trees.SomeComponents (component_seen c) (map component_seen cs.items)
 
 abbrev pub type_definition_seen : TypeDefinition → TypeDefinitionTree
-type_definition_seen (type_definitions.Integer r) = type_definition_trees.IntegerDefinition (range_seen r)
+type_definition_seen (type_definitions.Integer r) = type_definition_trees.IntegerDefinition (range_seen r.value)
 type_definition_seen type_definitions.NullRecord = type_definition_trees.NullRecordDefinition
 type_definition_seen (type_definitions.Enumeration p i) = type_definition_trees.EnumerationDefinition (place_label p) (identifiers_seen i)
-type_definition_seen (type_definitions.Array a) = type_definition_trees.ArrayDefinition (array_seen a)
+type_definition_seen (type_definitions.Array a) = type_definition_trees.ArrayDefinition (array_seen a.value)
 type_definition_seen (type_definitions.Record c p) = type_definition_trees.RecordDefinition (components_seen c) (place_label p)
 
 abbrev pub type_seen : TypeDeclaration → TypeTree

@@ -139,7 +139,7 @@ name_layer n = name_trees.Name (identifier_label n.first) (parts_of n.parts.item
 
 abbrev pub part_layer : Layer NamePart-F → PartTree
 part_layer (layer.Selector i) = part_trees.Selector (identifier_label i)
-part_layer (layer.Arguments l e es) = part_trees.Arguments (place_label l) e (expressions_of es.items)
+part_layer (layer.Arguments l e es) = part_trees.Arguments (place_label l) e.value (expressions_of es.items)
 part_layer (layer.Attribute i) = part_trees.Attribute (identifier_label i)
 part_layer layer.RangeAttribute = part_trees.RangeAttribute
 

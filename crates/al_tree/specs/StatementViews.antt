@@ -105,10 +105,10 @@ statement_layer (layer.Call n) = statement_trees.CallStatement (name_seen n)
 statement_layer (layer.Return p e) = statement_trees.ReturnStatement (place_label p) (option_map expression_seen e)
 statement_layer (layer.Exit p n e) = statement_trees.ExitStatement (place_label p) (option_map identifier_label n) (option_map expression_seen e)
 statement_layer (layer.Delay p e) = statement_trees.DelayStatement (place_label p) (expression_seen e)
-statement_layer (layer.If s) = s
-statement_layer (layer.Case s) = s
-statement_layer (layer.Loop n l) = statement_trees.LoopStatement (option_map identifier_label n) l
-statement_layer (layer.Block n b) = statement_trees.BlockStatement (option_map identifier_label n) b
+statement_layer (layer.If s) = s.value
+statement_layer (layer.Case s) = s.value
+statement_layer (layer.Loop n l) = statement_trees.LoopStatement (option_map identifier_label n) l.value
+statement_layer (layer.Block n b) = statement_trees.BlockStatement (option_map identifier_label n) b.value
 
 abbrev pub alternative_layer : Layer Alternative-F → AlternativeTree
 alternative_layer a = alternative_trees.Alternative (choice_seen a.first) (map choice_seen a.others.items) a.statements

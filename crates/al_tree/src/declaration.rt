@@ -15,16 +15,16 @@ pub struct Range {
 pub enum DiscreteRange {
     /// One expression: a subtype's mark or a Range attribute.
     Mark(SimpleExpression),
-    Bounds(Range),
+    Bounds(Box<Range>),
     /// `mark range low .. high`
-    MarkRange(SimpleExpression, Range),
+    MarkRange(SimpleExpression, Box<Range>),
 }
 
 /// `mark [range low .. high]` (ARM 3.2.2)
 #[derive(Debug, Drop)]
 pub struct SubtypeIndication {
     pub mark: CompoundName,
-    pub constraint: Option<Range>,
+    pub constraint: Option<Box<Range>>,
 }
 
 /// `array (index) of component` (ARM 3.6), with the place of the left parenthesis.
@@ -39,7 +39,7 @@ pub struct ArrayDefinition {
 #[derive(Debug, Drop)]
 pub enum ObjectType {
     Named(SubtypeIndication),
-    Array(ArrayDefinition),
+    Array(Box<ArrayDefinition>),
 }
 
 /// What stands behind the colon of an object or number declaration.
@@ -77,12 +77,12 @@ pub enum Components {
 /// What stands behind `is` in a type declaration (ARM 3.2.1).
 #[derive(Debug, Drop)]
 pub enum TypeDefinition {
-    Integer(Range),
+    Integer(Box<Range>),
     /// `null record`
     NullRecord,
     /// With the place of the left parenthesis.
     Enumeration(Place, Identifiers),
-    Array(ArrayDefinition),
+    Array(Box<ArrayDefinition>),
     /// With the place of `end`.
     Record(Components, Place),
 }

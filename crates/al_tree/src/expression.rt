@@ -157,7 +157,7 @@ pub enum NamePart {
     Selector(Identifier),
     /// `(expression {, expression})`: indexes, arguments of a call or the operand of a conversion, with the place of the left
     /// parenthesis (ARM 4.1.1, 4.6, 6.4).
-    Arguments(Place, Expression, Vec<Expression>),
+    Arguments(Place, Box<Expression>, Vec<Expression>),
     /// `'identifier` (ARM 4.1.4)
     Attribute(Identifier),
     /// `'range`
@@ -416,9 +416,9 @@ impl NamePart {
 
     /// `(first {, others})`
     #[tactic(auto, using(crate::proofs::ExpressionsMade::part_arguments_seen, crate::proofs::ExpressionsMade::part_arguments_tokens))]
-    pub fn arguments(opening: Place, first: Expression, others: Vec<Expression>) -> NamePart
-        ensures seen { part_seen result ≡ part_trees.Arguments (place_label opening) (expression_seen first) (expressions_of (map expression_seen others.items)) }
-        ensures tokens { part_tokens (part_seen result) ≡ labelled symbols.LeftParenthesis (place_label opening) ∷ (expression_tokens (expression_seen first) ++ (each (λ e. word symbols.Comma ∷ expression_tokens (expression_seen e)) others.items ++ word symbols.RightParenthesis ∷ [])) }
+    pub fn arguments(opening: Place, first: Box<Expression>, others: Vec<Expression>) -> NamePart
+        ensures seen { part_seen result ≡ part_trees.Arguments (place_label opening) (expression_seen first.value) (expressions_of (map expression_seen others.items)) }
+        ensures tokens { part_tokens (part_seen result) ≡ labelled symbols.LeftParenthesis (place_label opening) ∷ (expression_tokens (expression_seen first.value) ++ (each (λ e. word symbols.Comma ∷ expression_tokens (expression_seen e)) others.items ++ word symbols.RightParenthesis ∷ [])) }
     {
         NamePart::Arguments(opening, first, others)
     }

@@ -68,12 +68,12 @@ pub enum Statement {
     Exit(Place, Option<Identifier>, Option<Expression>),
     /// `delay until moment;` (ARM 9.6)
     Delay(Place, Expression),
-    If(IfStatement),
-    Case(CaseStatement),
+    If(Box<IfStatement>),
+    Case(Box<CaseStatement>),
     /// With the loop's name (ARM 5.5).
-    Loop(Option<Identifier>, LoopStatement),
+    Loop(Option<Identifier>, Box<LoopStatement>),
     /// With the block's name (ARM 5.6).
-    Block(Option<Identifier>, BlockStatement),
+    Block(Option<Identifier>, Box<BlockStatement>),
 }
 
 /// ARM 5.3, with the places of `if` and of both words of `end if`.
@@ -264,36 +264,36 @@ impl Statement {
 
     /// An if statement.
     #[tactic(auto, using(crate::proofs::StatementsMade::statement_branching_seen, crate::proofs::StatementsMade::statement_branching_tokens))]
-    pub fn branching(statement: IfStatement) -> Statement
-        ensures seen { statement_seen result ≡ if_seen statement }
-        ensures tokens { statement_tokens (statement_seen result) ≡ statement_tokens (if_seen statement) }
+    pub fn branching(statement: Box<IfStatement>) -> Statement
+        ensures seen { statement_seen result ≡ if_seen statement.value }
+        ensures tokens { statement_tokens (statement_seen result) ≡ statement_tokens (if_seen statement.value) }
     {
         Statement::If(statement)
     }
 
     /// A case statement.
     #[tactic(auto, using(crate::proofs::StatementsMade::statement_case_seen, crate::proofs::StatementsMade::statement_case_tokens))]
-    pub fn case(statement: CaseStatement) -> Statement
-        ensures seen { statement_seen result ≡ case_seen statement }
-        ensures tokens { statement_tokens (statement_seen result) ≡ statement_tokens (case_seen statement) }
+    pub fn case(statement: Box<CaseStatement>) -> Statement
+        ensures seen { statement_seen result ≡ case_seen statement.value }
+        ensures tokens { statement_tokens (statement_seen result) ≡ statement_tokens (case_seen statement.value) }
     {
         Statement::Case(statement)
     }
 
     /// `[name :] loop statement`
     #[tactic(auto, using(crate::proofs::StatementsMade::statement_looping_seen, crate::proofs::StatementsMade::statement_looping_tokens))]
-    pub fn looping(name: Option<Identifier>, statement: LoopStatement) -> Statement
-        ensures seen { statement_seen result ≡ statement_trees.LoopStatement (option_map identifier_label name) (loop_seen statement) }
-        ensures tokens { statement_tokens (statement_seen result) ≡ maybe label_tokens (option_map identifier_label name) ++ loop_tokens (loop_seen statement) }
+    pub fn looping(name: Option<Identifier>, statement: Box<LoopStatement>) -> Statement
+        ensures seen { statement_seen result ≡ statement_trees.LoopStatement (option_map identifier_label name) (loop_seen statement.value) }
+        ensures tokens { statement_tokens (statement_seen result) ≡ maybe label_tokens (option_map identifier_label name) ++ loop_tokens (loop_seen statement.value) }
     {
         Statement::Loop(name, statement)
     }
 
     /// `[name :] block statement`
     #[tactic(auto, using(crate::proofs::StatementsMade::statement_block_seen, crate::proofs::StatementsMade::statement_block_tokens))]
-    pub fn block(name: Option<Identifier>, statement: BlockStatement) -> Statement
-        ensures seen { statement_seen result ≡ statement_trees.BlockStatement (option_map identifier_label name) (block_seen statement) }
-        ensures tokens { statement_tokens (statement_seen result) ≡ maybe label_tokens (option_map identifier_label name) ++ block_tokens (block_seen statement) }
+    pub fn block(name: Option<Identifier>, statement: Box<BlockStatement>) -> Statement
+        ensures seen { statement_seen result ≡ statement_trees.BlockStatement (option_map identifier_label name) (block_seen statement.value) }
+        ensures tokens { statement_tokens (statement_seen result) ≡ maybe label_tokens (option_map identifier_label name) ++ block_tokens (block_seen statement.value) }
     {
         Statement::Block(name, statement)
     }

@@ -28,7 +28,7 @@ use Rattle.al_parse.proofs.body.+body.Goals as goal
 
 pub more_statements-more-preserved : goal.more_statements-more-preserved
 unfolding statement_rule identifier_rule return_rule exit_rule delay_rule loop_rule block_rule
-more_statements-more-preserved t c = many_next Statement (λ xs. each (λ x. statement_tokens (statement_seen x)) xs) (λ x. statement_tokens (statement_seen x)) (each_push (λ x. statement_tokens (statement_seen x))) c.args.depth statement_rule more_statements_clear (Many statement_rule) c.more.items.items c.push.new.self.items c.in_ok-next.next (lexemes c.args.source.now c.args.tokens.now) (lexemes c.args.source.now c.more.rest.now) (lexemes c.args.source.now c.in_ok-next.after.now) c.more.invariant (sym c.is_statement_next.ensures ∙ c.more-test.true) c.in_ok-next.ensures c.in_ok-push.ensures.items
+more_statements-more-preserved t c = many_next Statement (λ xs. each (λ x. statement_tokens (statement_seen x)) xs) (λ x. statement_tokens (statement_seen x)) (each_push (λ x. statement_tokens (statement_seen x))) c.args.depth statement_rule more_statements_clear (Many statement_rule) c.more.items.items c.append.new.list.items c.in_ok-next.next (lexemes c.args.source.now c.args.tokens.now) (lexemes c.args.source.now c.more.rest.now) (lexemes c.args.source.now c.in_ok-next.after.now) c.more.invariant (sym c.is_statement_next.ensures ∙ c.more-test.true) c.in_ok-next.ensures c.in_ok-append.ensures.items
 
 pub more_statements-more-smaller : goal.more_statements-more-smaller
 more_statements-more-smaller t c = fewer c.args.depth statement_rule more_statements_clear c.args.source.now c.more.rest.now c.in_ok-next.after.now c.in_ok-next.ensures.1
@@ -57,7 +57,7 @@ labelled_statement-returns t c =
     took_in_room c.args.depth (the symbols.Colon ⨾ (loop_rule ∣ block_rule)) (statement_tokens (statement_seen c.in_ok-statement.statement)) (lexemes c.args.source.now c.in_ok-statement.rest.now) (labelled symbols.Identifier (identifier_label c.args.name) ∷ lexemes c.args.source.now c.args.tokens.now) (lexemes c.args.source.now c.args.tokens.now) (omega arith) c.in_ok-statement.ensures
 
 pub elsifs-more-preserved : goal.elsifs-more-preserved
-elsifs-more-preserved t c = many_next ElsifBranch (λ xs. each elsif_tokens xs) elsif_tokens (each_push elsif_tokens) c.args.depth (Seq (Any 36) branch_rule) elsifs_clear (Many (Seq (Any 36) branch_rule)) c.more.items.items c.push.new.self.items c.in_ok-next.next (lexemes c.args.source.now c.args.tokens.now) (lexemes c.args.source.now c.more.rest.now) (lexemes c.args.source.now c.in_ok-next.after.now) c.more.invariant (sym c.is_next.ensures ∙ c.more-test.true) c.in_ok-next.ensures c.in_ok-push.ensures.items
+elsifs-more-preserved t c = many_next ElsifBranch (λ xs. each elsif_tokens xs) elsif_tokens (each_push elsif_tokens) c.args.depth (Seq (Any 36) branch_rule) elsifs_clear (Many (Seq (Any 36) branch_rule)) c.more.items.items c.append.new.list.items c.in_ok-next.next (lexemes c.args.source.now c.args.tokens.now) (lexemes c.args.source.now c.more.rest.now) (lexemes c.args.source.now c.in_ok-next.after.now) c.more.invariant (sym c.is_next.ensures ∙ c.more-test.true) c.in_ok-next.ensures c.in_ok-append.ensures.items
 
 pub elsifs-more-smaller : goal.elsifs-more-smaller
 elsifs-more-smaller t c = fewer c.args.depth (Seq (Any 36) branch_rule) elsifs_clear c.args.source.now c.more.rest.now c.in_ok-next.after.now c.in_ok-next.ensures.1
@@ -71,7 +71,7 @@ elsifs-returns-in_err-next t c = let p = err_from_is_err_and c.from_residual.res
 
 pub more_alternatives-more-preserved : goal.more_alternatives-more-preserved
 unfolding alternative_rule
-more_alternatives-more-preserved t c = many_next Alternative (λ xs. each (λ x. alternative_tokens (alternative_seen x)) xs) (λ x. alternative_tokens (alternative_seen x)) (each_push (λ x. alternative_tokens (alternative_seen x))) c.args.depth alternative_rule more_alternatives_clear (Many alternative_rule) c.more.items.items c.push.new.self.items c.in_ok-next.next (lexemes c.args.source.now c.args.tokens.now) (lexemes c.args.source.now c.more.rest.now) (lexemes c.args.source.now c.in_ok-next.after.now) c.more.invariant (sym c.is_next.ensures ∙ c.more-test.true) c.in_ok-next.ensures c.in_ok-push.ensures.items
+more_alternatives-more-preserved t c = many_next Alternative (λ xs. each (λ x. alternative_tokens (alternative_seen x)) xs) (λ x. alternative_tokens (alternative_seen x)) (each_push (λ x. alternative_tokens (alternative_seen x))) c.args.depth alternative_rule more_alternatives_clear (Many alternative_rule) c.more.items.items c.append.new.list.items c.in_ok-next.next (lexemes c.args.source.now c.args.tokens.now) (lexemes c.args.source.now c.more.rest.now) (lexemes c.args.source.now c.in_ok-next.after.now) c.more.invariant (sym c.is_next.ensures ∙ c.more-test.true) c.in_ok-next.ensures c.in_ok-append.ensures.items
 
 pub more_alternatives-more-smaller : goal.more_alternatives-more-smaller
 more_alternatives-more-smaller t c = fewer c.args.depth alternative_rule more_alternatives_clear c.args.source.now c.more.rest.now c.in_ok-next.after.now c.in_ok-next.ensures.1
@@ -87,7 +87,7 @@ more_alternatives-returns-in_err-next t c = let p = err_from_is_err_and c.from_r
 
 pub items-more-preserved : goal.items-more-preserved
 unfolding item_rule specification_rule common_rule object_rule type_rule subtype_rule use_rule pragma_rule identifiers_rule identifier_rule
-items-more-preserved t c = many_next Item (λ xs. each (λ x. item_tokens (item_seen x)) xs) (λ x. item_tokens (item_seen x)) (each_push (λ x. item_tokens (item_seen x))) c.args.depth item_rule items_clear (Many item_rule) c.more.items.items c.push.new.self.items c.in_ok-next.next (lexemes c.args.source.now c.args.tokens.now) (lexemes c.args.source.now c.more.rest.now) (lexemes c.args.source.now c.in_ok-next.after.now) c.more.invariant (sym c.is_item_next.ensures ∙ c.more-test.true) c.in_ok-next.ensures c.in_ok-push.ensures.items
+items-more-preserved t c = many_next Item (λ xs. each (λ x. item_tokens (item_seen x)) xs) (λ x. item_tokens (item_seen x)) (each_push (λ x. item_tokens (item_seen x))) c.args.depth item_rule items_clear (Many item_rule) c.more.items.items c.append.new.list.items c.in_ok-next.next (lexemes c.args.source.now c.args.tokens.now) (lexemes c.args.source.now c.more.rest.now) (lexemes c.args.source.now c.in_ok-next.after.now) c.more.invariant (sym c.is_item_next.ensures ∙ c.more-test.true) c.in_ok-next.ensures c.in_ok-append.ensures.items
 
 pub items-more-smaller : goal.items-more-smaller
 items-more-smaller t c = fewer c.args.depth item_rule items_clear c.args.source.now c.more.rest.now c.in_ok-next.after.now c.in_ok-next.ensures.1
@@ -103,7 +103,7 @@ items-returns-in_err-next t c = let p = err_from_is_err_and c.from_residual.resu
 
 pub operation_bodies-more-preserved : goal.operation_bodies-more-preserved
 unfolding operation_body_rule specification_rule
-operation_bodies-more-preserved t c = many_next OperationBody (λ xs. each (λ x. operation_body_tokens (operation_body_seen x)) xs) (λ x. operation_body_tokens (operation_body_seen x)) (each_push (λ x. operation_body_tokens (operation_body_seen x))) c.args.depth operation_body_rule operation_bodies_clear (Many operation_body_rule) c.more.items.items c.push.new.self.items c.in_ok-next.next (lexemes c.args.source.now c.args.tokens.now) (lexemes c.args.source.now c.more.rest.now) (lexemes c.args.source.now c.in_ok-next.after.now) c.more.invariant (sym c.is_operation_body_next.ensures ∙ c.more-test.true) c.in_ok-next.ensures c.in_ok-push.ensures.items
+operation_bodies-more-preserved t c = many_next OperationBody (λ xs. each (λ x. operation_body_tokens (operation_body_seen x)) xs) (λ x. operation_body_tokens (operation_body_seen x)) (each_push (λ x. operation_body_tokens (operation_body_seen x))) c.args.depth operation_body_rule operation_bodies_clear (Many operation_body_rule) c.more.items.items c.append.new.list.items c.in_ok-next.next (lexemes c.args.source.now c.args.tokens.now) (lexemes c.args.source.now c.more.rest.now) (lexemes c.args.source.now c.in_ok-next.after.now) c.more.invariant (sym c.is_operation_body_next.ensures ∙ c.more-test.true) c.in_ok-next.ensures c.in_ok-append.ensures.items
 
 pub operation_bodies-more-smaller : goal.operation_bodies-more-smaller
 operation_bodies-more-smaller t c = fewer c.args.depth operation_body_rule operation_bodies_clear c.args.source.now c.more.rest.now c.in_ok-next.after.now c.in_ok-next.ensures.1

@@ -14,7 +14,7 @@ use Rattle.al_parse.proofs.declaration.more_components.Goals as goal
 
 pub more-preserved : goal.more-preserved
 unfolding component_rule identifiers_rule identifier_rule
-more-preserved c = many_next ComponentDeclaration (λ xs. each component_tokens (map component_seen xs)) (λ x. component_tokens (component_seen x)) (seen_push component_seen component_tokens) c.args.depth component_rule more_components_clear (Many component_rule) c.more.items.items c.push.new.self.items c.in_ok-next.next (lexemes c.args.source.now c.args.tokens.now) (lexemes c.args.source.now c.more.rest.now) (lexemes c.args.source.now c.in_ok-next.after.now) c.more.invariant (sym c.is_next.ensures ∙ c.more-test.true) c.in_ok-next.ensures c.in_ok-push.ensures.items
+more-preserved c = many_next ComponentDeclaration (λ xs. each component_tokens (map component_seen xs)) (λ x. component_tokens (component_seen x)) (seen_push component_seen component_tokens) c.args.depth component_rule more_components_clear (Many component_rule) c.more.items.items c.append.new.list.items c.in_ok-next.next (lexemes c.args.source.now c.args.tokens.now) (lexemes c.args.source.now c.more.rest.now) (lexemes c.args.source.now c.in_ok-next.after.now) c.more.invariant (sym c.is_next.ensures ∙ c.more-test.true) c.in_ok-next.ensures c.in_ok-append.ensures.items
 
 pub more-smaller : goal.more-smaller
 more-smaller c = fewer c.args.depth component_rule more_components_clear c.args.source.now c.more.rest.now c.in_ok-next.after.now c.in_ok-next.ensures.1

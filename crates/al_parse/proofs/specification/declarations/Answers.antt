@@ -14,7 +14,7 @@ use Rattle.al_parse.proofs.specification.declarations.Goals as goal
 
 pub more-preserved : goal.more-preserved
 unfolding declaration_rule specification_rule common_rule object_rule type_rule subtype_rule use_rule pragma_rule identifiers_rule identifier_rule
-more-preserved c = many_next Declaration (λ xs. each declaration_tokens (map declaration_seen xs)) (λ x. declaration_tokens (declaration_seen x)) (seen_push declaration_seen declaration_tokens) c.args.depth declaration_rule declarations_clear (Many declaration_rule) c.more.items.items c.push.new.self.items c.in_ok-next.next (lexemes c.args.source.now c.args.tokens.now) (lexemes c.args.source.now c.more.rest.now) (lexemes c.args.source.now c.in_ok-next.after.now) c.more.invariant (sym c.is_declaration_next.ensures ∙ c.more-test.true) c.in_ok-next.ensures c.in_ok-push.ensures.items
+more-preserved c = many_next Declaration (λ xs. each declaration_tokens (map declaration_seen xs)) (λ x. declaration_tokens (declaration_seen x)) (seen_push declaration_seen declaration_tokens) c.args.depth declaration_rule declarations_clear (Many declaration_rule) c.more.items.items c.append.new.list.items c.in_ok-next.next (lexemes c.args.source.now c.args.tokens.now) (lexemes c.args.source.now c.more.rest.now) (lexemes c.args.source.now c.in_ok-next.after.now) c.more.invariant (sym c.is_declaration_next.ensures ∙ c.more-test.true) c.in_ok-next.ensures c.in_ok-append.ensures.items
 
 pub more-smaller : goal.more-smaller
 more-smaller c = fewer c.args.depth declaration_rule declarations_clear c.args.source.now c.more.rest.now c.in_ok-next.after.now c.in_ok-next.ensures.1

@@ -12,7 +12,7 @@ use Rattle.std.proofs.lemmas.Result.{err_from_is_err_and}
 use Rattle.al_parse.proofs.specification.more_formals.Goals as goal
 
 pub more-preserved : goal.more-preserved
-more-preserved c = marked_next Formal (λ xs. each (λ y. Fixed 14 ∷ formal_tokens y) (map formal_seen xs)) (λ x. formal_tokens (formal_seen x)) 14 (seen_push formal_seen (λ y. Fixed 14 ∷ formal_tokens y)) 0 formal_rule more_formals_clear c.more.items.items c.push.new.self.items c.in_ok-next.next (lexemes c.args.source.now c.args.tokens.now) (lexemes c.args.source.now c.more.rest.now) (lexemes c.args.source.now c.in-Some.behind.now) (lexemes c.args.source.now c.in_ok-next.after.now) c.more.invariant c.in-Some.ensures.found c.in_ok-next.ensures c.in_ok-push.ensures.items
+more-preserved c = marked_next Formal (λ xs. each (λ y. Fixed 14 ∷ formal_tokens y) (map formal_seen xs)) (λ x. formal_tokens (formal_seen x)) 14 (seen_push formal_seen (λ y. Fixed 14 ∷ formal_tokens y)) 0 formal_rule more_formals_clear c.more.items.items c.append.new.list.items c.in_ok-next.next (lexemes c.args.source.now c.args.tokens.now) (lexemes c.args.source.now c.more.rest.now) (lexemes c.args.source.now c.in-Some.behind.now) (lexemes c.args.source.now c.in_ok-next.after.now) c.more.invariant c.in-Some.ensures.found c.in_ok-next.ensures c.in_ok-append.ensures.items
 
 pub returns : goal.returns
 returns c = marked_over Formal (λ xs. each (λ y. Fixed 14 ∷ formal_tokens y) (map formal_seen xs)) (λ x. formal_tokens (formal_seen x)) 14 (seen_push formal_seen (λ y. Fixed 14 ∷ formal_tokens y)) 0 formal_rule more_formals_clear c.more.items.items (lexemes c.args.source.now c.args.tokens.now) (lexemes c.args.source.now c.more.rest.now) c.more.invariant c.in_default.ensures.other

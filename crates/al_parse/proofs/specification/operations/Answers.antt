@@ -13,7 +13,7 @@ use Rattle.al_parse.proofs.specification.operations.Goals as goal
 
 pub more-preserved : goal.more-preserved
 unfolding operation_rule specification_rule
-more-preserved c = many_next ProtectedOperation (λ xs. each protected_operation_tokens (map protected_operation_seen xs)) (λ x. protected_operation_tokens (protected_operation_seen x)) (seen_push protected_operation_seen protected_operation_tokens) c.args.depth operation_rule operations_clear (Many operation_rule) c.more.items.items c.push.new.self.items c.in_ok-next.next (lexemes c.args.source.now c.args.tokens.now) (lexemes c.args.source.now c.more.rest.now) (lexemes c.args.source.now c.in_ok-next.after.now) c.more.invariant (sym c.is_operation_next.ensures ∙ c.more-test.true) c.in_ok-next.ensures c.in_ok-push.ensures.items
+more-preserved c = many_next ProtectedOperation (λ xs. each protected_operation_tokens (map protected_operation_seen xs)) (λ x. protected_operation_tokens (protected_operation_seen x)) (seen_push protected_operation_seen protected_operation_tokens) c.args.depth operation_rule operations_clear (Many operation_rule) c.more.items.items c.append.new.list.items c.in_ok-next.next (lexemes c.args.source.now c.args.tokens.now) (lexemes c.args.source.now c.more.rest.now) (lexemes c.args.source.now c.in_ok-next.after.now) c.more.invariant (sym c.is_operation_next.ensures ∙ c.more-test.true) c.in_ok-next.ensures c.in_ok-append.ensures.items
 
 pub more-smaller : goal.more-smaller
 more-smaller c = fewer c.args.depth operation_rule operations_clear c.args.source.now c.more.rest.now c.in_ok-next.after.now c.in_ok-next.ensures.1

@@ -14,7 +14,7 @@ use Rattle.al_parse.proofs.specification.protected_components.Goals as goal
 
 pub more-preserved : goal.more-preserved
 unfolding element_rule identifiers_rule identifier_rule
-more-preserved c = many_next ProtectedComponent (λ xs. each protected_component_tokens (map protected_component_seen xs)) (λ x. protected_component_tokens (protected_component_seen x)) (seen_push protected_component_seen protected_component_tokens) c.args.depth element_rule protected_components_clear (Many element_rule) c.more.items.items c.push.new.self.items c.in_ok-next.next (lexemes c.args.source.now c.args.tokens.now) (lexemes c.args.source.now c.more.rest.now) (lexemes c.args.source.now c.in_ok-next.after.now) c.more.invariant (sym c.is_next.ensures ∙ c.more-test.true) c.in_ok-next.ensures c.in_ok-push.ensures.items
+more-preserved c = many_next ProtectedComponent (λ xs. each protected_component_tokens (map protected_component_seen xs)) (λ x. protected_component_tokens (protected_component_seen x)) (seen_push protected_component_seen protected_component_tokens) c.args.depth element_rule protected_components_clear (Many element_rule) c.more.items.items c.append.new.list.items c.in_ok-next.next (lexemes c.args.source.now c.args.tokens.now) (lexemes c.args.source.now c.more.rest.now) (lexemes c.args.source.now c.in_ok-next.after.now) c.more.invariant (sym c.is_next.ensures ∙ c.more-test.true) c.in_ok-next.ensures c.in_ok-append.ensures.items
 
 pub more-smaller : goal.more-smaller
 more-smaller c = fewer c.args.depth element_rule protected_components_clear c.args.source.now c.more.rest.now c.in_ok-next.after.now c.in_ok-next.ensures.1

@@ -14,7 +14,7 @@ use Rattle.al_parse.proofs.unit.context_items.Goals as goal
 
 pub more-preserved : goal.more-preserved
 unfolding context_rule use_rule pragma_rule
-more-preserved c = many_next ContextItem (λ xs. each context_tokens (map context_seen xs)) (λ x. context_tokens (context_seen x)) (seen_push context_seen context_tokens) c.args.depth context_rule context_items_clear (Many context_rule) c.more.items.items c.push.new.self.items c.in_ok-next.next (lexemes c.args.source.now c.args.tokens.now) (lexemes c.args.source.now c.more.rest.now) (lexemes c.args.source.now c.in_ok-next.after.now) c.more.invariant (sym c.is_context_next.ensures ∙ c.more-test.true) c.in_ok-next.ensures c.in_ok-push.ensures.items
+more-preserved c = many_next ContextItem (λ xs. each context_tokens (map context_seen xs)) (λ x. context_tokens (context_seen x)) (seen_push context_seen context_tokens) c.args.depth context_rule context_items_clear (Many context_rule) c.more.items.items c.append.new.list.items c.in_ok-next.next (lexemes c.args.source.now c.args.tokens.now) (lexemes c.args.source.now c.more.rest.now) (lexemes c.args.source.now c.in_ok-next.after.now) c.more.invariant (sym c.is_context_next.ensures ∙ c.more-test.true) c.in_ok-next.ensures c.in_ok-append.ensures.items
 
 pub more-smaller : goal.more-smaller
 more-smaller c = fewer c.args.depth context_rule context_items_clear c.args.source.now c.more.rest.now c.in_ok-next.after.now c.in_ok-next.ensures.1

@@ -23,8 +23,8 @@ use Rattle.al_parse_expr.proofs.descent.+expression.Goals as goal
 
 pub more_relations-more-preserved : goal.more_relations-more-preserved
 more_relations-more-preserved t c =
-    many_next Relation (λ xs. each (λ r. logical_tokens (logical_seen c.args.operator) ++ relation_tokens (relation_seen r)) xs) (λ r. logical_tokens (logical_seen c.args.operator) ++ relation_tokens (relation_seen r)) (each_push (λ r. logical_tokens (logical_seen c.args.operator) ++ relation_tokens (relation_seen r))) c.args.depth (behind_rule (logical_seen c.args.operator)) (relations_clear (logical_seen c.args.operator)) (Many (behind_rule (logical_seen c.args.operator))) c.more.relations.items c.push.new.self.items c.in_ok-relation.relation (lexemes c.args.source.now c.args.tokens.now) (lexemes c.args.source.now c.more.rest.now) (lexemes c.args.source.now c.in_ok-relation.after.now)
-    c.more.invariant (sym c.begins_operator.ensures ∙ c.more-test.true) c.in_ok-relation.ensures c.in_ok-push.ensures.items
+    many_next Relation (λ xs. each (λ r. logical_tokens (logical_seen c.args.operator) ++ relation_tokens (relation_seen r)) xs) (λ r. logical_tokens (logical_seen c.args.operator) ++ relation_tokens (relation_seen r)) (each_push (λ r. logical_tokens (logical_seen c.args.operator) ++ relation_tokens (relation_seen r))) c.args.depth (behind_rule (logical_seen c.args.operator)) (relations_clear (logical_seen c.args.operator)) (Many (behind_rule (logical_seen c.args.operator))) c.more.relations.items c.append.new.list.items c.in_ok-relation.relation (lexemes c.args.source.now c.args.tokens.now) (lexemes c.args.source.now c.more.rest.now) (lexemes c.args.source.now c.in_ok-relation.after.now)
+    c.more.invariant (sym c.begins_operator.ensures ∙ c.more-test.true) c.in_ok-relation.ensures c.in_ok-append.ensures.items
 
 pub more_relations-returns : goal.more_relations-returns
 more_relations-returns t c = many_over Relation (λ xs. each (λ r. logical_tokens (logical_seen c.args.operator) ++ relation_tokens (relation_seen r)) xs) (λ r. logical_tokens (logical_seen c.args.operator) ++ relation_tokens (relation_seen r)) (each_push (λ r. logical_tokens (logical_seen c.args.operator) ++ relation_tokens (relation_seen r))) c.args.depth (behind_rule (logical_seen c.args.operator)) (relations_clear (logical_seen c.args.operator)) (Many (behind_rule (logical_seen c.args.operator))) c.more.relations.items (lexemes c.args.source.now c.args.tokens.now) (lexemes c.args.source.now c.more.rest.now) c.more.invariant (sym c.begins_operator.ensures ∙ c.more-test.false)
@@ -37,8 +37,8 @@ more_relations-returns-in_err-relation t c =
 pub more_terms-more-preserved : goal.more_terms-more-preserved
 unfolding adding_rule
 more_terms-more-preserved t c =
-    many_next AddedTerm (λ xs. each added_term_tokens xs) added_term_tokens (each_push added_term_tokens) c.args.depth (adding_rule ⨾ term_rule) terms_clear (Many (adding_rule ⨾ term_rule)) c.more.terms.items c.push.new.self.items c.in_ok-term.term (lexemes c.args.source.now c.args.tokens.now) (lexemes c.args.source.now c.more.rest.now) (lexemes c.args.source.now c.in_ok-term.after.now)
-    c.more.invariant (sym c.begins_added.ensures ∙ c.more-test.true) c.in_ok-term.ensures c.in_ok-push.ensures.items
+    many_next AddedTerm (λ xs. each added_term_tokens xs) added_term_tokens (each_push added_term_tokens) c.args.depth (adding_rule ⨾ term_rule) terms_clear (Many (adding_rule ⨾ term_rule)) c.more.terms.items c.append.new.list.items c.in_ok-term.term (lexemes c.args.source.now c.args.tokens.now) (lexemes c.args.source.now c.more.rest.now) (lexemes c.args.source.now c.in_ok-term.after.now)
+    c.more.invariant (sym c.begins_added.ensures ∙ c.more-test.true) c.in_ok-term.ensures c.in_ok-append.ensures.items
 
 pub more_terms-returns : goal.more_terms-returns
 unfolding adding_rule
@@ -53,8 +53,8 @@ more_terms-returns-in_err-term t c =
 pub more_factors-more-preserved : goal.more_factors-more-preserved
 unfolding multiplying_rule
 more_factors-more-preserved t c =
-    many_next MultipliedFactor (λ xs. each multiplied_factor_tokens xs) multiplied_factor_tokens (each_push multiplied_factor_tokens) c.args.depth (multiplying_rule ⨾ factor_rule) factors_clear (Many (multiplying_rule ⨾ factor_rule)) c.more.factors.items c.push.new.self.items c.in_ok-factor.factor (lexemes c.args.source.now c.args.tokens.now) (lexemes c.args.source.now c.more.rest.now) (lexemes c.args.source.now c.in_ok-factor.after.now)
-    c.more.invariant (sym c.begins_multiplied.ensures ∙ c.more-test.true) c.in_ok-factor.ensures c.in_ok-push.ensures.items
+    many_next MultipliedFactor (λ xs. each multiplied_factor_tokens xs) multiplied_factor_tokens (each_push multiplied_factor_tokens) c.args.depth (multiplying_rule ⨾ factor_rule) factors_clear (Many (multiplying_rule ⨾ factor_rule)) c.more.factors.items c.append.new.list.items c.in_ok-factor.factor (lexemes c.args.source.now c.args.tokens.now) (lexemes c.args.source.now c.more.rest.now) (lexemes c.args.source.now c.in_ok-factor.after.now)
+    c.more.invariant (sym c.begins_multiplied.ensures ∙ c.more-test.true) c.in_ok-factor.ensures c.in_ok-append.ensures.items
 
 pub more_factors-returns : goal.more_factors-returns
 unfolding multiplying_rule
@@ -68,8 +68,8 @@ more_factors-returns-in_err-factor t c =
 
 pub more_expressions-more-preserved : goal.more_expressions-more-preserved
 more_expressions-more-preserved t c =
-    marked_next Expression (λ xs. each (λ e. word Comma ∷ expression_tokens (expression_seen e)) xs) (λ e. expression_tokens (expression_seen e)) (number Comma) (each_push (λ e. word Comma ∷ expression_tokens (expression_seen e))) c.args.depth expression_rule expressions_clear c.more.expressions.items c.push.new.self.items c.in_ok-expression.expression (lexemes c.args.source.now c.args.tokens.now) (lexemes c.args.source.now c.more.rest.now) (lexemes c.args.source.now c.in-Some.after.now) (lexemes c.args.source.now c.in_ok-expression.after.now)
-    c.more.invariant c.in-Some.ensures.found c.in_ok-expression.ensures c.in_ok-push.ensures.items
+    marked_next Expression (λ xs. each (λ e. word Comma ∷ expression_tokens (expression_seen e)) xs) (λ e. expression_tokens (expression_seen e)) (number Comma) (each_push (λ e. word Comma ∷ expression_tokens (expression_seen e))) c.args.depth expression_rule expressions_clear c.more.expressions.items c.append.new.list.items c.in_ok-expression.expression (lexemes c.args.source.now c.args.tokens.now) (lexemes c.args.source.now c.more.rest.now) (lexemes c.args.source.now c.in-Some.after.now) (lexemes c.args.source.now c.in_ok-expression.after.now)
+    c.more.invariant c.in-Some.ensures.found c.in_ok-expression.ensures c.in_ok-append.ensures.items
 
 pub more_expressions-returns : goal.more_expressions-returns
 more_expressions-returns t c = marked_over Expression (λ xs. each (λ e. word Comma ∷ expression_tokens (expression_seen e)) xs) (λ e. expression_tokens (expression_seen e)) (number Comma) (each_push (λ e. word Comma ∷ expression_tokens (expression_seen e))) c.args.depth expression_rule expressions_clear c.more.expressions.items (lexemes c.args.source.now c.args.tokens.now) (lexemes c.args.source.now c.more.rest.now) c.more.invariant c.in_default.ensures.other
@@ -81,7 +81,7 @@ more_expressions-returns-in_err-expression t c =
 
 pub name_parts-more-preserved : goal.name_parts-more-preserved
 name_parts-more-preserved t c =
-    parts_next c.args.depth c.more.parts.items c.push.new.self.items c.in_ok-part.part (lexemes c.args.source.now c.args.tokens.now) (lexemes c.args.source.now c.more.rest.now) (lexemes c.args.source.now c.in_ok-part.after.now) c.more.invariant (sym c.goes_on.ensures ∙ c.more-test.true) c.in_ok-part.ensures c.in_ok-push.ensures.items
+    parts_next c.args.depth c.more.parts.items c.append.new.list.items c.in_ok-part.part (lexemes c.args.source.now c.args.tokens.now) (lexemes c.args.source.now c.more.rest.now) (lexemes c.args.source.now c.in_ok-part.after.now) c.more.invariant (sym c.goes_on.ensures ∙ c.more-test.true) c.in_ok-part.ensures c.in_ok-append.ensures.items
 
 pub name_parts-more-smaller : goal.name_parts-more-smaller
 name_parts-more-smaller t c = fewer c.args.depth part_rule parts_clear c.args.source.now c.more.rest.now c.in_ok-part.after.now c.in_ok-part.ensures.1

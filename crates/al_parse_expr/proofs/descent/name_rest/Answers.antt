@@ -15,8 +15,8 @@ use Rattle.al_parse_expr.proofs.descent.name_rest.Goals as goal
 pub more-preserved : goal.more-preserved
 unfolding name_rest_rule part_rule
 more-preserved c =
-    many_next NamePart (λ xs. each (λ p. part_tokens (part_seen p)) xs) (λ p. part_tokens (part_seen p)) (each_push (λ p. part_tokens (part_seen p))) c.args.depth part_rule parts_clear (Many part_rule) c.more.parts.items c.push.new.self.items c.in_ok-part.part (lexemes c.args.source.now c.args.tokens.now) (lexemes c.args.source.now c.more.rest.now) (lexemes c.args.source.now c.in_ok-part.after.now)
-    c.more.invariant (sym c.begins_part.ensures ∙ c.more-test.true) c.in_ok-part.ensures c.in_ok-push.ensures.items
+    many_next NamePart (λ xs. each (λ p. part_tokens (part_seen p)) xs) (λ p. part_tokens (part_seen p)) (each_push (λ p. part_tokens (part_seen p))) c.args.depth part_rule parts_clear (Many part_rule) c.more.parts.items c.append.new.list.items c.in_ok-part.part (lexemes c.args.source.now c.args.tokens.now) (lexemes c.args.source.now c.more.rest.now) (lexemes c.args.source.now c.in_ok-part.after.now)
+    c.more.invariant (sym c.begins_part.ensures ∙ c.more-test.true) c.in_ok-part.ensures c.in_ok-append.ensures.items
 
 pub returns : goal.returns
 unfolding name_rest_rule part_rule
