@@ -24,9 +24,8 @@ use Rattle.al_unit.specs.Readings.Reading.{Sentence, Fails}
 use Rattle.al_thin.specs.ThinTrees.{UnitTree, StatementTree, thin_unit}
 use Rattle.al_thin.specs.ThinTrees.StatementTree.{NullTree, CallTree}
 use Rattle.al_thin.specs.Findings.{finding, finding_when, label_place, statement_findings, call_findings, end_findings, check_findings, unit_findings, reading_findings, text_findings, are_some, is_faulty, file_findings, findings_of}
-use Rattle.al_thin.specs.Laws.{BreaksThin, FailsCheck, Breaks, FindingsAreBroken}
+use Rattle.al_thin.specs.Laws.{BreaksThin, Breaks, FindingsAreBroken}
 use Rattle.al_thin.specs.Laws.BreaksThin.{not_visible, other_end_name}
-use Rattle.al_thin.specs.Laws.FailsCheck.{not_yet, thin}
 use Rattle.al_thin.specs.Laws.Breaks.{misused, dependent, no_unit, unchecked}
 use Rattle.al_thin.proofs.DependentLaws.{here, faults_in, depends_on_faulty, member_some, told_faults, told_dependent, told_text, from_dependent, into_dependent}
 use Rattle.al_thin.proofs.Members.{nowhere, the_one, one, first, from_flat_map, into_flat_map}
@@ -98,10 +97,6 @@ module _ (file : List ℕ) where
           | inr h ↦ end_breaks u.end_name refl h
         ]
 
-  unit_fails : (unit : CompilationUnitTree) (f : Finding) (t : Option UnitTree) → thin_unit unit ≡ t → Contains (unit_findings file t) f → FailsCheck file unit f
-  unit_fails unit f None is c = subst (λ g. FailsCheck file unit g) (the_one (finding file here 700) f c) (not_yet is)
-  unit_fails unit f (Some u) is c = thin is (check_breaks u f c)
-
   -- what breaks a rule is found
   unseen : (w : Bool) (statements : List StatementTree) (s : StatementTree) (f : Finding) → w ≡ false → Contains statements s → Contains (statement_findings file s) f → Contains (call_findings file w statements) f
   unseen false statements s f none there c = into_flat_map (statement_findings file) statements s f there c
@@ -120,9 +115,8 @@ module _ (file : List ℕ) where
       Contains-append_right (call_findings file u.with_clause u.statements) (end_findings file u.name.text u.end_name) (finding file (label_place end_name) 308)
       (ended u.name.text u.end_name end_name is differs)
 
-  failed_found : (unit : CompilationUnitTree) (f : Finding) → FailsCheck file unit f → Contains (unit_findings file (thin_unit unit)) f
-  failed_found unit f (not_yet is) = subst (λ t. Contains (unit_findings file t) (finding file here 700)) (sym is) (one (finding file here 700))
-  failed_found unit f (thin {u} is b) = subst (λ t. Contains (unit_findings file t) f) (sym is) (broken_found u f b)
+  failed_found : (unit : CompilationUnitTree) (u : UnitTree) (f : Finding) → thin_unit unit ≡ Some u → BreaksThin file u f → Contains (unit_findings file (thin_unit unit)) f
+  failed_found unit u f is b = subst (λ t. Contains (unit_findings file t) f) (sym is) (broken_found u f b)
 
 module _ (files : Texts) (file : List ℕ) where
   no_fault : are_some (faults_in files file) ≡ false → (g : Finding) → IsFaultOf (library_of files) file g → ⊥
@@ -131,10 +125,14 @@ module _ (files : Texts) (file : List ℕ) where
   faultless : ((g : Finding) → IsFaultOf (library_of files) file g → ⊥) → are_some (faults_in files file) ≡ false
   faultless none = not_some (faults_in files file) (λ g c. none g ((file_faults_are_broken (library_of files) file g).0 c))
 
+  unit_breaks : are_some (faults_in files file) ≡ false → depends_on_faulty files file ≡ false → (text : List ℕ) → text_of files file ≡ Some text → (unit : CompilationUnitTree) → reading_of text ≡ Sentence unit → (t : Option UnitTree) → thin_unit unit ≡ t → (f : Finding) → Contains (unit_findings file t) f → Breaks files file f
+  unit_breaks none free text at unit is None thin f c = absurd (nowhere f c)
+  unit_breaks none free text at unit is (Some u) thin f c =
+      unchecked (no_fault none) (λ d. not_both (depends_on_faulty files file) (into_dependent files file d) free) at is thin (check_breaks file u f c)
+
   reading_breaks : are_some (faults_in files file) ≡ false → depends_on_faulty files file ≡ false → (text : List ℕ) → text_of files file ≡ Some text → (r : Reading) → reading_of text ≡ r → (f : Finding) → Contains (reading_findings file r) f → Breaks files file f
   reading_breaks none free text at (Fails place code) is f c = subst (λ g. Breaks files file g) (the_one (finding file place code) f c) (no_unit at is)
-  reading_breaks none free text at (Sentence unit) is f c =
-      unchecked (no_fault none) (λ d. not_both (depends_on_faulty files file) (into_dependent files file d) free) at is (unit_fails file unit f (thin_unit unit) refl c)
+  reading_breaks none free text at (Sentence unit) is f c = unit_breaks none free text at unit is (thin_unit unit) refl f c
 
   text_breaks : are_some (faults_in files file) ≡ false → depends_on_faulty files file ≡ false → (o : Option (List ℕ)) → text_of files file ≡ o → (f : Finding) → Contains (option_map_or (reading_findings file) (option_map reading_of o) []) f → Breaks files file f
   text_breaks none free None at f c = absurd (nowhere f c)
@@ -174,9 +172,9 @@ module _ (files : Texts) (file : List ℕ) where
       ap (λ o. option_map_or (λ h. depends_on_unfit (library_of files) (is_faulty files) (key_of_unit h)) (option_and_then (λ s. held file s.contents) o) false) source
       ∙ ap (λ k. option_map_or (λ h. depends_on_unfit (library_of files) (is_faulty files) (key_of_unit h)) (held file k) false) contents in
       told_in_text none free (finding file place code) (in_text text (Fails place code) (finding file place code) at is (one (finding file place code)))
-  broken_is_found f (unchecked {text} {unit} none free at is fails) =
+  broken_is_found f (unchecked {text} {unit} {u} none free at is thin b) =
       told_in_text (faultless none) (never (depends_on_faulty files file) (λ depends. free (from_dependent files file depends))) f
-      (in_text text (Sentence unit) f at is (failed_found file unit f fails))
+      (in_text text (Sentence unit) f at is (failed_found file unit u f thin b))
 
 pub findings_are_broken : FindingsAreBroken
 unfolding findings_of

@@ -8,6 +8,7 @@ pub mod BatchLemmas
 pub mod FindingLemmas
 pub mod DependentLaws
 pub mod FindingLaws
+pub mod UnfinishedLaws
 pub mod Labels
 pub mod Picks
 pub mod Sorting

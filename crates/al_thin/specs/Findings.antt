@@ -44,9 +44,9 @@ end_findings file name (Some end_name) = finding_when (not (bytes_eq end_name.te
 abbrev pub check_findings : List ℕ → UnitTree → List Finding
 check_findings file unit = call_findings file unit.with_clause unit.statements ++ end_findings file unit.name.text unit.end_name
 
--- what isn't of the thin language isn't compiled yet
+-- only units of the thin language are checked yet
 abbrev pub unit_findings : List ℕ → Option UnitTree → List Finding
-unit_findings file None = finding file (record { line = 1; col = 1 }) 700 ∷ []
+unit_findings file None = []
 unit_findings file (Some unit) = check_findings file unit
 
 -- of a text that is no unit its first lexical fault, or else its syntax fault; of a unit what its check finds

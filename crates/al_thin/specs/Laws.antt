@@ -16,6 +16,7 @@ use Rattle.al_unit.specs.Catalogs.{library_of}
 use Rattle.al_unit.specs.Readings.{reading_of}
 use Rattle.al_unit.specs.Readings.Reading.{Sentence, Fails}
 use Rattle.al_thin.specs.Findings.{finding, file_findings, findings_of, label_place}
+use Rattle.al_thin.specs.Unfinished.{unfinished_of}
 use Rattle.al_thin.specs.ThinTrees.{UnitTree, OperationTree, thin_unit}
 use Rattle.al_thin.specs.ThinTrees.StatementTree.{CallTree}
 
@@ -25,11 +26,6 @@ pub data BreaksThin (file : List ℕ) (thin : UnitTree) : Finding → Type 0 whe
   not_visible : {place : Place} {operation : OperationTree} → thin.with_clause ≡ false → Contains thin.statements (CallTree place operation) → BreaksThin file thin (finding file place 401)
   -- an end name that isn't the procedure's (ARM 6.3)
   other_end_name : {end_name : Label} → thin.end_name ≡ Some end_name → end_name.text ≢ thin.name.text → BreaksThin file thin (finding file (label_place end_name) 308)
-
--- .. or a unit isn't of the thin language, and not compiled yet
-pub data FailsCheck (file : List ℕ) (unit : CompilationUnitTree) : Finding → Type 0 where
-  not_yet : thin_unit unit ≡ None → FailsCheck file unit (finding file (record { line = 1; col = 1 }) 700)
-  thin : {u : UnitTree} {f : Finding} → thin_unit unit ≡ Some u → BreaksThin file u f → FailsCheck file unit f
 
 -- the unit of a file depends on a unit that isn't sound or has a diagnostic (ARM 10.1.1(26))
 pub record DependsOnFaulty (files : Texts) (file : List ℕ) : Type 0 where
@@ -47,9 +43,21 @@ pub data Breaks (files : Texts) (file : List ℕ) : Finding → Type 0 where
   dependent : ((f : Finding) → IsFaultOf (library_of files) file f → ⊥) → DependsOnFaulty files file → Breaks files file (finding file (record { line = 1; col = 1 }) 208)
   -- or else the text is no compilation unit
   no_unit : {text : List ℕ} {place : Place} {code : ℕ} → text_of files file ≡ Some text → reading_of text ≡ Fails place code → Breaks files file (finding file place code)
-  -- or the unit's check fails
-  unchecked : {text : List ℕ} {unit : CompilationUnitTree} {f : Finding} → ((g : Finding) → IsFaultOf (library_of files) file g → ⊥) → (DependsOnFaulty files file → ⊥) → text_of files file ≡ Some text → reading_of text ≡ Sentence unit → FailsCheck file unit f → Breaks files file f
+  -- or a unit of the thin language fails its check
+  unchecked : {text : List ℕ} {unit : CompilationUnitTree} {u : UnitTree} {f : Finding} → ((g : Finding) → IsFaultOf (library_of files) file g → ⊥) → (DependsOnFaulty files file → ⊥) → text_of files file ≡ Some text → reading_of text ≡ Sentence unit → thin_unit unit ≡ Some u → BreaksThin file u f → Breaks files file f
 
 -- what is found is what is broken
 abbrev pub FindingsAreBroken : Type 0
 FindingsAreBroken = (files : Texts) (f : Finding) → Contains (findings_of files) f ↔ ((file : List ℕ) × Contains (keys_of files) file × Breaks files file f)
+
+-- a file holds a unit that isn't of the thin language
+pub record IsUnfinished (files : Texts) (file : List ℕ) : Type 0 where
+  pub text : List ℕ
+  pub unit : CompilationUnitTree
+  pub stands : text_of files file ≡ Some text
+  pub read : reading_of text ≡ Sentence unit
+  pub not_thin : thin_unit unit ≡ None
+
+-- just such units aren't compiled yet, each told at the front of its file
+abbrev pub UnfinishedAreTold : Type 0
+UnfinishedAreTold = (files : Texts) (f : Finding) → Contains (unfinished_of files) f ↔ ((file : List ℕ) × Contains (keys_of files) file × IsUnfinished files file × (finding file (record { line = 1; col = 1 }) 700 ≡ f))

@@ -1,6 +1,7 @@
 pub mod ThinTrees
 pub mod ThinSeen
 pub mod Findings
+pub mod Unfinished
 pub mod FindingsSeen
 pub mod Units
 pub mod Batches

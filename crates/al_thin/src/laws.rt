@@ -1,5 +1,5 @@
 // What the findings of files are. The functions do nothing: their contracts are the laws.
-ghost use Rattle.al_thin.specs.Laws.{FindingsAreBroken};
+ghost use Rattle.al_thin.specs.Laws.{FindingsAreBroken, UnfinishedAreTold};
 ghost use Rattle.al_thin.specs.Orders.{FindingsAscend};
 
 use al_syntax::{faults_are_found, sentences_are_trees, trees_are_found};
@@ -7,6 +7,11 @@ use al_syntax::{faults_are_found, sentences_are_trees, trees_are_found};
 /// What is found wrong with files is just what breaks a rule, each rule told by itself.
 pub fn findings_are_broken()
     ensures { FindingsAreBroken }
+{}
+
+/// The units that aren't compiled yet are just those that aren't of the thin language, each told at the front of its file.
+pub fn unfinished_are_told()
+    ensures { UnfinishedAreTold }
 {}
 
 /// What a build finds wrong stands by file, place and code, and nothing is told twice.

@@ -14,10 +14,11 @@ mod laws;
 mod listing;
 mod literals;
 mod statements;
+mod unfinished;
 mod unit;
 
 pub use compiling::{Compiled, Program, compile};
-pub use laws::{findings_are_broken, findings_ascend};
+pub use laws::{findings_are_broken, findings_ascend, unfinished_are_told};
 pub use listing::{obsolete, units};
 
 #[cfg(test)]

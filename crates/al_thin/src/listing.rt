@@ -9,6 +9,7 @@ ghost use Rattle.al_obsolete.specs.Units.{unit_seen};
 ghost use Rattle.al_thin.specs.Units.{faulty_files, obsolete_of, units_of};
 
 use crate::findings::findings_of;
+use crate::unfinished::add_unfinished;
 use al_base::{Diagnostic, Files, Name, NoMemory, UnitKey};
 use al_unit::{BuiltFiles, Catalog};
 use std::alloc::Global;
@@ -46,12 +47,13 @@ pub fn obsolete(alloc: Global, built: &Files, now: &Files) -> Result<Vec<UnitKey
     catalog.obsolete(&built)
 }
 
-/// The files in which a build finds something wrong.
+/// The files in which something is wrong, or whose unit isn't compiled yet.
 #[tactic(auto, unfolding(crate::specs::Units::faulty_files))]
 fn faulty_files(alloc: Global, catalog: &Catalog) -> Result<BTreeSet<Vec<u8>>, NoMemory>
     ensures { IfOk result (λ files. names_seen files.keys ≡ faulty_files catalog.now) }
 {
-    let found = findings_of(alloc, catalog)?;
+    let mut found = findings_of(alloc, catalog)?;
+    add_unfinished(alloc, catalog, &mut found)?;
     files_of(alloc, found.as_slice())
 }
 

@@ -105,7 +105,7 @@ fn findings_by_file_and_place(rt: HostRuntime) -> Result<(), Fail> {
 }
 
 #[test]
-fn other_units_are_not_compiled_yet(rt: HostRuntime) -> Result<(), Fail> {
+fn other_units_are_not_told_beside_faults(rt: HostRuntime) -> Result<(), Fail> {
     let alloc = rt.alloc();
     let mut files = Files::new(alloc);
     put(
@@ -128,14 +128,36 @@ fn other_units_are_not_compiled_yet(rt: HostRuntime) -> Result<(), Fail> {
     )?;
     put(alloc, &mut files, b"p.ads", b"package Ada.Q is end Ada.Q;")?;
     let compiled = compile(alloc, &files, b"m")?;
-    let wanted: [(&'static [u8], usize, usize, u16); 5] = [
+    let wanted: [(&'static [u8], usize, usize, u16); 4] = [
         (b"a~b.ads", 1, 9, 205),
         (b"m-s.adb", 1, 24, 206),
-        (b"m.adb", 1, 1, 700),
         (b"p.ads", 1, 9, 201),
         (b"p.ads", 1, 9, 207),
     ];
     expect_faulty(&rt, &compiled, &wanted);
+    Ok(())
+}
+
+#[test]
+fn other_units_are_not_compiled_yet(rt: HostRuntime) -> Result<(), Fail> {
+    let alloc = rt.alloc();
+    let mut files = Files::new(alloc);
+    put(alloc, &mut files, b"p.ads", b"package P is end P;")?;
+    put(alloc, &mut files, b"m.ads", b"procedure M;")?;
+    put(
+        alloc,
+        &mut files,
+        b"n.adb",
+        b"procedure N (X : Integer) is begin null; end N;",
+    )?;
+    let wanted: [(&'static [u8], usize, usize, u16); 3] = [
+        (b"m.ads", 1, 1, 700),
+        (b"n.adb", 1, 1, 700),
+        (b"p.ads", 1, 1, 700),
+    ];
+    expect_faulty(&rt, &compile(alloc, &files, b"m")?, &wanted);
+    assert!(rt; matches!(compile(alloc, &files, b"n")?, Compiled::NoMain));
+    assert!(rt; matches!(compile(alloc, &files, b"p")?, Compiled::NoMain));
     Ok(())
 }
 
@@ -166,12 +188,11 @@ fn dependents_of_faulty_units_are_not_checked(rt: HostRuntime) -> Result<(), Fai
         alloc,
         &mut files,
         b"e.adb",
-        b"with A; procedure E is begin null; end E;",
+        b"with D; procedure E is begin null; end E;",
     )?;
     let compiled = compile(alloc, &files, b"c")?;
-    let wanted: [(&'static [u8], usize, usize, u16); 4] = [
+    let wanted: [(&'static [u8], usize, usize, u16); 3] = [
         (b"a-b.ads", 1, 17, 201),
-        (b"a.ads", 1, 1, 700),
         (b"d.adb", 1, 7, 1),
         (b"e.adb", 1, 1, 208),
     ];
