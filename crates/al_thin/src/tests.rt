@@ -181,7 +181,7 @@ fn dependents_of_faulty_units_are_not_checked(rt: HostRuntime) -> Result<(), Fai
     put(
         alloc,
         &mut files,
-        b"d.adb",
+        b"d.ads",
         b"with A~B; procedure D is begin null; end;",
     )?;
     put(
@@ -193,7 +193,7 @@ fn dependents_of_faulty_units_are_not_checked(rt: HostRuntime) -> Result<(), Fai
     let compiled = compile(alloc, &files, b"c")?;
     let wanted: [(&'static [u8], usize, usize, u16); 3] = [
         (b"a-b.ads", 1, 17, 201),
-        (b"d.adb", 1, 7, 1),
+        (b"d.ads", 1, 7, 1),
         (b"e.adb", 1, 1, 208),
     ];
     expect_faulty(&rt, &compiled, &wanted);
