@@ -222,7 +222,7 @@ enum Text<'a> {
     Body(&'a [u8]),
     /// A subunit of the library unit of that name, at that stub in its body.
     Subunit(&'a [u8], &'a [u8]),
-    /// A subunit at the second stub in such a subunit, whose name is the second.
+    /// A subunit of a subunit: the library unit, the stub in its body, the outer subunit's name, and the stub in that.
     Inner(&'a [u8], &'a [u8], &'a [u8], &'a [u8]),
 }
 
