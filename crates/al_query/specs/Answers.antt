@@ -18,10 +18,10 @@ abbrev pub views_of : AnswerKind → List ViewKind
 views_of (Views views) = views
 views_of _ = []
 
--- the names of a part with their views; none in an answer to another question
-abbrev pub whole_of : AnswerKind → Declarations
-whole_of (Whole interface) = interface
-whole_of _ = []
+-- the names of a part with their views, none where that isn't answered
+abbrev pub whole_of : AnswerKind → Option Declarations
+whole_of (Whole interface) = Some interface
+whole_of _ = None
 
 -- what the unit is, none where that isn't answered
 abbrev pub form_of : AnswerKind → Option UnitForm

@@ -1,5 +1,5 @@
 // Answers to questions of units.
-ghost use Rattle.std.specs.Prelude.{◌≡◌, [], IfOk, unwrap_or};
+ghost use Rattle.std.specs.Prelude.{◌≡◌, IfOk};
 ghost use Rattle.std.specs.Option.{option_copied};
 ghost use Rattle.al_query.specs.Answers.{completions_of, context_of, form_of, is_private_of, needs_body_of, parent_of, views_of, whole_of};
 
@@ -124,7 +124,7 @@ impl Answer {
 
     /// The names of a part with their views, where that is answered.
     pub fn whole(&self) -> Option<&Interface>
-        ensures { unwrap_or (option_copied result) [] ≡ whole_of self.now }
+        ensures { option_copied result ≡ whole_of self.now }
     {
         match self.kind() {
             AnswerKind::Whole(interface) => Some(interface),

@@ -68,7 +68,7 @@ part_of p (part.Stub name) = stub_of p.stubs name
 
 -- the views of a name, of the names of a part with their views
 abbrev pub views_of_name : AnswerKind → List ℕ → List ViewKind
-views_of_name part name = views_in (whole_of part) name
+views_of_name part name = views_in (unwrap_or (whole_of part) []) name
 
 -- the answer to a question of a unit without faults
 abbrev pub answer_of : UnitInterface → Query → AnswerKind

@@ -5,6 +5,8 @@ mod clauses;
 mod mentions;
 mod own;
 mod parts;
+#[cfg(test)]
+mod tests;
 mod unit_place;
 
 pub use mentions::mentioned;
