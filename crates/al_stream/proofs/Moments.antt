@@ -38,6 +38,9 @@ appends_keeps (Some xs) None z bs h k = absurd h
 appends_keeps (Some xs) (Some ys) None bs h k = absurd k
 appends_keeps (Some xs) (Some ys) (Some zs) bs h k = k ∙ h
 
+pub append_then : (a b c xs ys : List ℕ) → b ≡ a ++ xs → c ≡ b ++ ys → c ≡ a ++ (xs ++ ys)
+append_then a b c xs ys h k = k ∙ ap (λ r. r ++ ys) h ∙ append_assoc a xs ys
+
 pub reads_none : (m : Moment) → Reads m m []
 reads_none m = record { told = consumes_none m.ahead; no_fault = refl; counted = refl }
 

@@ -1,6 +1,6 @@
-use Rattle.std.proofs.Common.{◌++◌, ◌∷◌, [], ap, sym, ◌∙◌, append_assoc, append-nil, length-append, arith, inr}
+use Rattle.std.proofs.Common.{◌++◌, ◌∷◌, [], sym, ◌∙◌, append-nil, length-append, arith, inr}
 use Rattle.std.proofs.lemmas.List.{length_push, get_or_push}
-use Rattle.al_stream.proofs.Moments.{reads_none, reads_then}
+use Rattle.al_stream.proofs.Moments.{append_then, reads_none, reads_then}
 use Rattle.al_stream.proofs.reading.read_text.Goals as goal
 
 pub loop-left-init : goal.loop-left-init
@@ -22,11 +22,11 @@ loop-left-preserved g c =
       kept = λ kept.
           let now = block.3 kept in
           let before = so_far.kept now.0 in
-          (before.0, now.1 ∙ ap (λ bs. bs ++ block.0) before.1 ∙ append_assoc c.args.text.now.bytes.items so_far.bytes block.0);
+          (before.0, append_then c.args.text.now.bytes.items c.loop-left.text.bytes.items c.read_block.new.text.bytes.items so_far.bytes block.0 before.1 now.1);
       dropped = λ none.
           let before = so_far.dropped none in
           let now = c.in_ok-count.ensures.dropped before.0 in
-          (now.0, now.1 ∙ before.1);
+          (now.0, cc);
       reads = reads_then so_far.reads block.4;
     }
 
