@@ -1,7 +1,8 @@
 -- What is read in turn is read as a whole.
-use Rattle.std.proofs.Common.{ℕ, ◌+◌, List, [], ◌∷◌, ◌++◌, Option, Some, None, refl, ap, sym, ◌∙◌, append_assoc, append-nil, inl, inr}
+use Rattle.std.proofs.Common.{◌≡◌, ℕ, ◌+◌, List, [], ◌∷◌, ◌++◌, take, drop, Option, Some, None, refl, ap, sym, ◌∙◌, append_assoc, append-nil, inl, inr}
+use Rattle.std.proofs.lemmas.List.{take-append-drop}
 use Rattle.std.specs.Io.KnownBytes.{Consumes, Appends, Keeps, prepend_known}
-use Rattle.al_stream.specs.Input.{Moment, Reads, Stops}
+use Rattle.al_stream.specs.Input.{Moment, moment, Reads, Stops}
 
 pub consumes_none : (x : Option (List ℕ)) → Consumes x x []
 consumes_none None = tt
@@ -16,6 +17,10 @@ consumes_then (Some xs) (Some ys) (Some zs) bs cs h k = h ∙ ap (λ r. bs ++ r)
 pub consumes_one : (b : ℕ) (bs : List ℕ) (x : Option (List ℕ)) → Consumes (prepend_known (b ∷ bs) x) (prepend_known bs x) (b ∷ [])
 consumes_one b bs None = tt
 consumes_one b bs (Some xs) = refl
+
+pub consumes_front : (n : ℕ) (bs : List ℕ) (x : Option (List ℕ)) → Consumes (prepend_known bs x) (prepend_known (drop n bs) x) (take n bs)
+consumes_front n bs None = tt
+consumes_front n bs (Some xs) = ap (λ r. r ++ xs) (sym (take-append-drop n bs)) ∙ append_assoc (take n bs) (drop n bs) xs
 
 pub appends_none : (x : Option (List ℕ)) → Appends x x []
 appends_none None = tt
@@ -33,8 +38,20 @@ appends_keeps (Some xs) None z bs h k = absurd h
 appends_keeps (Some xs) (Some ys) None bs h k = absurd k
 appends_keeps (Some xs) (Some ys) (Some zs) bs h k = k ∙ h
 
+pub append_then : (a b c xs ys : List ℕ) → b ≡ a ++ xs → c ≡ b ++ ys → c ≡ a ++ (xs ++ ys)
+append_then a b c xs ys h k = k ∙ ap (λ r. r ++ ys) h ∙ append_assoc a xs ys
+
 pub reads_none : (m : Moment) → Reads m m []
 reads_none m = record { told = consumes_none m.ahead; no_fault = refl; counted = refl }
+
+-- the first bytes in the buffer are read where it lets go of them
+pub reads_front : {S : Type 0} (ahead : S → Option (List ℕ)) (faults pulls : S → ℕ) (source : S) (old new : List ℕ × ℕ) (n : ℕ)
+    → new.0 ≡ drop n old.0 → new.1 ≡ old.1 → Reads (moment ahead faults pulls source old) (moment ahead faults pulls source new) (take n old.0)
+reads_front ahead faults pulls source old new n rest left = record {
+  told = rw rest (consumes_front n old.0 (ahead source));
+  no_fault = refl;
+  counted = ap (λ l. pulls source + l) left;
+}
 
 pub reads_then : {a b c : Moment} {xs ys : List ℕ} → Reads a b xs → Reads b c ys → Reads a c (xs ++ ys)
 reads_then {a} {b} {c} {xs} {ys} h k = record {

@@ -17,6 +17,12 @@ ReadsLine old new line (Ok true) = (bytes : List ℕ) × IsLine bytes line × Re
 ReadsLine old new line (Ok false) = (bytes : List ℕ) × IsLine bytes line × Reads old new bytes × IsAtEnd new.ahead
 ReadsLine old new line (Err fault) = (bytes : List ℕ) × (cut_at 10 bytes ≡ None) × Stops old new bytes × (fault ≡ Read)
 
+-- some bytes of a text, at most so many, and none only at the end of the input
+abbrev pub ReadsBlock : Moment → Moment → ℕ → (List ℕ → Type 0) → Result ℕ Device → Type 0
+ReadsBlock old new most keeps (Ok count) = (bytes : List ℕ) × (length bytes ≡ count) × (count ≤ most) × keeps bytes × Reads old new bytes
+    × (count ≡ 0 → IsAtEnd new.ahead)
+ReadsBlock old new most keeps (Err fault) = Stops old new [] × (fault ≡ Read)
+
 -- so many bytes with a line end behind them, or what is malformed, or the front of it before a fault
 abbrev pub ReadsText : Moment → Moment → ℕ → (List ℕ → Type 0) → Result Bool Device → Type 0
 ReadsText old new len keeps (Ok true) = (bytes : List ℕ) × (length bytes ≡ len) × keeps bytes × Reads old new (bytes ++ 10 ∷ [])

@@ -1,5 +1,5 @@
 // Bytes that were pulled and not yet read.
-ghost use Rattle.std.specs.Prelude.{◌≡◌, ◌+◌, ◌-◌, ◌^◌, ◌<◌, ◌≤◌, ◌↔◌, [], ◌∷◌, length, IsTrue};
+ghost use Rattle.std.specs.Prelude.{◌≡◌, ◌+◌, ◌-◌, ◌^◌, ◌<◌, ◌≤◌, ◌↔◌, [], ◌∷◌, length, drop, IsTrue};
 ghost use Rattle.std.specs.Prelude.{OnOk, IfOk, IsSome};
 ghost use Rattle.std.specs.Io.KnownBytes.{IsAtEnd};
 ghost use Rattle.al_stream.specs.Input.{moment, budget, Reads, Stops, GivesNext, GivesMore};
@@ -79,6 +79,36 @@ impl Buffer {
         }
     }
 
+    // Pulls once, unless some bytes are held.
+    pub(crate) fn refill<S: Source>(&mut self, source: &mut S) -> Result<(), Device>
+        requires faults { S.faults source.old < 2 ^ 64 - 1 }
+        requires pulls { S.pulls source.old + self.old.1 < 2 ^ 64 }
+        ensures more { GivesMore (moment S.ahead S.faults S.pulls source.old self.old)
+            (moment S.ahead S.faults S.pulls source.new self.new) result }
+        ensures bound { OnOk result (budget self.new ≤ budget self.old) }
+    {
+        if self.is_empty() {
+            self.fill(source)?;
+        }
+        Ok(())
+    }
+
+    // The bytes that are held.
+    pub(crate) fn held(&self) -> &[u8]
+        ensures { result.now ≡ self.now.0 }
+    {
+        &self.bytes[self.start..self.end]
+    }
+
+    // Lets go of the first bytes that are held.
+    pub(crate) fn skip(&mut self, count: usize)
+        requires { count ≤ length self.old.0 }
+        ensures rest { self.new.0 ≡ drop count self.old.0 }
+        ensures left { self.new.1 ≡ self.old.1 }
+    {
+        self.start += count;
+    }
+
     /// The next byte of the input, or none at its end.
     pub fn next<S: Source>(&mut self, source: &mut S) -> Result<Option<u8>, Device>
         requires faults { S.faults source.old < 2 ^ 64 - 1 }
@@ -87,11 +117,9 @@ impl Buffer {
             (moment S.ahead S.faults S.pulls source.new self.new) result }
         ensures fewer { IfOk result (λ byte. IsSome byte → budget self.new < budget self.old) }
     {
+        self.refill(source)?;
         if self.is_empty() {
-            self.fill(source)?;
-            if self.is_empty() {
-                return Ok(None);
-            }
+            return Ok(None);
         }
         Ok(Some(self.pop()))
     }

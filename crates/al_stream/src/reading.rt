@@ -1,7 +1,7 @@
 // Reading of lines and texts.
-ghost use Rattle.std.specs.Prelude.{◌≡◌, ◌+◌, ◌-◌, ◌^◌, ◌<◌, ◌++◌, [], ◌∷◌, IsTrue, false};
+ghost use Rattle.std.specs.Prelude.{◌≡◌, ◌+◌, ◌-◌, ◌^◌, ◌<◌, ◌≤◌, ◌++◌, [], ◌∷◌, length, vec_capacity, IsTrue, false};
 ghost use Rattle.al_stream.specs.Input.{moment};
-ghost use Rattle.al_stream.specs.Reading.{ReadsLine, ReadsText};
+ghost use Rattle.al_stream.specs.Reading.{ReadsLine, ReadsBlock, ReadsText};
 
 use crate::buffer::Buffer;
 use crate::device::{Device, Source};
@@ -53,15 +53,50 @@ impl Text {
         }
     }
 
-    fn push(&mut self, b: u8)
+    // Takes room for so many more bytes, where they are to be kept.
+    fn reserve(&mut self, count: usize)
         ensures kept { IsTrue self.new.kept → IsTrue self.old.kept }
-        ensures bytes { IsTrue self.new.kept → self.new.bytes.items ≡ self.old.bytes.items ++ b ∷ [] }
-        ensures dropped { self.old.kept ≡ false → (self.new.kept ≡ false) × (self.new.bytes.items ≡ self.old.bytes.items) }
+        ensures room { IsTrue self.new.kept → length self.new.bytes.items + count ≤ vec_capacity self.new.bytes }
+        ensures bytes { self.new.bytes.items ≡ self.old.bytes.items }
+        ensures dropped { self.old.kept ≡ false → self.new.kept ≡ false }
     {
-        if self.kept && self.bytes.push(b).is_err() {
+        if self.kept && self.bytes.reserve(count).is_err() {
             self.kept = false;
         }
     }
+
+    fn append(&mut self, block: &[u8])
+        ensures kept { IsTrue self.new.kept → IsTrue self.old.kept }
+        ensures bytes { IsTrue self.new.kept → self.new.bytes.items ≡ self.old.bytes.items ++ block.now }
+        ensures dropped { self.old.kept ≡ false → (self.new.kept ≡ false) × (self.new.bytes.items ≡ self.old.bytes.items) }
+    {
+        if self.kept && self.bytes.extend_from_slice(block).is_err() {
+            self.kept = false;
+        }
+    }
+}
+
+// Reads some bytes of a text, those that are held or come with one pull, and adds them to it.
+fn read_block<S: Source>(
+    source: &mut S,
+    buffer: &mut Buffer,
+    most: usize,
+    text: &mut Text,
+) -> Result<usize, Device>
+    requires faults { S.faults source.old < 2 ^ 64 - 1 }
+    requires pulls { S.pulls source.old + buffer.old.1 < 2 ^ 64 }
+    requires some { 0 < most }
+    ensures read { ReadsBlock (moment S.ahead S.faults S.pulls source.old buffer.old)
+        (moment S.ahead S.faults S.pulls source.new buffer.new) most
+        (λ bytes. IsTrue text.new.kept → IsTrue text.old.kept × (text.new.bytes.items ≡ text.old.bytes.items ++ bytes)) result }
+    ensures dropped { text.old.kept ≡ false → (text.new.kept ≡ false) × (text.new.bytes.items ≡ text.old.bytes.items) }
+{
+    buffer.refill(source)?;
+    let held = buffer.held();
+    let count = most.min(held.len());
+    text.append(&held[..count]);
+    buffer.skip(count);
+    Ok(count)
 }
 
 /// Reads a text of `len` bytes and the line end behind it, and says whether both are there. Where they are not, the
@@ -84,11 +119,14 @@ pub fn read_text<S: Source>(
         (λ bytes. IsTrue text.new.kept → IsTrue text.old.kept × (text.new.bytes.items ≡ text.old.bytes.items ++ bytes)) result }
     ensures dropped { text.old.kept ≡ false → (text.new.kept ≡ false) × (text.new.bytes.items ≡ text.old.bytes.items) }
 {
-    for _ in 0..len {
-        let Some(b) = buffer.next(source)? else {
+    text.reserve(len);
+    let mut left = len;
+    while left > 0 {
+        let count = read_block(source, buffer, left, text)?;
+        if count == 0 {
             return Ok(false);
-        };
-        text.push(b);
+        }
+        left -= count;
     }
     let Some(after) = buffer.next(source)? else {
         return Ok(false);

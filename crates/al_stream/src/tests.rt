@@ -91,6 +91,26 @@ fn lines_and_a_text(rt: HostRuntime) -> Result<(), Fail> {
 }
 
 #[test]
+fn texts_longer_than_the_buffer(rt: HostRuntime) -> Result<(), Fail> {
+    let mut input = Vec::new(rt.alloc());
+    input.resize(150000, b'x')?;
+    input.extend_from_slice(b"\nab")?;
+    for kept in [true, false] {
+        let mut source = Counted::new(input.as_slice());
+        let mut buffer = Buffer::new(99);
+        let mut text = Text::new(rt.alloc(), kept);
+        assert_eq!(rt;
+            read_text(&mut source, &mut buffer, 150000, &mut text)?,
+            true
+        );
+        assert_eq!(rt; text.kept, kept);
+        assert_eq!(rt; text.bytes.len(), if kept { 150000 } else { 0 });
+        assert_eq!(rt; read_text(&mut source, &mut buffer, 3, &mut text)?, false);
+    }
+    Ok(())
+}
+
+#[test]
 fn readers_that_fail(rt: HostRuntime) -> Result<(), Fail> {
     for before in 0..4 {
         let mut source = Counted::new(Failing {

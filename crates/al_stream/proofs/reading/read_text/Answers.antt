@@ -1,31 +1,41 @@
-use Rattle.std.proofs.Common.{◌+◌, ◌++◌, ◌∷◌, [], ap, ◌∙◌, append_assoc, arith, inr}
+use Rattle.std.proofs.Common.{◌++◌, ◌∷◌, [], sym, ◌∙◌, append-nil, length-append, arith, inr}
 use Rattle.std.proofs.lemmas.List.{length_push, get_or_push}
-use Rattle.al_stream.proofs.Moments.{reads_then}
+use Rattle.al_stream.proofs.Moments.{append_then, reads_none, reads_then}
 use Rattle.al_stream.proofs.reading.read_text.Goals as goal
 
-pub loop-preserved : goal.loop-preserved
-loop-preserved g c =
-    let so_far = c.loop.invariant in
-    let one = rw c.in-Some.is at c.in_ok-b.ensures.next in
+pub loop-left-init : goal.loop-left-init
+loop-left-init g c = record {
+  bytes = [];
+  count = omega arith;
+  kept = λ kept. (c.reserve.ensures.kept kept, c.reserve.ensures.bytes ∙ sym (append-nil c.args.text.now.bytes.items));
+  dropped = λ none. (c.reserve.ensures.dropped none, c.reserve.ensures.bytes);
+  reads = reads_none _;
+}
+
+pub loop-left-preserved : goal.loop-left-preserved
+loop-left-preserved g c =
+    let so_far = c.loop-left.invariant in
+    let block = c.in_ok-count.ensures.read in
     record {
-      bytes = so_far.bytes ++ c.in-Some.b ∷ [];
-      count = length_push so_far.bytes c.in-Some.b ∙ ap (λ n. n + 1) so_far.count;
+      bytes = so_far.bytes ++ block.0;
+      count = omega (arith, length-append so_far.bytes block.0, block.1, block.2, so_far.count);
       kept = λ kept.
-          let before = so_far.kept (c.push.ensures.kept kept) in
-          (before.0, c.push.ensures.bytes kept ∙ ap (λ bs. bs ++ c.in-Some.b ∷ []) before.1 ∙ append_assoc c.args.text.now.bytes.items so_far.bytes (c.in-Some.b ∷ []));
+          let now = block.3 kept in
+          let before = so_far.kept now.0 in
+          (before.0, append_then c.args.text.now.bytes.items c.loop-left.text.bytes.items c.read_block.new.text.bytes.items so_far.bytes block.0 before.1 now.1);
       dropped = λ none.
           let before = so_far.dropped none in
-          let now = c.push.ensures.dropped before.0 in
-          (now.0, now.1 ∙ before.1);
-      reads = reads_then so_far.reads one;
+          let now = c.in_ok-count.ensures.dropped before.0 in
+          (now.0, cc);
+      reads = reads_then so_far.reads block.4;
     }
 
 pub returns-then-after-ne10-clause-read : goal.returns-then-after-ne10-clause-read
 returns-then-after-ne10-clause-read g c =
-    let so_far = c.loop.invariant in
-    let one = rw c.in-Some-2.is at c.in_ok-after.ensures.next in
-    let last = get_or_push so_far.bytes c.in-Some-2.after 0 c.args.len (omega (arith, so_far.count)) in (
-      so_far.bytes ++ c.in-Some-2.after ∷ [],
+    let so_far = c.loop-left.invariant in
+    let one = rw c.in-Some.is at c.in_ok-after.ensures.next in
+    let last = get_or_push so_far.bytes c.in-Some.after 0 c.args.len (omega (arith, so_far.count)) in (
+      so_far.bytes ++ c.in-Some.after ∷ [],
       reads_then so_far.reads one,
-      inr (omega (arith, length_push so_far.bytes c.in-Some-2.after, so_far.count), rw last c.if-after-ne10.true),
+      inr (omega (arith, length_push so_far.bytes c.in-Some.after, so_far.count), rw last c.if-after-ne10.true),
     )
