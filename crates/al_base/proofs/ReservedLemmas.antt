@@ -1,19 +1,13 @@
--- Each reserved word is found by its spelling, and they ascend.
-use Rattle.std.proofs.Common.{◌≡◌, ◌≢◌, ℕ, zero, suc, ◌<◌, ◌≤◌, Bool, true, false, ◌&&◌, cond, List, [], ◌∷◌, length, get_or, Option, Some, None, refl, sym, ap, ◌∙◌, arith, add-one, inl, inr, subst}
+-- Each reserved word is found by its spelling.
+use Rattle.std.proofs.Common.{◌≡◌, ◌≢◌, ℕ, Bool, true, false, cond, map, List, [], ◌∷◌, length, get_or, slice_index, nat_lt, Option, Some, None, refl, sym, ap, ◌∙◌}
 use Rattle.std.specs.Prelude.{IfSome, IfNone}
 use Rattle.std.specs.List.{find}
-use Rattle.std.specs.List.Sorted.{IsNonDecreasingBy, IsPartitionPoint}
-use Rattle.std.specs.Ordering.{nat_cmp, is_eq, is_lt, ordering_index, ordering_reverse}
-use Rattle.std.specs.declared.cmp.Ordering.{Ordering}
-use Rattle.std.specs.declared.cmp.Ordering.TheVariants.{Less, Equal, Greater}
-use Rattle.std.specs.Cmp.Lexicographic.{slice_cmp, nat_list_cmp_total}
+use Rattle.std.specs.Char.{to_ascii_lowercase}
 use Rattle.std.specs.Str.{bytes_eq}
-use Rattle.std.proofs.lemmas.Bool.{cases_lt}
-use Rattle.std.proofs.lemmas.List.Sorted.{IsNonDecreasingBy-from_all_adjacent}
-use Rattle.std.proofs.lemmas.Map.Text.{is_eq-slice_cmp}
 use Rattle.std.proofs.lemmas.Slice.Eq.{bytes_eq-Decides}
 use Rattle.al_base.specs.declared.reserved.ReservedWord.{ReservedWord}
 use Rattle.al_base.specs.declared.reserved.ReservedWord.TheVariants.{Abort}
+use Rattle.al_base.specs.ReservedPlaces.{place_of}
 use Rattle.al_base.specs.ReservedWords.{spelling, reserved_words, reserved_at}
 
 pub reserved_at-spelling : (w : ReservedWord) → reserved_at (spelling w) ≡ Some w
@@ -40,66 +34,57 @@ pub IfNone-reserved_at : (r : Option ReservedWord) (text : List ℕ) → r ≡ r
 IfNone-reserved_at None text is = λ w same. let found = reserved_at-spelling w in let again = ap reserved_at same in cc
 IfNone-reserved_at (Some w) text is = tt
 
--- how a word stands to a text
-abbrev pub cmp_at : List ℕ → ReservedWord → Ordering
-cmp_at text w = slice_cmp nat_cmp (spelling w) text
-
--- a word that ties with the text is the one that is spelled so
-pub reserved_at-tied : (w : ReservedWord) (text : List ℕ) → cmp_at text w ≡ Equal → Some w ≡ reserved_at text
-reserved_at-tied w text tied = sym (reserved_at-spelling w) ∙ ap reserved_at ((bytes_eq-Decides (spelling w) text).0 (sym (is_eq-slice_cmp (spelling w) text) ∙ ap is_eq tied))
-
--- each word is below the next one
-abbrev ascend : List ReservedWord → Bool
-ascend [] = true
-ascend (w ∷ []) = true
-ascend (w ∷ v ∷ ws) = is_lt (slice_cmp nat_cmp (spelling w) (spelling v)) && ascend (v ∷ ws)
-
-words_ascend : ascend reserved_words ≡ true
-unfolding reserved_words spelling
-words_ascend = refl
-
-less : (o : Ordering) → is_lt o ≡ true → o ≡ Less
-less Less is = refl
-less Equal is = cc
-less Greater is = cc
-
-adjacent : (ws : List ReservedWord) → ascend ws ≡ true → (k : ℕ) (d : ReservedWord) → suc k < length ws → slice_cmp nat_cmp (spelling (get_or ws k d)) (spelling (get_or ws (suc k) d)) ≡ Less
-adjacent [] sorted k d lt = absurd (omega arith)
-adjacent (w ∷ []) sorted k d lt = absurd (omega arith)
-adjacent (w ∷ v ∷ ws) sorted zero d lt = less _ (both (is_lt (slice_cmp nat_cmp (spelling w) (spelling v))) (ascend (v ∷ ws)) sorted)
+-- where none is spelled so, none is found
+pub reserved_at-none : (text : List ℕ) → ((w : ReservedWord) → spelling w ≢ text) → reserved_at text ≡ None
+reserved_at-none text off = step (reserved_at text) refl
   where
-    both : (a b : Bool) → (a && b) ≡ true → a ≡ true
-    both true b is = refl
-    both false b is = is
-adjacent (w ∷ v ∷ ws) sorted (suc k) d lt = adjacent (v ∷ ws) (both (is_lt (slice_cmp nat_cmp (spelling w) (spelling v))) (ascend (v ∷ ws)) sorted) k d (omega arith)
+    step : (r : Option ReservedWord) → reserved_at text ≡ r → r ≡ None
+    step None is = refl
+    step (Some w) is = absurd (off w (IfSome-reserved_at (Some w) text (sym is)))
+
+-- a spelling is in lower case
+pub lowercase-spelling : (w : ReservedWord) → map to_ascii_lowercase (spelling w) ≡ spelling w
+unfolding spelling
+lowercase-spelling Abort = refl
+lowercase-spelling w = refl
+
+-- the one word that may be spelled so is found where it is spelled so
+pub reserved_at-same : (w : ReservedWord) (text : List ℕ) → map to_ascii_lowercase (spelling w) ≡ text → Some w ≡ reserved_at text
+reserved_at-same w text same = sym (reserved_at-spelling w) ∙ ap reserved_at (sym (lowercase-spelling w) ∙ same)
+
+-- and where it isn't, no word is
+pub reserved_at-other : (w : ReservedWord) (text : List ℕ) → ((v : ReservedWord) → spelling v ≡ text → Some w ≡ Some v) → map to_ascii_lowercase (spelling w) ≢ text → None ≡ reserved_at text
+reserved_at-other w text one other = sym (reserved_at-none text (λ v same. other (lowercase-spelling w ∙ ap spelling (some (one v same)) ∙ same)))
   where
-    both : (a b : Bool) → (a && b) ≡ true → b ≡ true
-    both true b is = is
-    both false b is = cc
+    some : {v : ReservedWord} → Some w ≡ Some v → w ≡ v
+    some is = cc
 
--- what a lower one is above, a higher one is above
-rising : (x y text : List ℕ) → slice_cmp nat_cmp x y ≡ Less → ordering_index (slice_cmp nat_cmp x text) ≤ ordering_index (slice_cmp nat_cmp y text)
-rising x y text below = step (slice_cmp nat_cmp x text) refl (slice_cmp nat_cmp y text) refl
-  where
-    step : (o : Ordering) → slice_cmp nat_cmp x text ≡ o → (p : Ordering) → slice_cmp nat_cmp y text ≡ p → ordering_index o ≤ ordering_index p
-    step Less is p was = omega arith
-    step Equal is p was = let above : slice_cmp nat_cmp y text ≡ Greater = nat_list_cmp_total.antisymm y text ∙ ap ordering_reverse (sym (nat_list_cmp_total.congr x text y is) ∙ below) in rw (sym was ∙ above) (omega arith)
-    step Greater is p was = let first : slice_cmp nat_cmp text x ≡ Less = nat_list_cmp_total.antisymm text x ∙ ap ordering_reverse is in let above : slice_cmp nat_cmp y text ≡ Greater = nat_list_cmp_total.antisymm y text ∙ ap ordering_reverse (nat_list_cmp_total.trans text x y first below) in rw (sym was ∙ above) (omega arith)
+-- by a spelling's place, where the word stands by the alphabet
+unfoldable pub numbers : List ℕ
+numbers =
+    73 ∷ 73 ∷ 18 ∷ 73 ∷ 73 ∷ 73 ∷ 73 ∷ 68 ∷ 73 ∷ 73 ∷ 73 ∷ 22 ∷ 73 ∷ 73 ∷ 73 ∷ 32 ∷ 73 ∷ 2 ∷ 73 ∷ 73 ∷ 73 ∷ 73 ∷ 73 ∷ 73 ∷
+    73 ∷ 24 ∷ 45 ∷ 73 ∷ 73 ∷ 20 ∷ 73 ∷ 73 ∷ 53 ∷ 60 ∷ 44 ∷ 73 ∷ 36 ∷ 27 ∷ 73 ∷ 73 ∷ 73 ∷ 73 ∷ 15 ∷ 1 ∷ 73 ∷ 67 ∷ 73 ∷ 73 ∷
+    34 ∷ 73 ∷ 14 ∷ 73 ∷ 73 ∷ 43 ∷ 73 ∷ 73 ∷ 73 ∷ 6 ∷ 73 ∷ 73 ∷ 54 ∷ 73 ∷ 73 ∷ 73 ∷ 73 ∷ 7 ∷ 73 ∷ 73 ∷ 73 ∷ 21 ∷ 38 ∷ 73 ∷
+    11 ∷ 9 ∷ 73 ∷ 13 ∷ 73 ∷ 73 ∷ 73 ∷ 73 ∷ 73 ∷ 73 ∷ 73 ∷ 73 ∷ 48 ∷ 73 ∷ 46 ∷ 73 ∷ 73 ∷ 73 ∷ 73 ∷ 73 ∷ 73 ∷ 59 ∷ 73 ∷ 73 ∷
+    73 ∷ 73 ∷ 73 ∷ 73 ∷ 73 ∷ 73 ∷ 73 ∷ 73 ∷ 73 ∷ 35 ∷ 26 ∷ 73 ∷ 73 ∷ 73 ∷ 51 ∷ 61 ∷ 73 ∷ 73 ∷ 73 ∷ 42 ∷ 73 ∷ 73 ∷ 25 ∷ 73 ∷
+    50 ∷ 73 ∷ 47 ∷ 73 ∷ 56 ∷ 73 ∷ 73 ∷ 4 ∷ 73 ∷ 73 ∷ 73 ∷ 73 ∷ 73 ∷ 73 ∷ 73 ∷ 73 ∷ 72 ∷ 73 ∷ 73 ∷ 73 ∷ 73 ∷ 41 ∷ 73 ∷ 73 ∷
+    62 ∷ 28 ∷ 55 ∷ 73 ∷ 73 ∷ 73 ∷ 73 ∷ 71 ∷ 73 ∷ 73 ∷ 16 ∷ 73 ∷ 73 ∷ 73 ∷ 73 ∷ 73 ∷ 73 ∷ 73 ∷ 73 ∷ 73 ∷ 73 ∷ 3 ∷ 73 ∷ 73 ∷
+    73 ∷ 73 ∷ 73 ∷ 73 ∷ 52 ∷ 73 ∷ 73 ∷ 73 ∷ 73 ∷ 73 ∷ 66 ∷ 73 ∷ 73 ∷ 29 ∷ 73 ∷ 57 ∷ 73 ∷ 73 ∷ 73 ∷ 39 ∷ 73 ∷ 0 ∷ 73 ∷ 73 ∷
+    33 ∷ 73 ∷ 73 ∷ 73 ∷ 73 ∷ 30 ∷ 73 ∷ 73 ∷ 73 ∷ 73 ∷ 37 ∷ 73 ∷ 73 ∷ 73 ∷ 73 ∷ 8 ∷ 73 ∷ 73 ∷ 73 ∷ 40 ∷ 65 ∷ 5 ∷ 73 ∷ 69 ∷
+    73 ∷ 73 ∷ 73 ∷ 73 ∷ 73 ∷ 73 ∷ 73 ∷ 31 ∷ 73 ∷ 73 ∷ 73 ∷ 73 ∷ 73 ∷ 73 ∷ 73 ∷ 73 ∷ 73 ∷ 58 ∷ 63 ∷ 73 ∷ 49 ∷ 73 ∷ 64 ∷ 73 ∷
+    73 ∷ 70 ∷ 17 ∷ 73 ∷ 73 ∷ 12 ∷ 73 ∷ 19 ∷ 73 ∷ 23 ∷ 10 ∷ 73 ∷ 73 ∷ 73 ∷ 73 ∷ 73 ∷ []
 
-pub words_rise : (text : List ℕ) → IsNonDecreasingBy (λ w. ordering_index (cmp_at text w)) reserved_words
-words_rise text = IsNonDecreasingBy-from_all_adjacent (λ w. ordering_index (cmp_at text w)) reserved_words (λ k d lt. rw (add-one k) (rising (spelling (get_or reserved_words k d)) (spelling (get_or reserved_words (suc k) d)) text (adjacent reserved_words words_ascend k d (omega arith))))
+pub number-below : (w : ReservedWord) → nat_lt (slice_index numbers (place_of (spelling w))) 73 ≡ true
+unfolding numbers place_of spelling
+number-below Abort = refl
+number-below w = refl
 
-find-none : {X : Type 0} (p : X → Bool) (xs : List X) → ((k : ℕ) (d : X) → k < length xs → p (get_or xs k d) ≡ false) → find p xs ≡ None
-find-none p [] off = refl
-find-none p (x ∷ xs) off = let here = off 0 x (omega arith) in rw here (find-none p xs (λ k d lt. off (suc k) d (omega arith)))
+pub number-word : (w : ReservedWord) → get_or reserved_words (slice_index numbers (place_of (spelling w))) Abort ≡ w
+unfolding numbers place_of spelling reserved_words
+number-word Abort = refl
+number-word w = refl
 
--- between the lesser and the greater words there is none that is spelled so
-pub reserved_at-apart : (text : List ℕ) (i : ℕ) → IsPartitionPoint (λ w. cmp_at text w ≡ Less) (λ w. cmp_at text w ≡ Greater) reserved_words i → None ≡ reserved_at text
-unfolding reserved_at
-reserved_at-apart text i parts = sym (find-none (λ w. bytes_eq (spelling w) text) reserved_words (λ k d lt. sym (is_eq-slice_cmp (spelling (get_or reserved_words k d)) text) ∙ untied k d lt))
-  where
-    untied : (k : ℕ) (d : ReservedWord) → k < length reserved_words → is_eq (cmp_at text (get_or reserved_words k d)) ≡ false
-    untied k d lt = elim (cases_lt k i) [ inl low ↦ ap is_eq (parts.0 k d (omega arith) low) | inr high ↦ ap is_eq (parts.1 k d high lt) ]
-
-pub reserved_at-missed : (ws : List ReservedWord) → ws ≡ reserved_words → (text : List ℕ) (i : ℕ) → (IsNonDecreasingBy (λ w. ordering_index (cmp_at text w)) ws → IsPartitionPoint (λ w. cmp_at text w ≡ Less) (λ w. cmp_at text w ≡ Greater) ws i) → None ≡ reserved_at text
-reserved_at-missed ws is text i parts = reserved_at-apart text i (subst (λ (vs : List ReservedWord). IsNonDecreasingBy (λ w. ordering_index (cmp_at text w)) vs → IsPartitionPoint (λ w. cmp_at text w ≡ Less) (λ w. cmp_at text w ≡ Greater) vs i) is parts (words_rise text))
+pub spelling-some : (w : ReservedWord) → nat_lt 0 (length (spelling w)) ≡ true
+unfolding spelling
+spelling-some Abort = refl
+spelling-some w = refl

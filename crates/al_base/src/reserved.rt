@@ -1,12 +1,9 @@
 // The words that are no identifiers.
-ghost use Rattle.std.specs.Prelude.{◌≡◌, ◌≢◌, map, IfSome, IfNone};
+ghost use Rattle.std.specs.Prelude.{◌≡◌, ◌≢◌, ◌<◌, Some, length, map, slice_index, IfSome, IfNone};
 ghost use Rattle.std.specs.Char.{to_ascii_lowercase};
-ghost use Rattle.std.specs.Ordering.{nat_cmp};
-ghost use Rattle.std.specs.Cmp.Lexicographic.{slice_cmp};
+ghost use Rattle.al_base.specs.ReservedPlaces.{place_of};
 ghost use Rattle.al_base.specs.ReservedWords.{spelling, reserved_words, reserved_at};
 ghost use Rattle.al_base.specs.declared.reserved.ReservedWord.{ReservedWord};
-
-use std::cmp::Ordering;
 
 /// The reserved words (ARM 2.9), by the alphabet.
 #[derive(Clone, Copy, Debug, PartialEq, Eq, PartialOrd, Ord)]
@@ -239,6 +236,21 @@ const SPELLINGS: [&[u8]; 73] = [
     b"xor",
 ];
 
+/// By a spelling's place, where the word stands by the alphabet; 73 where none has that place.
+const NUMBERS: [u8; 256] = [
+    73, 73, 18, 73, 73, 73, 73, 68, 73, 73, 73, 22, 73, 73, 73, 32, 73, 2, 73, 73, 73, 73, 73, 73,
+    73, 24, 45, 73, 73, 20, 73, 73, 53, 60, 44, 73, 36, 27, 73, 73, 73, 73, 15, 1, 73, 67, 73, 73,
+    34, 73, 14, 73, 73, 43, 73, 73, 73, 6, 73, 73, 54, 73, 73, 73, 73, 7, 73, 73, 73, 21, 38, 73,
+    11, 9, 73, 13, 73, 73, 73, 73, 73, 73, 73, 73, 48, 73, 46, 73, 73, 73, 73, 73, 73, 59, 73, 73,
+    73, 73, 73, 73, 73, 73, 73, 73, 73, 35, 26, 73, 73, 73, 51, 61, 73, 73, 73, 42, 73, 73, 25, 73,
+    50, 73, 47, 73, 56, 73, 73, 4, 73, 73, 73, 73, 73, 73, 73, 73, 72, 73, 73, 73, 73, 41, 73, 73,
+    62, 28, 55, 73, 73, 73, 73, 71, 73, 73, 16, 73, 73, 73, 73, 73, 73, 73, 73, 73, 73, 3, 73, 73,
+    73, 73, 73, 73, 52, 73, 73, 73, 73, 73, 66, 73, 73, 29, 73, 57, 73, 73, 73, 39, 73, 0, 73, 73,
+    33, 73, 73, 73, 73, 30, 73, 73, 73, 73, 37, 73, 73, 73, 73, 8, 73, 73, 73, 40, 65, 5, 73, 69,
+    73, 73, 73, 73, 73, 73, 73, 31, 73, 73, 73, 73, 73, 73, 73, 73, 73, 58, 63, 73, 49, 73, 64, 73,
+    73, 70, 17, 73, 73, 12, 73, 19, 73, 23, 10, 73, 73, 73, 73, 73,
+];
+
 impl ReservedWord {
     #[tactic(auto, unfolding(crate::specs::ReservedWords::spelling))]
     /// The word in lower case.
@@ -263,17 +275,55 @@ pub fn reserved_word(word: &[u8]) -> Option<ReservedWord>
     ensures found { IfSome result (λ w. spelling w ≡ map to_ascii_lowercase word.now) }
     ensures none { IfNone result ((w : ReservedWord) → spelling w ≢ map to_ascii_lowercase word.now) }
 {
-    let words = reserved_words();
-    match words.binary_search_by(|w| cmp_lowercase(w.spelling(), word)) {
-        Ok(i) => Some(words[i]),
-        Err(_) => None,
+    let Some(candidate) = candidate(word) else {
+        return None;
+    };
+    if candidate.spelling().eq_ignore_ascii_case(word) {
+        Some(candidate)
+    } else {
+        None
     }
 }
 
-/// Compares a spelling with the word in lower case, by bytes.
-fn cmp_lowercase(spelling: &[u8], word: &[u8]) -> Ordering
-    ensures { result ≡ slice_cmp nat_cmp spelling.now (map to_ascii_lowercase word.now) }
+/// The one word that may be spelled so.
+fn candidate(word: &[u8]) -> Option<ReservedWord>
+    ensures { (w : ReservedWord) → spelling w ≡ map to_ascii_lowercase word.now → result ≡ Some w }
 {
-    let lowercase = word.iter().map(|b| b.to_ascii_lowercase());
-    spelling.iter().copied().cmp(lowercase)
+    if word.is_empty() {
+        return None;
+    }
+    word_at(place_of(word))
+}
+
+/// Where the spelling of the word has its place: the first, the middle and the last byte tell the reserved words apart.
+fn place_of(word: &[u8]) -> usize
+    requires { 0 < length word.now }
+    ensures exact { result ≡ place_of (map to_ascii_lowercase word.now) }
+    ensures within { result < 256 }
+{
+    let first = lowercase_at(word, 0);
+    let middle = lowercase_at(word, word.len() / 2);
+    let last = lowercase_at(word, word.len() - 1);
+    (first + 28 * middle + 38 * last) % 256
+}
+
+fn lowercase_at(word: &[u8], i: usize) -> usize
+    requires { i < length word.now }
+    ensures exact { result ≡ slice_index (map to_ascii_lowercase word.now) i }
+    ensures within { result < 256 }
+{
+    usize::from(word[i].to_ascii_lowercase())
+}
+
+/// The word whose spelling has that place.
+fn word_at(place: usize) -> Option<ReservedWord>
+    requires { place < 256 }
+    ensures { (w : ReservedWord) → place_of (spelling w) ≡ place → result ≡ Some w }
+{
+    let number = usize::from(NUMBERS[place]);
+    if number < RESERVED_WORDS.len() {
+        Some(RESERVED_WORDS[number])
+    } else {
+        None
+    }
 }

@@ -1,23 +1,28 @@
-use Rattle.std.proofs.Common.{Some, None, map, get_or, rules}
+use Rattle.std.proofs.Common.{◌≡◌, ◌≢◌, map, Some, None, ap, sym, ◌∙◌, rules}
 use Rattle.std.specs.Char.{to_ascii_lowercase}
-use Rattle.std.proofs.lemmas.Fn.{always_returns_same}
-use Rattle.al_base.specs.declared.reserved.ReservedWord.TheVariants.{Abort}
-use Rattle.al_base.proofs.ReservedLemmas.{cmp_at, reserved_at-tied, reserved_at-missed, IfSome-reserved_at, IfNone-reserved_at}
+use Rattle.al_base.specs.ReservedWords.{spelling}
+use Rattle.al_base.proofs.ReservedLemmas.{reserved_at-none, reserved_at-same, reserved_at-other, IfSome-reserved_at, IfNone-reserved_at}
 use Rattle.al_base.proofs.reserved.reserved_word.Goals as goal
 
-pub returns-in-Ok-clause-value : goal.returns-in-Ok-clause-value
-returns-in-Ok-clause-value c =
-    let text = map to_ascii_lowercase c.args.word.now in
-    let at = c.in-Ok.ensures.position (cmp_at text) (always_returns_same _ _ _ (λ a r f' called. search rules)) in
-    reserved_at-tied (get_or c.reserved_words-words.result.now c.in-Ok.i Abort) text (at Abort)
+pub returns-in_default-clause-value : goal.returns-in_default-clause-value
+returns-in_default-clause-value c = sym (reserved_at-none (map to_ascii_lowercase c.args.word.now) (λ w same. c.in_default.not-Some w (c.candidate.ensures w same)))
 
-pub returns-in-Ok-clause-found : goal.returns-in-Ok-clause-found
-returns-in-Ok-clause-found c = IfSome-reserved_at (Some (get_or c.reserved_words-words.result.now c.in-Ok.i Abort)) (map to_ascii_lowercase c.args.word.now) (returns-in-Ok-clause-value c)
+pub returns-then-eq_ignore_ascii_case-clause-value :
+    goal.returns-then-eq_ignore_ascii_case-clause-value
+returns-then-eq_ignore_ascii_case-clause-value c =
+    let told : map to_ascii_lowercase c.spelling.result.now ≡ map to_ascii_lowercase c.args.word.now = search rules in
+    reserved_at-same c.in-Some.candidate (map to_ascii_lowercase c.args.word.now) (ap (map to_ascii_lowercase) (sym c.spelling.ensures) ∙ told)
 
-pub returns-in-Err-clause-value : goal.returns-in-Err-clause-value
-returns-in-Err-clause-value c =
-    let text = map to_ascii_lowercase c.args.word.now in
-    reserved_at-missed c.reserved_words-words.result.now c.reserved_words-words.ensures text c.in-Err.field-0 (c.in-Err.ensures.position (cmp_at text) (always_returns_same _ _ _ (λ a r f' called. search rules)))
+pub returns-then-eq_ignore_ascii_case-clause-found :
+    goal.returns-then-eq_ignore_ascii_case-clause-found
+returns-then-eq_ignore_ascii_case-clause-found c = IfSome-reserved_at (Some c.in-Some.candidate) (map to_ascii_lowercase c.args.word.now) (returns-then-eq_ignore_ascii_case-clause-value c)
 
-pub returns-in-Err-clause-none : goal.returns-in-Err-clause-none
-returns-in-Err-clause-none c = IfNone-reserved_at None (map to_ascii_lowercase c.args.word.now) (returns-in-Err-clause-value c)
+pub returns-else-eq_ignore_ascii_case-clause-value :
+    goal.returns-else-eq_ignore_ascii_case-clause-value
+returns-else-eq_ignore_ascii_case-clause-value c =
+    let told : map to_ascii_lowercase c.spelling.result.now ≢ map to_ascii_lowercase c.args.word.now = search rules in
+    reserved_at-other c.in-Some.candidate (map to_ascii_lowercase c.args.word.now) (λ v same. sym c.in-Some.is ∙ c.candidate.ensures v same) (λ same. told (ap (map to_ascii_lowercase) c.spelling.ensures ∙ same))
+
+pub returns-else-eq_ignore_ascii_case-clause-none :
+    goal.returns-else-eq_ignore_ascii_case-clause-none
+returns-else-eq_ignore_ascii_case-clause-none c = IfNone-reserved_at None (map to_ascii_lowercase c.args.word.now) (returns-else-eq_ignore_ascii_case-clause-value c)
