@@ -20,6 +20,7 @@ fn comment_len(bytes: &[u8]) -> usize
 }
 
 /// The delimiter that a byte alone is.
+#[inline(always)]
 fn lone(byte: u8) -> Result<Piece, LexCode>
     ensures { result ≡ lone (single byte) }
 {
@@ -33,6 +34,7 @@ fn lone(byte: u8) -> Result<Piece, LexCode>
 }
 
 /// The delimiter at the front of a text.
+#[inline(always)]
 fn delimiter(bytes: &[u8]) -> Result<Piece, LexCode>
     ensures exact { result ≡ delimiter bytes.now }
     ensures within { IfOk result (λ q. q.len ≤ length bytes.now) }

@@ -1,6 +1,5 @@
 use Rattle.std.proofs.Common.{◌≡◌, ◌≢◌, map, Some, None, ap, sym, ◌∙◌, rules}
 use Rattle.std.specs.Char.{to_ascii_lowercase}
-use Rattle.al_base.specs.ReservedWords.{spelling}
 use Rattle.al_base.proofs.ReservedLemmas.{reserved_at-none, reserved_at-same, reserved_at-other, IfSome-reserved_at, IfNone-reserved_at}
 use Rattle.al_base.proofs.reserved.reserved_word.Goals as goal
 

@@ -1,4 +1,4 @@
-use Rattle.std.proofs.Common.{◌≡◌, Some, get_or, slice_index, ap, sym, ◌∙◌, arith, subst, nat_lt, true}
+use Rattle.std.proofs.Common.{◌≡◌, Some, get_or, slice_index, ap, sym, ◌∙◌, arith}
 use Rattle.std.proofs.lemmas.Bool.Decides.{Decides-ltb}
 use Rattle.al_base.specs.ReservedPlaces.{place_of}
 use Rattle.al_base.specs.ReservedWords.{spelling, reserved_words}
