@@ -1,4 +1,1 @@
-pub mod Clear
-pub mod Rooms
-pub mod Stubs
 pub mod Texts

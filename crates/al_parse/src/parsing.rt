@@ -4,9 +4,9 @@ ghost use Rattle.al_tree.specs.Lexemes.{lexemes};
 ghost use Rattle.al_tree.specs.UnitViews.{unit_seen};
 ghost use Rattle.al_parse.specs.Faults.{FaultOf, IsTreeOf, Refuses};
 
-use crate::unit::unit;
 use al_lex::Token;
 use al_parse_expr::Stop;
+use al_parse_unit::compilation_unit;
 use al_tree::CompilationUnit;
 use std::alloc::Global;
 
@@ -32,7 +32,7 @@ fn whole(alloc: Global, source: &[u8], tokens: &[Token]) -> Result<CompilationUn
     ensures found { IfOk result (λ u. IsTreeOf (unit_seen u) (lexemes source.now tokens.now)) }
     ensures fault { IfErr result (λ e. Refuses e (lexemes source.now tokens.now)) }
 {
-    let (unit, rest) = unit(alloc, source, MOST_OPEN, tokens)?;
+    let (unit, rest) = compilation_unit(alloc, source, MOST_OPEN, tokens)?;
     if !rest.is_empty() {
         return Err(Stop::Fault(rest.len()));
     }

@@ -1,0 +1,3 @@
+pub mod Clear
+pub mod Rooms
+pub mod Stubs
