@@ -5,7 +5,6 @@ use Rattle.al_grammar.specs.Grammar.Lexeme.{Fixed, Named}
 use Rattle.al_grammar.specs.Grammar.Rule.{Any, One, Seq}
 use Rattle.al_grammar.specs.Reading.{one}
 use Rattle.al_parse_expr.specs.declared.stop.Stop.{Stop}
-use Rattle.al_parse_expr.specs.declared.stop.Stop.TheVariants.{Memory, Fault}
 use Rattle.al_parse_expr.specs.Parses.{Lexemes, Stops, reading}
 use Rattle.al_tree.specs.Lexemes.{lexemes, place_label}
 use Rattle.al_parse_unit.proofs.Rooms.{stops_first}
