@@ -380,7 +380,6 @@ fn loop_statement<'a>(
     Ok((statement, rest))
 }
 
-/// Behind `loop`.
 #[cycle(body)]
 #[tactic(auto, unfolding(al_syntax::specs::Statements::plain_loop_rule, al_syntax::specs::Expressions::identifier_rule))]
 fn loop_body<'a>(
@@ -396,7 +395,6 @@ fn loop_body<'a>(
     Ok((statements, end, rest))
 }
 
-/// Behind `while`.
 #[cycle(body)]
 #[tactic(auto, unfolding(al_syntax::specs::Statements::while_rule))]
 fn while_loop<'a>(
@@ -417,7 +415,6 @@ fn while_loop<'a>(
     ))
 }
 
-/// Behind `for`.
 #[cycle(body)]
 #[tactic(auto, unfolding(al_syntax::specs::Statements::for_rule, al_syntax::specs::Expressions::identifier_rule))]
 fn for_loop<'a>(
