@@ -19,7 +19,7 @@ fn put(alloc: Global, files: &mut Files, name: &[u8], text: &[u8]) -> Result<(),
 fn expect_faulty(
     rt: &impl Abort,
     compiled: &Compiled,
-    wanted: &[(&'static [u8], usize, usize, u16)],
+    wanted: &[(&'static [u8], u32, u32, u16)],
 ) {
     let Compiled::Faulty(found) = compiled else {
         assert!(rt; false, "nothing is wrong");
@@ -89,7 +89,7 @@ fn findings_by_file_and_place(rt: HostRuntime) -> Result<(), Fail> {
         b"procedure X is begin Ada.Text_IO.New_Line; null;\nADA.Text_IO.Put (\"\"); end Y;",
     )?;
     let compiled = compile(alloc, &files, b"hello")?;
-    let wanted: [(&'static [u8], usize, usize, u16); 9] = [
+    let wanted: [(&'static [u8], u32, u32, u16); 9] = [
         (b"l.adb", 1, 22, 1),
         (b"m.adb", 1, 33, 101),
         (b"x.adb", 1, 22, 401),
@@ -128,7 +128,7 @@ fn other_units_are_not_told_beside_faults(rt: HostRuntime) -> Result<(), Fail> {
     )?;
     put(alloc, &mut files, b"p.ads", b"package Ada.Q is end Ada.Q;")?;
     let compiled = compile(alloc, &files, b"m")?;
-    let wanted: [(&'static [u8], usize, usize, u16); 4] = [
+    let wanted: [(&'static [u8], u32, u32, u16); 4] = [
         (b"a~b.ads", 1, 9, 205),
         (b"m-s.adb", 1, 24, 206),
         (b"p.ads", 1, 9, 201),
@@ -150,7 +150,7 @@ fn other_units_are_not_compiled_yet(rt: HostRuntime) -> Result<(), Fail> {
         b"n.adb",
         b"procedure N (X : Integer) is begin null; end N;",
     )?;
-    let wanted: [(&'static [u8], usize, usize, u16); 3] = [
+    let wanted: [(&'static [u8], u32, u32, u16); 3] = [
         (b"m.ads", 1, 1, 700),
         (b"n.adb", 1, 1, 700),
         (b"p.ads", 1, 1, 700),
@@ -191,7 +191,7 @@ fn dependents_of_faulty_units_are_not_checked(rt: HostRuntime) -> Result<(), Fai
         b"with D; procedure E is begin null; end E;",
     )?;
     let compiled = compile(alloc, &files, b"c")?;
-    let wanted: [(&'static [u8], usize, usize, u16); 3] = [
+    let wanted: [(&'static [u8], u32, u32, u16); 3] = [
         (b"a-b.ads", 1, 17, 201),
         (b"d.ads", 1, 7, 1),
         (b"e.adb", 1, 1, 208),

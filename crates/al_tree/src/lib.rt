@@ -3,6 +3,7 @@
 
 mod declaration;
 mod expression;
+mod identifier_name;
 mod names;
 mod spelling;
 mod statement;
@@ -21,6 +22,7 @@ pub use expression::{
     MultiplyingOperator, NamePart, ObjectName, Parentheses, Primary, Relation, RelationalOperator,
     Sign, SimpleExpression, Term,
 };
+pub use identifier_name::IdentifierName;
 pub use names::{
     CompoundName, CompoundNames, Identifier, Identifiers, NumericLiteral, StringLiteral,
 };

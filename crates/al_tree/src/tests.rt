@@ -11,10 +11,10 @@ ghost use Rattle.al_tree.specs.Lexemes.{identifier_label, place_label};
 ghost use Rattle.al_tree.specs.StatementViews.{statement_seen};
 
 use crate::{
-    Factor, Identifier, NumericLiteral, ObjectName, Pragma, Primary, Sign, SimpleExpression,
+    Factor, Identifier, IdentifierName, NumericLiteral, ObjectName, Pragma, Primary, Sign, SimpleExpression,
     Statement, StringLiteral, Symbol, Term, is_symbol, symbol_of, text_of,
 };
-use al_base::{Name, NoMemory, Place, ReservedWord, Span};
+use al_base::{NoMemory, Place, ReservedWord, Span};
 use al_lex::{Delimiter, Kind, Token};
 use std::alloc::Global;
 use std::test::Fail;
@@ -102,7 +102,7 @@ fn tells_texts(rt: HostRuntime) -> Result<(), Fail> {
 
 fn identifier(alloc: Global, name: &[u8]) -> Result<Identifier, NoMemory> {
     Ok(Identifier {
-        name: Name::from_slice(alloc, name)?,
+        name: IdentifierName::of_spelling(alloc, name)?,
         place: PLACE,
     })
 }

@@ -9,7 +9,7 @@ use std::test::Fail;
 pub(crate) type Text = (&'static [u8], &'static [u8]);
 
 /// A file, a line, a column and a number.
-pub(crate) type Fault = (&'static [u8], usize, usize, u16);
+pub(crate) type Fault = (&'static [u8], u32, u32, u16);
 
 fn put(alloc: Global, files: &mut Files, name: &[u8], text: &[u8]) -> Result<(), Refusal> {
     let Ok(text) = Vec::from_slice(alloc, text) else {
