@@ -18,9 +18,10 @@ pub use declaration::{
     TaskDeclaration, TypeDeclaration, TypeDefinition, UseClause,
 };
 pub use expression::{
-    AddedTerm, AddingOperator, Expression, Factor, LogicalOperator, MultipliedFactor,
-    MultiplyingOperator, NamePart, ObjectName, Parentheses, Primary, Relation, RelationalOperator,
-    Sign, SimpleExpression, Term,
+    AddedTerm, AddingOperator, Comparison, Expression, Factor, LogicalOperator, LogicalRelations,
+    LongName, MarkMembership, MultipliedFactor, MultiplyingOperator, NamePart, ObjectName,
+    Parentheses, Power, Primary, Product, QualifiedExpression, RangeMembership, Relation,
+    RelationalOperator, Sign, SignedTerm, SimpleExpression, Sum, Term,
 };
 pub use identifier_name::IdentifierName;
 pub use names::{

@@ -1,5 +1,5 @@
 // Worked values, and trees made by hand with their lexemes.
-ghost use Rattle.std.specs.Prelude.{◌≡◌, ◌∷◌, []};
+ghost use Rattle.std.specs.Prelude.{◌≡◌, ◌∷◌, [], IfOk};
 ghost use Rattle.al_syntax.specs.DeclarationTrees.{pragma_tokens};
 ghost use Rattle.al_syntax.specs.ExpressionTrees.{simple_tokens, term_tokens};
 ghost use Rattle.al_syntax.specs.StatementTrees.{statement_tokens};
@@ -11,17 +11,18 @@ ghost use Rattle.al_tree.specs.Lexemes.{identifier_label, place_label};
 ghost use Rattle.al_tree.specs.StatementViews.{statement_seen};
 
 use crate::{
-    Factor, Identifier, IdentifierName, NumericLiteral, ObjectName, Pragma, Primary, Sign, SimpleExpression,
-    Statement, StringLiteral, Symbol, Term, is_symbol, symbol_of, text_of,
+    Factor, Identifier, IdentifierName, NumericLiteral, ObjectName, Pragma, Primary, Sign,
+    SignedTerm, SimpleExpression, Statement, StringLiteral, Symbol, Term, is_symbol, symbol_of,
+    text_of,
 };
 use al_base::{NoMemory, Place, ReservedWord, Span};
 use al_lex::{Delimiter, Kind, Token};
-use std::alloc::Global;
+use std::alloc::{AllocFailed, Global};
 use std::test::Fail;
 
 const PLACE: Place = Place { line: 1, col: 1 };
 
-fn token(kind: Kind, start: usize, len: usize) -> Token
+fn token(kind: Kind, start: u32, len: u32) -> Token
     ensures { result.kind ≡ kind }
 {
     Token {
@@ -34,19 +35,23 @@ fn token(kind: Kind, start: usize, len: usize) -> Token
     }
 }
 
-fn named(alloc: Global, name: Identifier) -> Term
+fn named(name: Identifier) -> Term
     ensures { term_tokens (term_seen result) ≡ labelled symbols.Identifier (identifier_label name) ∷ [] }
 {
-    let name = ObjectName::new(name, Vec::new(alloc));
-    Term::new(Factor::sole_primary(Primary::named(name)), Vec::new(alloc))
+    let name = ObjectName::direct(name);
+    Term::sole_factor(Factor::sole_primary(Primary::named(name)))
 }
 
 /// `- name`
-fn negated(alloc: Global, place: Place, name: Identifier) -> SimpleExpression
-    ensures { simple_tokens (simple_seen result) ≡ labelled symbols.Minus (place_label place) ∷ labelled symbols.Identifier (identifier_label name) ∷ [] }
+fn negated(
+    alloc: Global,
+    place: Place,
+    name: Identifier,
+) -> Result<SimpleExpression, AllocFailed<SignedTerm>>
+    ensures { IfOk result (λ s. simple_tokens (simple_seen s) ≡ labelled symbols.Minus (place_label place) ∷ labelled symbols.Identifier (identifier_label name) ∷ []) }
 {
-    let first = named(alloc, name);
-    SimpleExpression::new(Some(Sign::Minus(place)), first, Vec::new(alloc))
+    let term = SignedTerm::new(Sign::Minus(place), named(name));
+    Ok(SimpleExpression::signed(Box::new(alloc, term)?))
 }
 
 /// `exit name;`
@@ -110,8 +115,11 @@ fn identifier(alloc: Global, name: &[u8]) -> Result<Identifier, NoMemory> {
 #[test]
 fn makes_trees(rt: HostRuntime) -> Result<(), Fail> {
     let alloc = rt.alloc();
-    let negative = negated(alloc, PLACE, identifier(alloc, b"max")?);
-    assert_eq!(rt; negative.sign, Some(Sign::Minus(PLACE)));
+    let Ok(SimpleExpression::Signed(negative)) = negated(alloc, PLACE, identifier(alloc, b"max")?)
+    else {
+        return Err(Fail::from("no sign"));
+    };
+    assert_eq!(rt; negative.sign, Sign::Minus(PLACE));
     let leaving = exit(PLACE, identifier(alloc, b"outer")?);
     assert!(rt; matches!(leaving, Statement::Exit(_, Some(_), None)));
     let page = pragma(identifier(alloc, b"page")?);
