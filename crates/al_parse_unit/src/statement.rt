@@ -25,12 +25,12 @@ use crate::start::is_expression_next;
 use al_base::Place;
 use al_lex::Token;
 use al_parse_expr::{
-    Stop, append, compound_name, discrete_range, expect, expression, is_next, name_rest,
+    Stop, append, boxed, compound_name, discrete_range, expect, expression, is_next, name_rest,
     read_or_drop, skip, word_at,
 };
 use al_tree::{
-    Choice, CompoundEnd, CompoundName, Expression, Identifier, Item, LoopEnd, ObjectName,
-    Specification, Statement, Symbol,
+    Assignment, Choice, CompoundEnd, CompoundName, DelayStatement, ExitStatement, Expression,
+    Identifier, Item, LoopEnd, ObjectName, ReturnStatement, Specification, Statement, Symbol,
 };
 use std::alloc::Global;
 
@@ -50,7 +50,11 @@ pub(crate) fn call_or_assignment<'a>(
     let name = ObjectName::new(first, parts);
     match value {
         None => Ok((Statement::call(name), rest)),
-        Some(value) => Ok((Statement::assignment(name, value), rest)),
+        Some(value) => {
+            let target = name;
+            let statement = boxed(alloc, Assignment { target, value })?;
+            Ok((Statement::assignment(statement), rest))
+        }
     }
 }
 
@@ -83,7 +87,8 @@ pub(crate) fn return_statement<'a>(
     let (opening, rest) = word_at(source, tokens, Symbol::Return)?;
     let (value, rest) = returned(alloc, source, depth, rest)?;
     let rest = read_or_drop!(expect(source, rest, Symbol::Semicolon), value);
-    Ok((Statement::returning(opening, value), rest))
+    let statement = boxed(alloc, ReturnStatement { opening, value })?;
+    Ok((Statement::returning(statement), rest))
 }
 
 /// `[when condition]`
@@ -118,7 +123,12 @@ pub(crate) fn exit_statement<'a>(
     let (name, rest) = end_name(alloc, source, rest)?;
     let (condition, rest) = exit_condition(alloc, source, depth, rest)?;
     let rest = read_or_drop!(expect(source, rest, Symbol::Semicolon), condition);
-    Ok((Statement::exit(opening, name, condition), rest))
+    let statement = ExitStatement {
+        opening,
+        name,
+        condition,
+    };
+    Ok((Statement::exit(boxed(alloc, statement)?), rest))
 }
 
 /// ARM 9.6
@@ -135,7 +145,8 @@ pub(crate) fn delay_statement<'a>(
     let rest = expect(source, rest, Symbol::Until)?;
     let (moment, rest) = expression(alloc, source, depth, rest)?;
     let rest = read_or_drop!(expect(source, rest, Symbol::Semicolon), moment);
-    Ok((Statement::delay(opening, moment), rest))
+    let statement = boxed(alloc, DelayStatement { opening, moment })?;
+    Ok((Statement::delay(statement), rest))
 }
 
 /// A choice of a case statement.

@@ -29,9 +29,9 @@ pub use names::{
 };
 pub use spelling::{literals_are_unquoted, text_of, unquoted, value_of};
 pub use statement::{
-    Alternative, BlockStatement, Branch, CaseStatement, Choice, CompoundEnd, DeclaredStatements,
-    ElsifBranch, IfStatement, Item, LoopEnd, LoopStatement, NamedEnd, OperationBody, Statement,
-    Statements, SubprogramBody,
+    Alternative, Assignment, BlockStatement, Branch, CaseStatement, Choice, CompoundEnd,
+    DeclaredStatements, DelayStatement, ElsifBranch, ExitStatement, IfStatement, Item, LoopEnd,
+    LoopStatement, NamedEnd, OperationBody, ReturnStatement, Statement, Statements, SubprogramBody,
 };
 pub use symbol::{Symbol, is_symbol, symbol_of};
 pub use unit::{

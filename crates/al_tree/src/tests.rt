@@ -1,6 +1,6 @@
 // Worked values, and trees made by hand with their lexemes.
-ghost use Rattle.std.specs.Prelude.{◌≡◌, ◌∷◌, [], IfOk};
-ghost use Rattle.al_syntax.specs.DeclarationTrees.{pragma_tokens};
+ghost use Rattle.std.specs.Prelude.{◌≡◌, ◌∷◌, ◌++◌, [], None, IfOk, option_map};
+ghost use Rattle.al_syntax.specs.DeclarationTrees.{end_name_tokens, pragma_tokens};
 ghost use Rattle.al_syntax.specs.ExpressionTrees.{simple_tokens, term_tokens};
 ghost use Rattle.al_syntax.specs.StatementTrees.{statement_tokens};
 ghost use Rattle.al_syntax.specs.Symbols.{Symbol as symbols};
@@ -11,9 +11,9 @@ ghost use Rattle.al_tree.specs.Lexemes.{identifier_label, place_label};
 ghost use Rattle.al_tree.specs.StatementViews.{statement_seen};
 
 use crate::{
-    Factor, Identifier, IdentifierName, NumericLiteral, ObjectName, Pragma, Primary, Sign,
-    SignedTerm, SimpleExpression, Statement, StringLiteral, Symbol, Term, is_symbol, symbol_of,
-    text_of,
+    ExitStatement, Factor, Identifier, IdentifierName, NumericLiteral, ObjectName, Pragma, Primary,
+    Sign, SignedTerm, SimpleExpression, Statement, StringLiteral, Symbol, Term, is_symbol,
+    symbol_of, text_of,
 };
 use al_base::{NoMemory, Place, ReservedWord, Span};
 use al_lex::{Delimiter, Kind, Token};
@@ -55,10 +55,11 @@ fn negated(
 }
 
 /// `exit name;`
-fn exit(place: Place, name: Identifier) -> Statement
-    ensures { statement_tokens (statement_seen result) ≡ labelled symbols.Exit (place_label place) ∷ labelled symbols.Identifier (identifier_label name) ∷ word symbols.Semicolon ∷ [] }
+fn exit(statement: Box<ExitStatement>) -> Statement
+    requires { statement.value.condition ≡ None }
+    ensures { statement_tokens (statement_seen result) ≡ labelled symbols.Exit (place_label statement.value.opening) ∷ (end_name_tokens (option_map identifier_label statement.value.name) ++ word symbols.Semicolon ∷ []) }
 {
-    Statement::exit(place, Some(name), None)
+    Statement::exit(statement)
 }
 
 /// `pragma name;`
@@ -120,8 +121,13 @@ fn makes_trees(rt: HostRuntime) -> Result<(), Fail> {
         return Err(Fail::from("no sign"));
     };
     assert_eq!(rt; negative.sign, Sign::Minus(PLACE));
-    let leaving = exit(PLACE, identifier(alloc, b"outer")?);
-    assert!(rt; matches!(leaving, Statement::Exit(_, Some(_), None)));
+    let outer = ExitStatement {
+        opening: PLACE,
+        name: Some(identifier(alloc, b"outer")?),
+        condition: None,
+    };
+    let leaving = exit(Box::new(alloc, outer)?);
+    assert!(rt; matches!(leaving, Statement::Exit(statement) if statement.name.is_some()));
     let page = pragma(identifier(alloc, b"page")?);
     assert!(rt; page.arguments.is_none());
     Ok(())
