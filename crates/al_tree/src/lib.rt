@@ -38,6 +38,3 @@ pub use unit::{
     CompilationUnit, ContextItem, LibraryItem, PackageBody, PackageDeclaration, PackageStatements,
     PrivatePart,
 };
-
-#[cfg(test)]
-mod tests;

@@ -10,7 +10,7 @@ ghost use Rattle.al_tree.specs.ExpressionViews.{simple_seen, term_seen};
 ghost use Rattle.al_tree.specs.Lexemes.{identifier_label, place_label};
 ghost use Rattle.al_tree.specs.StatementViews.{statement_seen};
 
-use crate::{
+use al_tree::{
     ExitStatement, Factor, Identifier, IdentifierName, NumericLiteral, ObjectName, Pragma, Primary,
     Sign, SignedTerm, SimpleExpression, Statement, StringLiteral, Symbol, Term, is_symbol,
     symbol_of, text_of,
@@ -87,7 +87,7 @@ fn tells_symbols(rt: HostRuntime) {
 }
 
 #[test]
-#[tactic(auto, unfolding(crate::specs::Symbols::symbol_of))]
+#[tactic(auto, unfolding(al_tree::specs::Symbols::symbol_of))]
 fn tells_texts(rt: HostRuntime) -> Result<(), Fail> {
     let alloc = rt.alloc();
     let source = b"Max := 16#fF# & \"\"\"\"";
