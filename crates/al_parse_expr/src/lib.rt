@@ -15,7 +15,7 @@ mod step;
 mod stop;
 
 pub use bounds::{discrete_range, range};
-pub use descent::{expression, name_rest, simple_expression};
+pub use descent::{expression, name_from, simple_expression};
 pub use keep::{append, boxed};
 pub use list::{compound_name, compound_names, identifiers};
 pub use step::{
