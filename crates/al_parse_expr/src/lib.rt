@@ -22,6 +22,3 @@ pub use step::{
     enter, enter_at, expect, identifier, is_next, number, skip, skip_at, string, word_at,
 };
 pub use stop::Stop;
-
-#[cfg(test)]
-mod tests;

@@ -1,4 +1,4 @@
-use crate::{Stop, expression, identifier, name_from};
+use al_parse_expr::{Stop, expression, identifier, name_from};
 use al_lex::{Token, lex};
 use al_tree::{
     AddingOperator, Expression, Factor, LogicalOperator, NamePart, ObjectName, Primary, Relation,
