@@ -49,9 +49,11 @@ pub(crate) fn call_or_assignment<'a>(
     match value {
         None => Ok((Statement::call(name), rest)),
         Some(value) => {
-            let target = name;
-            let statement = boxed(alloc, Assignment { target, value })?;
-            Ok((Statement::assignment(statement), rest))
+            let statement = Assignment {
+                target: name,
+                value,
+            };
+            Ok((Statement::assignment(boxed(alloc, statement)?), rest))
         }
     }
 }
