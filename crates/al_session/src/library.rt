@@ -43,7 +43,7 @@ impl Library {
 
     /// The files as they are, with what they are read as: of the last build where it had the text, and else read.
     fn catalog(&self) -> Result<Catalog, NoMemory>
-        ensures { IfOk result (λ catalog. catalog ≡ self.now.now) }
+        ensures { IfOk result (λ catalog. catalog ≡ self.entry.now.now) }
     {
         match &self.last {
             Some(last) => Catalog::after(self.alloc, &self.now, &last.catalog),

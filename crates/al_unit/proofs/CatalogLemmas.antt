@@ -109,10 +109,10 @@ module _ {A : Type 0} (seen : A → AnyReading) (lib : Library) (readings : List
   reading_of_source None is = tt
   reading_of_source (Some r) is =
       of_its_text
-        (text_of (texts_of lib) file)
-        (sym (found ∙ ap (λ l. source_at l file) is_library ∙ source_of_file file (texts_of lib)))
-        r
-        (sym (is ∙ ap (lookup (is_at (name_cmp file))) are_readings ∙ reading_of_file (texts_of lib) file))
+      (text_of (texts_of lib) file)
+      (sym (found ∙ ap (λ l. source_at l file) is_library ∙ source_of_file file (texts_of lib)))
+      r
+      (sym (is ∙ ap (lookup (is_at (name_cmp file))) are_readings ∙ reading_of_file (texts_of lib) file))
 
 pub names_of-library_of : (files : Texts) → keys_of (library_of files) ≡ keys_of files
 unfolding library_of

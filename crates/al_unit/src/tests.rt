@@ -160,15 +160,15 @@ fn catalog_after_changes_is_one_made_anew(rt: HostRuntime) -> Result<(), Fail> {
         let sound = [false, false, true];
         assert_eq!(rt; units.len(), 3);
         assert!(rt;
-            units.iter().zip(sound).all(|(unit, is_sound)| unit.1.is_some() == is_sound)
+            units
+                .iter()
+                .zip(sound)
+                .all(|(unit, is_sound)| unit.1.is_some() == is_sound)
         );
         assert!(rt;
             matches!(
                 catalog.reading(b"a~b.ads"),
-                Some(Reading::Fails(
-                    Place { line: 1, col: 28 },
-                    101
-                ))
+                Some(Reading::Fails(Place { line: 1, col: 28 }, 101))
             )
         );
     }

@@ -12,4 +12,4 @@ returns c =
     let equal : bytes_eq c.as_slice.result.now c.args.text.now ≡ true = grind arith in
     let same : c.in_ok-source.source.now.text.value.items ≡ c.args.text.now = sym (c.as_slice.ensures.value ∙ ap (λ v. v.items) c.deref.ensures) ∙ (bytes_eq-Decides c.as_slice.result.now c.args.text.now).0 equal in
     subst (λ t. IfSome c.reading_at.result (λ r. reading_seen r.now.value ≡ reading_of t)) same
-      (reading_of_source (λ r. reading_seen r.now.value) c.self.inside.sources (readings_seen c.self.inside.readings.entries) c.args.file.now c.self.invariant.is_library c.self.invariant.are_readings (source_seen c.in_ok-source.source.now) c.in_ok-source.ensures c.reading_at.result c.reading_at.ensures)
+    (reading_of_source (λ r. reading_seen r.now.value) c.self.inside.sources (readings_seen c.self.inside.readings.entries) c.args.file.now c.self.invariant.is_library c.self.invariant.are_readings (source_seen c.in_ok-source.source.now) c.in_ok-source.ensures c.reading_at.result c.reading_at.ensures)
