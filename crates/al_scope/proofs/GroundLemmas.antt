@@ -9,11 +9,11 @@ use Rattle.al_scope.specs.declared.region.Region.{Region}
 use Rattle.al_scope.specs.Grounds.{AllKnown, StaysGrounded}
 use Rattle.al_scope.specs.Places.{part_units, region_units}
 
-known-left : (ks us vs : List UnitKey) → AllKnown ks (us ++ vs) → AllKnown ks us
+pub known-left : (ks us vs : List UnitKey) → AllKnown ks (us ++ vs) → AllKnown ks us
 known-left ks [] vs h = tt
 known-left ks (u ∷ us) vs h = (h.0, known-left ks us vs h.1)
 
-known-right : (ks us vs : List UnitKey) → AllKnown ks (us ++ vs) → AllKnown ks vs
+pub known-right : (ks us vs : List UnitKey) → AllKnown ks (us ++ vs) → AllKnown ks vs
 known-right ks [] vs h = h
 known-right ks (u ∷ us) vs h = known-right ks us vs h.1
 

@@ -1,6 +1,7 @@
 pub mod DecideLemmas
 pub mod DeclareLemmas
 pub mod DistinctLemmas
+pub mod ExpandedLemmas
 pub mod GroundLemmas
 pub mod HidingLemmas
 pub mod NameLemmas

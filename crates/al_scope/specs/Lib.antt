@@ -1,3 +1,4 @@
+pub mod Expanded
 pub mod Grounds
 pub mod NameSets
 pub mod Places

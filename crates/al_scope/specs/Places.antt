@@ -1,11 +1,12 @@
 -- A place: the list of the regions round it, outermost first, and the library units that are mentioned there.
-use Rattle.std.specs.Prelude.{map, flat_map, ℕ, List, [], ◌∷◌, ◌++◌, Bool, ◌&&◌, codes, if◌then◌else◌}
+use Rattle.std.specs.Prelude.{map, flat_map, ℕ, List, [], ◌∷◌, ◌++◌, Bool, ◌&&◌, Some, None, codes, if◌then◌else◌}
 use Rattle.std.specs.Str.{bytes_eq}
 use Rattle.std.specs.BTreeSet.{insert_key}
 use Rattle.al_base.specs.Files.{name_cmp}
 use Rattle.al_base.specs.declared.unit_key.UnitKind.TheVariants.{Decl}
 use Rattle.al_base.specs.declared.unit_key.UnitKey.{UnitKey}
 use Rattle.al_view.specs.declared.part.Part.TheVariants as part
+use Rattle.al_view.specs.declared.symbol.Symbol.{Symbol}
 use Rattle.al_view.specs.declared.view.ViewKind.{ViewKind}
 use Rattle.al_view.specs.Interfaces.{views_of, with_view}
 use Rattle.al_view.specs.Named.{Declarations}
@@ -58,7 +59,11 @@ place_units place = region_units place.regions ++ package_units (uses_at place.r
 
 -- a region that is entered: nothing is declared in it, and the use clauses round it hold in it too (ARM 8.4(6))
 abbrev pub entered : List UnitPart → List Region → Region
-entered parts regions = record { parts = parts; declared = []; begun = []; uses = uses_at regions }
+entered parts regions = record { construct = None; parts = parts; declared = []; begun = []; uses = uses_at regions }
+
+-- the same, of a subprogram, task, protected object or entry
+abbrev pub entered_construct : Symbol → List UnitPart → List Region → Region
+entered_construct s parts regions = record (entered parts regions) { construct = Some s }
 
 -- a place whose innermost region is changed
 abbrev pub in_last : (Region → Region) → List Region → List Region

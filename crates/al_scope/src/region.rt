@@ -1,5 +1,6 @@
 // A region: what is declared in it so far, what is begun, and what its use clauses name.
-ghost use Rattle.std.specs.Prelude.{◌≡◌, [], is_ok, if◌then◌else◌};
+ghost use Rattle.std.specs.Prelude.{◌≡◌, [], None, is_ok, if◌then◌else◌};
+ghost use Rattle.al_scope.specs.Expanded.{is_region_of};
 ghost use Rattle.al_scope.specs.Places.{with_begun, with_declared, with_uses};
 ghost use Rattle.al_scope.specs.UseClauses.{with_package, with_type};
 
@@ -19,6 +20,9 @@ pub struct UnitPart {
 /// A declarative region up to a place in it (ARM 8.1).
 #[derive(Drop)]
 pub struct Region {
+    /// The subprogram, task, protected object or entry whose region it is; none of a block, a loop, a record or a
+    /// package's part.
+    pub construct: Option<Symbol>,
     /// The parts of units that it continues.
     pub parts: Row<UnitPart>,
     /// What is declared in it so far.
@@ -30,15 +34,27 @@ pub struct Region {
 }
 
 impl Region {
-    /// The region that continues these parts, with nothing of its own yet but these use clauses. It takes no memory.
+    /// The region that continues these parts, of no construct, with nothing of its own yet but these use clauses. It
+    /// takes no memory.
     pub fn new(alloc: Global, parts: Row<UnitPart>, uses: UseClauses) -> Self
-        ensures { result ≡ (record { parts = parts; declared = []; begun = []; uses = uses }) }
+        ensures { result ≡ (record { construct = None; parts = parts; declared = []; begun = []; uses = uses }) }
     {
         Region {
+            construct: None,
             parts,
             declared: Interface::new(alloc),
             begun: NameSet::new(alloc),
             uses,
+        }
+    }
+
+    /// Whether it is the region of that subprogram, task, protected object or entry.
+    pub fn is_of(&self, construct: &Symbol) -> bool
+        ensures { result ≡ is_region_of construct.now self.now }
+    {
+        match &self.construct {
+            Some(own) => construct.is(own),
+            None => false,
         }
     }
 

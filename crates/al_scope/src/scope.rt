@@ -1,12 +1,14 @@
 // The regions round a place, and what they make visible.
 ghost use Rattle.std.specs.Prelude.{◌≡◌, ◌<◌, List, [], ◌∷◌, ◌++◌, ◌↔◌, IfOk, OnErr, OnOk, IsTrue, map, length, not, is_ok, if◌then◌else◌};
+ghost use Rattle.std.specs.Option.{option_copied};
 ghost use Rattle.al_view.specs.declared.view.ViewKind.{ViewKind};
 ghost use Rattle.al_query.specs.declared.query.Query.{Query};
 ghost use Rattle.al_query.specs.declared.answer.AnswerKind.{AnswerKind};
 ghost use Rattle.al_query.specs.Reads.{Agrees};
 ghost use Rattle.al_scope.specs.declared.region.Region.{Region};
+ghost use Rattle.al_scope.specs.Expanded.{IsSelected, region_of, within};
 ghost use Rattle.al_scope.specs.Grounds.{StaysGrounded};
-ghost use Rattle.al_scope.specs.Places.{entered, in_last, part_units, place_units, region_units, uses_at, visible_part, with_begun, with_declared, with_mentioned, with_uses};
+ghost use Rattle.al_scope.specs.Places.{entered, entered_construct, in_last, part_units, place_units, region_units, uses_at, visible_part, with_begun, with_declared, with_mentioned, with_uses};
 ghost use Rattle.al_scope.specs.UseClauses.{EachOnce, package_unit, package_units, with_package, with_type};
 ghost use Rattle.al_scope.specs.Visible.{declared_by, found_in, has_homograph_in, potential, use_visible, visible_at};
 ghost use Rattle.al_scope.specs.VisibleSet.{AreApart, DeclareOnce, Has, IsVisible, KeepsOnce, Once, StaysOnce};
@@ -117,6 +119,13 @@ fn uses_of(alloc: Global, regions: &[Region]) -> Result<UseClauses, NoMemory>
     }
 }
 
+/// The outermost region of that subprogram, task, protected object or entry.
+fn region_of<'a>(regions: &'a [Region], construct: &Symbol) -> Option<&'a Region>
+    ensures { option_copied result ≡ region_of construct.now regions.now }
+{
+    regions.iter().find(|region| region.is_of(construct))
+}
+
 /// The regions round a place, outermost first, and the library units that are mentioned there.
 #[derive(Drop)]
 pub struct Scope {
@@ -165,14 +174,39 @@ impl Scope {
         Ok(())
     }
 
+    /// A region that continues these parts, in which the use clauses round it hold.
+    fn inner_region(&self, parts: Row<UnitPart>) -> Result<Region, NoMemory>
+        ensures { IfOk result (λ region. region ≡ entered parts self.now.regions) }
+    {
+        let uses = uses_of(self.alloc, self.regions.as_slice())?;
+        let region = Region::new(self.alloc, parts, uses);
+        Ok(region)
+    }
+
     /// Enters a region that continues these parts of units (ARM 8.1). The use clauses round it hold in it.
     pub fn enter(&mut self, parts: Row<UnitPart>) -> Result<(), NoMemory>
         ensures ok { OnOk result (self.new.regions ≡ self.old.regions ++ entered parts self.old.regions ∷ []) }
         ensures err { OnErr result (self.new.regions ≡ self.old.regions) }
         ensures mentioned { self.new.mentioned ≡ self.old.mentioned }
     {
-        let uses = uses_of(self.alloc, self.regions.as_slice())?;
-        let region = Region::new(self.alloc, parts, uses);
+        let region = self.inner_region(parts)?;
+        self.regions.push(region)?;
+        Ok(())
+    }
+
+    /// Enters the region of a subprogram, task, protected object or entry, which may then be the prefix of an expanded
+    /// name (ARM 4.1.3(4, 13)). Blocks and loops are entered by `enter`, also those that have names (a choice).
+    pub fn enter_construct(
+        &mut self,
+        construct: Symbol,
+        parts: Row<UnitPart>,
+    ) -> Result<(), NoMemory>
+        ensures ok { OnOk result (self.new.regions ≡ self.old.regions ++ entered_construct construct parts self.old.regions ∷ []) }
+        ensures err { OnErr result (self.new.regions ≡ self.old.regions) }
+        ensures mentioned { self.new.mentioned ≡ self.old.mentioned }
+    {
+        let mut region = self.inner_region(parts)?;
+        region.construct = Some(construct);
         self.regions.push(region)?;
         Ok(())
     }
@@ -284,6 +318,29 @@ impl Scope {
             recorder,
         )?;
         Ok(views)
+    }
+
+    /// What is visible by selection of a name in a construct that encloses the place (ARM 4.1.3(4, 13), 8.3(8)): what
+    /// the parts that its region continues declare, and what is declared in it so far. None where the construct doesn't
+    /// enclose the place, so that it is no prefix of an expanded name.
+    pub fn selected_within<A: Answers>(
+        &self,
+        construct: &Symbol,
+        name: &[u8],
+        recorder: &mut Recorder<A>,
+    ) -> Result<Option<Views>, NoMemory>
+        ensures asked { recorder.new.asked ≡ recorder.old.asked }
+        ensures told { IfOk result (λ views. (t : Query → AnswerKind) → Agrees t recorder.new.log → Agrees t recorder.old.log × (views ≡ within t self.now.mentioned name.now construct.now self.now.regions)) }
+        ensures grounded { IfOk result (λ _. StaysGrounded (region_units self.now.regions) recorder.old.log recorder.new.log) }
+        ensures selected { IfOk result (λ views. (t : Query → AnswerKind) → Agrees t recorder.new.log → IsSelected t self.now.mentioned name.now construct.now self.now.regions views) }
+    {
+        match region_of(self.regions.as_slice(), construct) {
+            Some(region) => {
+                let found = find(self.alloc, &self.mentioned, region, name, recorder)?;
+                Ok(Some(found.views))
+            }
+            None => Ok(None),
+        }
     }
 
     /// What is visible of a name (ARM 8.3, 8.4): directly visible ones first, innermost region first, then use-visible

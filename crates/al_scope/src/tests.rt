@@ -129,13 +129,18 @@ fn operator(alloc: Global, package_name: &[u8]) -> Result<View, NoMemory> {
     Ok(view)
 }
 
-/// The package of that name.
-fn package_view(alloc: Global, name: &[u8]) -> Result<View, NoMemory> {
-    let symbol = Symbol {
+/// The library unit of that name.
+fn symbol_of(alloc: Global, name: &[u8]) -> Result<Symbol, NoMemory> {
+    Ok(Symbol {
         unit: unit(alloc, name)?,
         name: Name::from_slice(alloc, name)?,
         number: 0,
-    };
+    })
+}
+
+/// The package of that name.
+fn package_view(alloc: Global, name: &[u8]) -> Result<View, NoMemory> {
+    let symbol = symbol_of(alloc, name)?;
     let view = View::new(alloc, ViewKind::OfPackage(symbol))?;
     Ok(view)
 }
@@ -148,6 +153,8 @@ enum Step<'a> {
     Continue(&'a [u8]),
     /// Enters a region that continues its visible and private part.
     ContinueBoth(&'a [u8]),
+    /// Enters the region of that subprogram, which continues the visible part of the package of its name.
+    Construct(&'a [u8]),
     Leave,
     Start,
     /// Declares a number; 1 where it fits.
@@ -162,6 +169,8 @@ enum Step<'a> {
     See,
     /// What is selected in that package: a digit for each view.
     Select(&'a [u8]),
+    /// What is selected in that subprogram: a digit for each view, -1 where it doesn't enclose the place.
+    Within(&'a [u8]),
 }
 
 /// The words of the numbers and the positions of the literals as digits, 9 for each other view.
@@ -207,6 +216,9 @@ fn take(
         Step::Enter => scope.enter(Row::empty(alloc))?,
         Step::Continue(package_name) => scope.enter(continued(alloc, package_name)?)?,
         Step::ContinueBoth(package_name) => scope.enter(both_continued(alloc, package_name)?)?,
+        Step::Construct(name) => {
+            scope.enter_construct(symbol_of(alloc, name)?, continued(alloc, name)?)?;
+        }
         Step::Mention(unit_name) => scope.mention(unit_name, package_view(alloc, unit_name)?)?,
         Step::See => {
             let views = scope.visible(b"x", recorder)?;
@@ -215,6 +227,13 @@ fn take(
         Step::Select(package_name) => {
             let views = scope.selected(package_name, b"x", recorder)?;
             return Ok(digits(&views));
+        }
+        Step::Within(name) => {
+            let construct = symbol_of(alloc, name)?;
+            return match scope.selected_within(&construct, b"x", recorder)? {
+                Some(views) => Ok(digits(&views)),
+                None => Ok(-1),
+            };
         }
         _ => return take_within(alloc, scope, step, recorder),
     }
@@ -559,5 +578,85 @@ fn private_parts_and_standard_keep_names_out(rt: HostRuntime) -> Result<(), Fail
     ];
     let in_standard = x_of(alloc, b"standard")?;
     assert_eq!(rt; steps_about(alloc, in_standard, root.as_slice())?, 3);
+    Ok(())
+}
+
+#[test]
+fn enclosing_subprograms_are_prefixes(rt: HostRuntime) -> Result<(), Fail> {
+    let alloc = rt.alloc();
+    let steps = [
+        // M declares nothing: it is a prefix, with which X isn't found
+        (Step::Within(b"m"), -1),
+        (Step::Construct(b"m"), 0),
+        (Step::Within(b"m"), 0),
+        (Step::Number(3), 1),
+        (Step::Construct(b"s"), 0),
+        // S within it has no X until its declaration ends; that of M is selected all the while
+        (Step::Within(b"s"), 0),
+        (Step::Start, 0),
+        (Step::Within(b"s"), 0),
+        (Step::Within(b"m"), 3),
+        (Step::Number(4), 1),
+        (Step::Within(b"s"), 4),
+        (Step::Within(b"m"), 3),
+        // from a block within S the same is selected, whatever the block declares
+        (Step::Enter, 0),
+        (Step::Number(5), 1),
+        (Step::Within(b"s"), 4),
+        (Step::Within(b"m"), 3),
+        // what doesn't enclose the place is no prefix, as Q, which declares X too, and S once it is left
+        (Step::Within(b"q"), -1),
+        (Step::Leave, 0),
+        (Step::Leave, 0),
+        (Step::Within(b"s"), -1),
+        (Step::Within(b"m"), 3),
+    ];
+    assert_eq!(rt; steps_among_numbers(alloc, steps.as_slice())?, 21);
+    Ok(())
+}
+
+#[test]
+fn constructs_have_what_they_continue(rt: HostRuntime) -> Result<(), Fail> {
+    let alloc = rt.alloc();
+    let steps = [
+        // P's region continues a part that declares the literal 1 of X
+        (Step::Construct(b"p"), 0),
+        (Step::Literal(3), 1),
+        (Step::Enter, 0),
+        (Step::Literal(4), 1),
+        (Step::Within(b"p"), 13),
+        // a package that is entered is no such prefix
+        (Step::Continue(b"r"), 0),
+        (Step::Within(b"r"), -1),
+    ];
+    let of_p = literal(alloc, b"p", 1)?;
+    let of_q = number(alloc, 2)?;
+    assert_eq!(rt; steps_right(alloc, of_p, of_q, steps.as_slice())?, 7);
+    Ok(())
+}
+
+#[test]
+fn labels_declare_nothing(rt: HostRuntime) -> Result<(), Fail> {
+    let alloc = rt.alloc();
+    let steps = [
+        (Step::Enter, 0),
+        (Step::Number(3), 1),
+        // a loop with the name X: its region is entered, and X is not declared
+        (Step::Enter, 0),
+        (Step::See, 3),
+        // X can be declared in it, once as ever
+        (Step::Number(4), 1),
+        (Step::Number(5), 0),
+        (Step::See, 4),
+        (Step::Leave, 0),
+        (Step::See, 3),
+        // another one after it; and X can't be declared again round them
+        (Step::Enter, 0),
+        (Step::See, 3),
+        (Step::Leave, 0),
+        (Step::Number(6), 0),
+        (Step::See, 3),
+    ];
+    assert_eq!(rt; steps_among_numbers(alloc, steps.as_slice())?, 14);
     Ok(())
 }

@@ -1,4 +1,8 @@
 // What a unit's own text says.
+ghost use Rattle.std.specs.Prelude.{◌≡◌};
+ghost use Rattle.std.specs.List.{list_any};
+ghost use Rattle.std.specs.Str.{bytes_eq};
+
 use al_base::UnitKey;
 use al_query::UseClause;
 use al_scope::UnitPart;
@@ -19,4 +23,17 @@ pub struct OwnText {
     pub withs: Row<UnitKey>,
     /// The use clauses of its context clause, as resolved; at the start of a private part those of the visible part too.
     pub uses: Row<UseClause>,
+}
+
+impl OwnText {
+    /// Whether a pragma Elaborate or Elaborate_All of the context clause may name that unit, in lower case: one of its with
+    /// clauses names it (ARM 10.2.1). A unit that they mention as an ancestor alone is not enough (a choice).
+    pub fn may_elaborate(&self, unit_name: &[u8]) -> bool
+        ensures { result ≡ list_any (λ u. bytes_eq unit_name.now u.name) self.now.withs }
+    {
+        self.withs
+            .as_slice()
+            .iter()
+            .any(|unit| unit_name == unit.name.as_slice())
+    }
 }

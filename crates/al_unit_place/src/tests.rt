@@ -448,6 +448,23 @@ fn own_with_clauses_mention(rt: HostRuntime) -> Result<(), Fail> {
 }
 
 #[test]
+fn pragmas_elaborate_what_with_clauses_name(rt: HostRuntime) -> Result<(), Fail> {
+    let alloc = rt.alloc();
+    let mut own = own_text(alloc, b"m", UnitKind::Body)?;
+    assert_eq!(rt; own.may_elaborate(b"ab.c"), false);
+    own.withs = declarations(alloc, &[b"q", b"ab.c"])?;
+    // AB is mentioned, and so is the unit itself, but neither is named
+    let names = mentioned_in(alloc, no_answers(alloc)?, &own)?;
+    assert_eq!(rt; names.as_slice(), b"m q ab ab.c ".as_slice());
+    assert_eq!(rt; own.may_elaborate(b"ab.c"), true);
+    assert_eq!(rt; own.may_elaborate(b"q"), true);
+    assert_eq!(rt; own.may_elaborate(b"ab"), false);
+    assert_eq!(rt; own.may_elaborate(b"m"), false);
+    assert_eq!(rt; own.may_elaborate(b"ab.c.d"), false);
+    Ok(())
+}
+
+#[test]
 fn with_clauses_of_other_units_mention(rt: HostRuntime) -> Result<(), Fail> {
     let alloc = rt.alloc();
     let texts = [
