@@ -3,7 +3,7 @@ ghost use Rattle.al_grammar.specs.Grammar.{each, maybe};
 ghost use Rattle.al_grammar.specs.Grammar.Rule.{Many, Opt};
 ghost use Rattle.al_grammar.specs.Reading.{first};
 ghost use Rattle.al_parse_expr.specs.Parses.{Gives, reading};
-ghost use Rattle.al_syntax.specs.DeclarationTrees.{compound_tokens, specification_tokens};
+ghost use Rattle.al_syntax.specs.DeclarationTrees.{compound_tokens, initial_tokens, specification_tokens};
 ghost use Rattle.al_syntax.specs.Declarations.{initial_rule};
 ghost use Rattle.al_syntax.specs.ExpressionTrees.{expression_tokens};
 ghost use Rattle.al_syntax.specs.Expressions.{compound_name_rule, expression_rule, identifier_rule, name_rest_rule};
@@ -25,12 +25,12 @@ use crate::start::is_expression_next;
 use al_base::Place;
 use al_lex::Token;
 use al_parse_expr::{
-    Stop, append, compound_name, discrete_range, expect, expression, is_next, name_rest,
+    Stop, append, compound_name, discrete_range, expect, expression, is_next, name_from,
     read_or_drop, skip, word_at,
 };
 use al_tree::{
-    Choice, CompoundEnd, CompoundName, Expression, Identifier, Item, LoopEnd, ObjectName,
-    Specification, Statement, Symbol,
+    Choice, CompoundEnd, CompoundName, Expression, Identifier, Item, LoopEnd, Specification,
+    Statement, Symbol,
 };
 use std::alloc::Global;
 
@@ -44,14 +44,26 @@ pub(crate) fn call_or_assignment<'a>(
 ) -> Result<(Statement, &'a [Token]), Stop>
     ensures { Gives (λ x. statement_tokens (statement_seen x.0)) (λ x. lexemes source.now x.1.now) result (labelled symbols.Identifier (identifier_label first) ∷ lexemes source.now tokens.now) (reading depth (name_rest_rule ⨾ Opt initial_rule ⨾ the symbols.Semicolon) (lexemes source.now tokens.now)) }
 {
-    let (parts, rest) = name_rest(alloc, source, depth, tokens)?;
-    let (value, rest) = initial(alloc, source, depth, rest)?;
-    let rest = read_or_drop!(expect(source, rest, Symbol::Semicolon), value);
-    let name = ObjectName::new(first, parts);
+    let (name, rest) = name_from(alloc, source, depth, first, tokens)?;
+    let (value, rest) = read_or_drop!(assigned(alloc, source, depth, rest), name);
     match value {
         None => Ok((Statement::call(name), rest)),
         Some(value) => Ok((Statement::assignment(name, value), rest)),
     }
+}
+
+/// `[:= value];`
+fn assigned<'a>(
+    alloc: Global,
+    source: &[u8],
+    depth: u32,
+    tokens: &'a [Token],
+) -> Result<(Option<Expression>, &'a [Token]), Stop>
+    ensures { Gives (λ x. maybe initial_tokens (option_map expression_seen x.0) ++ word symbols.Semicolon ∷ []) (λ x. lexemes source.now x.1.now) result (lexemes source.now tokens.now) (reading depth (Opt initial_rule ⨾ the symbols.Semicolon) (lexemes source.now tokens.now)) }
+{
+    let (value, rest) = initial(alloc, source, depth, tokens)?;
+    let rest = read_or_drop!(expect(source, rest, Symbol::Semicolon), value);
+    Ok((value, rest))
 }
 
 /// `[value]`
