@@ -16,11 +16,7 @@ fn put(alloc: Global, files: &mut Files, name: &[u8], text: &[u8]) -> Result<(),
 }
 
 /// Expects just these findings, each as a file, a line, a column and a number.
-fn expect_faulty(
-    rt: &impl Abort,
-    compiled: &Compiled,
-    wanted: &[(&'static [u8], u32, u32, u16)],
-) {
+fn expect_faulty(rt: &impl Abort, compiled: &Compiled, wanted: &[(&'static [u8], u32, u32, u16)]) {
     let Compiled::Faulty(found) = compiled else {
         assert!(rt; false, "nothing is wrong");
         return;
