@@ -1,6 +1,7 @@
 -- What a structure is seen as, by its fields.
 use Rattle.std.proofs.Common.{◌≡◌, ◌<◌, ◌≤◌, if◌then◌else◌, Bool, true, false, List, [], ◌∷◌, length, map, Option, Some, None, codes, refl, sym, ap, ◌∙◌, arith, Vec, Global}
-use Rattle.std.specs.Option.{option_and_then}
+use Rattle.std.proofs.lemmas.Bool.{cond-true}
+use Rattle.std.specs.Option.{option_and_then, option_map}
 use Rattle.al_base.specs.declared.place.Place.{Place}
 use Rattle.al_grammar.specs.Grammar.{Label}
 use Rattle.al_syntax.specs.ExpressionTrees.{AddedTree, AddedTree as added_trees, ExpressionTree, NameTree as name_trees, PartTree as part_trees, Sign, SimpleTree as simple_trees, TermTree}
@@ -20,7 +21,7 @@ use Rattle.al_tree.specs.declared.expression.Expression.{Expression}
 use Rattle.al_tree.specs.declared.expression.NamePart.{NamePart}
 use Rattle.al_tree.specs.declared.expression.NamePart.TheVariants.{Arguments}
 use Rattle.al_tree.proofs.ExpressionsMade.{comparison_new_seen, logical_relations_new_seen, long_name_new_seen, mark_membership_new_seen, part_arguments_seen, power_new_seen, product_new_seen, qualified_new_seen, range_membership_new_seen, signed_term_new_seen, sum_new_seen}
-use Rattle.al_thin.specs.ThinTrees.{OperationTree, called, factor_literal, first_place, is_called, literal_of, operation_of, part_argument, primary_literal, relation_literal, simple_literal, sole_argument, term_literal, text_operation}
+use Rattle.al_thin.specs.ThinTrees.{called, factor_literal, first_place, is_called, library_call, literal_of, operation_of, part_argument, primary_literal, relation_literal, selected, selector, simple_literal, sole_argument, term_literal, text_operation}
 
 -- ---- what is more than a literal
 
@@ -82,12 +83,20 @@ long_fields n = ap long_name_seen (sym (roll-out-LongName n)) ∙ long_name_new_
 pub called_fields : (n : LongName) → called (long_name_seen n) ≡ called (name_trees.Name (identifier_label (out-LongName n).first) (parts_of (map part_seen ((out-LongName n).next ∷ (out-LongName n).others.items))))
 called_fields n = ap called (long_fields n)
 
-either_way : (b : Bool) → (if b then None {A = OperationTree} else None) ≡ None
-either_way true = refl
-either_way false = refl
+pub called_library : (n : LongName) (library : Label) (ps : List NamePart) → is_called (identifier_label (out-LongName n).first) (codes "ada") ≡ true → Some library ≡ selector (part_seen (out-LongName n).next) → ps ≡ (out-LongName n).others.items
+    → called (long_name_seen n) ≡ library_call (library, parts_of (map part_seen ps))
+called_library n library ps ada is same =
+    called_fields n
+    ∙ cond-true (is_called (identifier_label (out-LongName n).first) (codes "ada")) (option_and_then library_call (selected (parts_of (map part_seen ((out-LongName n).next ∷ (out-LongName n).others.items))))) None ada
+    ∙ ap (λ (l : Option Label). option_and_then library_call (option_map (λ m. (m, parts_of (map part_seen (out-LongName n).others.items))) l)) (sym is)
+    ∙ ap (λ (qs : List NamePart). library_call (library, parts_of (map part_seen qs))) (sym same)
+
+either_way : {X : Type 0} (b : Bool) (x : X) → (if b then x else x) ≡ x
+either_way true x = refl
+either_way false x = refl
 
 pub direct_is_no_call : (l : Label) → called (name_trees.Name l (parts_of [])) ≡ None
-direct_is_no_call l = either_way (is_called l (codes "ada"))
+direct_is_no_call l = either_way (is_called l (codes "ada")) None
 
 pub longer_place : (n : LongName) → first_place (long_name_seen n) ≡ (out-LongName n).first.place
 longer_place n = ap first_place (long_fields n)
