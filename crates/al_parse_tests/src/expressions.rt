@@ -1,5 +1,5 @@
-use al_parse_expr::{Stop, expression, identifier, name_from};
 use al_lex::{Token, lex};
+use al_parse_expr::{Stop, expression, identifier, name_from};
 use al_tree::{
     AddingOperator, Expression, Factor, LogicalOperator, NamePart, ObjectName, Primary, Relation,
     SimpleExpression, Term,

@@ -10,13 +10,13 @@ ghost use Rattle.al_tree.specs.ExpressionViews.{simple_seen, term_seen};
 ghost use Rattle.al_tree.specs.Lexemes.{identifier_label, place_label};
 ghost use Rattle.al_tree.specs.StatementViews.{statement_seen};
 
+use al_base::{NoMemory, Place, ReservedWord, Span};
+use al_lex::{Delimiter, Kind, Token};
 use al_tree::{
     ExitStatement, Factor, Identifier, IdentifierName, NumericLiteral, ObjectName, Pragma, Primary,
     Sign, SignedTerm, SimpleExpression, Statement, StringLiteral, Symbol, Term, is_symbol,
     symbol_of, text_of,
 };
-use al_base::{NoMemory, Place, ReservedWord, Span};
-use al_lex::{Delimiter, Kind, Token};
 use std::alloc::{AllocFailed, Global};
 use std::test::Fail;
 
