@@ -114,8 +114,10 @@ fn takes_names_apart(rt: HostRuntime) -> Result<(), Fail> {
     let Ok((first, rest)) = identifier(alloc, source, tokens.as_slice()) else {
         return Err(Fail::from("no identifier"));
     };
-    let Ok((ObjectName::Longer(name), rest)) = name_from(alloc, source, MOST_OPEN, first, rest)
-    else {
+    let Ok((name, rest)) = name_from(alloc, source, MOST_OPEN, first, rest) else {
+        return Err(Fail::from("no name"));
+    };
+    let ObjectName::Longer(name) = &name else {
         return Err(Fail::from("no parts"));
     };
     assert_eq!(rt; rest.len(), 2);

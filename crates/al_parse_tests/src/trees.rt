@@ -116,8 +116,8 @@ fn identifier(alloc: Global, name: &[u8]) -> Result<Identifier, NoMemory> {
 #[test]
 fn makes_trees(rt: HostRuntime) -> Result<(), Fail> {
     let alloc = rt.alloc();
-    let Ok(SimpleExpression::Signed(negative)) = negated(alloc, PLACE, identifier(alloc, b"max")?)
-    else {
+    let negative = negated(alloc, PLACE, identifier(alloc, b"max")?)?;
+    let SimpleExpression::Signed(negative) = &negative else {
         return Err(Fail::from("no sign"));
     };
     assert_eq!(rt; negative.sign, Sign::Minus(PLACE));
@@ -127,7 +127,7 @@ fn makes_trees(rt: HostRuntime) -> Result<(), Fail> {
         condition: None,
     };
     let leaving = exit(Box::new(alloc, outer)?);
-    assert!(rt; matches!(leaving, Statement::Exit(statement) if statement.name.is_some()));
+    assert!(rt; matches!(&leaving, Statement::Exit(statement) if statement.name.is_some()));
     let page = pragma(identifier(alloc, b"page")?);
     assert!(rt; page.arguments.is_none());
     Ok(())
