@@ -62,6 +62,8 @@ fn session<D: io::Read + Drop, R: Print>(
     let mut writer = Counted::new(BufWriter::new(alloc, io::writer(rt))?);
     let mut library = Library::new(alloc);
     let ended = serve(alloc, &mut reader, &mut writer, &mut library, tick);
+    // The system takes the memory back at the end of the process; to let go of each tree would take a tenth of a session's time.
+    std::mem::forget(library);
     let _ = writer.into_inner().into_parts();
     Ok(ExitCode::from(status_of(ended)))
 }

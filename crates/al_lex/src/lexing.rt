@@ -1,11 +1,14 @@
 // The tokens of a text.
-ghost use Rattle.std.specs.Prelude.{◌≡◌, ◌≤◌, ◌<◌, ◌+◌, ◌^◌, ◌++◌, [], length, Ok, IfOk, IfErr, OnOk};
+ghost use Rattle.std.specs.Prelude.{◌≡◌, ◌≤◌, ◌<◌, ◌+◌, ◌^◌, ◌++◌, [], length, Ok, IfOk, IfErr, OnOk, IfSome, IfNone};
 ghost use Rattle.al_lex.specs.Tokens.{FaultOf, behind, end_place_of, lexed, mark_len, with_token};
 
 use crate::pieces::front_piece;
 use crate::token::{LexError, LexFault, Piece, Sort, Token};
 use al_base::{Place, Span};
 use std::alloc::{AllocError, Global};
+
+/// The most bytes of a text whose places have room: all numbers of lines and columns are below 2^32.
+const MOST_BYTES: usize = 4_294_967_294;
 
 /// Where a text begins.
 const FIRST_PLACE: Place = Place { line: 1, col: 1 };
@@ -23,8 +26,8 @@ fn mark_len(text: &[u8]) -> usize
 
 /// The place behind a piece that stands at `place`.
 fn behind(place: Place, piece: Piece) -> Place
-    requires line { place.line + 1 < 2 ^ 64 }
-    requires column { place.col + piece.len < 2 ^ 64 }
+    requires line { place.line + 1 < 2 ^ 32 }
+    requires column { place.col + piece.len < 2 ^ 32 }
     ensures { result ≡ behind piece.sort piece.len place }
 {
     match piece.sort {
@@ -34,21 +37,22 @@ fn behind(place: Place, piece: Piece) -> Place
         },
         Sort::Gap | Sort::Lexeme(_) => Place {
             line: place.line,
-            col: place.col + piece.len,
+            col: place.col + piece.len as u32,
         },
     }
 }
 
 /// Adds the token, where the piece is a lexeme.
 fn note(tokens: &mut Vec<Token>, piece: Piece, start: usize, place: Place) -> Result<(), AllocError>
+    requires { start + piece.len < 2 ^ 32 }
     ensures { OnOk result (tokens.new.items ≡ tokens.old.items ++ with_token piece.sort start piece.len place []) }
 {
     if let Sort::Lexeme(kind) = piece.sort {
         tokens.push(Token {
             kind,
             span: Span {
-                start,
-                len: piece.len,
+                start: start as u32,
+                len: piece.len as u32,
                 place,
             },
         })?;
@@ -64,11 +68,14 @@ fn note(tokens: &mut Vec<Token>, piece: Piece, start: usize, place: Place) -> Re
 /// # Errors
 ///
 /// `Fault` names the first lexeme that is malformed, or the first byte that begins none; `NoMemory` that there was no
-/// room for the tokens.
+/// room for the tokens, or the text has more than 4,294,967,294 bytes, whose places have no room in a token.
 pub fn lex(alloc: Global, text: &[u8]) -> Result<Vec<Token>, LexError>
     ensures tokens { IfOk result (λ tokens. lexed text.now ≡ Ok tokens.items) }
     ensures fault { IfErr result (λ e. FaultOf e text.now) }
 {
+    if text.len() > MOST_BYTES {
+        return Err(LexError::NoMemory);
+    }
     let mut tokens = Vec::new(alloc);
     let mut place = FIRST_PLACE;
     let mut start = mark_len(text);
@@ -86,18 +93,22 @@ pub fn lex(alloc: Global, text: &[u8]) -> Result<Vec<Token>, LexError>
     Ok(tokens)
 }
 
-/// The place behind the last byte of a text, or of its first lexical fault.
-pub fn end_place(text: &[u8]) -> Place
-    ensures { result ≡ end_place_of text.now }
+/// The place behind the last byte of a text, or of its first lexical fault; none of a text of more than 4,294,967,294 bytes.
+pub fn end_place(text: &[u8]) -> Option<Place>
+    ensures place { IfSome result (λ place. place ≡ end_place_of text.now) }
+    ensures none { IfNone result (4294967294 < length text.now) }
 {
+    if text.len() > MOST_BYTES {
+        return None;
+    }
     let mut place = FIRST_PLACE;
     let (_, mut rest) = text.split_at(mark_len(text));
     while !rest.is_empty() {
         let Ok(piece) = front_piece(rest) else {
-            return place;
+            return Some(place);
         };
         place = behind(place, piece);
         (_, rest) = rest.split_at(piece.len);
     }
-    place
+    Some(place)
 }

@@ -1,13 +1,16 @@
 -- What the loops read can be told by the next lexeme.
-use Rattle.std.proofs.Common.{◌≡◌, true, false, refl}
-use Rattle.al_grammar.specs.Grammar.Rule.{Many}
-use Rattle.al_grammar.specs.Reading.{is_clear}
+use Rattle.std.proofs.Common.{ℕ, ◌≡◌, ◌++◌, true, false, Ok, refl, sym, ap, ◌∙◌, append_assoc}
+use Rattle.al_grammar.specs.Grammar.Rule.{Many, Opt}
+use Rattle.al_grammar.specs.Reading.{◌>>=◌, begins, first, is_clear}
+use Rattle.al_grammar.proofs.Steps.{many_stops}
 use Rattle.al_syntax.specs.ExpressionTrees.{LogicalOperator, LogicalOperator as operators}
-use Rattle.al_syntax.specs.Expressions.{identifier_rule, compound_name_rule, selection_rule, designator_rule, parentheses_rule, name_rule, primary_rule, factor_rule, multiplying_rule, term_rule, adding_rule, simple_expression_rule, relational_rule, membership_rule, relation_rule, and_rule, or_rule, xor_rule, expression_rule}
-use Rattle.al_syntax.specs.Notation.{◌⨾◌, the}
-use Rattle.al_syntax.specs.Symbols.Symbol.{Comma}
+use Rattle.al_syntax.specs.Expressions.{identifier_rule, compound_name_rule, selection_rule, designator_rule, parentheses_rule, name_rule, primary_rule, factor_rule, multiplying_rule, term_rule, adding_rule, simple_expression_rule, relational_rule, membership_rule, relation_rule, and_rule, or_rule, xor_rule, expression_rule, name_rest_rule}
+use Rattle.al_syntax.specs.Notation.{◌⨾◌, ◌∣◌, any, the}
+use Rattle.al_syntax.specs.Symbols.Symbol.{Comma, Minus, Plus}
+use Rattle.al_syntax.specs.Rules.{grammar}
 use Rattle.al_parse_expr.specs.Logical.{behind_rule}
 use Rattle.al_parse_expr.specs.Names.{part_rule}
+use Rattle.al_parse_expr.specs.Parses.{Lexemes, Took, reading}
 
 pub relations_clear : (o : LogicalOperator) → is_clear false (Many (behind_rule o)) ≡ true
 unfolding identifier_rule selection_rule designator_rule parentheses_rule name_rule primary_rule factor_rule multiplying_rule term_rule adding_rule simple_expression_rule relational_rule membership_rule relation_rule
@@ -36,3 +39,25 @@ expressions_clear = refl
 pub names_clear : is_clear false (Many (the Comma ⨾ compound_name_rule)) ≡ true
 unfolding identifier_rule compound_name_rule
 names_clear = refl
+
+-- ---- where none begins, none is read
+
+pub terms_stop : (d : ℕ) (xs : Lexemes) → begins (first adding_rule) xs ≡ false → reading d (Many (adding_rule ⨾ term_rule)) xs ≡ Ok xs
+unfolding adding_rule
+terms_stop d xs h = many_stops grammar d (adding_rule ⨾ term_rule) xs h
+
+-- a sign, perhaps, and a term with none behind it
+pub term_alone : (d : ℕ) (sign term xs ys zs : Lexemes) → Took sign ys xs (reading 0 (Opt (any Plus ∣ any Minus)) xs) → Took term zs ys (reading d term_rule ys) → begins (first adding_rule) zs ≡ false → Took (sign ++ term) zs xs (reading d simple_expression_rule xs)
+unfolding simple_expression_rule
+term_alone d sign term xs ys zs s t h = (
+  s.0 ∙ ap (λ (us : Lexemes). sign ++ us) t.0 ∙ sym (append_assoc sign term zs),
+  ap (λ m. m >>= λ us. (reading d term_rule us >>= λ vs. reading d (Many (adding_rule ⨾ term_rule)) vs)) s.1 ∙ ap (λ m. m >>= λ vs. reading d (Many (adding_rule ⨾ term_rule)) vs) t.1 ∙ terms_stop d zs h,
+)
+
+pub factors_stop : (d : ℕ) (xs : Lexemes) → begins (first multiplying_rule) xs ≡ false → reading d (Many (multiplying_rule ⨾ factor_rule)) xs ≡ Ok xs
+unfolding multiplying_rule
+factors_stop d xs h = many_stops grammar d (multiplying_rule ⨾ factor_rule) xs h
+
+pub parts_stop : (d : ℕ) (xs : Lexemes) → begins (first part_rule) xs ≡ false → reading d name_rest_rule xs ≡ Ok xs
+unfolding name_rest_rule part_rule
+parts_stop d xs h = many_stops grammar d part_rule xs h

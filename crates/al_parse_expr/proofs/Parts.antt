@@ -1,14 +1,14 @@
 -- The parts of a name, one after another: selectors and what stands between parentheses, and attributes, each with more of those.
-use Rattle.std.proofs.Common.{ℕ, ◌≡◌, ◌==◌, ◌||◌, ◌&&◌, if◌then◌else◌, Bool, true, false, List, [], ◌∷◌, ◌++◌, drop, Ok, Err, refl, sym, ap, ◌∙◌, eqb-true}
+use Rattle.std.proofs.Common.{ℕ, ◌≡◌, ◌==◌, ◌||◌, ◌&&◌, if◌then◌else◌, Bool, true, false, List, [], ◌∷◌, ◌++◌, drop, Ok, Err, refl, sym, ap, ◌∙◌, append_assoc, eqb-true}
 use Rattle.std.proofs.lemmas.Bool.{cond-true, cond-false}
-use Rattle.al_grammar.specs.Grammar.{Rule, each, kind}
+use Rattle.al_grammar.specs.Grammar.{Lexeme, Rule, each, kind}
 use Rattle.al_grammar.specs.Grammar.Lexeme.{Fixed, Named}
 use Rattle.al_grammar.specs.Grammar.Rule.{Many, Marked}
-use Rattle.al_grammar.specs.Reading.{Read, ◌>>=◌, begins, first, is_clear, one, turns}
+use Rattle.al_grammar.specs.Reading.{Read, ◌>>=◌, any, begins, first, is_clear, one, turns}
 use Rattle.al_grammar.proofs.Steps.{many_goes, many_fails, many_stops, one_here}
 use Rattle.al_grammar.proofs.Turns.{turn_goes, turn_fails, turn_ends, turns_stop}
 use Rattle.al_syntax.specs.Constructs.Construct.{Arguments}
-use Rattle.al_syntax.specs.Expressions.{identifier_rule, selection_rule, designator_rule, parentheses_rule}
+use Rattle.al_syntax.specs.Expressions.{identifier_rule, selection_rule, designator_rule, name_rule, parentheses_rule}
 use Rattle.al_syntax.specs.ExpressionTrees.{part_tokens}
 use Rattle.al_syntax.specs.Notation.{◌⨾◌, the, opens_at}
 use Rattle.al_syntax.specs.Rules.{grammar}
@@ -170,3 +170,32 @@ module _ (d : ℕ) where
   pub parts_err : (taken ts rest : Lexemes) (e : Stop) → Kept taken rest ts d name_tail_rule name_tail_rule → goes_on rest ≡ true → Stops e (reading d part_rule rest) → Stops e (reading d name_tail_rule ts)
   parts_err taken ts rest Memory kept h s = tt
   parts_err taken ts rest (Fault left) kept h s = (s.0, kept.goes_on ∙ fails rest s.0 h s.1, s.2)
+
+  -- ---- a whole name
+
+  behind_first : (xs ys : Lexemes) → any 0 xs ≡ Ok ys → reading d name_rule xs ≡ reading d name_tail_rule ys
+  unfolding name_rule identifier_rule name_tail_rule
+  behind_first xs ys e = ap (λ m. m >>= λ zs. reading d name_tail_rule zs) e
+
+  pub name_alone : (x : Lexeme) (xs ys : Lexemes) → Took (x ∷ []) ys xs (any 0 xs) → goes_on ys ≡ false → (xs ≡ x ∷ ys) × (reading d name_rule xs ≡ reading d qualified_rule ys)
+  name_alone x xs ys one h = (one.0, behind_first xs ys one.1 ∙ over ys h)
+
+  pub name_longer : (x : Lexeme) (front others xs ys zs last : Lexemes) → Took (x ∷ []) ys xs (any 0 xs) → goes_on ys ≡ true → Took front zs ys (reading d part_rule ys) → (zs ≡ others ++ last) × (reading d name_tail_rule zs ≡ reading d qualified_rule last)
+      → (xs ≡ x ∷ ((front ++ others) ++ last)) × (reading d name_rule xs ≡ reading d qualified_rule last)
+  name_longer x front others xs ys zs last one h two more = (
+    one.0 ∙ ap (λ (t : Lexemes). x ∷ t) (two.0 ∙ ap (λ (t : Lexemes). front ++ t) more.0 ∙ sym (append_assoc front others last)),
+    behind_first xs ys one.1 ∙ next ys zs h two.1 ∙ more.1,
+  )
+
+  pub name_first_err : (xs : Lexemes) (e : Stop) → Stops e (any 0 xs) → Stops e (reading d name_rule xs)
+  unfolding name_rule identifier_rule name_tail_rule
+  name_first_err xs Memory s = tt
+  name_first_err xs (Fault left) s = (s.0, ap (λ m. m >>= λ zs. reading d name_tail_rule zs) s.1, s.2)
+
+  pub name_part_err : (front xs ys : Lexemes) (e : Stop) → Took front ys xs (any 0 xs) → goes_on ys ≡ true → Stops e (reading d part_rule ys) → Stops e (reading d name_rule xs)
+  name_part_err front xs ys Memory one h s = tt
+  name_part_err front xs ys (Fault left) one h s = (s.0, behind_first xs ys one.1 ∙ fails ys s.0 h s.1, s.2)
+
+  pub name_parts_err : (front second xs ys zs : Lexemes) (e : Stop) → Took front ys xs (any 0 xs) → goes_on ys ≡ true → Took second zs ys (reading d part_rule ys) → Stops e (reading d name_tail_rule zs) → Stops e (reading d name_rule xs)
+  name_parts_err front second xs ys zs Memory one h two s = tt
+  name_parts_err front second xs ys zs (Fault left) one h two s = (s.0, behind_first xs ys one.1 ∙ next ys zs h two.1 ∙ s.1, s.2)

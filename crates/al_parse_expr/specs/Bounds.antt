@@ -1,6 +1,5 @@
 -- The upper bound of a range.
-use Rattle.std.specs.declared.alloc.Global.{Global}
-use Rattle.std.specs.Prelude.{List, ◌∷◌, Box, Option}
+use Rattle.std.specs.Prelude.{List, ◌∷◌, Option}
 use Rattle.al_grammar.specs.Grammar.{Lexeme, maybe}
 use Rattle.al_syntax.specs.ExpressionTrees.{simple_tokens}
 use Rattle.al_syntax.specs.Symbols.Symbol.{DoubleDot}
@@ -9,5 +8,5 @@ use Rattle.al_tree.specs.declared.expression.SimpleExpression.{SimpleExpression}
 use Rattle.al_tree.specs.ExpressionViews.{simple_seen}
 
 -- behind `..`, where that stands
-abbrev pub bound_tokens : Option (Box SimpleExpression Global) → List Lexeme
-bound_tokens b = maybe (λ s. word DoubleDot ∷ simple_tokens (simple_seen s.value)) b
+abbrev pub bound_tokens : Option SimpleExpression → List Lexeme
+bound_tokens b = maybe (λ s. word DoubleDot ∷ simple_tokens (simple_seen s)) b

@@ -1,23 +1,24 @@
 // Names and expressions (ARM 4.1 to 4.5). They nest in one another, in parentheses alone.
-ghost use Rattle.std.specs.Prelude.{◌≡◌, ◌∷◌, ◌++◌, false, option_map};
+ghost use Rattle.std.specs.Prelude.{◌≡◌, ◌∷◌, ◌++◌, false, option_map, true};
 ghost use Rattle.al_grammar.specs.Grammar.{each};
 ghost use Rattle.al_grammar.specs.Grammar.Rule.{Many, One, Opt, Seq};
+ghost use Rattle.al_grammar.specs.Reading.{begins, first};
 ghost use Rattle.al_syntax.specs.Constructs.Construct.{Arguments};
-ghost use Rattle.al_syntax.specs.ExpressionTrees.{expression_tokens, factor_tokens, logical_tokens, not_tokens, parentheses_tokens, part_tokens, primary_tokens, relation_tokens, simple_tokens, term_tokens};
+ghost use Rattle.al_syntax.specs.ExpressionTrees.{expression_tokens, factor_tokens, logical_tokens, name_tokens, not_tokens, parentheses_tokens, part_tokens, primary_tokens, relation_tokens, simple_tokens, term_tokens};
 ghost use Rattle.al_syntax.specs.Expressions.{adding_rule, expression_rule, expressions_rule, factor_rule, membership_rule, multiplying_rule, name_rest_rule, name_rule, parentheses_rule, primary_rule, relation_rule, simple_expression_rule, term_rule};
 ghost use Rattle.al_syntax.specs.Notation.{◌⨾◌, opens_at, the};
-ghost use Rattle.al_syntax.specs.Symbols.{is_labelled, number};
+ghost use Rattle.al_syntax.specs.Symbols.{Symbol as symbols, is_labelled, number};
 ghost use Rattle.al_syntax.specs.Symbols.Symbol.{Comma as comma, DoubleDot, In as within, LeftParenthesis};
-ghost use Rattle.al_syntax.specs.Words.{word};
-ghost use Rattle.al_tree.specs.ExpressionViews.{added_term_tokens, expression_seen, factor_seen, logical_seen, multiplied_factor_tokens, parentheses_seen, part_seen, primary_seen, relation_seen, simple_seen, term_seen};
-ghost use Rattle.al_tree.specs.Lexemes.{lexemes, place_label};
+ghost use Rattle.al_syntax.specs.Words.{labelled, word};
+ghost use Rattle.al_tree.specs.ExpressionViews.{added_term_tokens, expression_seen, factor_seen, logical_seen, multiplied_factor_tokens, name_seen, parentheses_seen, part_seen, primary_seen, relation_seen, simple_seen, term_seen};
+ghost use Rattle.al_tree.specs.Lexemes.{identifier_label, lexemes, place_label};
 ghost use Rattle.al_tree.specs.Symbols.{symbol_seen};
 ghost use Rattle.al_parse_expr.specs.Bounds.{bound_tokens};
 ghost use Rattle.al_parse_expr.specs.Logical.{behind_rule, chain_rule};
-ghost use Rattle.al_parse_expr.specs.Names.{GivesParts, part_rule};
+ghost use Rattle.al_parse_expr.specs.Names.{GivesParts, name_tail_rule, part_rule};
 ghost use Rattle.al_parse_expr.specs.Parses.{Gives, reading};
 
-use crate::keep::{append, boxed};
+use crate::keep::{append, boxed, member, sole_term};
 use crate::operator::{
     adding_operator, logical_operator, multiplying_operator, negation, relational_operator, sign,
 };
@@ -31,8 +32,9 @@ use crate::stop::Stop;
 use al_base::Place;
 use al_lex::Token;
 use al_tree::{
-    AddedTerm, Expression, Factor, LogicalOperator, MultipliedFactor, NamePart, ObjectName,
-    Parentheses, Primary, Relation, SimpleExpression, Symbol, Term,
+    AddedTerm, Comparison, Expression, Factor, Identifier, LogicalOperator, LogicalRelations,
+    LongName, MultipliedFactor, NamePart, ObjectName, Parentheses, Power, Primary, Product,
+    QualifiedExpression, Relation, SimpleExpression, Sum, Symbol, Term,
 };
 use std::alloc::Global;
 
@@ -55,7 +57,8 @@ pub fn expression<'a>(
                 chain(alloc, source, depth, rest, operator),
                 first
             );
-            Ok((Expression::logical(operator, first, second, others), rest))
+            let relations = LogicalRelations::new(operator, first, second, others);
+            Ok((Expression::logical(boxed(alloc, relations)?), rest))
         }
     }
 }
@@ -68,15 +71,15 @@ fn chain<'a>(
     depth: u32,
     tokens: &'a [Token],
     operator: LogicalOperator,
-) -> Result<(Box<Relation>, Vec<Relation>, &'a [Token]), Stop>
-    ensures { Gives (λ x. relation_tokens (relation_seen x.0.value) ++ each (λ r. logical_tokens (logical_seen operator) ++ relation_tokens (relation_seen r)) x.1.items) (λ x. lexemes source.now x.2.now) result (lexemes source.now tokens.now) (reading depth (chain_rule (logical_seen operator)) (lexemes source.now tokens.now)) }
+) -> Result<(Relation, Vec<Relation>, &'a [Token]), Stop>
+    ensures { Gives (λ x. relation_tokens (relation_seen x.0) ++ each (λ r. logical_tokens (logical_seen operator) ++ relation_tokens (relation_seen r)) x.1.items) (λ x. lexemes source.now x.2.now) result (lexemes source.now tokens.now) (reading depth (chain_rule (logical_seen operator)) (lexemes source.now tokens.now)) }
 {
     let (second, rest) = relation(alloc, source, depth, tokens)?;
     let (others, rest) = read_or_drop!(
         more_relations(alloc, source, depth, rest, operator),
         second
     );
-    Ok((Box::new(alloc, second)?, others, rest))
+    Ok((second, others, rest))
 }
 
 /// Relations, each behind the operator.
@@ -186,16 +189,11 @@ fn relation<'a>(
     if begins_compared(source, rest) {
         let (operator, rest) = read_or_drop!(relational_operator(source, rest), left);
         let (right, rest) = read_or_drop!(simple_expression(alloc, source, depth, rest), left);
-        return Ok((
-            Relation::comparison(left, operator, Box::new(alloc, right)?),
-            rest,
-        ));
+        let comparison = Comparison::new(left, operator, right);
+        return Ok((Relation::comparison(boxed(alloc, comparison)?), rest));
     }
     let (not, low, high, rest) = read_or_drop!(membership(alloc, source, depth, rest), left);
-    match high {
-        None => Ok((Relation::in_mark(left, not, low), rest)),
-        Some(high) => Ok((Relation::in_range(left, not, low, high), rest)),
-    }
+    Ok((member(alloc, left, not, low, high)?, rest))
 }
 
 /// What a membership test has behind its left side: its `not`, and a subtype or both bounds of a range.
@@ -209,19 +207,19 @@ fn membership<'a>(
 ) -> Result<
     (
         Option<Place>,
-        Box<SimpleExpression>,
-        Option<Box<SimpleExpression>>,
+        SimpleExpression,
+        Option<SimpleExpression>,
         &'a [Token],
     ),
     Stop,
 >
-    ensures { Gives (λ x. not_tokens (option_map place_label x.0) ++ word within ∷ (simple_tokens (simple_seen x.1.value) ++ bound_tokens x.2)) (λ x. lexemes source.now x.3.now) result (lexemes source.now tokens.now) (reading depth membership_rule (lexemes source.now tokens.now)) }
+    ensures { Gives (λ x. not_tokens (option_map place_label x.0) ++ word within ∷ (simple_tokens (simple_seen x.1) ++ bound_tokens x.2)) (λ x. lexemes source.now x.3.now) result (lexemes source.now tokens.now) (reading depth membership_rule (lexemes source.now tokens.now)) }
 {
     let (not, rest) = negation(source, tokens);
     let rest = expect(source, rest, Symbol::In)?;
     let (low, rest) = simple_expression(alloc, source, depth, rest)?;
-    let (high, rest) = upper_bound(alloc, source, depth, rest)?;
-    Ok((not, Box::new(alloc, low)?, high, rest))
+    let (high, rest) = read_or_drop!(upper_bound(alloc, source, depth, rest), low);
+    Ok((not, low, high, rest))
 }
 
 /// The bound of a range behind `..`, where that stands.
@@ -231,21 +229,21 @@ fn upper_bound<'a>(
     source: &[u8],
     depth: u32,
     tokens: &'a [Token],
-) -> Result<(Option<Box<SimpleExpression>>, &'a [Token]), Stop>
+) -> Result<(Option<SimpleExpression>, &'a [Token]), Stop>
     ensures { Gives (λ x. bound_tokens x.0) (λ x. lexemes source.now x.1.now) result (lexemes source.now tokens.now) (reading depth (Opt (the DoubleDot ⨾ simple_expression_rule)) (lexemes source.now tokens.now)) }
 {
     match skip(source, tokens, Symbol::DoubleDot) {
         None => Ok((None, tokens)),
         Some(rest) => {
             let (bound, rest) = simple_expression(alloc, source, depth, rest)?;
-            Ok((Some(Box::new(alloc, bound)?), rest))
+            Ok((Some(bound), rest))
         }
     }
 }
 
 /// Terms with adding operators between them, perhaps with a sign in front (ARM 4.4(4)).
 #[cycle(expression)]
-#[tactic(auto, unfolding(al_syntax::specs::Expressions::simple_expression_rule))]
+#[tactic(auto, unfolding(al_syntax::specs::Expressions::simple_expression_rule), using(crate::proofs::Clear::terms_stop))]
 pub fn simple_expression<'a>(
     alloc: Global,
     source: &[u8],
@@ -256,8 +254,28 @@ pub fn simple_expression<'a>(
 {
     let (sign, rest) = sign(source, tokens);
     let (first, rest) = term(alloc, source, depth, rest)?;
-    let (others, rest) = more_terms(alloc, source, depth, rest)?;
-    Ok((SimpleExpression::new(sign, first, others), rest))
+    if !begins_added(source, rest) {
+        return Ok((sole_term(alloc, sign, first)?, rest));
+    }
+    let (second, others, rest) = read_or_drop!(added_terms(alloc, source, depth, rest), first);
+    let sum = Sum::new(sign, first, second, others);
+    Ok((SimpleExpression::sum(boxed(alloc, sum)?), rest))
+}
+
+/// Terms, each behind an adding operator: one at least.
+#[cycle(expression)]
+fn added_terms<'a>(
+    alloc: Global,
+    source: &[u8],
+    depth: u32,
+    tokens: &'a [Token],
+) -> Result<(AddedTerm, Vec<AddedTerm>, &'a [Token]), Stop>
+    requires { begins (first adding_rule) (lexemes source.now tokens.now) ≡ true }
+    ensures { Gives (λ x. added_term_tokens x.0 ++ each added_term_tokens x.1.items) (λ x. lexemes source.now x.2.now) result (lexemes source.now tokens.now) (reading depth (Many (adding_rule ⨾ term_rule)) (lexemes source.now tokens.now)) }
+{
+    let (first, rest) = added_term(alloc, source, depth, tokens)?;
+    let (others, rest) = read_or_drop!(more_terms(alloc, source, depth, rest), first);
+    Ok((first, others, rest))
 }
 
 /// Terms, each behind an adding operator.
@@ -298,7 +316,7 @@ fn added_term<'a>(
 
 /// Factors with multiplying operators between them (ARM 4.4(5)).
 #[cycle(expression)]
-#[tactic(auto, unfolding(al_syntax::specs::Expressions::term_rule))]
+#[tactic(auto, unfolding(al_syntax::specs::Expressions::term_rule), using(crate::proofs::Clear::factors_stop))]
 fn term<'a>(
     alloc: Global,
     source: &[u8],
@@ -308,8 +326,31 @@ fn term<'a>(
     ensures { Gives (λ x. term_tokens (term_seen x.0)) (λ x. lexemes source.now x.1.now) result (lexemes source.now tokens.now) (reading depth term_rule (lexemes source.now tokens.now)) }
 {
     let (first, rest) = factor(alloc, source, depth, tokens)?;
-    let (others, rest) = more_factors(alloc, source, depth, rest)?;
-    Ok((Term::new(first, others), rest))
+    if !begins_multiplied(source, rest) {
+        return Ok((Term::sole_factor(first), rest));
+    }
+    let (second, others, rest) = read_or_drop!(
+        multiplied_factors(alloc, source, depth, rest),
+        first
+    );
+    let product = Product::new(first, second, others);
+    Ok((Term::product(boxed(alloc, product)?), rest))
+}
+
+/// Factors, each behind a multiplying operator: one at least.
+#[cycle(expression)]
+fn multiplied_factors<'a>(
+    alloc: Global,
+    source: &[u8],
+    depth: u32,
+    tokens: &'a [Token],
+) -> Result<(MultipliedFactor, Vec<MultipliedFactor>, &'a [Token]), Stop>
+    requires { begins (first multiplying_rule) (lexemes source.now tokens.now) ≡ true }
+    ensures { Gives (λ x. multiplied_factor_tokens x.0 ++ each multiplied_factor_tokens x.1.items) (λ x. lexemes source.now x.2.now) result (lexemes source.now tokens.now) (reading depth (Many (multiplying_rule ⨾ factor_rule)) (lexemes source.now tokens.now)) }
+{
+    let (first, rest) = multiplied_factor(alloc, source, depth, tokens)?;
+    let (others, rest) = read_or_drop!(more_factors(alloc, source, depth, rest), first);
+    Ok((first, others, rest))
 }
 
 /// Factors, each behind a multiplying operator.
@@ -364,16 +405,17 @@ fn factor<'a>(
         let Some(rest) = skip(source, rest, Symbol::DoubleAsterisk) else {
             return Ok((Factor::sole_primary(base), rest));
         };
-        let (exponent, rest) = primary(alloc, source, depth, rest)?;
-        return Ok((Factor::power(base, Box::new(alloc, exponent)?), rest));
+        let (exponent, rest) = read_or_drop!(primary(alloc, source, depth, rest), base);
+        let power = Power::new(base, exponent);
+        return Ok((Factor::power(boxed(alloc, power)?), rest));
     }
     if let Some((place, rest)) = skip_at(source, tokens, Symbol::Abs) {
         let (operand, rest) = primary(alloc, source, depth, rest)?;
-        return Ok((Factor::absolute(place, operand), rest));
+        return Ok((Factor::absolute(place, boxed(alloc, operand)?), rest));
     }
     let (place, rest) = word_at(source, tokens, Symbol::Not)?;
     let (operand, rest) = primary(alloc, source, depth, rest)?;
-    Ok((Factor::negation(place, operand), rest))
+    Ok((Factor::negation(place, boxed(alloc, operand)?), rest))
 }
 
 /// A literal, a name, or what stands between parentheses (ARM 4.4(7)).
@@ -392,18 +434,18 @@ fn primary<'a>(
     }
     if is_next(source, tokens, Symbol::StringLiteral) {
         let (literal, rest) = string(alloc, source, tokens)?;
-        return Ok((Primary::text(literal), rest));
+        return Ok((Primary::text(boxed(alloc, literal)?), rest));
     }
     if is_next(source, tokens, Symbol::Identifier) {
         return name(alloc, source, depth, tokens);
     }
     let (inner, rest) = parentheses(alloc, source, depth, tokens)?;
-    Ok((Primary::parenthesized(Box::new(alloc, inner)?), rest))
+    Ok((Primary::parenthesized(boxed(alloc, inner)?), rest))
 }
 
 /// A name (ARM 4.1), or a qualified expression (ARM 4.7), which begins with one.
 #[cycle(expression)]
-#[tactic(auto, unfolding(al_syntax::specs::Expressions::name_rule, al_syntax::specs::Expressions::identifier_rule, crate::specs::Names::name_tail_rule, crate::specs::Names::qualified_rule))]
+#[tactic(auto, unfolding(crate::specs::Names::qualified_rule))]
 fn name<'a>(
     alloc: Global,
     source: &[u8],
@@ -412,14 +454,33 @@ fn name<'a>(
 ) -> Result<(Primary, &'a [Token]), Stop>
     ensures { Gives (λ x. primary_tokens (primary_seen x.0)) (λ x. lexemes source.now x.1.now) result (lexemes source.now tokens.now) (reading depth name_rule (lexemes source.now tokens.now)) }
 {
-    let (first, rest) = identifier(alloc, source, tokens)?;
-    let (parts, rest) = name_parts(alloc, source, depth, rest)?;
-    let name = ObjectName::new(first, parts);
+    let (name, rest) = object_name(alloc, source, depth, tokens)?;
     let Some(rest) = skip(source, rest, Symbol::Apostrophe) else {
         return Ok((Primary::named(name), rest));
     };
-    let (operand, rest) = parentheses(alloc, source, depth, rest)?;
-    Ok((Primary::qualified(name, Box::new(alloc, operand)?), rest))
+    let (operand, rest) = read_or_drop!(parentheses(alloc, source, depth, rest), name);
+    let qualified = QualifiedExpression::new(name, operand);
+    Ok((Primary::qualified(boxed(alloc, qualified)?), rest))
+}
+
+/// A name. A `'` that a qualified expression has is left.
+#[cycle(expression)]
+fn object_name<'a>(
+    alloc: Global,
+    source: &[u8],
+    depth: u32,
+    tokens: &'a [Token],
+) -> Result<(ObjectName, &'a [Token]), Stop>
+    ensures { GivesParts (λ x. name_tokens (name_seen x.0)) (λ x. lexemes source.now x.1.now) result depth name_rule (lexemes source.now tokens.now) }
+{
+    let (first, rest) = identifier(alloc, source, tokens)?;
+    if !goes_on(source, rest) {
+        return Ok((ObjectName::direct(first), rest));
+    }
+    let (next, rest) = part(alloc, source, depth, rest)?;
+    let (others, rest) = read_or_drop!(name_parts(alloc, source, depth, rest), next);
+    let name = LongName::new(first, next, others);
+    Ok((ObjectName::longer(boxed(alloc, name)?), rest))
 }
 
 /// The parts of a name behind its first identifier. A `'` that a qualified expression has is left.
@@ -430,7 +491,7 @@ fn name_parts<'a>(
     depth: u32,
     tokens: &'a [Token],
 ) -> Result<(Vec<NamePart>, &'a [Token]), Stop>
-    ensures { GivesParts (λ x. each (λ p. part_tokens (part_seen p)) x.0.items) (λ x. lexemes source.now x.1.now) result depth (lexemes source.now tokens.now) }
+    ensures { GivesParts (λ x. each (λ p. part_tokens (part_seen p)) x.0.items) (λ x. lexemes source.now x.1.now) result depth name_tail_rule (lexemes source.now tokens.now) }
 {
     let mut parts = Vec::new(alloc);
     let mut rest = tokens;
@@ -483,10 +544,7 @@ fn arguments<'a>(
     let (inner, opening, rest) = enter_at(source, depth, tokens, Symbol::LeftParenthesis)?;
     let (first, others, rest) = expressions(alloc, source, inner, rest)?;
     let rest = read_or_drop!(expect(source, rest, Symbol::RightParenthesis), first);
-    Ok((
-        NamePart::arguments(opening, boxed(alloc, first)?, others),
-        rest,
-    ))
+    Ok((NamePart::arguments(opening, first, others), rest))
 }
 
 /// What stands between parentheses that no name is in front of: an expression, or an aggregate (ARM 4.3.3).
@@ -549,8 +607,28 @@ fn more_expressions<'a>(
     Ok((expressions, rest))
 }
 
+/// The name that begins with this identifier, as a statement has it: no qualified expression may stand there.
+#[tactic(auto, using(crate::proofs::Clear::parts_stop))]
+pub fn name_from<'a>(
+    alloc: Global,
+    source: &[u8],
+    depth: u32,
+    first: Identifier,
+    tokens: &'a [Token],
+) -> Result<(ObjectName, &'a [Token]), Stop>
+    ensures { Gives (λ x. name_tokens (name_seen x.0)) (λ x. lexemes source.now x.1.now) result (labelled symbols.Identifier (identifier_label first) ∷ lexemes source.now tokens.now) (reading depth name_rest_rule (lexemes source.now tokens.now)) }
+{
+    if !begins_part(source, tokens) {
+        return Ok((ObjectName::direct(first), tokens));
+    }
+    let (next, rest) = part(alloc, source, depth, tokens)?;
+    let (others, rest) = read_or_drop!(name_rest(alloc, source, depth, rest), next);
+    let name = LongName::new(first, next, others);
+    Ok((ObjectName::longer(boxed(alloc, name)?), rest))
+}
+
 /// What stands behind the identifier that a statement begins with: the rest of a name in which no qualified expression may stand.
-pub fn name_rest<'a>(
+fn name_rest<'a>(
     alloc: Global,
     source: &[u8],
     depth: u32,

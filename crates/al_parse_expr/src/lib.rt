@@ -15,13 +15,10 @@ mod step;
 mod stop;
 
 pub use bounds::{discrete_range, range};
-pub use descent::{expression, name_rest, simple_expression};
+pub use descent::{expression, name_from, simple_expression};
 pub use keep::{append, boxed};
 pub use list::{compound_name, compound_names, identifiers};
 pub use step::{
     enter, enter_at, expect, identifier, is_next, number, skip, skip_at, string, word_at,
 };
 pub use stop::Stop;
-
-#[cfg(test)]
-mod tests;

@@ -54,7 +54,7 @@ pub(crate) fn statements<'a>(
 {
     let (first, rest) = statement(alloc, source, depth, tokens)?;
     let (others, rest) = more_statements(alloc, source, depth, rest)?;
-    Ok((Statements::new(Box::new(alloc, first)?, others), rest))
+    Ok((Statements::new(first, others), rest))
 }
 
 #[cycle(body)]

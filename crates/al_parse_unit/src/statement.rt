@@ -3,7 +3,7 @@ ghost use Rattle.al_grammar.specs.Grammar.{each, maybe};
 ghost use Rattle.al_grammar.specs.Grammar.Rule.{Many, Opt};
 ghost use Rattle.al_grammar.specs.Reading.{first};
 ghost use Rattle.al_parse_expr.specs.Parses.{Gives, reading};
-ghost use Rattle.al_syntax.specs.DeclarationTrees.{compound_tokens, specification_tokens};
+ghost use Rattle.al_syntax.specs.DeclarationTrees.{compound_tokens, initial_tokens, specification_tokens};
 ghost use Rattle.al_syntax.specs.Declarations.{initial_rule};
 ghost use Rattle.al_syntax.specs.ExpressionTrees.{expression_tokens};
 ghost use Rattle.al_syntax.specs.Expressions.{compound_name_rule, expression_rule, identifier_rule, name_rest_rule};
@@ -25,12 +25,12 @@ use crate::start::is_expression_next;
 use al_base::Place;
 use al_lex::Token;
 use al_parse_expr::{
-    Stop, append, compound_name, discrete_range, expect, expression, is_next, name_rest,
+    Stop, append, boxed, compound_name, discrete_range, expect, expression, is_next, name_from,
     read_or_drop, skip, word_at,
 };
 use al_tree::{
-    Choice, CompoundEnd, CompoundName, Expression, Identifier, Item, LoopEnd, ObjectName,
-    Specification, Statement, Symbol,
+    Assignment, Choice, CompoundEnd, CompoundName, DelayStatement, ExitStatement, Expression,
+    Identifier, Item, LoopEnd, ReturnStatement, Specification, Statement, Symbol,
 };
 use std::alloc::Global;
 
@@ -44,14 +44,32 @@ pub(crate) fn call_or_assignment<'a>(
 ) -> Result<(Statement, &'a [Token]), Stop>
     ensures { Gives (λ x. statement_tokens (statement_seen x.0)) (λ x. lexemes source.now x.1.now) result (labelled symbols.Identifier (identifier_label first) ∷ lexemes source.now tokens.now) (reading depth (name_rest_rule ⨾ Opt initial_rule ⨾ the symbols.Semicolon) (lexemes source.now tokens.now)) }
 {
-    let (parts, rest) = name_rest(alloc, source, depth, tokens)?;
-    let (value, rest) = initial(alloc, source, depth, rest)?;
-    let rest = read_or_drop!(expect(source, rest, Symbol::Semicolon), value);
-    let name = ObjectName::new(first, parts);
+    let (name, rest) = name_from(alloc, source, depth, first, tokens)?;
+    let (value, rest) = read_or_drop!(assigned(alloc, source, depth, rest), name);
     match value {
         None => Ok((Statement::call(name), rest)),
-        Some(value) => Ok((Statement::assignment(name, value), rest)),
+        Some(value) => {
+            let statement = Assignment {
+                target: name,
+                value,
+            };
+            Ok((Statement::assignment(boxed(alloc, statement)?), rest))
+        }
     }
+}
+
+/// `[:= value];`
+fn assigned<'a>(
+    alloc: Global,
+    source: &[u8],
+    depth: u32,
+    tokens: &'a [Token],
+) -> Result<(Option<Expression>, &'a [Token]), Stop>
+    ensures { Gives (λ x. maybe initial_tokens (option_map expression_seen x.0) ++ word symbols.Semicolon ∷ []) (λ x. lexemes source.now x.1.now) result (lexemes source.now tokens.now) (reading depth (Opt initial_rule ⨾ the symbols.Semicolon) (lexemes source.now tokens.now)) }
+{
+    let (value, rest) = initial(alloc, source, depth, tokens)?;
+    let rest = read_or_drop!(expect(source, rest, Symbol::Semicolon), value);
+    Ok((value, rest))
 }
 
 /// `[value]`
@@ -83,7 +101,8 @@ pub(crate) fn return_statement<'a>(
     let (opening, rest) = word_at(source, tokens, Symbol::Return)?;
     let (value, rest) = returned(alloc, source, depth, rest)?;
     let rest = read_or_drop!(expect(source, rest, Symbol::Semicolon), value);
-    Ok((Statement::returning(opening, value), rest))
+    let statement = boxed(alloc, ReturnStatement { opening, value })?;
+    Ok((Statement::returning(statement), rest))
 }
 
 /// `[when condition]`
@@ -118,7 +137,12 @@ pub(crate) fn exit_statement<'a>(
     let (name, rest) = end_name(alloc, source, rest)?;
     let (condition, rest) = exit_condition(alloc, source, depth, rest)?;
     let rest = read_or_drop!(expect(source, rest, Symbol::Semicolon), condition);
-    Ok((Statement::exit(opening, name, condition), rest))
+    let statement = ExitStatement {
+        opening,
+        name,
+        condition,
+    };
+    Ok((Statement::exit(boxed(alloc, statement)?), rest))
 }
 
 /// ARM 9.6
@@ -135,7 +159,8 @@ pub(crate) fn delay_statement<'a>(
     let rest = expect(source, rest, Symbol::Until)?;
     let (moment, rest) = expression(alloc, source, depth, rest)?;
     let rest = read_or_drop!(expect(source, rest, Symbol::Semicolon), moment);
-    Ok((Statement::delay(opening, moment), rest))
+    let statement = boxed(alloc, DelayStatement { opening, moment })?;
+    Ok((Statement::delay(statement), rest))
 }
 
 /// A choice of a case statement.

@@ -64,9 +64,9 @@ fn emit_finding<K: Sink>(
 {
     let so_far = emit(so_far, writer, diagnostic.file.as_slice());
     let so_far = emit(so_far, writer, b":");
-    let so_far = emit_number(so_far, writer, diagnostic.place.line);
+    let so_far = emit_number(so_far, writer, diagnostic.place.line as usize);
     let so_far = emit(so_far, writer, b":");
-    let so_far = emit_number(so_far, writer, diagnostic.place.col);
+    let so_far = emit_number(so_far, writer, diagnostic.place.col as usize);
     let so_far = emit(so_far, writer, b": ");
     let so_far = emit(so_far, writer, message_of(diagnostic.code));
     emit(so_far, writer, b"\n")

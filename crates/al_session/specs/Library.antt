@@ -11,7 +11,7 @@ abbrev pub meaning : LibraryMeaning
 meaning = record { batch = batch; run_of = run_of; units_of = units_of; obsolete_of = obsolete_of }
 
 abbrev pub last_seen : declared.LastBuild → LastBuild
-last_seen last = record { files = last.files; main = last.main }
+last_seen last = record { files = last.catalog; main = last.main }
 
 abbrev pub state_of : Texts → Option declared.LastBuild → State
 state_of now last = record { now = now; built = option_map last_seen last }

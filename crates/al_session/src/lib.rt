@@ -1,4 +1,5 @@
-//! A library of compilation units that compiles all its files anew at each build, and a session over it.
+//! A library of compilation units that compiles all its files at each build, of which it reads those that changed, and a session
+//! over it.
 #![tactic(auto)]
 
 mod last_build;

@@ -1,5 +1,5 @@
-// A library that compiles all its files anew at each build.
-ghost use Rattle.std.specs.Prelude.{◌≡◌, []};
+// A library that compiles all its files at each build.
+ghost use Rattle.std.specs.Prelude.{◌≡◌, [], IfOk};
 ghost use Rattle.al_serve.specs.Library.{empty};
 ghost use Rattle.al_session.specs.Library.{meaning};
 
@@ -8,10 +8,11 @@ use al_base::{Files, Name, NoMemory, Ran, Refusal, UnitKey};
 use al_image::run;
 use al_serve::{Built, Outcome, UnitLibrary};
 use al_thin::{Compiled, compile, obsolete, units};
+use al_unit::Catalog;
 use std::alloc::Global;
 use std::marker::Model;
 
-/// The files of a library, and what the last build gave.
+/// The files of a library, and what the last build gave. What its files are read as is kept with it.
 #[derive(Drop)]
 pub struct Library {
     alloc: Global,
@@ -39,6 +40,16 @@ impl Library {
             last: None,
         }
     }
+
+    /// The files as they are, with what they are read as: of the last build where it had the text, and else read.
+    fn catalog(&self) -> Result<Catalog, NoMemory>
+        ensures { IfOk result (λ catalog. catalog ≡ self.entry.now.now) }
+    {
+        match &self.last {
+            Some(last) => Catalog::after(self.alloc, &self.now, &last.catalog),
+            None => Catalog::of(self.alloc, &self.now),
+        }
+    }
 }
 
 impl UnitLibrary for Library {
@@ -63,11 +74,11 @@ impl UnitLibrary for Library {
     }
 
     fn build(&mut self, unit: &[u8]) -> Result<(), NoMemory> {
-        let files = self.now.copy()?;
+        let catalog = self.catalog()?;
         let main = Name::from_slice(self.alloc, unit)?;
-        let compiled = compile(self.alloc, &files, unit)?;
+        let compiled = compile(self.alloc, &catalog, unit)?;
         let built = LastBuild {
-            files,
+            catalog,
             main,
             compiled,
         };
@@ -105,12 +116,14 @@ impl UnitLibrary for Library {
     }
 
     fn units(&self) -> Result<Vec<(Name, Option<UnitKey>)>, NoMemory> {
-        units(self.alloc, &self.now)
+        let catalog = self.catalog()?;
+        units(&catalog)
     }
 
     fn obsolete(&self) -> Result<Vec<UnitKey>, Refusal> {
         let built = self.last.as_ref().ok_or(Refusal::NotBuilt)?;
-        let units = obsolete(self.alloc, &built.files, &self.now)?;
+        let now = self.catalog()?;
+        let units = obsolete(self.alloc, &built.catalog, &now)?;
         Ok(units)
     }
 }

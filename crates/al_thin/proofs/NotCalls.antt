@@ -1,16 +1,10 @@
--- Statements that are no calls, and where a call stands.
+-- Statements that are no calls.
 use Rattle.std.proofs.Common.{◌≡◌, None, sym, ap, ◌∙◌}
-use Rattle.al_tree.specs.ExpressionViews.{name_seen}
 use Rattle.al_tree.specs.StatementViews.{if_seen, case_seen}
-use Rattle.al_tree.specs.declared.expression.ObjectName.{ObjectName, out-ObjectName}
 use Rattle.al_tree.specs.declared.statement.IfStatement.{IfStatement, out-IfStatement, roll-out-IfStatement}
 use Rattle.al_tree.specs.declared.statement.CaseStatement.{CaseStatement, out-CaseStatement, roll-out-CaseStatement}
 use Rattle.al_tree.proofs.StatementsMade.{if_new_seen, case_new_seen}
-use Rattle.al_thin.specs.ThinTrees.{first_place, thin_statement}
-use Rattle.al_thin.proofs.Fields.{name_fields}
-
-pub call_place : (n : ObjectName) → first_place (name_seen n) ≡ (out-ObjectName n).first.place
-call_place n = ap first_place (name_fields n)
+use Rattle.al_thin.specs.ThinTrees.{thin_statement}
 
 pub if_is_not_thin : (s : IfStatement) → thin_statement (if_seen s) ≡ None
 if_is_not_thin s =

@@ -7,7 +7,7 @@ use Rattle.al_tree.specs.declared.statement.Statements.{Statements, out-Statemen
 use Rattle.al_tree.proofs.StatementsMade.{statements_new_seen}
 use Rattle.al_thin.specs.ThinTrees.{StatementTree, in_front, thin_more, thin_statement, thin_statements}
 
-pub statements_fields : (s : Statements) → statements_seen s ≡ statements_trees.Statements (statement_seen (out-Statements s).first.value) (more_statements_of (map statement_seen (out-Statements s).others.items))
+pub statements_fields : (s : Statements) → statements_seen s ≡ statements_trees.Statements (statement_seen (out-Statements s).first) (more_statements_of (map statement_seen (out-Statements s).others.items))
 statements_fields s = ap statements_seen (sym (roll-out-Statements s)) ∙ statements_new_seen (out-Statements s).first (out-Statements s).others
 
 -- these, and then what is left
@@ -41,14 +41,14 @@ a_first (Some z) y (Some zs) is = let same : y ≡ z = cc in ap (λ x. Some (x �
 pub all_read : (ys : List StatementTree) → after ys (Some []) ≡ Some ys
 all_read ys = ap Some (append-nil ys)
 
-module _ (s : Statements) (f : Statement) (is : f ≡ (out-Statements s).first.value) where
+module _ (s : Statements) (f : Statement) (is : f ≡ (out-Statements s).first) where
   pub first_is_not : None ≡ thin_statement (statement_seen f) → None ≡ thin_statements (statements_seen s)
   first_is_not none =
-      sym (ap thin_statements (statements_fields s) ∙ no_first (thin_statement (statement_seen (out-Statements s).first.value)) (left (out-Statements s).others.items) (none ∙ ap (λ g. thin_statement (statement_seen g)) is))
+      sym (ap thin_statements (statements_fields s) ∙ no_first (thin_statement (statement_seen (out-Statements s).first)) (left (out-Statements s).others.items) (none ∙ ap (λ g. thin_statement (statement_seen g)) is))
 
   pub first_is : (y : StatementTree) (rest : List Statement) (ys : List StatementTree) → Some y ≡ thin_statement (statement_seen f) → rest ≡ (out-Statements s).others.items → ys ≡ y ∷ [] → thin_statements (statements_seen s) ≡ after ys (left rest)
   first_is y rest ys some same only =
       ap thin_statements (statements_fields s)
-      ∙ a_first (thin_statement (statement_seen (out-Statements s).first.value)) y (left (out-Statements s).others.items) (some ∙ ap (λ g. thin_statement (statement_seen g)) is)
+      ∙ a_first (thin_statement (statement_seen (out-Statements s).first)) y (left (out-Statements s).others.items) (some ∙ ap (λ g. thin_statement (statement_seen g)) is)
       ∙ ap (λ os. after (y ∷ []) (left os)) (sym same)
       ∙ ap (λ zs. after zs (left rest)) (sym only)

@@ -1,13 +1,14 @@
 // Calls of the procedures of Ada.Text_IO (ARM A.10).
 ghost use Rattle.std.specs.Prelude.{◌≡◌, map};
 ghost use Rattle.std.specs.Option.{option_and_then, option_map};
-ghost use Rattle.al_tree.specs.ExpressionViews.{expression_seen, name_seen, part_seen, parts_of};
+ghost use Rattle.al_tree.specs.ExpressionViews.{expression_seen, long_name_seen, name_seen, part_seen, parts_of};
 ghost use Rattle.al_tree.specs.Lexemes.{identifier_label, string_label};
-ghost use Rattle.al_thin.specs.ThinTrees.{called, library_call, line_operation, literal_of, operation_of, part_argument, selected, selector, sole_argument, text_operation};
+ghost use Rattle.al_thin.specs.ThinTrees.{called, first_place, library_call, line_operation, literal_of, operation_of, part_argument, selected, selector, sole_argument, text_operation};
 ghost use Rattle.al_thin.specs.ThinSeen.{output_seen};
 
 use crate::literals::{is_called, literal_of};
-use al_tree::{Expression, Identifier, NamePart, ObjectName, StringLiteral};
+use al_base::Place;
+use al_tree::{Expression, Identifier, LongName, NamePart, ObjectName, StringLiteral};
 
 /// What a call puts out.
 #[derive(Clone, Copy, Debug)]
@@ -38,7 +39,7 @@ fn part_argument(part: &NamePart) -> Option<&Expression>
 {
     match part {
         NamePart::Arguments(_, argument, others) => match others.as_slice() {
-            [] => Some(&**argument),
+            [] => Some(argument),
             [_, ..] => None,
         },
         NamePart::Selector(_) => None,
@@ -128,16 +129,37 @@ fn library_call<'a>(library: &Identifier, parts: &'a [NamePart]) -> Option<Outpu
     }
 }
 
-/// What a call of `Ada.Text_IO` puts out.
 #[tactic(auto, using(crate::proofs::Fields::called_fields))]
-pub(crate) fn called(name: &ObjectName) -> Option<Output<'_>>
-    ensures { option_map output_seen result ≡ called (name_seen name.now) }
+fn long_call(name: &LongName) -> Option<Output<'_>>
+    ensures { option_map output_seen result ≡ called (long_name_seen name.now) }
 {
     if !is_called(&name.first, b"ada") {
         return None;
     }
-    match selected(name.parts.as_slice()) {
-        Some((library, rest)) => library_call(library, rest),
+    match selector(&name.next) {
+        Some(library) => library_call(library, name.others.as_slice()),
         None => None,
+    }
+}
+
+/// What a call of `Ada.Text_IO` puts out.
+#[tactic(auto, using(crate::proofs::Fields::direct_is_no_call, al_tree::proofs::ExpressionsMade::name_direct_seen, al_tree::proofs::ExpressionsMade::name_longer_seen))]
+pub(crate) fn called(name: &ObjectName) -> Option<Output<'_>>
+    ensures { option_map output_seen result ≡ called (name_seen name.now) }
+{
+    match name {
+        ObjectName::Direct(_) => None,
+        ObjectName::Longer(long) => long_call(long),
+    }
+}
+
+/// Where a name begins.
+#[tactic(auto, using(crate::proofs::Fields::longer_place, al_tree::proofs::ExpressionsMade::name_direct_seen, al_tree::proofs::ExpressionsMade::name_longer_seen))]
+pub(crate) fn first_place(name: &ObjectName) -> Place
+    ensures { result ≡ first_place (name_seen name.now) }
+{
+    match name {
+        ObjectName::Direct(identifier) => identifier.place,
+        ObjectName::Longer(long) => long.first.place,
     }
 }

@@ -12,7 +12,7 @@ use crate::coding::instructions_of;
 use crate::findings::findings_of;
 use crate::unfinished::unfinished_of;
 use crate::unit::{ThinUnit, thin_unit};
-use al_base::{Diagnostic, Files, Name, NoMemory, UnitKey, UnitKind, file_name_of, is_file_name};
+use al_base::{Diagnostic, Name, NoMemory, UnitKey, UnitKind, file_name_of, is_file_name};
 use al_image::{Image, ProgramError, program};
 use al_tree::{CompilationUnit, LibraryItem, Specification};
 use al_unit::Catalog;
@@ -39,22 +39,21 @@ pub enum Compiled {
     Made(Program),
 }
 
-/// Compiles all files, and makes the image of the main unit, whose name is in lower case.
+/// Compiles all files of a catalog, and makes the image of the main unit, whose name is in lower case.
 ///
 /// # Errors
 ///
 /// `NoMemory` where memory was wanted and not given. What is wrong with the files is no error.
-pub fn compile(alloc: Global, files: &Files, main: &[u8]) -> Result<Compiled, NoMemory>
-    ensures { IfOk result (λ compiled. Compiles compiled files.now main.now) }
+pub fn compile(alloc: Global, catalog: &Catalog, main: &[u8]) -> Result<Compiled, NoMemory>
+    ensures { IfOk result (λ compiled. Compiles compiled catalog.now main.now) }
 {
-    let catalog = Catalog::of(alloc, files)?;
-    let found = findings_of(alloc, &catalog)?;
+    let found = findings_of(alloc, catalog)?;
     if !found.is_empty() {
         return Ok(Compiled::Faulty(found));
     }
-    match unit_of_name(alloc, &catalog, main)? {
+    match unit_of_name(alloc, catalog, main)? {
         None => Ok(Compiled::NoMain),
-        Some(unit) => bind(alloc, &catalog, main, unit),
+        Some(unit) => bind(alloc, catalog, main, unit),
     }
 }
 

@@ -10,7 +10,7 @@ ghost use Rattle.al_thin.specs.Units.{faulty_files, obsolete_of, units_of};
 
 use crate::findings::findings_of;
 use crate::unfinished::add_unfinished;
-use al_base::{Diagnostic, Files, Name, NoMemory, UnitKey};
+use al_base::{Diagnostic, Name, NoMemory, UnitKey};
 use al_unit::{BuiltFiles, Catalog};
 use std::alloc::Global;
 use std::collections::BTreeSet;
@@ -21,10 +21,9 @@ use std::collections::BTreeSet;
 ///
 /// `NoMemory` where memory was wanted and not given.
 #[tactic(auto, unfolding(crate::specs::Units::units_of))]
-pub fn units(alloc: Global, files: &Files) -> Result<Vec<(Name, Option<UnitKey>)>, NoMemory>
-    ensures { IfOk result (λ found. map unit_seen found.items ≡ units_of files.now) }
+pub fn units(catalog: &Catalog) -> Result<Vec<(Name, Option<UnitKey>)>, NoMemory>
+    ensures { IfOk result (λ found. map unit_seen found.items ≡ units_of catalog.now) }
 {
-    let catalog = Catalog::of(alloc, files)?;
     catalog.units()
 }
 
@@ -34,17 +33,15 @@ pub fn units(alloc: Global, files: &Files) -> Result<Vec<(Name, Option<UnitKey>)
 ///
 /// `NoMemory` where memory was wanted and not given.
 #[tactic(auto, unfolding(crate::specs::Units::obsolete_of))]
-pub fn obsolete(alloc: Global, built: &Files, now: &Files) -> Result<Vec<UnitKey>, NoMemory>
+pub fn obsolete(alloc: Global, built: &Catalog, now: &Catalog) -> Result<Vec<UnitKey>, NoMemory>
     ensures { IfOk result (λ keys. map key_of keys.items ≡ obsolete_of built.now now.now) }
 {
-    let old = Catalog::of(alloc, built)?;
-    let faulty = faulty_files(alloc, &old)?;
+    let faulty = faulty_files(alloc, built)?;
     let built = BuiltFiles {
-        catalog: old,
+        catalog: built,
         faulty,
     };
-    let catalog = Catalog::of(alloc, now)?;
-    catalog.obsolete(&built)
+    now.obsolete(&built)
 }
 
 /// The files in which something is wrong, or whose unit isn't compiled yet.

@@ -5,7 +5,7 @@ ghost use Rattle.al_tree.specs.StatementViews.{more_statements_of, statement_see
 ghost use Rattle.al_thin.specs.ThinTrees.{thin_more, thin_statement, thin_statements};
 ghost use Rattle.al_thin.specs.ThinSeen.{thin_seen};
 
-use crate::calls::{Output, called};
+use crate::calls::{Output, called, first_place};
 use al_base::{NoMemory, Place};
 use al_tree::{Statement, Statements};
 use std::alloc::Global;
@@ -19,20 +19,20 @@ pub(crate) enum ThinStatement<'a> {
 }
 
 /// The statement as one of the thin language, where it is one.
-#[tactic(auto, using(crate::proofs::NotCalls::call_place, crate::proofs::NotCalls::if_is_not_thin, crate::proofs::NotCalls::case_is_not_thin, al_tree::proofs::StatementsMade::statement_null_seen, al_tree::proofs::StatementsMade::statement_assignment_seen, al_tree::proofs::StatementsMade::statement_call_seen, al_tree::proofs::StatementsMade::statement_returning_seen, al_tree::proofs::StatementsMade::statement_exit_seen, al_tree::proofs::StatementsMade::statement_delay_seen, al_tree::proofs::StatementsMade::statement_branching_seen, al_tree::proofs::StatementsMade::statement_case_seen, al_tree::proofs::StatementsMade::statement_looping_seen, al_tree::proofs::StatementsMade::statement_block_seen))]
+#[tactic(auto, using(crate::proofs::NotCalls::if_is_not_thin, crate::proofs::NotCalls::case_is_not_thin, al_tree::proofs::StatementsMade::statement_null_seen, al_tree::proofs::StatementsMade::statement_assignment_seen, al_tree::proofs::StatementsMade::statement_call_seen, al_tree::proofs::StatementsMade::statement_returning_seen, al_tree::proofs::StatementsMade::statement_exit_seen, al_tree::proofs::StatementsMade::statement_delay_seen, al_tree::proofs::StatementsMade::statement_branching_seen, al_tree::proofs::StatementsMade::statement_case_seen, al_tree::proofs::StatementsMade::statement_looping_seen, al_tree::proofs::StatementsMade::statement_block_seen))]
 fn thin_statement(statement: &Statement) -> Option<ThinStatement<'_>>
     ensures { option_map thin_seen result ≡ thin_statement (statement_seen statement.now) }
 {
     match statement {
         Statement::Null => Some(ThinStatement::Null),
         Statement::Call(name) => match called(name) {
-            Some(output) => Some(ThinStatement::Call(name.first.place, output)),
+            Some(output) => Some(ThinStatement::Call(first_place(name), output)),
             None => None,
         },
-        Statement::Assignment(_, _) => None,
-        Statement::Return(_, _) => None,
-        Statement::Exit(_, _, _) => None,
-        Statement::Delay(_, _) => None,
+        Statement::Assignment(_) => None,
+        Statement::Return(_) => None,
+        Statement::Exit(_) => None,
+        Statement::Delay(_) => None,
         Statement::If(_) => None,
         Statement::Case(_) => None,
         Statement::Loop(_, _) => None,

@@ -1,6 +1,7 @@
 // Worked values.
 use crate::{Compiled, compile, units};
-use al_base::{Files, Refusal};
+use al_base::{Files, NoMemory, Refusal};
+use al_unit::Catalog;
 use std::alloc::Global;
 use std::process::Abort;
 use std::test::Fail;
@@ -15,12 +16,12 @@ fn put(alloc: Global, files: &mut Files, name: &[u8], text: &[u8]) -> Result<(),
     files.put(name, text)
 }
 
+fn compile_files(alloc: Global, files: &Files, main: &[u8]) -> Result<Compiled, NoMemory> {
+    compile(alloc, &Catalog::of(alloc, files)?, main)
+}
+
 /// Expects just these findings, each as a file, a line, a column and a number.
-fn expect_faulty(
-    rt: &impl Abort,
-    compiled: &Compiled,
-    wanted: &[(&'static [u8], usize, usize, u16)],
-) {
+fn expect_faulty(rt: &impl Abort, compiled: &Compiled, wanted: &[(&'static [u8], u32, u32, u16)]) {
     let Compiled::Faulty(found) = compiled else {
         assert!(rt; false, "nothing is wrong");
         return;
@@ -45,15 +46,15 @@ fn hello_is_made(rt: HostRuntime) -> Result<(), Fail> {
         b"m.adb",
         b"procedure M is begin null; end;",
     )?;
-    let Compiled::Made(program) = compile(alloc, &files, b"hello")? else {
+    let Compiled::Made(program) = compile_files(alloc, &files, b"hello")? else {
         assert!(rt; false, "there is an image");
         return Ok(());
     };
     assert_eq!(rt; program.bytes.len(), 87);
     assert_eq!(rt; program.order.len(), 1);
     assert_eq!(rt; program.order[0].name.as_slice(), b"hello".as_slice());
-    assert!(rt; matches!(compile(alloc, &files, b"n")?, Compiled::NoMain));
-    assert!(rt; matches!(compile(alloc, &files, b"m.n")?, Compiled::NoMain));
+    assert!(rt; matches!(compile_files(alloc, &files, b"n")?, Compiled::NoMain));
+    assert!(rt; matches!(compile_files(alloc, &files, b"m.n")?, Compiled::NoMain));
     Ok(())
 }
 
@@ -88,8 +89,8 @@ fn findings_by_file_and_place(rt: HostRuntime) -> Result<(), Fail> {
         b"x.adb",
         b"procedure X is begin Ada.Text_IO.New_Line; null;\nADA.Text_IO.Put (\"\"); end Y;",
     )?;
-    let compiled = compile(alloc, &files, b"hello")?;
-    let wanted: [(&'static [u8], usize, usize, u16); 9] = [
+    let compiled = compile_files(alloc, &files, b"hello")?;
+    let wanted: [(&'static [u8], u32, u32, u16); 9] = [
         (b"l.adb", 1, 22, 1),
         (b"m.adb", 1, 33, 101),
         (b"x.adb", 1, 22, 401),
@@ -127,8 +128,8 @@ fn other_units_are_not_told_beside_faults(rt: HostRuntime) -> Result<(), Fail> {
         b"with Ada.Text_IO; procedure M is begin Ada.Text_IO.Put (\"a\" & \"b\"); end M;",
     )?;
     put(alloc, &mut files, b"p.ads", b"package Ada.Q is end Ada.Q;")?;
-    let compiled = compile(alloc, &files, b"m")?;
-    let wanted: [(&'static [u8], usize, usize, u16); 4] = [
+    let compiled = compile_files(alloc, &files, b"m")?;
+    let wanted: [(&'static [u8], u32, u32, u16); 4] = [
         (b"a~b.ads", 1, 9, 205),
         (b"m-s.adb", 1, 24, 206),
         (b"p.ads", 1, 9, 201),
@@ -150,14 +151,14 @@ fn other_units_are_not_compiled_yet(rt: HostRuntime) -> Result<(), Fail> {
         b"n.adb",
         b"procedure N (X : Integer) is begin null; end N;",
     )?;
-    let wanted: [(&'static [u8], usize, usize, u16); 3] = [
+    let wanted: [(&'static [u8], u32, u32, u16); 3] = [
         (b"m.ads", 1, 1, 700),
         (b"n.adb", 1, 1, 700),
         (b"p.ads", 1, 1, 700),
     ];
-    expect_faulty(&rt, &compile(alloc, &files, b"m")?, &wanted);
-    assert!(rt; matches!(compile(alloc, &files, b"n")?, Compiled::NoMain));
-    assert!(rt; matches!(compile(alloc, &files, b"p")?, Compiled::NoMain));
+    expect_faulty(&rt, &compile_files(alloc, &files, b"m")?, &wanted);
+    assert!(rt; matches!(compile_files(alloc, &files, b"n")?, Compiled::NoMain));
+    assert!(rt; matches!(compile_files(alloc, &files, b"p")?, Compiled::NoMain));
     Ok(())
 }
 
@@ -190,14 +191,14 @@ fn dependents_of_faulty_units_are_not_checked(rt: HostRuntime) -> Result<(), Fai
         b"e.adb",
         b"with D; procedure E is begin null; end E;",
     )?;
-    let compiled = compile(alloc, &files, b"c")?;
-    let wanted: [(&'static [u8], usize, usize, u16); 3] = [
+    let compiled = compile_files(alloc, &files, b"c")?;
+    let wanted: [(&'static [u8], u32, u32, u16); 3] = [
         (b"a-b.ads", 1, 17, 201),
         (b"d.ads", 1, 7, 1),
         (b"e.adb", 1, 1, 208),
     ];
     expect_faulty(&rt, &compiled, &wanted);
-    let found = units(alloc, &files)?;
+    let found = units(&Catalog::of(alloc, &files)?)?;
     assert_eq!(rt; found.len(), 5);
     assert!(rt; found[0].1.is_none());
     assert!(rt; found[1].1.is_some());

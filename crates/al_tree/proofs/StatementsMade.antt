@@ -25,9 +25,14 @@ use Rattle.al_tree.specs.declared.statement.Choice.{Choice}
 use Rattle.al_tree.specs.declared.statement.LoopEnd.{LoopEnd}
 use Rattle.al_tree.specs.declared.statement.NamedEnd.{NamedEnd}
 use Rattle.al_tree.specs.declared.statement.CompoundEnd.{CompoundEnd}
+use Rattle.al_tree.specs.declared.statement.Assignment.{Assignment}
+use Rattle.al_tree.specs.declared.statement.ReturnStatement.{ReturnStatement}
+use Rattle.al_tree.specs.declared.statement.ExitStatement.{ExitStatement}
+use Rattle.al_tree.specs.declared.statement.DelayStatement.{DelayStatement}
 use Rattle.al_tree.specs.declared.statement.Statements.{Statements, roll-Statements}
 use Rattle.al_tree.specs.declared.statement.Statement.{Statement}
-use Rattle.al_tree.specs.declared.statement.Statement.TheVariants.{Null, Assignment, Call, Return, Exit, Delay, If, Case, Loop, Block, rolls-Null, rolls-Assignment, rolls-Call, rolls-Return, rolls-Exit, rolls-Delay, rolls-If, rolls-Case, rolls-Loop, rolls-Block}
+use Rattle.al_tree.specs.declared.statement.Statement.TheVariants.{Null, Call, Return, Exit, Delay, If, Case, Loop, Block, rolls-Null, rolls-Assignment, rolls-Call, rolls-Return, rolls-Exit, rolls-Delay, rolls-If, rolls-Case, rolls-Loop, rolls-Block}
+use Rattle.al_tree.specs.declared.statement.Statement.TheVariants as variants
 use Rattle.al_tree.specs.declared.statement.IfStatement.{IfStatement, roll-IfStatement}
 use Rattle.al_tree.specs.declared.statement.Branch.{Branch, roll-Branch}
 use Rattle.al_tree.specs.declared.statement.ElsifBranch.{ElsifBranch, roll-ElsifBranch}
@@ -47,13 +52,13 @@ use Rattle.al_tree.specs.declared.statement.BlockStatement.TheOpen as layer
 use Rattle.al_tree.specs.declared.statement.BlockStatement.TheFolds.{fold-roll-Statements, fold-roll-Statement, fold-roll-IfStatement, fold-roll-Branch, fold-roll-ElsifBranch, fold-roll-CaseStatement, fold-roll-Alternative, fold-roll-LoopStatement, fold-roll-BlockStatement, fold-roll-DeclaredStatements, fold-roll-SubprogramBody, fold-roll-Item, fold-roll-OperationBody}
 use Rattle.al_tree.proofs.Lists.{more_statements_each, elsifs_each, alternatives_each, choices_each, items_each, operation_bodies_each}
 
-pub statements_new_seen : (first : Box Statement Global) (others : Vec Statement Global) → statements_seen (roll-Statements (record { first = first; others = others })) ≡ statements_trees.Statements (statement_seen first.value) (more_statements_of (map statement_seen others.items))
+pub statements_new_seen : (first : Statement) (others : Vec Statement Global) → statements_seen (roll-Statements (record { first = first; others = others })) ≡ statements_trees.Statements (statement_seen first) (more_statements_of (map statement_seen others.items))
 unfolding statement_seen statements_seen
 statements_new_seen first others = by_layers fold-roll-Statements (record { first = first; others = others })
 
-pub statements_new_tokens : (first : Box Statement Global) (others : Vec Statement Global) → statements_tokens (statements_seen (roll-Statements (record { first = first; others = others }))) ≡ statement_tokens (statement_seen first.value) ++ each (λ s. statement_tokens (statement_seen s)) others.items
+pub statements_new_tokens : (first : Statement) (others : Vec Statement Global) → statements_tokens (statements_seen (roll-Statements (record { first = first; others = others }))) ≡ statement_tokens (statement_seen first) ++ each (λ s. statement_tokens (statement_seen s)) others.items
 statements_new_tokens first others = ap statements_tokens (statements_new_seen first others)
-    ∙ ap (λ (ts : List Lexeme). statement_tokens (statement_seen first.value) ++ ts) (more_statements_each others.items)
+    ∙ ap (λ (ts : List Lexeme). statement_tokens (statement_seen first) ++ ts) (more_statements_each others.items)
 
 pub statement_null_seen : statement_seen Null ≡ statement_trees.NullStatement
 unfolding statement_seen
@@ -62,12 +67,12 @@ statement_null_seen = ap statement_seen (sym rolls-Null) ∙ by_layers fold-roll
 pub statement_null_tokens : statement_tokens (statement_seen Null) ≡ word symbols.Null ∷ word symbols.Semicolon ∷ []
 statement_null_tokens = ap statement_tokens statement_null_seen
 
-pub statement_assignment_seen : (target : ObjectName) (value : Expression) → statement_seen (Assignment target value) ≡ statement_trees.Assignment (name_seen target) (expression_seen value)
+pub statement_assignment_seen : (statement : Box Assignment Global) → statement_seen (variants.Assignment statement) ≡ statement_trees.Assignment (name_seen statement.value.target) (expression_seen statement.value.value)
 unfolding statement_seen
-statement_assignment_seen target value = ap statement_seen (sym (rolls-Assignment target value)) ∙ by_layers fold-roll-Statement (layer.Assignment target value)
+statement_assignment_seen statement = ap statement_seen (sym (rolls-Assignment statement)) ∙ by_layers fold-roll-Statement (layer.Assignment statement)
 
-pub statement_assignment_tokens : (target : ObjectName) (value : Expression) → statement_tokens (statement_seen (Assignment target value)) ≡ name_tokens (name_seen target) ++ (initial_tokens (expression_seen value) ++ word symbols.Semicolon ∷ [])
-statement_assignment_tokens target value = ap statement_tokens (statement_assignment_seen target value)
+pub statement_assignment_tokens : (statement : Box Assignment Global) → statement_tokens (statement_seen (variants.Assignment statement)) ≡ name_tokens (name_seen statement.value.target) ++ (initial_tokens (expression_seen statement.value.value) ++ word symbols.Semicolon ∷ [])
+statement_assignment_tokens statement = ap statement_tokens (statement_assignment_seen statement)
 
 pub statement_call_seen : (name : ObjectName) → statement_seen (Call name) ≡ statement_trees.CallStatement (name_seen name)
 unfolding statement_seen
@@ -76,26 +81,26 @@ statement_call_seen name = ap statement_seen (sym (rolls-Call name)) ∙ by_laye
 pub statement_call_tokens : (name : ObjectName) → statement_tokens (statement_seen (Call name)) ≡ name_tokens (name_seen name) ++ word symbols.Semicolon ∷ []
 statement_call_tokens name = ap statement_tokens (statement_call_seen name)
 
-pub statement_returning_seen : (opening : Place) (value : Option Expression) → statement_seen (Return opening value) ≡ statement_trees.ReturnStatement (place_label opening) (option_map expression_seen value)
+pub statement_returning_seen : (statement : Box ReturnStatement Global) → statement_seen (Return statement) ≡ statement_trees.ReturnStatement (place_label statement.value.opening) (option_map expression_seen statement.value.value)
 unfolding statement_seen
-statement_returning_seen opening value = ap statement_seen (sym (rolls-Return opening value)) ∙ by_layers fold-roll-Statement (layer.Return opening value)
+statement_returning_seen statement = ap statement_seen (sym (rolls-Return statement)) ∙ by_layers fold-roll-Statement (layer.Return statement)
 
-pub statement_returning_tokens : (opening : Place) (value : Option Expression) → statement_tokens (statement_seen (Return opening value)) ≡ labelled symbols.Return (place_label opening) ∷ (maybe expression_tokens (option_map expression_seen value) ++ word symbols.Semicolon ∷ [])
-statement_returning_tokens opening value = ap statement_tokens (statement_returning_seen opening value)
+pub statement_returning_tokens : (statement : Box ReturnStatement Global) → statement_tokens (statement_seen (Return statement)) ≡ labelled symbols.Return (place_label statement.value.opening) ∷ (maybe expression_tokens (option_map expression_seen statement.value.value) ++ word symbols.Semicolon ∷ [])
+statement_returning_tokens statement = ap statement_tokens (statement_returning_seen statement)
 
-pub statement_exit_seen : (opening : Place) (name : Option Identifier) (condition : Option Expression) → statement_seen (Exit opening name condition) ≡ statement_trees.ExitStatement (place_label opening) (option_map identifier_label name) (option_map expression_seen condition)
+pub statement_exit_seen : (statement : Box ExitStatement Global) → statement_seen (Exit statement) ≡ statement_trees.ExitStatement (place_label statement.value.opening) (option_map identifier_label statement.value.name) (option_map expression_seen statement.value.condition)
 unfolding statement_seen
-statement_exit_seen opening name condition = ap statement_seen (sym (rolls-Exit opening name condition)) ∙ by_layers fold-roll-Statement (layer.Exit opening name condition)
+statement_exit_seen statement = ap statement_seen (sym (rolls-Exit statement)) ∙ by_layers fold-roll-Statement (layer.Exit statement)
 
-pub statement_exit_tokens : (opening : Place) (name : Option Identifier) (condition : Option Expression) → statement_tokens (statement_seen (Exit opening name condition)) ≡ labelled symbols.Exit (place_label opening) ∷ (end_name_tokens (option_map identifier_label name) ++ (maybe when_tokens (option_map expression_seen condition) ++ word symbols.Semicolon ∷ []))
-statement_exit_tokens opening name condition = ap statement_tokens (statement_exit_seen opening name condition)
+pub statement_exit_tokens : (statement : Box ExitStatement Global) → statement_tokens (statement_seen (Exit statement)) ≡ labelled symbols.Exit (place_label statement.value.opening) ∷ (end_name_tokens (option_map identifier_label statement.value.name) ++ (maybe when_tokens (option_map expression_seen statement.value.condition) ++ word symbols.Semicolon ∷ []))
+statement_exit_tokens statement = ap statement_tokens (statement_exit_seen statement)
 
-pub statement_delay_seen : (opening : Place) (moment : Expression) → statement_seen (Delay opening moment) ≡ statement_trees.DelayStatement (place_label opening) (expression_seen moment)
+pub statement_delay_seen : (statement : Box DelayStatement Global) → statement_seen (Delay statement) ≡ statement_trees.DelayStatement (place_label statement.value.opening) (expression_seen statement.value.moment)
 unfolding statement_seen
-statement_delay_seen opening moment = ap statement_seen (sym (rolls-Delay opening moment)) ∙ by_layers fold-roll-Statement (layer.Delay opening moment)
+statement_delay_seen statement = ap statement_seen (sym (rolls-Delay statement)) ∙ by_layers fold-roll-Statement (layer.Delay statement)
 
-pub statement_delay_tokens : (opening : Place) (moment : Expression) → statement_tokens (statement_seen (Delay opening moment)) ≡ labelled symbols.Delay (place_label opening) ∷ word symbols.Until ∷ (expression_tokens (expression_seen moment) ++ word symbols.Semicolon ∷ [])
-statement_delay_tokens opening moment = ap statement_tokens (statement_delay_seen opening moment)
+pub statement_delay_tokens : (statement : Box DelayStatement Global) → statement_tokens (statement_seen (Delay statement)) ≡ labelled symbols.Delay (place_label statement.value.opening) ∷ word symbols.Until ∷ (expression_tokens (expression_seen statement.value.moment) ++ word symbols.Semicolon ∷ [])
+statement_delay_tokens statement = ap statement_tokens (statement_delay_seen statement)
 
 pub statement_branching_seen : (statement : Box IfStatement Global) → statement_seen (If statement) ≡ if_seen statement.value
 unfolding if_seen statement_seen

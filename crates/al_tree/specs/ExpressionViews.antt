@@ -1,5 +1,5 @@
 -- What the program's names and expressions are as plain data, and their lexemes.
-use Rattle.std.specs.Prelude.{List, ◌∷◌, Option, option_map}
+use Rattle.std.specs.Prelude.{List, ◌∷◌, Option, None, Some, option_map}
 use Rattle.al_grammar.specs.Grammar.{Lexeme}
 use Rattle.al_syntax.specs.ExpressionTrees.{ExpressionTree, RelationsTree, RelationTree, SimpleTree, AddedTree, TermTree, MultipliedTree, FactorTree, PrimaryTree, ParenthesesTree, ExpressionsTree, NameTree, PartsTree, PartTree}
 use Rattle.al_syntax.specs.ExpressionTrees.{ExpressionTree as expression_trees, RelationsTree as relations_trees, RelationTree as relation_trees, SimpleTree as simple_trees, AddedTree as added_trees, TermTree as term_trees, MultipliedTree as multiplied_trees, FactorTree as factor_trees, PrimaryTree as primary_trees, ParenthesesTree as parentheses_trees, ExpressionsTree as expressions_trees, NameTree as name_trees, PartsTree as parts_trees, PartTree as part_trees}
@@ -16,19 +16,29 @@ use Rattle.al_tree.specs.declared.expression.MultiplyingOperator.TheVariants as 
 use Rattle.al_tree.specs.declared.expression.Sign.{Sign}
 use Rattle.al_tree.specs.declared.expression.Sign.TheVariants as sign
 use Rattle.al_tree.specs.declared.expression.Expression.{Expression}
+use Rattle.al_tree.specs.declared.expression.LogicalRelations.{LogicalRelations}
 use Rattle.al_tree.specs.declared.expression.Relation.{Relation}
+use Rattle.al_tree.specs.declared.expression.Comparison.{Comparison}
+use Rattle.al_tree.specs.declared.expression.MarkMembership.{MarkMembership}
+use Rattle.al_tree.specs.declared.expression.RangeMembership.{RangeMembership}
 use Rattle.al_tree.specs.declared.expression.SimpleExpression.{SimpleExpression}
+use Rattle.al_tree.specs.declared.expression.SignedTerm.{SignedTerm}
+use Rattle.al_tree.specs.declared.expression.Sum.{Sum}
 use Rattle.al_tree.specs.declared.expression.AddedTerm.{AddedTerm}
 use Rattle.al_tree.specs.declared.expression.Term.{Term}
+use Rattle.al_tree.specs.declared.expression.Product.{Product}
 use Rattle.al_tree.specs.declared.expression.MultipliedFactor.{MultipliedFactor}
 use Rattle.al_tree.specs.declared.expression.Factor.{Factor}
+use Rattle.al_tree.specs.declared.expression.Power.{Power}
 use Rattle.al_tree.specs.declared.expression.Primary.{Primary}
+use Rattle.al_tree.specs.declared.expression.QualifiedExpression.{QualifiedExpression}
 use Rattle.al_tree.specs.declared.expression.Parentheses.{Parentheses}
 use Rattle.al_tree.specs.declared.expression.ObjectName.{ObjectName}
+use Rattle.al_tree.specs.declared.expression.LongName.{LongName}
 use Rattle.al_tree.specs.declared.expression.NamePart.{NamePart}
-use Rattle.al_tree.specs.declared.expression.Expression.TheOpen.{Expression-F, Relation-F, SimpleExpression-F, AddedTerm-F, Term-F, MultipliedFactor-F, Factor-F, Primary-F, Parentheses-F, ObjectName-F, NamePart-F}
+use Rattle.al_tree.specs.declared.expression.Expression.TheOpen.{Expression-F, LogicalRelations-F, Relation-F, Comparison-F, MarkMembership-F, RangeMembership-F, SimpleExpression-F, SignedTerm-F, Sum-F, AddedTerm-F, Term-F, Product-F, MultipliedFactor-F, Factor-F, Power-F, Primary-F, QualifiedExpression-F, Parentheses-F, ObjectName-F, LongName-F, NamePart-F}
 use Rattle.al_tree.specs.declared.expression.Expression.TheOpen as layer
-use Rattle.al_tree.specs.declared.expression.Expression.TheFolds.{fold-Expression, fold-Relation, fold-SimpleExpression, fold-AddedTerm, fold-Term, fold-MultipliedFactor, fold-Factor, fold-Primary, fold-Parentheses, fold-ObjectName, fold-NamePart}
+use Rattle.al_tree.specs.declared.expression.Expression.TheFolds.{fold-Expression, fold-LogicalRelations, fold-Relation, fold-Comparison, fold-MarkMembership, fold-RangeMembership, fold-SimpleExpression, fold-SignedTerm, fold-Sum, fold-AddedTerm, fold-Term, fold-Product, fold-MultipliedFactor, fold-Factor, fold-Power, fold-Primary, fold-QualifiedExpression, fold-Parentheses, fold-ObjectName, fold-LongName, fold-NamePart}
 use Rattle.al_tree.specs.Lexemes.{identifier_label, number_label, string_label, place_label}
 use Rattle.al_tree.specs.Listed.{listed}
 
@@ -92,54 +102,89 @@ parts_of ps = listed parts_trees.MoreParts parts_trees.NoPart ps
 
 -- ---- one layer of a tree, whose parts are seen already
 
-abbrev pub Layer : ((A B C D E F G H I J K : Type 0) → Type 0) → Type 0
-Layer F = F ExpressionTree FactorTree PartTree ParenthesesTree PrimaryTree RelationTree AddedTermTree MultipliedFactorTree NameTree SimpleTree TermTree
+abbrev pub Layer : ((A B C D E F G H I J K L M N O Q R S T U V : Type 0) → Type 0) → Type 0
+Layer X = X ExpressionTree FactorTree PartTree NameTree ParenthesesTree PrimaryTree RelationTree SimpleTree TermTree AddedTermTree RelationTree ExpressionTree NameTree RelationTree MultipliedFactorTree FactorTree TermTree PrimaryTree RelationTree SimpleTree SimpleTree
 
 abbrev pub expression_layer : Layer Expression-F → ExpressionTree
 expression_layer (layer.SoleRelation r) = expression_trees.SoleRelation r
-expression_layer (layer.Logical o r s rs) = expression_trees.Logical (logical_seen o) r s.value (relations_of rs.items)
+expression_layer (layer.Logical l) = l.value
+
+abbrev pub logical_relations_layer : Layer LogicalRelations-F → ExpressionTree
+logical_relations_layer l = expression_trees.Logical (logical_seen l.operator) l.first l.second (relations_of l.others.items)
 
 abbrev pub relation_layer : Layer Relation-F → RelationTree
 relation_layer (layer.SoleSimple s) = relation_trees.SoleSimple s
-relation_layer (layer.Comparison s o t) = relation_trees.Comparison s (relational_seen o) t.value
-relation_layer (layer.InMark s n t) = relation_trees.InMark s (option_map place_label n) t.value
-relation_layer (layer.InRange s n t u) = relation_trees.InRange s (option_map place_label n) t.value u.value
+relation_layer (layer.Comparison c) = c.value
+relation_layer (layer.InMark m) = m.value
+relation_layer (layer.InRange m) = m.value
+
+abbrev pub comparison_layer : Layer Comparison-F → RelationTree
+comparison_layer c = relation_trees.Comparison c.left (relational_seen c.operator) c.right
+
+abbrev pub mark_membership_layer : Layer MarkMembership-F → RelationTree
+mark_membership_layer m = relation_trees.InMark m.left (option_map place_label m.not) m.mark
+
+abbrev pub range_membership_layer : Layer RangeMembership-F → RelationTree
+range_membership_layer m = relation_trees.InRange m.left (option_map place_label m.not) m.low m.high
 
 abbrev pub added_term_layer : Layer AddedTerm-F → AddedTermTree
 added_term_layer t = (adding_seen t.operator, t.term)
 
 abbrev pub simple_layer : Layer SimpleExpression-F → SimpleTree
-simple_layer s = simple_trees.SimpleExpression (sign_seen s.sign) s.first (added_of s.others.items)
+simple_layer (layer.SoleTerm t) = simple_trees.SimpleExpression None t added_trees.NoTerm
+simple_layer (layer.Signed t) = t.value
+simple_layer (layer.Sum s) = s.value
+
+abbrev pub signed_term_layer : Layer SignedTerm-F → SimpleTree
+signed_term_layer t = simple_trees.SimpleExpression (sign_seen (Some t.sign)) t.term added_trees.NoTerm
+
+abbrev pub sum_layer : Layer Sum-F → SimpleTree
+sum_layer s = simple_trees.SimpleExpression (sign_seen s.sign) s.first (added_of (s.second ∷ s.others.items))
 
 abbrev pub multiplied_factor_layer : Layer MultipliedFactor-F → MultipliedFactorTree
 multiplied_factor_layer f = (multiplying_seen f.operator, f.factor)
 
 abbrev pub term_layer : Layer Term-F → TermTree
-term_layer t = term_trees.Term t.first (multiplied_of t.others.items)
+term_layer (layer.SoleFactor f) = term_trees.Term f multiplied_trees.NoFactor
+term_layer (layer.Product p) = p.value
+
+abbrev pub product_layer : Layer Product-F → TermTree
+product_layer p = term_trees.Term p.first (multiplied_of (p.second ∷ p.others.items))
 
 abbrev pub factor_layer : Layer Factor-F → FactorTree
 factor_layer (layer.SolePrimary p) = factor_trees.SolePrimary p
-factor_layer (layer.Power p q) = factor_trees.Power p q.value
-factor_layer (layer.Absolute l p) = factor_trees.Absolute (place_label l) p
-factor_layer (layer.Negation l p) = factor_trees.Negation (place_label l) p
+factor_layer (layer.Power p) = p.value
+factor_layer (layer.Absolute l p) = factor_trees.Absolute (place_label l) p.value
+factor_layer (layer.Negation l p) = factor_trees.Negation (place_label l) p.value
+
+abbrev pub power_layer : Layer Power-F → FactorTree
+power_layer p = factor_trees.Power p.base p.exponent
 
 abbrev pub primary_layer : Layer Primary-F → PrimaryTree
 primary_layer (layer.Numeric n) = primary_trees.NumberPrimary (number_label n)
-primary_layer (layer.Text s) = primary_trees.StringPrimary (string_label s)
-primary_layer (layer.Named n) = primary_trees.NamePrimary n
-primary_layer (layer.Qualified n p) = primary_trees.QualifiedPrimary n p.value
+primary_layer (layer.Text s) = primary_trees.StringPrimary (string_label s.value)
+primary_layer (layer.DirectName i) = primary_trees.NamePrimary (name_trees.Name (identifier_label i) parts_trees.NoPart)
+primary_layer (layer.LongerName n) = primary_trees.NamePrimary n.value
+primary_layer (layer.Qualified q) = q.value
 primary_layer (layer.Parenthesized p) = primary_trees.ParenthesizedPrimary p.value
+
+abbrev pub qualified_layer : Layer QualifiedExpression-F → PrimaryTree
+qualified_layer q = primary_trees.QualifiedPrimary q.mark q.operand
 
 abbrev pub parentheses_layer : Layer Parentheses-F → ParenthesesTree
 parentheses_layer (layer.Positional l e es) = parentheses_trees.Positional (place_label l) e (expressions_of es.items)
 parentheses_layer (layer.OthersAggregate l e) = parentheses_trees.OthersAggregate (place_label l) e
 
 abbrev pub name_layer : Layer ObjectName-F → NameTree
-name_layer n = name_trees.Name (identifier_label n.first) (parts_of n.parts.items)
+name_layer (layer.Direct i) = name_trees.Name (identifier_label i) parts_trees.NoPart
+name_layer (layer.Longer n) = n.value
+
+abbrev pub long_name_layer : Layer LongName-F → NameTree
+long_name_layer n = name_trees.Name (identifier_label n.first) (parts_of (n.next ∷ n.others.items))
 
 abbrev pub part_layer : Layer NamePart-F → PartTree
 part_layer (layer.Selector i) = part_trees.Selector (identifier_label i)
-part_layer (layer.Arguments l e es) = part_trees.Arguments (place_label l) e.value (expressions_of es.items)
+part_layer (layer.Arguments l e es) = part_trees.Arguments (place_label l) e (expressions_of es.items)
 part_layer (layer.Attribute i) = part_trees.Attribute (identifier_label i)
 part_layer layer.RangeAttribute = part_trees.RangeAttribute
 
@@ -147,69 +192,119 @@ part_layer layer.RangeAttribute = part_trees.RangeAttribute
 
 -- what is so for all types and layers, at those of the trees
 abbrev pub by_layers :
-    {P : (A B C D E F G H I J K : Type 0) →
-    (Expression-F A B C D E F G H I J K → A)
-    → (Factor-F A B C D E F G H I J K → B)
-    → (NamePart-F A B C D E F G H I J K → C)
-    → (Parentheses-F A B C D E F G H I J K → D)
-    → (Primary-F A B C D E F G H I J K → E)
-    → (Relation-F A B C D E F G H I J K → F)
-    → (AddedTerm-F A B C D E F G H I J K → G)
-    → (MultipliedFactor-F A B C D E F G H I J K → H)
-    → (ObjectName-F A B C D E F G H I J K → I)
-    → (SimpleExpression-F A B C D E F G H I J K → J)
-    → (Term-F A B C D E F G H I J K → K)
+    {P : (A B C D E F G H I J K L M N O Q R S T U V : Type 0)
+    → (Expression-F A B C D E F G H I J K L M N O Q R S T U V → A)
+    → (Factor-F A B C D E F G H I J K L M N O Q R S T U V → B)
+    → (NamePart-F A B C D E F G H I J K L M N O Q R S T U V → C)
+    → (ObjectName-F A B C D E F G H I J K L M N O Q R S T U V → D)
+    → (Parentheses-F A B C D E F G H I J K L M N O Q R S T U V → E)
+    → (Primary-F A B C D E F G H I J K L M N O Q R S T U V → F)
+    → (Relation-F A B C D E F G H I J K L M N O Q R S T U V → G)
+    → (SimpleExpression-F A B C D E F G H I J K L M N O Q R S T U V → H)
+    → (Term-F A B C D E F G H I J K L M N O Q R S T U V → I)
+    → (AddedTerm-F A B C D E F G H I J K L M N O Q R S T U V → J)
+    → (Comparison-F A B C D E F G H I J K L M N O Q R S T U V → K)
+    → (LogicalRelations-F A B C D E F G H I J K L M N O Q R S T U V → L)
+    → (LongName-F A B C D E F G H I J K L M N O Q R S T U V → M)
+    → (MarkMembership-F A B C D E F G H I J K L M N O Q R S T U V → N)
+    → (MultipliedFactor-F A B C D E F G H I J K L M N O Q R S T U V → O)
+    → (Power-F A B C D E F G H I J K L M N O Q R S T U V → Q)
+    → (Product-F A B C D E F G H I J K L M N O Q R S T U V → R)
+    → (QualifiedExpression-F A B C D E F G H I J K L M N O Q R S T U V → S)
+    → (RangeMembership-F A B C D E F G H I J K L M N O Q R S T U V → T)
+    → (SignedTerm-F A B C D E F G H I J K L M N O Q R S T U V → U)
+    → (Sum-F A B C D E F G H I J K L M N O Q R S T U V → V)
     → Type 0}
-    → ((A B C D E F G H I J K : Type 0)
-    (a : Expression-F A B C D E F G H I J K → A)
-    (b : Factor-F A B C D E F G H I J K → B)
-    (c : NamePart-F A B C D E F G H I J K → C)
-    (d : Parentheses-F A B C D E F G H I J K → D)
-    (e : Primary-F A B C D E F G H I J K → E)
-    (f : Relation-F A B C D E F G H I J K → F)
-    (g : AddedTerm-F A B C D E F G H I J K → G)
-    (h : MultipliedFactor-F A B C D E F G H I J K → H)
-    (i : ObjectName-F A B C D E F G H I J K → I)
-    (j : SimpleExpression-F A B C D E F G H I J K → J)
-    (k : Term-F A B C D E F G H I J K → K)
-    → P A B C D E F G H I J K a b c d e f g h i j k)
-    → P ExpressionTree FactorTree PartTree ParenthesesTree PrimaryTree RelationTree AddedTermTree MultipliedFactorTree NameTree SimpleTree TermTree
-    expression_layer factor_layer part_layer parentheses_layer primary_layer relation_layer added_term_layer multiplied_factor_layer name_layer simple_layer term_layer
-by_layers f = f ExpressionTree FactorTree PartTree ParenthesesTree PrimaryTree RelationTree AddedTermTree MultipliedFactorTree NameTree SimpleTree TermTree
-    expression_layer factor_layer part_layer parentheses_layer primary_layer relation_layer added_term_layer multiplied_factor_layer name_layer simple_layer term_layer
+    → ((A B C D E F G H I J K L M N O Q R S T U V : Type 0)
+    (a : Expression-F A B C D E F G H I J K L M N O Q R S T U V → A)
+    (b : Factor-F A B C D E F G H I J K L M N O Q R S T U V → B)
+    (c : NamePart-F A B C D E F G H I J K L M N O Q R S T U V → C)
+    (d : ObjectName-F A B C D E F G H I J K L M N O Q R S T U V → D)
+    (e : Parentheses-F A B C D E F G H I J K L M N O Q R S T U V → E)
+    (f : Primary-F A B C D E F G H I J K L M N O Q R S T U V → F)
+    (g : Relation-F A B C D E F G H I J K L M N O Q R S T U V → G)
+    (h : SimpleExpression-F A B C D E F G H I J K L M N O Q R S T U V → H)
+    (i : Term-F A B C D E F G H I J K L M N O Q R S T U V → I)
+    (j : AddedTerm-F A B C D E F G H I J K L M N O Q R S T U V → J)
+    (k : Comparison-F A B C D E F G H I J K L M N O Q R S T U V → K)
+    (l : LogicalRelations-F A B C D E F G H I J K L M N O Q R S T U V → L)
+    (m : LongName-F A B C D E F G H I J K L M N O Q R S T U V → M)
+    (n : MarkMembership-F A B C D E F G H I J K L M N O Q R S T U V → N)
+    (o : MultipliedFactor-F A B C D E F G H I J K L M N O Q R S T U V → O)
+    (q : Power-F A B C D E F G H I J K L M N O Q R S T U V → Q)
+    (r : Product-F A B C D E F G H I J K L M N O Q R S T U V → R)
+    (s : QualifiedExpression-F A B C D E F G H I J K L M N O Q R S T U V → S)
+    (t : RangeMembership-F A B C D E F G H I J K L M N O Q R S T U V → T)
+    (u : SignedTerm-F A B C D E F G H I J K L M N O Q R S T U V → U)
+    (v : Sum-F A B C D E F G H I J K L M N O Q R S T U V → V)
+    → P A B C D E F G H I J K L M N O Q R S T U V a b c d e f g h i j k l m n o q r s t u v)
+    → P ExpressionTree FactorTree PartTree NameTree ParenthesesTree PrimaryTree RelationTree SimpleTree TermTree AddedTermTree RelationTree ExpressionTree NameTree RelationTree MultipliedFactorTree FactorTree TermTree PrimaryTree RelationTree SimpleTree SimpleTree
+    expression_layer factor_layer part_layer name_layer parentheses_layer primary_layer relation_layer simple_layer term_layer added_term_layer comparison_layer logical_relations_layer long_name_layer mark_membership_layer multiplied_factor_layer power_layer product_layer qualified_layer range_membership_layer signed_term_layer sum_layer
+by_layers x = x ExpressionTree FactorTree PartTree NameTree ParenthesesTree PrimaryTree RelationTree SimpleTree TermTree AddedTermTree RelationTree ExpressionTree NameTree RelationTree MultipliedFactorTree FactorTree TermTree PrimaryTree RelationTree SimpleTree SimpleTree
+    expression_layer factor_layer part_layer name_layer parentheses_layer primary_layer relation_layer simple_layer term_layer added_term_layer comparison_layer logical_relations_layer long_name_layer mark_membership_layer multiplied_factor_layer power_layer product_layer qualified_layer range_membership_layer signed_term_layer sum_layer
 
 unfoldable pub expression_seen : Expression → ExpressionTree
 expression_seen = by_layers fold-Expression
 
-unfoldable pub factor_seen : Factor → FactorTree
-factor_seen = by_layers fold-Factor
-
-unfoldable pub part_seen : NamePart → PartTree
-part_seen = by_layers fold-NamePart
-
-unfoldable pub parentheses_seen : Parentheses → ParenthesesTree
-parentheses_seen = by_layers fold-Parentheses
-
-unfoldable pub primary_seen : Primary → PrimaryTree
-primary_seen = by_layers fold-Primary
+unfoldable pub logical_relations_seen : LogicalRelations → ExpressionTree
+logical_relations_seen = by_layers fold-LogicalRelations
 
 unfoldable pub relation_seen : Relation → RelationTree
 relation_seen = by_layers fold-Relation
 
-unfoldable pub added_term_seen : AddedTerm → AddedTermTree
-added_term_seen = by_layers fold-AddedTerm
+unfoldable pub comparison_seen : Comparison → RelationTree
+comparison_seen = by_layers fold-Comparison
 
-unfoldable pub multiplied_factor_seen : MultipliedFactor → MultipliedFactorTree
-multiplied_factor_seen = by_layers fold-MultipliedFactor
+unfoldable pub mark_membership_seen : MarkMembership → RelationTree
+mark_membership_seen = by_layers fold-MarkMembership
 
-unfoldable pub name_seen : ObjectName → NameTree
-name_seen = by_layers fold-ObjectName
+unfoldable pub range_membership_seen : RangeMembership → RelationTree
+range_membership_seen = by_layers fold-RangeMembership
 
 unfoldable pub simple_seen : SimpleExpression → SimpleTree
 simple_seen = by_layers fold-SimpleExpression
 
+unfoldable pub signed_term_seen : SignedTerm → SimpleTree
+signed_term_seen = by_layers fold-SignedTerm
+
+unfoldable pub sum_seen : Sum → SimpleTree
+sum_seen = by_layers fold-Sum
+
+unfoldable pub added_term_seen : AddedTerm → AddedTermTree
+added_term_seen = by_layers fold-AddedTerm
+
 unfoldable pub term_seen : Term → TermTree
 term_seen = by_layers fold-Term
+
+unfoldable pub product_seen : Product → TermTree
+product_seen = by_layers fold-Product
+
+unfoldable pub multiplied_factor_seen : MultipliedFactor → MultipliedFactorTree
+multiplied_factor_seen = by_layers fold-MultipliedFactor
+
+unfoldable pub factor_seen : Factor → FactorTree
+factor_seen = by_layers fold-Factor
+
+unfoldable pub power_seen : Power → FactorTree
+power_seen = by_layers fold-Power
+
+unfoldable pub primary_seen : Primary → PrimaryTree
+primary_seen = by_layers fold-Primary
+
+unfoldable pub qualified_seen : QualifiedExpression → PrimaryTree
+qualified_seen = by_layers fold-QualifiedExpression
+
+unfoldable pub parentheses_seen : Parentheses → ParenthesesTree
+parentheses_seen = by_layers fold-Parentheses
+
+unfoldable pub name_seen : ObjectName → NameTree
+name_seen = by_layers fold-ObjectName
+
+unfoldable pub long_name_seen : LongName → NameTree
+long_name_seen = by_layers fold-LongName
+
+unfoldable pub part_seen : NamePart → PartTree
+part_seen = by_layers fold-NamePart
 
 -- operator term
 abbrev pub added_term_tokens : AddedTerm → List Lexeme

@@ -100,11 +100,11 @@ operation_body_layer (layer.EntryOperation p i e h) = operation_body_trees.Entry
 
 abbrev pub statement_layer : Layer Statement-F → StatementTree
 statement_layer layer.Null = statement_trees.NullStatement
-statement_layer (layer.Assignment n e) = statement_trees.Assignment (name_seen n) (expression_seen e)
+statement_layer (layer.Assignment s) = statement_trees.Assignment (name_seen s.value.target) (expression_seen s.value.value)
 statement_layer (layer.Call n) = statement_trees.CallStatement (name_seen n)
-statement_layer (layer.Return p e) = statement_trees.ReturnStatement (place_label p) (option_map expression_seen e)
-statement_layer (layer.Exit p n e) = statement_trees.ExitStatement (place_label p) (option_map identifier_label n) (option_map expression_seen e)
-statement_layer (layer.Delay p e) = statement_trees.DelayStatement (place_label p) (expression_seen e)
+statement_layer (layer.Return s) = statement_trees.ReturnStatement (place_label s.value.opening) (option_map expression_seen s.value.value)
+statement_layer (layer.Exit s) = statement_trees.ExitStatement (place_label s.value.opening) (option_map identifier_label s.value.name) (option_map expression_seen s.value.condition)
+statement_layer (layer.Delay s) = statement_trees.DelayStatement (place_label s.value.opening) (expression_seen s.value.moment)
 statement_layer (layer.If s) = s.value
 statement_layer (layer.Case s) = s.value
 statement_layer (layer.Loop n l) = statement_trees.LoopStatement (option_map identifier_label n) l.value
@@ -129,7 +129,7 @@ abbrev pub if_layer : Layer IfStatement-F → StatementTree
 if_layer s = statement_trees.IfStatement (place_label s.opening) s.first (elsifs_of s.others.items) (else_of s.otherwise) (place_label s.end) (place_label s.closing)
 
 abbrev pub statements_layer : Layer Statements-F → StatementsTree
-statements_layer s = statements_trees.Statements s.first.value (more_statements_of s.others.items)
+statements_layer s = statements_trees.Statements s.first (more_statements_of s.others.items)
 
 abbrev pub body_layer : Layer SubprogramBody-F → BodyTree
 body_layer b = body_trees.Body (items_of b.items.items) (place_label b.begin) b.statements (compound_end_seen b.end)

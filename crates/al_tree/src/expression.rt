@@ -1,11 +1,11 @@
 // Names and expressions (ARM 4.1 to 4.5).
-ghost use Rattle.std.specs.Prelude.{◌≡◌, ◌∷◌, [], ◌++◌, map, option_map};
+ghost use Rattle.std.specs.Prelude.{◌≡◌, ◌∷◌, [], ◌++◌, None, Some, map, option_map};
 ghost use Rattle.al_grammar.specs.Grammar.{each};
 ghost use Rattle.al_syntax.specs.ExpressionTrees.{ExpressionTree as expression_trees, RelationTree as relation_trees, SimpleTree as simple_trees, TermTree as term_trees, FactorTree as factor_trees, PrimaryTree as primary_trees, ParenthesesTree as parentheses_trees, NameTree as name_trees, PartTree as part_trees};
 ghost use Rattle.al_syntax.specs.ExpressionTrees.{adding_token, expression_tokens, factor_tokens, logical_tokens, multiplying_token, name_tokens, not_tokens, parentheses_tokens, part_tokens, primary_tokens, relation_tokens, relational_token, sign_tokens, simple_tokens, term_tokens};
 ghost use Rattle.al_syntax.specs.Symbols.{Symbol as symbols};
 ghost use Rattle.al_syntax.specs.Words.{labelled, word};
-ghost use Rattle.al_tree.specs.ExpressionViews.{added_of, added_term_seen, added_term_tokens, adding_seen, expression_seen, expressions_of, factor_seen, logical_seen, multiplied_factor_seen, multiplied_factor_tokens, multiplied_of, multiplying_seen, name_seen, parentheses_seen, part_seen, parts_of, primary_seen, relation_seen, relational_seen, relations_of, sign_seen, simple_seen, term_seen};
+ghost use Rattle.al_tree.specs.ExpressionViews.{added_of, added_term_seen, added_term_tokens, adding_seen, comparison_seen, expression_seen, expressions_of, factor_seen, logical_relations_seen, logical_seen, long_name_seen, mark_membership_seen, multiplied_factor_seen, multiplied_factor_tokens, multiplied_of, multiplying_seen, name_seen, parentheses_seen, part_seen, parts_of, power_seen, primary_seen, product_seen, qualified_seen, range_membership_seen, relation_seen, relational_seen, relations_of, sign_seen, signed_term_seen, simple_seen, sum_seen, term_seen};
 ghost use Rattle.al_tree.specs.Lexemes.{identifier_label, number_label, place_label, string_label};
 
 use crate::names::{Identifier, NumericLiteral, StringLiteral};
@@ -56,32 +56,87 @@ pub enum Sign {
     Minus(Place),
 }
 
-/// A relation, or two relations and perhaps more with one logical operator between them (ARM 4.4(2)).
+/// A relation, or two relations and perhaps more with one logical operator between them (ARM 4.4(2)). What is rare stands in a box
+/// of its own, here and below: most expressions are a name or a literal alone.
 #[derive(Debug, Drop)]
 #[cycle(expression)]
 pub enum Expression {
     SoleRelation(Relation),
-    Logical(LogicalOperator, Relation, Box<Relation>, Vec<Relation>),
+    Logical(Box<LogicalRelations>),
 }
 
-/// ARM 4.4(3). A membership test (ARM 4.5.2) has the place of its `not`, where there is one.
+/// `first operator second {operator other}`
+#[derive(Debug, Drop)]
+#[cycle(expression)]
+pub struct LogicalRelations {
+    pub operator: LogicalOperator,
+    pub first: Relation,
+    pub second: Relation,
+    pub others: Vec<Relation>,
+}
+
+/// ARM 4.4(3)
 #[derive(Debug, Drop)]
 #[cycle(expression)]
 pub enum Relation {
     SoleSimple(SimpleExpression),
-    Comparison(SimpleExpression, RelationalOperator, Box<SimpleExpression>),
-    /// `simple [not] in mark`
-    InMark(SimpleExpression, Option<Place>, Box<SimpleExpression>),
-    /// `simple [not] in low .. high`
-    InRange(SimpleExpression, Option<Place>, Box<SimpleExpression>, Box<SimpleExpression>),
+    Comparison(Box<Comparison>),
+    InMark(Box<MarkMembership>),
+    InRange(Box<RangeMembership>),
+}
+
+/// `left operator right`
+#[derive(Debug, Drop)]
+#[cycle(expression)]
+pub struct Comparison {
+    pub left: SimpleExpression,
+    pub operator: RelationalOperator,
+    pub right: SimpleExpression,
+}
+
+/// `left [not] in mark` (ARM 4.5.2), with the place of `not`.
+#[derive(Debug, Drop)]
+#[cycle(expression)]
+pub struct MarkMembership {
+    pub left: SimpleExpression,
+    pub not: Option<Place>,
+    pub mark: SimpleExpression,
+}
+
+/// `left [not] in low .. high` (ARM 4.5.2), with the place of `not`.
+#[derive(Debug, Drop)]
+#[cycle(expression)]
+pub struct RangeMembership {
+    pub left: SimpleExpression,
+    pub not: Option<Place>,
+    pub low: SimpleExpression,
+    pub high: SimpleExpression,
 }
 
 /// `[sign] term {operator term}` (ARM 4.4(4))
 #[derive(Debug, Drop)]
 #[cycle(expression)]
-pub struct SimpleExpression {
+pub enum SimpleExpression {
+    SoleTerm(Term),
+    Signed(Box<SignedTerm>),
+    Sum(Box<Sum>),
+}
+
+/// `sign term`
+#[derive(Debug, Drop)]
+#[cycle(expression)]
+pub struct SignedTerm {
+    pub sign: Sign,
+    pub term: Term,
+}
+
+/// `[sign] first second {other}`
+#[derive(Debug, Drop)]
+#[cycle(expression)]
+pub struct Sum {
     pub sign: Option<Sign>,
     pub first: Term,
+    pub second: AddedTerm,
     pub others: Vec<AddedTerm>,
 }
 
@@ -96,8 +151,17 @@ pub struct AddedTerm {
 /// `factor {operator factor}` (ARM 4.4(5))
 #[derive(Debug, Drop)]
 #[cycle(expression)]
-pub struct Term {
+pub enum Term {
+    SoleFactor(Factor),
+    Product(Box<Product>),
+}
+
+/// `first second {other}`
+#[derive(Debug, Drop)]
+#[cycle(expression)]
+pub struct Product {
     pub first: Factor,
+    pub second: MultipliedFactor,
     pub others: Vec<MultipliedFactor>,
 }
 
@@ -114,21 +178,37 @@ pub struct MultipliedFactor {
 #[cycle(expression)]
 pub enum Factor {
     SolePrimary(Primary),
-    Power(Primary, Box<Primary>),
-    Absolute(Place, Primary),
-    Negation(Place, Primary),
+    Power(Box<Power>),
+    Absolute(Place, Box<Primary>),
+    Negation(Place, Box<Primary>),
 }
 
-/// ARM 4.4(7)
+/// `base ** exponent`
+#[derive(Debug, Drop)]
+#[cycle(expression)]
+pub struct Power {
+    pub base: Primary,
+    pub exponent: Primary,
+}
+
+/// ARM 4.4(7). A name is one of two variants here, as it is in an `ObjectName`.
 #[derive(Debug, Drop)]
 #[cycle(expression)]
 pub enum Primary {
     Numeric(NumericLiteral),
-    Text(StringLiteral),
-    Named(ObjectName),
-    /// A qualified expression (ARM 4.7).
-    Qualified(ObjectName, Box<Parentheses>),
+    Text(Box<StringLiteral>),
+    DirectName(Identifier),
+    LongerName(Box<LongName>),
+    Qualified(Box<QualifiedExpression>),
     Parenthesized(Box<Parentheses>),
+}
+
+/// `mark'(operand)` (ARM 4.7)
+#[derive(Debug, Drop)]
+#[cycle(expression)]
+pub struct QualifiedExpression {
+    pub mark: ObjectName,
+    pub operand: Parentheses,
 }
 
 /// What stands between parentheses, with the place of the left one.
@@ -144,9 +224,18 @@ pub enum Parentheses {
 /// A name (ARM 4.1): an identifier, and what is selected, indexed or called of it.
 #[derive(Debug, Drop)]
 #[cycle(expression)]
-pub struct ObjectName {
+pub enum ObjectName {
+    Direct(Identifier),
+    Longer(Box<LongName>),
+}
+
+/// `first next {other}`
+#[derive(Debug, Drop)]
+#[cycle(expression)]
+pub struct LongName {
     pub first: Identifier,
-    pub parts: Vec<NamePart>,
+    pub next: NamePart,
+    pub others: Vec<NamePart>,
 }
 
 /// What stands behind a part of a name.
@@ -157,7 +246,7 @@ pub enum NamePart {
     Selector(Identifier),
     /// `(expression {, expression})`: indexes, arguments of a call or the operand of a conversion, with the place of the left
     /// parenthesis (ARM 4.1.1, 4.6, 6.4).
-    Arguments(Place, Box<Expression>, Vec<Expression>),
+    Arguments(Place, Expression, Vec<Expression>),
     /// `'identifier` (ARM 4.1.4)
     Attribute(Identifier),
     /// `'range`
@@ -176,16 +265,32 @@ impl Expression {
 
     /// Relations with one logical operator between them.
     #[tactic(auto, using(crate::proofs::ExpressionsMade::expression_logical_seen, crate::proofs::ExpressionsMade::expression_logical_tokens))]
-    pub fn logical(
+    pub fn logical(relations: Box<LogicalRelations>) -> Expression
+        ensures seen { expression_seen result ≡ logical_relations_seen relations.value }
+        ensures tokens { expression_tokens (expression_seen result) ≡ expression_tokens (logical_relations_seen relations.value) }
+    {
+        Expression::Logical(relations)
+    }
+}
+
+impl LogicalRelations {
+    /// `first operator second {operator other}`
+    #[tactic(auto, using(crate::proofs::ExpressionsMade::logical_relations_new_seen, crate::proofs::ExpressionsMade::logical_relations_new_tokens))]
+    pub fn new(
         operator: LogicalOperator,
         first: Relation,
-        second: Box<Relation>,
+        second: Relation,
         others: Vec<Relation>,
-    ) -> Expression
-        ensures seen { expression_seen result ≡ expression_trees.Logical (logical_seen operator) (relation_seen first) (relation_seen second.value) (relations_of (map relation_seen others.items)) }
-        ensures tokens { expression_tokens (expression_seen result) ≡ relation_tokens (relation_seen first) ++ (logical_tokens (logical_seen operator) ++ (relation_tokens (relation_seen second.value) ++ each (λ r. logical_tokens (logical_seen operator) ++ relation_tokens (relation_seen r)) others.items)) }
+    ) -> LogicalRelations
+        ensures seen { logical_relations_seen result ≡ expression_trees.Logical (logical_seen operator) (relation_seen first) (relation_seen second) (relations_of (map relation_seen others.items)) }
+        ensures tokens { expression_tokens (logical_relations_seen result) ≡ relation_tokens (relation_seen first) ++ (logical_tokens (logical_seen operator) ++ (relation_tokens (relation_seen second) ++ each (λ r. logical_tokens (logical_seen operator) ++ relation_tokens (relation_seen r)) others.items)) }
     {
-        Expression::Logical(operator, first, second, others)
+        LogicalRelations {
+            operator,
+            first,
+            second,
+            others,
+        }
     }
 }
 
@@ -199,57 +304,136 @@ impl Relation {
         Relation::SoleSimple(simple)
     }
 
-    /// `left operator right`
+    /// A comparison.
     #[tactic(auto, using(crate::proofs::ExpressionsMade::relation_comparison_seen, crate::proofs::ExpressionsMade::relation_comparison_tokens))]
-    pub fn comparison(
+    pub fn comparison(comparison: Box<Comparison>) -> Relation
+        ensures seen { relation_seen result ≡ comparison_seen comparison.value }
+        ensures tokens { relation_tokens (relation_seen result) ≡ relation_tokens (comparison_seen comparison.value) }
+    {
+        Relation::Comparison(comparison)
+    }
+
+    /// A membership test with a subtype.
+    #[tactic(auto, using(crate::proofs::ExpressionsMade::relation_in_mark_seen, crate::proofs::ExpressionsMade::relation_in_mark_tokens))]
+    pub fn in_mark(membership: Box<MarkMembership>) -> Relation
+        ensures seen { relation_seen result ≡ mark_membership_seen membership.value }
+        ensures tokens { relation_tokens (relation_seen result) ≡ relation_tokens (mark_membership_seen membership.value) }
+    {
+        Relation::InMark(membership)
+    }
+
+    /// A membership test with a range.
+    #[tactic(auto, using(crate::proofs::ExpressionsMade::relation_in_range_seen, crate::proofs::ExpressionsMade::relation_in_range_tokens))]
+    pub fn in_range(membership: Box<RangeMembership>) -> Relation
+        ensures seen { relation_seen result ≡ range_membership_seen membership.value }
+        ensures tokens { relation_tokens (relation_seen result) ≡ relation_tokens (range_membership_seen membership.value) }
+    {
+        Relation::InRange(membership)
+    }
+}
+
+impl Comparison {
+    /// `left operator right`
+    #[tactic(auto, using(crate::proofs::ExpressionsMade::comparison_new_seen, crate::proofs::ExpressionsMade::comparison_new_tokens))]
+    pub fn new(
         left: SimpleExpression,
         operator: RelationalOperator,
-        right: Box<SimpleExpression>,
-    ) -> Relation
-        ensures seen { relation_seen result ≡ relation_trees.Comparison (simple_seen left) (relational_seen operator) (simple_seen right.value) }
-        ensures tokens { relation_tokens (relation_seen result) ≡ simple_tokens (simple_seen left) ++ relational_token (relational_seen operator) ∷ simple_tokens (simple_seen right.value) }
+        right: SimpleExpression,
+    ) -> Comparison
+        ensures seen { comparison_seen result ≡ relation_trees.Comparison (simple_seen left) (relational_seen operator) (simple_seen right) }
+        ensures tokens { relation_tokens (comparison_seen result) ≡ simple_tokens (simple_seen left) ++ relational_token (relational_seen operator) ∷ simple_tokens (simple_seen right) }
     {
-        Relation::Comparison(left, operator, right)
+        Comparison {
+            left,
+            operator,
+            right,
+        }
     }
+}
 
+impl MarkMembership {
     /// `left [not] in mark`
-    #[tactic(auto, using(crate::proofs::ExpressionsMade::relation_in_mark_seen, crate::proofs::ExpressionsMade::relation_in_mark_tokens))]
-    pub fn in_mark(
-        left: SimpleExpression,
-        not: Option<Place>,
-        mark: Box<SimpleExpression>,
-    ) -> Relation
-        ensures seen { relation_seen result ≡ relation_trees.InMark (simple_seen left) (option_map place_label not) (simple_seen mark.value) }
-        ensures tokens { relation_tokens (relation_seen result) ≡ simple_tokens (simple_seen left) ++ (not_tokens (option_map place_label not) ++ word symbols.In ∷ simple_tokens (simple_seen mark.value)) }
+    #[tactic(auto, using(crate::proofs::ExpressionsMade::mark_membership_new_seen, crate::proofs::ExpressionsMade::mark_membership_new_tokens))]
+    pub fn new(left: SimpleExpression, not: Option<Place>, mark: SimpleExpression) -> MarkMembership
+        ensures seen { mark_membership_seen result ≡ relation_trees.InMark (simple_seen left) (option_map place_label not) (simple_seen mark) }
+        ensures tokens { relation_tokens (mark_membership_seen result) ≡ simple_tokens (simple_seen left) ++ (not_tokens (option_map place_label not) ++ word symbols.In ∷ simple_tokens (simple_seen mark)) }
     {
-        Relation::InMark(left, not, mark)
+        MarkMembership { left, not, mark }
     }
+}
 
+impl RangeMembership {
     /// `left [not] in low .. high`
-    #[tactic(auto, using(crate::proofs::ExpressionsMade::relation_in_range_seen, crate::proofs::ExpressionsMade::relation_in_range_tokens))]
-    pub fn in_range(
+    #[tactic(auto, using(crate::proofs::ExpressionsMade::range_membership_new_seen, crate::proofs::ExpressionsMade::range_membership_new_tokens))]
+    pub fn new(
         left: SimpleExpression,
         not: Option<Place>,
-        low: Box<SimpleExpression>,
-        high: Box<SimpleExpression>,
-    ) -> Relation
-        ensures seen { relation_seen result ≡ relation_trees.InRange (simple_seen left) (option_map place_label not) (simple_seen low.value) (simple_seen high.value) }
-        ensures tokens { relation_tokens (relation_seen result) ≡ simple_tokens (simple_seen left) ++ (not_tokens (option_map place_label not) ++ word symbols.In ∷ (simple_tokens (simple_seen low.value) ++ word symbols.DoubleDot ∷ simple_tokens (simple_seen high.value))) }
+        low: SimpleExpression,
+        high: SimpleExpression,
+    ) -> RangeMembership
+        ensures seen { range_membership_seen result ≡ relation_trees.InRange (simple_seen left) (option_map place_label not) (simple_seen low) (simple_seen high) }
+        ensures tokens { relation_tokens (range_membership_seen result) ≡ simple_tokens (simple_seen left) ++ (not_tokens (option_map place_label not) ++ word symbols.In ∷ (simple_tokens (simple_seen low) ++ word symbols.DoubleDot ∷ simple_tokens (simple_seen high))) }
     {
-        Relation::InRange(left, not, low, high)
+        RangeMembership {
+            left,
+            not,
+            low,
+            high,
+        }
     }
 }
 
 impl SimpleExpression {
-    /// `[sign] first {others}`
-    #[tactic(auto, using(crate::proofs::ExpressionsMade::simple_new_seen, crate::proofs::ExpressionsMade::simple_new_tokens))]
-    pub fn new(sign: Option<Sign>, first: Term, others: Vec<AddedTerm>) -> SimpleExpression
-        ensures seen { simple_seen result ≡ simple_trees.SimpleExpression (sign_seen sign) (term_seen first) (added_of (map added_term_seen others.items)) }
-        ensures tokens { simple_tokens (simple_seen result) ≡ sign_tokens (sign_seen sign) ++ (term_tokens (term_seen first) ++ each added_term_tokens others.items) }
+    /// One term.
+    #[tactic(auto, using(crate::proofs::ExpressionsMade::simple_sole_term_seen, crate::proofs::ExpressionsMade::simple_sole_term_tokens))]
+    pub fn sole_term(term: Term) -> SimpleExpression
+        ensures seen { simple_seen result ≡ simple_trees.SimpleExpression None (term_seen term) (added_of []) }
+        ensures tokens { simple_tokens (simple_seen result) ≡ term_tokens (term_seen term) }
     {
-        SimpleExpression {
+        SimpleExpression::SoleTerm(term)
+    }
+
+    /// One term with a sign in front.
+    #[tactic(auto, using(crate::proofs::ExpressionsMade::simple_signed_seen, crate::proofs::ExpressionsMade::simple_signed_tokens))]
+    pub fn signed(term: Box<SignedTerm>) -> SimpleExpression
+        ensures seen { simple_seen result ≡ signed_term_seen term.value }
+        ensures tokens { simple_tokens (simple_seen result) ≡ simple_tokens (signed_term_seen term.value) }
+    {
+        SimpleExpression::Signed(term)
+    }
+
+    /// Terms with adding operators between them.
+    #[tactic(auto, using(crate::proofs::ExpressionsMade::simple_sum_seen, crate::proofs::ExpressionsMade::simple_sum_tokens))]
+    pub fn sum(sum: Box<Sum>) -> SimpleExpression
+        ensures seen { simple_seen result ≡ sum_seen sum.value }
+        ensures tokens { simple_tokens (simple_seen result) ≡ simple_tokens (sum_seen sum.value) }
+    {
+        SimpleExpression::Sum(sum)
+    }
+}
+
+impl SignedTerm {
+    /// `sign term`
+    #[tactic(auto, using(crate::proofs::ExpressionsMade::signed_term_new_seen, crate::proofs::ExpressionsMade::signed_term_new_tokens))]
+    pub fn new(sign: Sign, term: Term) -> SignedTerm
+        ensures seen { signed_term_seen result ≡ simple_trees.SimpleExpression (sign_seen (Some sign)) (term_seen term) (added_of []) }
+        ensures tokens { simple_tokens (signed_term_seen result) ≡ sign_tokens (sign_seen (Some sign)) ++ term_tokens (term_seen term) }
+    {
+        SignedTerm { sign, term }
+    }
+}
+
+impl Sum {
+    /// `[sign] first second {other}`
+    #[tactic(auto, using(crate::proofs::ExpressionsMade::sum_new_seen, crate::proofs::ExpressionsMade::sum_new_tokens))]
+    pub fn new(sign: Option<Sign>, first: Term, second: AddedTerm, others: Vec<AddedTerm>) -> Sum
+        ensures seen { sum_seen result ≡ simple_trees.SimpleExpression (sign_seen sign) (term_seen first) (added_of (map added_term_seen (second ∷ others.items))) }
+        ensures tokens { simple_tokens (sum_seen result) ≡ sign_tokens (sign_seen sign) ++ (term_tokens (term_seen first) ++ (added_term_tokens second ++ each added_term_tokens others.items)) }
+    {
+        Sum {
             sign,
             first,
+            second,
             others,
         }
     }
@@ -267,13 +451,37 @@ impl AddedTerm {
 }
 
 impl Term {
-    /// `first {others}`
-    #[tactic(auto, using(crate::proofs::ExpressionsMade::term_new_seen, crate::proofs::ExpressionsMade::term_new_tokens))]
-    pub fn new(first: Factor, others: Vec<MultipliedFactor>) -> Term
-        ensures seen { term_seen result ≡ term_trees.Term (factor_seen first) (multiplied_of (map multiplied_factor_seen others.items)) }
-        ensures tokens { term_tokens (term_seen result) ≡ factor_tokens (factor_seen first) ++ each multiplied_factor_tokens others.items }
+    /// One factor.
+    #[tactic(auto, using(crate::proofs::ExpressionsMade::term_sole_factor_seen, crate::proofs::ExpressionsMade::term_sole_factor_tokens))]
+    pub fn sole_factor(factor: Factor) -> Term
+        ensures seen { term_seen result ≡ term_trees.Term (factor_seen factor) (multiplied_of []) }
+        ensures tokens { term_tokens (term_seen result) ≡ factor_tokens (factor_seen factor) }
     {
-        Term { first, others }
+        Term::SoleFactor(factor)
+    }
+
+    /// Factors with multiplying operators between them.
+    #[tactic(auto, using(crate::proofs::ExpressionsMade::term_product_seen, crate::proofs::ExpressionsMade::term_product_tokens))]
+    pub fn product(product: Box<Product>) -> Term
+        ensures seen { term_seen result ≡ product_seen product.value }
+        ensures tokens { term_tokens (term_seen result) ≡ term_tokens (product_seen product.value) }
+    {
+        Term::Product(product)
+    }
+}
+
+impl Product {
+    /// `first second {other}`
+    #[tactic(auto, using(crate::proofs::ExpressionsMade::product_new_seen, crate::proofs::ExpressionsMade::product_new_tokens))]
+    pub fn new(first: Factor, second: MultipliedFactor, others: Vec<MultipliedFactor>) -> Product
+        ensures seen { product_seen result ≡ term_trees.Term (factor_seen first) (multiplied_of (map multiplied_factor_seen (second ∷ others.items))) }
+        ensures tokens { term_tokens (product_seen result) ≡ factor_tokens (factor_seen first) ++ (multiplied_factor_tokens second ++ each multiplied_factor_tokens others.items) }
+    {
+        Product {
+            first,
+            second,
+            others,
+        }
     }
 }
 
@@ -298,31 +506,42 @@ impl Factor {
         Factor::SolePrimary(primary)
     }
 
-    /// `base ** exponent`
+    /// A power.
     #[tactic(auto, using(crate::proofs::ExpressionsMade::factor_power_seen, crate::proofs::ExpressionsMade::factor_power_tokens))]
-    pub fn power(base: Primary, exponent: Box<Primary>) -> Factor
-        ensures seen { factor_seen result ≡ factor_trees.Power (primary_seen base) (primary_seen exponent.value) }
-        ensures tokens { factor_tokens (factor_seen result) ≡ primary_tokens (primary_seen base) ++ word symbols.DoubleAsterisk ∷ primary_tokens (primary_seen exponent.value) }
+    pub fn power(power: Box<Power>) -> Factor
+        ensures seen { factor_seen result ≡ power_seen power.value }
+        ensures tokens { factor_tokens (factor_seen result) ≡ factor_tokens (power_seen power.value) }
     {
-        Factor::Power(base, exponent)
+        Factor::Power(power)
     }
 
     /// `abs primary`
     #[tactic(auto, using(crate::proofs::ExpressionsMade::factor_absolute_seen, crate::proofs::ExpressionsMade::factor_absolute_tokens))]
-    pub fn absolute(place: Place, primary: Primary) -> Factor
-        ensures seen { factor_seen result ≡ factor_trees.Absolute (place_label place) (primary_seen primary) }
-        ensures tokens { factor_tokens (factor_seen result) ≡ labelled symbols.Abs (place_label place) ∷ primary_tokens (primary_seen primary) }
+    pub fn absolute(place: Place, primary: Box<Primary>) -> Factor
+        ensures seen { factor_seen result ≡ factor_trees.Absolute (place_label place) (primary_seen primary.value) }
+        ensures tokens { factor_tokens (factor_seen result) ≡ labelled symbols.Abs (place_label place) ∷ primary_tokens (primary_seen primary.value) }
     {
         Factor::Absolute(place, primary)
     }
 
     /// `not primary`
     #[tactic(auto, using(crate::proofs::ExpressionsMade::factor_negation_seen, crate::proofs::ExpressionsMade::factor_negation_tokens))]
-    pub fn negation(place: Place, primary: Primary) -> Factor
-        ensures seen { factor_seen result ≡ factor_trees.Negation (place_label place) (primary_seen primary) }
-        ensures tokens { factor_tokens (factor_seen result) ≡ labelled symbols.Not (place_label place) ∷ primary_tokens (primary_seen primary) }
+    pub fn negation(place: Place, primary: Box<Primary>) -> Factor
+        ensures seen { factor_seen result ≡ factor_trees.Negation (place_label place) (primary_seen primary.value) }
+        ensures tokens { factor_tokens (factor_seen result) ≡ labelled symbols.Not (place_label place) ∷ primary_tokens (primary_seen primary.value) }
     {
         Factor::Negation(place, primary)
+    }
+}
+
+impl Power {
+    /// `base ** exponent`
+    #[tactic(auto, using(crate::proofs::ExpressionsMade::power_new_seen, crate::proofs::ExpressionsMade::power_new_tokens))]
+    pub fn new(base: Primary, exponent: Primary) -> Power
+        ensures seen { power_seen result ≡ factor_trees.Power (primary_seen base) (primary_seen exponent) }
+        ensures tokens { factor_tokens (power_seen result) ≡ primary_tokens (primary_seen base) ++ word symbols.DoubleAsterisk ∷ primary_tokens (primary_seen exponent) }
+    {
+        Power { base, exponent }
     }
 }
 
@@ -338,29 +557,32 @@ impl Primary {
 
     /// A string literal.
     #[tactic(auto, using(crate::proofs::ExpressionsMade::primary_text_seen, crate::proofs::ExpressionsMade::primary_text_tokens))]
-    pub fn text(literal: StringLiteral) -> Primary
-        ensures seen { primary_seen result ≡ primary_trees.StringPrimary (string_label literal) }
-        ensures tokens { primary_tokens (primary_seen result) ≡ labelled symbols.StringLiteral (string_label literal) ∷ [] }
+    pub fn text(literal: Box<StringLiteral>) -> Primary
+        ensures seen { primary_seen result ≡ primary_trees.StringPrimary (string_label literal.value) }
+        ensures tokens { primary_tokens (primary_seen result) ≡ labelled symbols.StringLiteral (string_label literal.value) ∷ [] }
     {
         Primary::Text(literal)
     }
 
     /// A name.
-    #[tactic(auto, using(crate::proofs::ExpressionsMade::primary_named_seen, crate::proofs::ExpressionsMade::primary_named_tokens))]
+    #[tactic(auto, using(crate::proofs::ExpressionsMade::primary_direct_name_seen, crate::proofs::ExpressionsMade::primary_longer_name_seen, crate::proofs::ExpressionsMade::name_direct_seen, crate::proofs::ExpressionsMade::name_longer_seen))]
     pub fn named(name: ObjectName) -> Primary
         ensures seen { primary_seen result ≡ primary_trees.NamePrimary (name_seen name) }
         ensures tokens { primary_tokens (primary_seen result) ≡ name_tokens (name_seen name) }
     {
-        Primary::Named(name)
+        match name {
+            ObjectName::Direct(identifier) => Primary::DirectName(identifier),
+            ObjectName::Longer(long) => Primary::LongerName(long),
+        }
     }
 
-    /// `mark'(operand)`
+    /// A qualified expression.
     #[tactic(auto, using(crate::proofs::ExpressionsMade::primary_qualified_seen, crate::proofs::ExpressionsMade::primary_qualified_tokens))]
-    pub fn qualified(mark: ObjectName, operand: Box<Parentheses>) -> Primary
-        ensures seen { primary_seen result ≡ primary_trees.QualifiedPrimary (name_seen mark) (parentheses_seen operand.value) }
-        ensures tokens { primary_tokens (primary_seen result) ≡ name_tokens (name_seen mark) ++ word symbols.Apostrophe ∷ parentheses_tokens (parentheses_seen operand.value) }
+    pub fn qualified(expression: Box<QualifiedExpression>) -> Primary
+        ensures seen { primary_seen result ≡ qualified_seen expression.value }
+        ensures tokens { primary_tokens (primary_seen result) ≡ primary_tokens (qualified_seen expression.value) }
     {
-        Primary::Qualified(mark, operand)
+        Primary::Qualified(expression)
     }
 
     /// What stands between parentheses.
@@ -370,6 +592,17 @@ impl Primary {
         ensures tokens { primary_tokens (primary_seen result) ≡ parentheses_tokens (parentheses_seen inner.value) }
     {
         Primary::Parenthesized(inner)
+    }
+}
+
+impl QualifiedExpression {
+    /// `mark'(operand)`
+    #[tactic(auto, using(crate::proofs::ExpressionsMade::qualified_new_seen, crate::proofs::ExpressionsMade::qualified_new_tokens))]
+    pub fn new(mark: ObjectName, operand: Parentheses) -> QualifiedExpression
+        ensures seen { qualified_seen result ≡ primary_trees.QualifiedPrimary (name_seen mark) (parentheses_seen operand) }
+        ensures tokens { primary_tokens (qualified_seen result) ≡ name_tokens (name_seen mark) ++ word symbols.Apostrophe ∷ parentheses_tokens (parentheses_seen operand) }
+    {
+        QualifiedExpression { mark, operand }
     }
 }
 
@@ -394,13 +627,37 @@ impl Parentheses {
 }
 
 impl ObjectName {
-    /// `first {parts}`
-    #[tactic(auto, using(crate::proofs::ExpressionsMade::name_new_seen, crate::proofs::ExpressionsMade::name_new_tokens))]
-    pub fn new(first: Identifier, parts: Vec<NamePart>) -> ObjectName
-        ensures seen { name_seen result ≡ name_trees.Name (identifier_label first) (parts_of (map part_seen parts.items)) }
-        ensures tokens { name_tokens (name_seen result) ≡ labelled symbols.Identifier (identifier_label first) ∷ each (λ p. part_tokens (part_seen p)) parts.items }
+    /// One identifier.
+    #[tactic(auto, using(crate::proofs::ExpressionsMade::name_direct_seen, crate::proofs::ExpressionsMade::name_direct_tokens))]
+    pub fn direct(identifier: Identifier) -> ObjectName
+        ensures seen { name_seen result ≡ name_trees.Name (identifier_label identifier) (parts_of []) }
+        ensures tokens { name_tokens (name_seen result) ≡ labelled symbols.Identifier (identifier_label identifier) ∷ [] }
     {
-        ObjectName { first, parts }
+        ObjectName::Direct(identifier)
+    }
+
+    /// An identifier with parts behind it.
+    #[tactic(auto, using(crate::proofs::ExpressionsMade::name_longer_seen, crate::proofs::ExpressionsMade::name_longer_tokens))]
+    pub fn longer(name: Box<LongName>) -> ObjectName
+        ensures seen { name_seen result ≡ long_name_seen name.value }
+        ensures tokens { name_tokens (name_seen result) ≡ name_tokens (long_name_seen name.value) }
+    {
+        ObjectName::Longer(name)
+    }
+}
+
+impl LongName {
+    /// `first next {other}`
+    #[tactic(auto, using(crate::proofs::ExpressionsMade::long_name_new_seen, crate::proofs::ExpressionsMade::long_name_new_tokens))]
+    pub fn new(first: Identifier, next: NamePart, others: Vec<NamePart>) -> LongName
+        ensures seen { long_name_seen result ≡ name_trees.Name (identifier_label first) (parts_of (map part_seen (next ∷ others.items))) }
+        ensures tokens { name_tokens (long_name_seen result) ≡ labelled symbols.Identifier (identifier_label first) ∷ (part_tokens (part_seen next) ++ each (λ p. part_tokens (part_seen p)) others.items) }
+    {
+        LongName {
+            first,
+            next,
+            others,
+        }
     }
 }
 
@@ -416,9 +673,9 @@ impl NamePart {
 
     /// `(first {, others})`
     #[tactic(auto, using(crate::proofs::ExpressionsMade::part_arguments_seen, crate::proofs::ExpressionsMade::part_arguments_tokens))]
-    pub fn arguments(opening: Place, first: Box<Expression>, others: Vec<Expression>) -> NamePart
-        ensures seen { part_seen result ≡ part_trees.Arguments (place_label opening) (expression_seen first.value) (expressions_of (map expression_seen others.items)) }
-        ensures tokens { part_tokens (part_seen result) ≡ labelled symbols.LeftParenthesis (place_label opening) ∷ (expression_tokens (expression_seen first.value) ++ (each (λ e. word symbols.Comma ∷ expression_tokens (expression_seen e)) others.items ++ word symbols.RightParenthesis ∷ [])) }
+    pub fn arguments(opening: Place, first: Expression, others: Vec<Expression>) -> NamePart
+        ensures seen { part_seen result ≡ part_trees.Arguments (place_label opening) (expression_seen first) (expressions_of (map expression_seen others.items)) }
+        ensures tokens { part_tokens (part_seen result) ≡ labelled symbols.LeftParenthesis (place_label opening) ∷ (expression_tokens (expression_seen first) ++ (each (λ e. word symbols.Comma ∷ expression_tokens (expression_seen e)) others.items ++ word symbols.RightParenthesis ∷ [])) }
     {
         NamePart::Arguments(opening, first, others)
     }

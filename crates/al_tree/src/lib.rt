@@ -3,6 +3,7 @@
 
 mod declaration;
 mod expression;
+mod identifier_name;
 mod names;
 mod spelling;
 mod statement;
@@ -17,24 +18,23 @@ pub use declaration::{
     TaskDeclaration, TypeDeclaration, TypeDefinition, UseClause,
 };
 pub use expression::{
-    AddedTerm, AddingOperator, Expression, Factor, LogicalOperator, MultipliedFactor,
-    MultiplyingOperator, NamePart, ObjectName, Parentheses, Primary, Relation, RelationalOperator,
-    Sign, SimpleExpression, Term,
+    AddedTerm, AddingOperator, Comparison, Expression, Factor, LogicalOperator, LogicalRelations,
+    LongName, MarkMembership, MultipliedFactor, MultiplyingOperator, NamePart, ObjectName,
+    Parentheses, Power, Primary, Product, QualifiedExpression, RangeMembership, Relation,
+    RelationalOperator, Sign, SignedTerm, SimpleExpression, Sum, Term,
 };
+pub use identifier_name::IdentifierName;
 pub use names::{
     CompoundName, CompoundNames, Identifier, Identifiers, NumericLiteral, StringLiteral,
 };
 pub use spelling::{literals_are_unquoted, text_of, unquoted, value_of};
 pub use statement::{
-    Alternative, BlockStatement, Branch, CaseStatement, Choice, CompoundEnd, DeclaredStatements,
-    ElsifBranch, IfStatement, Item, LoopEnd, LoopStatement, NamedEnd, OperationBody, Statement,
-    Statements, SubprogramBody,
+    Alternative, Assignment, BlockStatement, Branch, CaseStatement, Choice, CompoundEnd,
+    DeclaredStatements, DelayStatement, ElsifBranch, ExitStatement, IfStatement, Item, LoopEnd,
+    LoopStatement, NamedEnd, OperationBody, ReturnStatement, Statement, Statements, SubprogramBody,
 };
 pub use symbol::{Symbol, is_symbol, symbol_of};
 pub use unit::{
     CompilationUnit, ContextItem, LibraryItem, PackageBody, PackageDeclaration, PackageStatements,
     PrivatePart,
 };
-
-#[cfg(test)]
-mod tests;

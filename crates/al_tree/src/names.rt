@@ -4,15 +4,16 @@ ghost use Rattle.al_syntax.specs.Symbols.{Symbol as symbols};
 ghost use Rattle.al_tree.specs.Lexemes.{identifier_label, label_of, number_label, string_label};
 ghost use Rattle.al_tree.specs.Symbols.{symbol_of};
 
+use crate::identifier_name::IdentifierName;
 use crate::spelling::{text_of, unquoted, value_of};
-use al_base::{Name, NoMemory, Place};
+use al_base::{NoMemory, Place};
 use al_lex::Token;
 use std::alloc::Global;
 
 /// An identifier (ARM 2.3) with its name in lower case, where it stands.
 #[derive(Debug, Drop)]
 pub struct Identifier {
-    pub name: Name,
+    pub name: IdentifierName,
     pub place: Place,
 }
 
@@ -59,7 +60,7 @@ impl Identifier {
     {
         let text = text_of(source, &token.span);
         Ok(Identifier {
-            name: Name::new(text.to_ascii_lowercase(alloc)?),
+            name: IdentifierName::of_spelling(alloc, text)?,
             place: token.span.place,
         })
     }

@@ -52,22 +52,50 @@ pub struct CompoundEnd {
 #[derive(Debug, Drop)]
 #[cycle(statement)]
 pub struct Statements {
-    pub first: Box<Statement>,
+    pub first: Statement,
     pub others: Vec<Statement>,
 }
 
-/// A statement (ARM 5.1), with the place of its first word, where it begins with one.
+/// `target := value;` (ARM 5.2)
+#[derive(Debug, Drop)]
+pub struct Assignment {
+    pub target: ObjectName,
+    pub value: Expression,
+}
+
+/// `return [value];` (ARM 6.5), with the place of its first word.
+#[derive(Debug, Drop)]
+pub struct ReturnStatement {
+    pub opening: Place,
+    pub value: Option<Expression>,
+}
+
+/// `exit [name] [when condition];` (ARM 5.7), with the place of its first word.
+#[derive(Debug, Drop)]
+pub struct ExitStatement {
+    pub opening: Place,
+    pub name: Option<Identifier>,
+    pub condition: Option<Expression>,
+}
+
+/// `delay until moment;` (ARM 9.6), with the place of its first word.
+#[derive(Debug, Drop)]
+pub struct DelayStatement {
+    pub opening: Place,
+    pub moment: Expression,
+}
+
+/// A statement (ARM 5.1). What is large stands in a box, so that a list of statements takes little room.
 #[derive(Debug, Drop)]
 #[cycle(statement)]
 pub enum Statement {
     Null,
-    Assignment(ObjectName, Expression),
+    Assignment(Box<Assignment>),
     /// A procedure or entry call (ARM 6.4, 9.5.3).
     Call(ObjectName),
-    Return(Place, Option<Expression>),
-    Exit(Place, Option<Identifier>, Option<Expression>),
-    /// `delay until moment;` (ARM 9.6)
-    Delay(Place, Expression),
+    Return(Box<ReturnStatement>),
+    Exit(Box<ExitStatement>),
+    Delay(Box<DelayStatement>),
     If(Box<IfStatement>),
     Case(Box<CaseStatement>),
     /// With the loop's name (ARM 5.5).
@@ -195,9 +223,9 @@ pub enum OperationBody {
 impl Statements {
     /// `first {others}`
     #[tactic(auto, using(crate::proofs::StatementsMade::statements_new_seen, crate::proofs::StatementsMade::statements_new_tokens))]
-    pub fn new(first: Box<Statement>, others: Vec<Statement>) -> Statements
-        ensures seen { statements_seen result ≡ statements_trees.Statements (statement_seen first.value) (more_statements_of (map statement_seen others.items)) }
-        ensures tokens { statements_tokens (statements_seen result) ≡ statement_tokens (statement_seen first.value) ++ each (λ s. statement_tokens (statement_seen s)) others.items }
+    pub fn new(first: Statement, others: Vec<Statement>) -> Statements
+        ensures seen { statements_seen result ≡ statements_trees.Statements (statement_seen first) (more_statements_of (map statement_seen others.items)) }
+        ensures tokens { statements_tokens (statements_seen result) ≡ statement_tokens (statement_seen first) ++ each (λ s. statement_tokens (statement_seen s)) others.items }
     {
         Statements { first, others }
     }
@@ -215,11 +243,11 @@ impl Statement {
 
     /// `target := value;`
     #[tactic(auto, using(crate::proofs::StatementsMade::statement_assignment_seen, crate::proofs::StatementsMade::statement_assignment_tokens))]
-    pub fn assignment(target: ObjectName, value: Expression) -> Statement
-        ensures seen { statement_seen result ≡ statement_trees.Assignment (name_seen target) (expression_seen value) }
-        ensures tokens { statement_tokens (statement_seen result) ≡ name_tokens (name_seen target) ++ (initial_tokens (expression_seen value) ++ word symbols.Semicolon ∷ []) }
+    pub fn assignment(statement: Box<Assignment>) -> Statement
+        ensures seen { statement_seen result ≡ statement_trees.Assignment (name_seen statement.value.target) (expression_seen statement.value.value) }
+        ensures tokens { statement_tokens (statement_seen result) ≡ name_tokens (name_seen statement.value.target) ++ (initial_tokens (expression_seen statement.value.value) ++ word symbols.Semicolon ∷ []) }
     {
-        Statement::Assignment(target, value)
+        Statement::Assignment(statement)
     }
 
     /// `name;`
@@ -233,33 +261,29 @@ impl Statement {
 
     /// `return [value];`
     #[tactic(auto, using(crate::proofs::StatementsMade::statement_returning_seen, crate::proofs::StatementsMade::statement_returning_tokens))]
-    pub fn returning(opening: Place, value: Option<Expression>) -> Statement
-        ensures seen { statement_seen result ≡ statement_trees.ReturnStatement (place_label opening) (option_map expression_seen value) }
-        ensures tokens { statement_tokens (statement_seen result) ≡ labelled symbols.Return (place_label opening) ∷ (maybe expression_tokens (option_map expression_seen value) ++ word symbols.Semicolon ∷ []) }
+    pub fn returning(statement: Box<ReturnStatement>) -> Statement
+        ensures seen { statement_seen result ≡ statement_trees.ReturnStatement (place_label statement.value.opening) (option_map expression_seen statement.value.value) }
+        ensures tokens { statement_tokens (statement_seen result) ≡ labelled symbols.Return (place_label statement.value.opening) ∷ (maybe expression_tokens (option_map expression_seen statement.value.value) ++ word symbols.Semicolon ∷ []) }
     {
-        Statement::Return(opening, value)
+        Statement::Return(statement)
     }
 
     /// `exit [name] [when condition];`
     #[tactic(auto, using(crate::proofs::StatementsMade::statement_exit_seen, crate::proofs::StatementsMade::statement_exit_tokens))]
-    pub fn exit(
-        opening: Place,
-        name: Option<Identifier>,
-        condition: Option<Expression>,
-    ) -> Statement
-        ensures seen { statement_seen result ≡ statement_trees.ExitStatement (place_label opening) (option_map identifier_label name) (option_map expression_seen condition) }
-        ensures tokens { statement_tokens (statement_seen result) ≡ labelled symbols.Exit (place_label opening) ∷ (end_name_tokens (option_map identifier_label name) ++ (maybe when_tokens (option_map expression_seen condition) ++ word symbols.Semicolon ∷ [])) }
+    pub fn exit(statement: Box<ExitStatement>) -> Statement
+        ensures seen { statement_seen result ≡ statement_trees.ExitStatement (place_label statement.value.opening) (option_map identifier_label statement.value.name) (option_map expression_seen statement.value.condition) }
+        ensures tokens { statement_tokens (statement_seen result) ≡ labelled symbols.Exit (place_label statement.value.opening) ∷ (end_name_tokens (option_map identifier_label statement.value.name) ++ (maybe when_tokens (option_map expression_seen statement.value.condition) ++ word symbols.Semicolon ∷ [])) }
     {
-        Statement::Exit(opening, name, condition)
+        Statement::Exit(statement)
     }
 
     /// `delay until moment;`
     #[tactic(auto, using(crate::proofs::StatementsMade::statement_delay_seen, crate::proofs::StatementsMade::statement_delay_tokens))]
-    pub fn delay(opening: Place, moment: Expression) -> Statement
-        ensures seen { statement_seen result ≡ statement_trees.DelayStatement (place_label opening) (expression_seen moment) }
-        ensures tokens { statement_tokens (statement_seen result) ≡ labelled symbols.Delay (place_label opening) ∷ word symbols.Until ∷ (expression_tokens (expression_seen moment) ++ word symbols.Semicolon ∷ []) }
+    pub fn delay(statement: Box<DelayStatement>) -> Statement
+        ensures seen { statement_seen result ≡ statement_trees.DelayStatement (place_label statement.value.opening) (expression_seen statement.value.moment) }
+        ensures tokens { statement_tokens (statement_seen result) ≡ labelled symbols.Delay (place_label statement.value.opening) ∷ word symbols.Until ∷ (expression_tokens (expression_seen statement.value.moment) ++ word symbols.Semicolon ∷ []) }
     {
-        Statement::Delay(opening, moment)
+        Statement::Delay(statement)
     }
 
     /// An if statement.

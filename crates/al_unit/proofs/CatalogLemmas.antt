@@ -1,14 +1,16 @@
 -- A catalog is what its texts are read as.
 use Rattle.std.proofs.Common.{◌≡◌, ℕ, suc, ◌<◌, true, List, [], ◌∷◌, Option, Some, None, Vec, length, get_or, map, take, is_some, refl, sym, ap, ◌∙◌}
+use Rattle.std.specs.Prelude.{IfSome}
 use Rattle.std.specs.Option.{option_map, option_and_then}
 use Rattle.std.specs.Map.{keys_of, lookup}
 use Rattle.std.specs.BTreeMap.{insert_entry, is_at}
+use Rattle.std.specs.declared.rc.Rc.{Rc}
 use Rattle.std.proofs.lemmas.Map.Made.{lookup-map_values}
 use Rattle.al_base.specs.Batch.{Key}
 use Rattle.al_base.specs.FileLaws.{Ascend}
 use Rattle.al_base.specs.FileNames.{file_name_of}
 use Rattle.al_base.specs.Files.{Texts, name_cmp, text_of}
-use Rattle.al_unit_graph.specs.Headers.{Header, Library}
+use Rattle.al_unit_graph.specs.Headers.{Header, Source, Library}
 use Rattle.al_unit_graph.specs.Library.{source_at, unit_at}
 use Rattle.al_unit_graph.specs.Traces.{text_at}
 use Rattle.al_unit.specs.declared.reading.Reading.{Reading}
@@ -41,7 +43,7 @@ unfolding library_of
 texts_of-library_of [] = refl
 texts_of-library_of (f ∷ fs) = ap (λ gs. f ∷ gs) (texts_of-library_of fs)
 
-pub is_catalog : {Y : Type 0} (lib : Library) (readings : List (Vec ℕ Y × Reading)) (files : Texts) → lib ≡ library_of files → readings_seen readings ≡ readings_of files → IsCatalog lib readings
+pub is_catalog : {Y W : Type 0} (lib : Library) (readings : List (Vec ℕ Y × Rc Reading W)) (files : Texts) → lib ≡ library_of files → readings_seen readings ≡ readings_of files → IsCatalog lib readings
 is_catalog lib readings files is are =
     let texts : files ≡ texts_of lib = sym (ap texts_of is ∙ texts_of-library_of files) in
     record { is_library = is ∙ ap library_of texts; are_readings = are ∙ ap readings_of texts }
@@ -93,6 +95,24 @@ texts_are_read_alike old new file = alike file old new
 pub reading_of_file : (files : Texts) (file : List ℕ) → lookup (is_at (name_cmp file)) (readings_of files) ≡ option_map reading_of (text_of files file)
 unfolding readings_of
 reading_of_file files file = lookup-map_values reading_of (is_at (name_cmp file)) files
+
+module _ {A : Type 0} (seen : A → AnyReading) (lib : Library) (readings : List (List ℕ × AnyReading)) (file : List ℕ) (is_library : lib ≡ library_of (texts_of lib)) (are_readings : readings ≡ readings_of (texts_of lib)) (source : Source) (found : Some source ≡ source_at lib file) where
+  of_its_text : (text : Option (List ℕ)) → option_map source_of text ≡ Some source → (reading : A) → option_map reading_of text ≡ Some (seen reading) → seen reading ≡ reading_of source.text
+  of_its_text None is reading is_read = cc
+  of_its_text (Some t) is reading is_read =
+      let whole : source_of t ≡ source = cc in
+      let same : seen reading ≡ reading_of t = cc in
+      same ∙ ap (λ s. reading_of s.text) whole
+
+  -- a reading that was looked up is that of the file's text
+  pub reading_of_source : (reading : Option A) → option_map seen reading ≡ lookup (is_at (name_cmp file)) readings → IfSome reading (λ r. seen r ≡ reading_of source.text)
+  reading_of_source None is = tt
+  reading_of_source (Some r) is =
+      of_its_text
+      (text_of (texts_of lib) file)
+      (sym (found ∙ ap (λ l. source_at l file) is_library ∙ source_of_file file (texts_of lib)))
+      r
+      (sym (is ∙ ap (lookup (is_at (name_cmp file))) are_readings ∙ reading_of_file (texts_of lib) file))
 
 pub names_of-library_of : (files : Texts) → keys_of (library_of files) ≡ keys_of files
 unfolding library_of

@@ -1,5 +1,5 @@
 // The catalog of a library's files.
-ghost use Rattle.std.specs.Prelude.{◌≡◌, ◌↔◌, ◌⊎◌, ℕ, Bool, List, map, IfOk, OnOk};
+ghost use Rattle.std.specs.Prelude.{◌≡◌, ◌↔◌, ◌⊎◌, ℕ, Bool, List, [], map, IfOk, IfSome, OnOk};
 ghost use Rattle.std.specs.Option.{option_map};
 ghost use Rattle.std.specs.List.{Contains};
 ghost use Rattle.std.specs.BTreeMap.{insert_entry};
@@ -34,12 +34,13 @@ use std::collections::{BTreeMap, BTreeSet};
 use std::marker::Model;
 use std::rc::Rc;
 
-/// The files of a library, with what each of them is read as. The texts are shared with the files that it was made of.
+/// The files of a library, with what each of them is read as. The texts are shared with the files that it was made of, and what
+/// they are read as with the catalog before.
 #[derive(Drop)]
 pub struct Catalog {
     alloc: Global,
     sources: Sources,
-    readings: BTreeMap<Vec<u8>, Reading>,
+    readings: BTreeMap<Vec<u8>, Rc<Reading>>,
 }
 
 impl Model for Catalog {
@@ -56,8 +57,8 @@ impl Model for Catalog {
 
 /// The files of which a library was built.
 #[derive(Drop)]
-pub struct BuiltFiles {
-    pub catalog: Catalog,
+pub struct BuiltFiles<'a> {
+    pub catalog: &'a Catalog,
     /// The names of the files that had a diagnostic.
     pub faulty: BTreeSet<Vec<u8>>,
 }
@@ -82,18 +83,37 @@ fn sentence_of(reading: &Reading) -> Option<&CompilationUnit>
     }
 }
 
-/// Reads a file and puts it in.
+/// What the text of a file is read as: shared where the file had this text before, and else read.
+fn reading_after(
+    alloc: Global,
+    before: &Catalog,
+    file: &[u8],
+    text: &[u8],
+) -> Result<Rc<Reading>, NoMemory>
+    ensures { IfOk result (λ reading. reading_seen reading.value ≡ reading_of text.now) }
+{
+    if let Some(reading) = before.reading_of_text(file, text) {
+        return Ok(reading.clone()?);
+    }
+    match Rc::new(alloc, read(alloc, text)?) {
+        Ok(reading) => Ok(reading),
+        Err(_) => Err(NoMemory),
+    }
+}
+
+/// Puts a file in.
 fn add_file(
     alloc: Global,
+    before: &Catalog,
     file: &[u8],
     text: &Rc<Vec<u8>>,
     sources: &mut Sources,
-    readings: &mut BTreeMap<Vec<u8>, Reading>,
+    readings: &mut BTreeMap<Vec<u8>, Rc<Reading>>,
 ) -> Result<(), NoMemory>
     ensures source { OnOk result (sources.new ≡ insert_entry name_cmp sources.old file.now (source_of text.now.value.items)) }
     ensures reading { OnOk result (readings_seen readings.new.entries ≡ insert_entry name_cmp (readings_seen readings.old.entries) file.now (reading_of text.now.value.items)) }
 {
-    let reading = read(alloc, text.as_slice())?;
+    let reading = reading_after(alloc, before, file, text.as_slice())?;
     let contents = contents_of(alloc, &reading)?;
     let text = text.clone()?;
     let source = Source { text, contents };
@@ -102,6 +122,17 @@ fn add_file(
 }
 
 impl Catalog {
+    /// A catalog of no file.
+    fn empty(alloc: Global) -> Self
+        ensures { result ≡ [] }
+    {
+        Catalog {
+            alloc,
+            sources: Sources::new(alloc),
+            readings: BTreeMap::new(alloc),
+        }
+    }
+
     /// Reads all files.
     ///
     /// # Errors
@@ -110,17 +141,39 @@ impl Catalog {
     pub fn of(alloc: Global, files: &Files) -> Result<Catalog, NoMemory>
         ensures { IfOk result (λ catalog. catalog ≡ files.now) }
     {
+        Catalog::after(alloc, files, &Catalog::empty(alloc))
+    }
+
+    /// Reads all files, but for those whose texts are as they were before: what these are read as is shared.
+    ///
+    /// # Errors
+    ///
+    /// `NoMemory` where memory is wanted. What is wrong with the files is no error.
+    pub fn after(alloc: Global, files: &Files, before: &Catalog) -> Result<Catalog, NoMemory>
+        ensures { IfOk result (λ catalog. catalog ≡ files.now) }
+    {
         let list = files.shared()?;
         let mut sources = Sources::new(alloc);
         let mut readings = BTreeMap::new(alloc);
         for (name, text) in list.iter() {
-            add_file(alloc, name, text, &mut sources, &mut readings)?;
+            add_file(alloc, before, name, text, &mut sources, &mut readings)?;
         }
         Ok(Catalog {
             alloc,
             sources,
             readings,
         })
+    }
+
+    /// What this text of a file is read as, where the file has this text.
+    fn reading_of_text(&self, file: &[u8], text: &[u8]) -> Option<&Rc<Reading>>
+        ensures { IfSome result (λ reading. reading_seen reading.now.value ≡ reading_of text.now) }
+    {
+        let source = self.sources.source_at(file)?;
+        if source.text.as_slice() != text {
+            return None;
+        }
+        reading_at(&self.readings, file)
     }
 
     /// The tree of a unit, where the library has it.
@@ -146,7 +199,10 @@ impl Catalog {
     pub fn reading(&self, file: &[u8]) -> Option<&Reading>
         ensures { option_map (λ reading. reading_seen reading.now) result ≡ option_map reading_of (text_of self.now file.now) }
     {
-        reading_at(&self.readings, file)
+        match reading_at(&self.readings, file) {
+            None => None,
+            Some(reading) => Some(&**reading),
+        }
     }
 
     /// What a unit depends on, by way of others too (ARM 10.1.1(26)).
@@ -207,11 +263,11 @@ impl Catalog {
     }
 
     /// The units that are obsolete since the files were built, in the order of their keys (ARM 10.1.4(5, 7)).
-    pub fn obsolete(&self, built: &BuiltFiles) -> Result<Vec<UnitKey>, NoMemory>
-        ensures { IfOk result (λ keys. map key_of keys.items ≡ obsolete_of (library_of built.now.catalog) (names_seen built.now.faulty.keys) (library_of self.now)) }
+    pub fn obsolete(&self, built: &BuiltFiles<'_>) -> Result<Vec<UnitKey>, NoMemory>
+        ensures { IfOk result (λ keys. map key_of keys.items ≡ obsolete_of (library_of built.now.catalog.now) (names_seen built.now.faulty.keys) (library_of self.now)) }
     {
         texts_are_read_alike();
-        let old = &built.catalog;
+        let old = built.catalog;
         let keys = obsolete(self.alloc, &old.sources, &built.faulty, &self.sources)?;
         Ok(keys)
     }

@@ -9,14 +9,15 @@ ghost use Rattle.al_unit.specs.ReadingSeen.{reading_seen, readings_seen};
 use crate::reading::Reading;
 use al_base::{Name, NoMemory};
 use std::collections::BTreeMap;
+use std::rc::Rc;
 
 /// Sets what a file is read as, a new one too.
 pub(crate) fn insert(
-    readings: &mut BTreeMap<Vec<u8>, Reading>,
+    readings: &mut BTreeMap<Vec<u8>, Rc<Reading>>,
     file: Name,
-    reading: Reading,
+    reading: Rc<Reading>,
 ) -> Result<(), NoMemory>
-    ensures { OnOk result (readings_seen readings.new.entries ≡ insert_entry name_cmp (readings_seen readings.old.entries) file (reading_seen reading)) }
+    ensures { OnOk result (readings_seen readings.new.entries ≡ insert_entry name_cmp (readings_seen readings.old.entries) file (reading_seen reading.value)) }
 {
     match readings.insert(file.into_vec(), reading) {
         Ok(_) => Ok(()),
@@ -26,10 +27,10 @@ pub(crate) fn insert(
 
 /// What a file is read as.
 pub(crate) fn reading_at<'a>(
-    readings: &'a BTreeMap<Vec<u8>, Reading>,
+    readings: &'a BTreeMap<Vec<u8>, Rc<Reading>>,
     file: &[u8],
-) -> Option<&'a Reading>
-    ensures { option_map (λ reading. reading_seen reading.now) result ≡ lookup (is_at (name_cmp file.now)) (readings_seen readings.now.entries) }
+) -> Option<&'a Rc<Reading>>
+    ensures { option_map (λ reading. reading_seen reading.now.value) result ≡ lookup (is_at (name_cmp file.now)) (readings_seen readings.now.entries) }
 {
     readings.get(file)
 }

@@ -1,6 +1,6 @@
 // Worked libraries.
-use crate::{BuiltFiles, Catalog};
-use al_base::{Diagnostic, Files, Name, NoMemory, Refusal, UnitKey, UnitKind};
+use crate::{BuiltFiles, Catalog, Reading};
+use al_base::{Diagnostic, Files, Name, NoMemory, Place, Refusal, UnitKey, UnitKind};
 use std::alloc::Global;
 use std::collections::BTreeSet;
 use std::test::Fail;
@@ -9,7 +9,7 @@ use std::test::Fail;
 pub(crate) type Text = (&'static [u8], &'static [u8]);
 
 /// A file, a line, a column and a number.
-pub(crate) type Fault = (&'static [u8], usize, usize, u16);
+pub(crate) type Fault = (&'static [u8], u32, u32, u16);
 
 fn put(alloc: Global, files: &mut Files, name: &[u8], text: &[u8]) -> Result<(), Refusal> {
     let Ok(text) = Vec::from_slice(alloc, text) else {
@@ -18,11 +18,16 @@ fn put(alloc: Global, files: &mut Files, name: &[u8], text: &[u8]) -> Result<(),
     files.put(name, text)
 }
 
-fn catalog_of(alloc: Global, texts: &[Text]) -> Result<Catalog, Refusal> {
+fn files_of(alloc: Global, texts: &[Text]) -> Result<Files, Refusal> {
     let mut files = Files::new(alloc);
     for (name, text) in texts {
         put(alloc, &mut files, name, text)?;
     }
+    Ok(files)
+}
+
+fn catalog_of(alloc: Global, texts: &[Text]) -> Result<Catalog, Refusal> {
+    let files = files_of(alloc, texts)?;
     match Catalog::of(alloc, &files) {
         Ok(catalog) => Ok(catalog),
         Err(_) => Err(Refusal::NoMemory),
@@ -40,7 +45,10 @@ fn is_at(diagnostic: &Diagnostic, fault: &Fault) -> bool {
 
 /// Whether the faults of these files as units are just these.
 pub(crate) fn has_faults(alloc: Global, texts: &[Text], wanted: &[Fault]) -> Result<bool, Refusal> {
-    let catalog = catalog_of(alloc, texts)?;
+    has_these(&catalog_of(alloc, texts)?, wanted)
+}
+
+fn has_these(catalog: &Catalog, wanted: &[Fault]) -> Result<bool, Refusal> {
     match catalog.faults() {
         Ok(found) => {
             let fit = found.iter().zip(wanted).all(|(d, fault)| is_at(d, fault));
@@ -130,11 +138,51 @@ fn units_stand_by_file(rt: HostRuntime) -> Result<(), Fail> {
     Ok(())
 }
 
+#[test]
+fn catalog_after_changes_is_one_made_anew(rt: HostRuntime) -> Result<(), Fail> {
+    let alloc = rt.alloc();
+    let mut files = files_of(alloc, &CHILD)?;
+    put(alloc, &mut files, b"n.ads", b"package N is end N;")?;
+    let before = Catalog::of(alloc, &files)?;
+    put(
+        alloc,
+        &mut files,
+        b"a~b.ads",
+        b"package A.B is X : Integer end A.B;",
+    )?;
+    files.delete(b"a.ads")?;
+    files.rename(b"m.adb", b"k.adb")?;
+    let after = Catalog::after(alloc, &files, &before)?;
+    let wanted: [Fault; 1] = [(b"k.adb", 1, 21, 201)];
+    for catalog in [&after, &Catalog::of(alloc, &files)?] {
+        assert!(rt; has_these(catalog, &wanted)?);
+        let units = catalog.units()?;
+        let sound = [false, false, true];
+        assert_eq!(rt; units.len(), 3);
+        assert!(rt;
+            units
+                .iter()
+                .zip(sound)
+                .all(|(unit, is_sound)| unit.1.is_some() == is_sound)
+        );
+        assert!(rt;
+            matches!(
+                catalog.reading(b"a~b.ads"),
+                Some(Reading::Fails(Place { line: 1, col: 28 }, 101))
+            )
+        );
+    }
+    Ok(())
+}
+
 /// How many units of some files are obsolete since those others were built, of which none had a diagnostic.
 fn count_obsolete(alloc: Global, built: &[Text], now: &[Text]) -> Result<usize, Refusal> {
     let catalog = catalog_of(alloc, built)?;
     let faulty = BTreeSet::new(alloc);
-    let built = BuiltFiles { catalog, faulty };
+    let built = BuiltFiles {
+        catalog: &catalog,
+        faulty,
+    };
     let now = catalog_of(alloc, now)?;
     match now.obsolete(&built) {
         Ok(keys) => Ok(keys.len()),

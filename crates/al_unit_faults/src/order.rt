@@ -10,7 +10,7 @@ use std::alloc::Global;
 use std::collections::BTreeSet;
 
 /// The line, the column and the number of each, in order, none twice.
-fn spots(alloc: Global, found: &[Diagnostic]) -> Result<BTreeSet<(usize, usize, u16)>, NoMemory>
+fn spots(alloc: Global, found: &[Diagnostic]) -> Result<BTreeSet<(u32, u32, u16)>, NoMemory>
     ensures { IfOk result (λ spots. (file : List ℕ) → map (finding_at file) spots.keys ≡ ascending (map (λ d. finding_at file (spot_of d)) found.now)) }
 {
     let mut spots = BTreeSet::new(alloc);

@@ -14,6 +14,7 @@ loop-rest-init c =
     let is_rest : rest ≡ drop m text = c.split_at.ensures.back ∙ ap (λ (n : ℕ). drop n text) same in
     let at : length text - length rest ≡ m = omega (arith, same, c.mark_len.ensures.within, c.split_at.ensures.back_len) in
     record {
+      short = omega arith;
       within = omega (arith, c.split_at.ensures.back_len);
       line = omega arith;
       column = omega arith;
@@ -34,6 +35,7 @@ loop-rest-preserved c =
     let near : IsNear (behind q.sort q.len p) (at + q.len) = moved q.sort q.len at p c.in-Ok.ensures.some c.loop-rest.invariant.line c.loop-rest.invariant.column in
     let here : IsNear c.behind-place.result (length text - length new) = subst (λ (z : Place). IsNear z (length text - length new)) (sym c.behind-place.ensures) (subst (λ (n : ℕ). IsNear (behind q.sort q.len p) n) farther near) in
     record {
+      short = c.loop-rest.invariant.short;
       within = omega (arith, lens, c.loop-rest.invariant.within);
       line = here.line;
       column = here.column;
@@ -45,12 +47,12 @@ loop-rest-preserved c =
       );
     }
 
-pub returns : goal.returns
-returns c =
+pub returns-clause-place : goal.returns-clause-place
+returns-clause-place c =
     let no_more : length c.loop-rest.rest.now ≡ 0 = eqb-true (length c.loop-rest.rest.now) 0 (sym c.is_empty.ensures ∙ c.loop-rest-test.false) in
     sym (end_place_lem c.args.text.now _ (is_over (length c.args.text.now - length c.loop-rest.rest.now) c.loop-rest.place c.loop-rest.rest.now c.loop-rest.invariant.cut.0 c.args.text.now c.loop-rest.invariant.cut.1 no_more))
 
-pub returns-in_default : goal.returns-in_default
-returns-in_default c =
+pub returns-in_default-clause-place : goal.returns-in_default-clause-place
+returns-in_default-clause-place c =
     let some : 0 < length c.loop-rest.rest.now = omega (arith, eqb-false (length c.loop-rest.rest.now) 0 (sym c.is_empty.ensures ∙ c.loop-rest-test.true)) in
     sym (end_place_lem c.args.text.now _ (is_fault (length c.args.text.now - length c.loop-rest.rest.now) c.loop-rest.place c.loop-rest.rest.now c.loop-rest.invariant.cut.0 c.args.text.now c.in_default.field-0 c.loop-rest.invariant.cut.1 some (sym c.in_default.is ∙ c.front_piece.ensures.exact)))

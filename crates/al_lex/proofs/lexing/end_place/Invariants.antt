@@ -6,6 +6,7 @@ use Rattle.al_lex.proofs.lexing.end_place.Given as goal
 -- What is cut off the rest, behind some tokens, is cut off the text.
 abbrev pub invariant-loop-rest : goal.invariant-loop-rest
 invariant-loop-rest l = record {
+  short : length l.text ≤ 4294967294;
   within : length l.rest ≤ length l.text;
   line : l.place.line ≤ 1 + (length l.text - length l.rest);
   column : l.place.col ≤ 1 + (length l.text - length l.rest);

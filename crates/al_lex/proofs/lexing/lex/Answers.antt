@@ -15,6 +15,7 @@ loop-rest-init c =
     subst (λ (n : ℕ). Completes n first_place c.split_at.result.1.now [] c.args.text.now) (sym same)
     (subst (λ (bs : List ℕ). Completes m first_place bs [] c.args.text.now) (sym rest) (starts c.args.text.now)) in
     record {
+      short = omega arith;
       at = omega (arith, c.split_at.ensures.back_len, c.mark_len-start.ensures.within);
       line = omega arith;
       column = omega arith;
@@ -28,6 +29,7 @@ loop-rest-preserved c =
     let near : IsNear (behind q.sort q.len p) (c.loop-rest.start + q.len) = moved q.sort q.len c.loop-rest.start p c.in-Ok.ensures.some c.loop-rest.invariant.line c.loop-rest.invariant.column in
     let here : IsNear c.behind-place.result (c.loop-rest.start + q.len) = subst (λ (z : Place). IsNear z (c.loop-rest.start + q.len)) (sym c.behind-place.ensures) near in
     record {
+      short = c.loop-rest.invariant.short;
       at = omega (arith, c.loop-rest.invariant.at, c.in-Ok.ensures.within, c.split_at-in-loop-rest.ensures.back_len, ap length c.split_at-in-loop-rest.ensures.back, length-drop q.len c.loop-rest.rest.now);
       line = here.line;
       column = here.column;

@@ -14,76 +14,85 @@ use Rattle.al_parse_expr.proofs.Loops.{Kept}
 use Rattle.al_parse_expr.proofs.descent.+expression.Given as goal
 
 abbrev pub decreases-expressions : goal.decreases-expressions
-decreases-expressions l = 24 * l.depth + 23
+decreases-expressions l = 27 * l.depth + 26
 
 abbrev pub decreases-more_expressions : goal.decreases-more_expressions
-decreases-more_expressions l = 24 * l.depth + 22
+decreases-more_expressions l = 27 * l.depth + 25
 
 abbrev pub decreases-expression : goal.decreases-expression
-decreases-expression l = 24 * l.depth + 21
+decreases-expression l = 27 * l.depth + 24
 
 abbrev pub decreases-chain : goal.decreases-chain
-decreases-chain l = 24 * l.depth + 20
+decreases-chain l = 27 * l.depth + 23
 
 abbrev pub decreases-more_relations : goal.decreases-more_relations
-decreases-more_relations l = 24 * l.depth + 19
+decreases-more_relations l = 27 * l.depth + 22
 
 abbrev pub decreases-behind_operator : goal.decreases-behind_operator
-decreases-behind_operator l = 24 * l.depth + 18
+decreases-behind_operator l = 27 * l.depth + 21
 
 abbrev pub decreases-behind_words : goal.decreases-behind_words
-decreases-behind_words l = 24 * l.depth + 17
+decreases-behind_words l = 27 * l.depth + 20
 
 abbrev pub decreases-behind_word : goal.decreases-behind_word
-decreases-behind_word l = 24 * l.depth + 16
+decreases-behind_word l = 27 * l.depth + 19
 
 abbrev pub decreases-relation : goal.decreases-relation
-decreases-relation l = 24 * l.depth + 15
+decreases-relation l = 27 * l.depth + 18
 
 abbrev pub decreases-membership : goal.decreases-membership
-decreases-membership l = 24 * l.depth + 14
+decreases-membership l = 27 * l.depth + 17
 
 abbrev pub decreases-upper_bound : goal.decreases-upper_bound
-decreases-upper_bound l = 24 * l.depth + 13
+decreases-upper_bound l = 27 * l.depth + 16
 
 abbrev pub decreases-simple_expression : goal.decreases-simple_expression
-decreases-simple_expression l = 24 * l.depth + 12
+decreases-simple_expression l = 27 * l.depth + 15
+
+abbrev pub decreases-added_terms : goal.decreases-added_terms
+decreases-added_terms l = 27 * l.depth + 14
 
 abbrev pub decreases-more_terms : goal.decreases-more_terms
-decreases-more_terms l = 24 * l.depth + 11
+decreases-more_terms l = 27 * l.depth + 13
 
 abbrev pub decreases-added_term : goal.decreases-added_term
-decreases-added_term l = 24 * l.depth + 10
+decreases-added_term l = 27 * l.depth + 12
 
 abbrev pub decreases-term : goal.decreases-term
-decreases-term l = 24 * l.depth + 9
+decreases-term l = 27 * l.depth + 11
+
+abbrev pub decreases-multiplied_factors : goal.decreases-multiplied_factors
+decreases-multiplied_factors l = 27 * l.depth + 10
 
 abbrev pub decreases-more_factors : goal.decreases-more_factors
-decreases-more_factors l = 24 * l.depth + 8
+decreases-more_factors l = 27 * l.depth + 9
 
 abbrev pub decreases-multiplied_factor : goal.decreases-multiplied_factor
-decreases-multiplied_factor l = 24 * l.depth + 7
+decreases-multiplied_factor l = 27 * l.depth + 8
 
 abbrev pub decreases-factor : goal.decreases-factor
-decreases-factor l = 24 * l.depth + 6
+decreases-factor l = 27 * l.depth + 7
 
 abbrev pub decreases-primary : goal.decreases-primary
-decreases-primary l = 24 * l.depth + 5
+decreases-primary l = 27 * l.depth + 6
 
 abbrev pub decreases-name : goal.decreases-name
-decreases-name l = 24 * l.depth + 4
+decreases-name l = 27 * l.depth + 5
 
 abbrev pub decreases-parentheses : goal.decreases-parentheses
-decreases-parentheses l = 24 * l.depth + 3
+decreases-parentheses l = 27 * l.depth + 4
+
+abbrev pub decreases-object_name : goal.decreases-object_name
+decreases-object_name l = 27 * l.depth + 3
 
 abbrev pub decreases-name_parts : goal.decreases-name_parts
-decreases-name_parts l = 24 * l.depth + 2
+decreases-name_parts l = 27 * l.depth + 2
 
 abbrev pub decreases-part : goal.decreases-part
-decreases-part l = 24 * l.depth + 1
+decreases-part l = 27 * l.depth + 1
 
 abbrev pub decreases-arguments : goal.decreases-arguments
-decreases-arguments l = 24 * l.depth + 0
+decreases-arguments l = 27 * l.depth + 0
 
 abbrev pub invariant-more_relations-more : goal.invariant-more_relations-more
 invariant-more_relations-more l = Kept (each (λ r. logical_tokens (logical_seen l.operator) ++ relation_tokens (relation_seen r)) l.relations.items) (lexemes l.source l.rest) (lexemes l.source l.tokens) l.depth (Many (behind_rule (logical_seen l.operator))) (Many (behind_rule (logical_seen l.operator)))

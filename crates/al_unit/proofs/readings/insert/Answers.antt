@@ -9,4 +9,4 @@ pub returns-in-Ok : goal.returns-in-Ok
 returns-in-Ok c =
     ap readings_seen c.in-Ok.ensures.entries
     ∙ readings_seen-insert_entry c.args.readings.now.entries c.into_vec.result c.args.reading
-    ∙ ap (λ k. insert_entry name_cmp (readings_seen c.args.readings.now.entries) k (reading_seen c.args.reading)) c.into_vec.ensures
+    ∙ ap (λ k. insert_entry name_cmp (readings_seen c.args.readings.now.entries) k (reading_seen c.args.reading.value)) c.into_vec.ensures

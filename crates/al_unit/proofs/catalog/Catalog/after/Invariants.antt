@@ -1,7 +1,7 @@
 use Rattle.std.proofs.Common.{◌≡◌, map, take}
 use Rattle.al_unit.specs.Catalogs.{library_of, readings_of}
 use Rattle.al_unit.specs.ReadingSeen.{readings_seen}
-use Rattle.al_unit.proofs.catalog.Catalog.of.Given as goal
+use Rattle.al_unit.proofs.catalog.Catalog.after.Given as goal
 
 abbrev pub invariant-loop-name : goal.invariant-loop-name
 invariant-loop-name l =

@@ -1,6 +1,6 @@
 // Worked values, and trees made by hand with their lexemes.
-ghost use Rattle.std.specs.Prelude.{◌≡◌, ◌∷◌, []};
-ghost use Rattle.al_syntax.specs.DeclarationTrees.{pragma_tokens};
+ghost use Rattle.std.specs.Prelude.{◌≡◌, ◌∷◌, ◌++◌, [], None, IfOk, option_map};
+ghost use Rattle.al_syntax.specs.DeclarationTrees.{end_name_tokens, pragma_tokens};
 ghost use Rattle.al_syntax.specs.ExpressionTrees.{simple_tokens, term_tokens};
 ghost use Rattle.al_syntax.specs.StatementTrees.{statement_tokens};
 ghost use Rattle.al_syntax.specs.Symbols.{Symbol as symbols};
@@ -10,18 +10,19 @@ ghost use Rattle.al_tree.specs.ExpressionViews.{simple_seen, term_seen};
 ghost use Rattle.al_tree.specs.Lexemes.{identifier_label, place_label};
 ghost use Rattle.al_tree.specs.StatementViews.{statement_seen};
 
-use crate::{
-    Factor, Identifier, NumericLiteral, ObjectName, Pragma, Primary, Sign, SimpleExpression,
-    Statement, StringLiteral, Symbol, Term, is_symbol, symbol_of, text_of,
-};
-use al_base::{Name, NoMemory, Place, ReservedWord, Span};
+use al_base::{NoMemory, Place, ReservedWord, Span};
 use al_lex::{Delimiter, Kind, Token};
-use std::alloc::Global;
+use al_tree::{
+    ExitStatement, Factor, Identifier, IdentifierName, NumericLiteral, ObjectName, Pragma, Primary,
+    Sign, SignedTerm, SimpleExpression, Statement, StringLiteral, Symbol, Term, is_symbol,
+    symbol_of, text_of,
+};
+use std::alloc::{AllocFailed, Global};
 use std::test::Fail;
 
 const PLACE: Place = Place { line: 1, col: 1 };
 
-fn token(kind: Kind, start: usize, len: usize) -> Token
+fn token(kind: Kind, start: u32, len: u32) -> Token
     ensures { result.kind ≡ kind }
 {
     Token {
@@ -34,26 +35,31 @@ fn token(kind: Kind, start: usize, len: usize) -> Token
     }
 }
 
-fn named(alloc: Global, name: Identifier) -> Term
+fn named(name: Identifier) -> Term
     ensures { term_tokens (term_seen result) ≡ labelled symbols.Identifier (identifier_label name) ∷ [] }
 {
-    let name = ObjectName::new(name, Vec::new(alloc));
-    Term::new(Factor::sole_primary(Primary::named(name)), Vec::new(alloc))
+    let name = ObjectName::direct(name);
+    Term::sole_factor(Factor::sole_primary(Primary::named(name)))
 }
 
 /// `- name`
-fn negated(alloc: Global, place: Place, name: Identifier) -> SimpleExpression
-    ensures { simple_tokens (simple_seen result) ≡ labelled symbols.Minus (place_label place) ∷ labelled symbols.Identifier (identifier_label name) ∷ [] }
+fn negated(
+    alloc: Global,
+    place: Place,
+    name: Identifier,
+) -> Result<SimpleExpression, AllocFailed<SignedTerm>>
+    ensures { IfOk result (λ s. simple_tokens (simple_seen s) ≡ labelled symbols.Minus (place_label place) ∷ labelled symbols.Identifier (identifier_label name) ∷ []) }
 {
-    let first = named(alloc, name);
-    SimpleExpression::new(Some(Sign::Minus(place)), first, Vec::new(alloc))
+    let term = SignedTerm::new(Sign::Minus(place), named(name));
+    Ok(SimpleExpression::signed(Box::new(alloc, term)?))
 }
 
 /// `exit name;`
-fn exit(place: Place, name: Identifier) -> Statement
-    ensures { statement_tokens (statement_seen result) ≡ labelled symbols.Exit (place_label place) ∷ labelled symbols.Identifier (identifier_label name) ∷ word symbols.Semicolon ∷ [] }
+fn exit(statement: Box<ExitStatement>) -> Statement
+    requires { statement.value.condition ≡ None }
+    ensures { statement_tokens (statement_seen result) ≡ labelled symbols.Exit (place_label statement.value.opening) ∷ (end_name_tokens (option_map identifier_label statement.value.name) ++ word symbols.Semicolon ∷ []) }
 {
-    Statement::exit(place, Some(name), None)
+    Statement::exit(statement)
 }
 
 /// `pragma name;`
@@ -81,7 +87,7 @@ fn tells_symbols(rt: HostRuntime) {
 }
 
 #[test]
-#[tactic(auto, unfolding(crate::specs::Symbols::symbol_of))]
+#[tactic(auto, unfolding(al_tree::specs::Symbols::symbol_of))]
 fn tells_texts(rt: HostRuntime) -> Result<(), Fail> {
     let alloc = rt.alloc();
     let source = b"Max := 16#fF# & \"\"\"\"";
@@ -102,7 +108,7 @@ fn tells_texts(rt: HostRuntime) -> Result<(), Fail> {
 
 fn identifier(alloc: Global, name: &[u8]) -> Result<Identifier, NoMemory> {
     Ok(Identifier {
-        name: Name::from_slice(alloc, name)?,
+        name: IdentifierName::of_spelling(alloc, name)?,
         place: PLACE,
     })
 }
@@ -110,10 +116,18 @@ fn identifier(alloc: Global, name: &[u8]) -> Result<Identifier, NoMemory> {
 #[test]
 fn makes_trees(rt: HostRuntime) -> Result<(), Fail> {
     let alloc = rt.alloc();
-    let negative = negated(alloc, PLACE, identifier(alloc, b"max")?);
-    assert_eq!(rt; negative.sign, Some(Sign::Minus(PLACE)));
-    let leaving = exit(PLACE, identifier(alloc, b"outer")?);
-    assert!(rt; matches!(leaving, Statement::Exit(_, Some(_), None)));
+    let negative = negated(alloc, PLACE, identifier(alloc, b"max")?)?;
+    let SimpleExpression::Signed(negative) = &negative else {
+        return Err(Fail::from("no sign"));
+    };
+    assert_eq!(rt; negative.sign, Sign::Minus(PLACE));
+    let outer = ExitStatement {
+        opening: PLACE,
+        name: Some(identifier(alloc, b"outer")?),
+        condition: None,
+    };
+    let leaving = exit(Box::new(alloc, outer)?);
+    assert!(rt; matches!(&leaving, Statement::Exit(statement) if statement.name.is_some()));
     let page = pragma(identifier(alloc, b"page")?);
     assert!(rt; page.arguments.is_none());
     Ok(())

@@ -1,8 +1,8 @@
-use crate::{Stop, expression, name_rest};
 use al_lex::{Token, lex};
+use al_parse_expr::{Stop, expression, identifier, name_from};
 use al_tree::{
-    AddingOperator, Expression, Factor, LogicalOperator, NamePart, Primary, Relation,
-    SimpleExpression,
+    AddingOperator, Expression, Factor, LogicalOperator, NamePart, ObjectName, Primary, Relation,
+    SimpleExpression, Term,
 };
 use std::alloc::Global;
 use std::test::Fail;
@@ -66,8 +66,8 @@ fn finds_faults(rt: HostRuntime) -> Result<(), Fail> {
 
 /// The only primary of a simple expression.
 fn sole_primary(simple: &SimpleExpression) -> Option<&Primary> {
-    match &simple.first.first {
-        Factor::SolePrimary(primary) if simple.others.is_empty() => Some(primary),
+    match simple {
+        SimpleExpression::SoleTerm(Term::SoleFactor(Factor::SolePrimary(primary))) => Some(primary),
         _ => None,
     }
 }
@@ -77,7 +77,7 @@ fn keeps_what_is_written(rt: HostRuntime) -> Result<(), Fail> {
     let alloc = rt.alloc();
     let source = b"A or else\n  X not in 7 .. B - 1";
     let tokens = tokens_of(alloc, source)?;
-    let Ok((Expression::Logical(operator, _, second, others), [])) = expression(
+    let Ok((Expression::Logical(relations), [])) = expression(
         alloc,
         source,
         MOST_OPEN,
@@ -85,38 +85,46 @@ fn keeps_what_is_written(rt: HostRuntime) -> Result<(), Fail> {
     ) else {
         return Err(Fail::from("no relations"));
     };
-    assert_eq!(rt; operator, LogicalOperator::OrElse);
-    assert!(rt; others.is_empty());
-    let Relation::InRange(_, Some(not), low, high) = &*second else {
+    assert_eq!(rt; relations.operator, LogicalOperator::OrElse);
+    assert!(rt; relations.others.is_empty());
+    let Relation::InRange(membership) = &relations.second else {
         return Err(Fail::from("no range"));
     };
+    let Some(not) = &membership.not else {
+        return Err(Fail::from("no not"));
+    };
     assert_eq!(rt; (not.line, not.col), (2, 5));
-    let Some(Primary::Numeric(literal)) = sole_primary(low) else {
+    let Some(Primary::Numeric(literal)) = sole_primary(&membership.low) else {
         return Err(Fail::from("no number"));
     };
     assert_eq!(rt; literal.value, 7);
-    let [added] = high.others.as_slice() else {
+    let SimpleExpression::Sum(difference) = &membership.high else {
         return Err(Fail::from("no minus"));
     };
-    assert!(rt; matches!(added.operator, AddingOperator::Minus(_)));
+    assert!(rt; matches!(difference.second.operator, AddingOperator::Minus(_)));
+    assert!(rt; difference.others.is_empty());
     Ok(())
 }
 
 #[test]
 fn takes_names_apart(rt: HostRuntime) -> Result<(), Fail> {
     let alloc = rt.alloc();
-    let source = b".Y (1, (2)) 'Image := 3";
+    let source = b"X.Y (1, (2)) 'Image := 3";
     let tokens = tokens_of(alloc, source)?;
-    let Ok((parts, rest)) = name_rest(alloc, source, MOST_OPEN, tokens.as_slice()) else {
+    let Ok((first, rest)) = identifier(alloc, source, tokens.as_slice()) else {
+        return Err(Fail::from("no identifier"));
+    };
+    let Ok((name, rest)) = name_from(alloc, source, MOST_OPEN, first, rest) else {
+        return Err(Fail::from("no name"));
+    };
+    let ObjectName::Longer(name) = &name else {
         return Err(Fail::from("no parts"));
     };
     assert_eq!(rt; rest.len(), 2);
-    let [
-        NamePart::Selector(selector),
-        NamePart::Arguments(_, _, more),
-        NamePart::Attribute(_),
-    ] = parts.as_slice()
-    else {
+    let NamePart::Selector(selector) = &name.next else {
+        return Err(Fail::from("no selector"));
+    };
+    let [NamePart::Arguments(_, _, more), NamePart::Attribute(_)] = name.others.as_slice() else {
         return Err(Fail::from("other parts"));
     };
     assert!(rt; selector.name.as_slice() == b"y".as_slice());

@@ -7,7 +7,7 @@ use Rattle.al_unit.specs.Catalogs.{source_of, texts_of}
 use Rattle.al_unit.specs.Readings.{reading_of}
 use Rattle.al_unit.specs.ReadingSeen.{readings_seen}
 use Rattle.al_unit.proofs.CatalogLemmas.{no_library, no_readings, next_source, next_reading, is_catalog, texts_of-library_of}
-use Rattle.al_unit.proofs.catalog.Catalog.of.Goals as goal
+use Rattle.al_unit.proofs.catalog.Catalog.after.Goals as goal
 
 pub loop-name-init : goal.loop-name-init
 loop-name-init c = (c.new-sources.ensures ∙ sym no_library, ap readings_seen c.new-readings.ensures.empty ∙ sym no_readings)
