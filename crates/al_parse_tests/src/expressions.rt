@@ -1,8 +1,7 @@
 use al_lex::{Token, lex};
 use al_parse_expr::{Stop, expression, identifier, name_from};
 use al_tree::{
-    AddingOperator, Expression, Factor, LogicalOperator, NamePart, ObjectName, Primary, Relation,
-    SimpleExpression, Term,
+    AddingOperator, Expression, LogicalOperator, NamePart, ObjectName, Relation, SimpleExpression,
 };
 use std::alloc::Global;
 use std::test::Fail;
@@ -64,14 +63,6 @@ fn finds_faults(rt: HostRuntime) -> Result<(), Fail> {
     Ok(())
 }
 
-/// The only primary of a simple expression.
-fn sole_primary(simple: &SimpleExpression) -> Option<&Primary> {
-    match simple {
-        SimpleExpression::SoleTerm(Term::SoleFactor(Factor::SolePrimary(primary))) => Some(primary),
-        _ => None,
-    }
-}
-
 #[test]
 fn keeps_what_is_written(rt: HostRuntime) -> Result<(), Fail> {
     let alloc = rt.alloc();
@@ -94,7 +85,7 @@ fn keeps_what_is_written(rt: HostRuntime) -> Result<(), Fail> {
         return Err(Fail::from("no not"));
     };
     assert_eq!(rt; (not.line, not.col), (2, 5));
-    let Some(Primary::Numeric(literal)) = sole_primary(&membership.low) else {
+    let SimpleExpression::Numeric(literal) = &membership.low else {
         return Err(Fail::from("no number"));
     };
     assert_eq!(rt; literal.value, 7);

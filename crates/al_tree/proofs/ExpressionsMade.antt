@@ -1,5 +1,5 @@
 -- What a name or an expression that was just made is seen as, and its lexemes.
-use Rattle.std.proofs.Common.{◌≡◌, List, [], ◌∷◌, ◌++◌, map, Option, Some, None, sym, ap, ◌∙◌, append-nil, Vec, Box, Global}
+use Rattle.std.proofs.Common.{◌≡◌, List, [], ◌∷◌, ◌++◌, map, Option, Some, sym, ap, ◌∙◌, append-nil, Vec, Box, Global}
 use Rattle.std.specs.Prelude.{option_map}
 use Rattle.al_base.specs.declared.place.Place.{Place}
 use Rattle.al_grammar.specs.Grammar.{Lexeme, each}
@@ -18,7 +18,7 @@ use Rattle.al_tree.specs.declared.expression.AddingOperator.{AddingOperator}
 use Rattle.al_tree.specs.declared.expression.MultiplyingOperator.{MultiplyingOperator}
 use Rattle.al_tree.specs.declared.expression.Sign.{Sign}
 use Rattle.al_tree.specs.declared.expression.Expression.{Expression}
-use Rattle.al_tree.specs.declared.expression.Expression.TheVariants.{SoleRelation, Logical, rolls-SoleRelation, rolls-Logical}
+use Rattle.al_tree.specs.declared.expression.Expression.TheVariants.{Logical, rolls-Logical}
 use Rattle.al_tree.specs.declared.expression.LogicalRelations.{LogicalRelations, roll-LogicalRelations}
 use Rattle.al_tree.specs.declared.expression.Relation.{Relation}
 use Rattle.al_tree.specs.declared.expression.Relation.TheVariants as relations
@@ -51,13 +51,6 @@ use Rattle.al_tree.specs.declared.expression.Expression.TheOpen as layer
 use Rattle.al_tree.specs.declared.expression.Expression.TheFolds.{fold-roll-Expression, fold-roll-LogicalRelations, fold-roll-Relation, fold-roll-Comparison, fold-roll-MarkMembership, fold-roll-RangeMembership, fold-roll-SimpleExpression, fold-roll-SignedTerm, fold-roll-Sum, fold-roll-AddedTerm, fold-roll-Term, fold-roll-Product, fold-roll-MultipliedFactor, fold-roll-Factor, fold-roll-Power, fold-roll-Primary, fold-roll-QualifiedExpression, fold-roll-Parentheses, fold-roll-ObjectName, fold-roll-LongName, fold-roll-NamePart}
 use Rattle.al_tree.proofs.Lists.{relations_each, added_each, multiplied_each, expressions_each, parts_each}
 
-pub expression_sole_relation_seen : (relation : Relation) → expression_seen (SoleRelation relation) ≡ expression_trees.SoleRelation (relation_seen relation)
-unfolding expression_seen relation_seen
-expression_sole_relation_seen relation = ap expression_seen (sym (rolls-SoleRelation relation)) ∙ by_layers fold-roll-Expression (layer.SoleRelation relation)
-
-pub expression_sole_relation_tokens : (relation : Relation) → expression_tokens (expression_seen (SoleRelation relation)) ≡ relation_tokens (relation_seen relation)
-expression_sole_relation_tokens relation = ap expression_tokens (expression_sole_relation_seen relation)
-
 pub expression_logical_seen : (relations : Box LogicalRelations Global) → expression_seen (Logical relations) ≡ logical_relations_seen relations.value
 unfolding expression_seen logical_relations_seen
 expression_logical_seen relations = ap expression_seen (sym (rolls-Logical relations)) ∙ by_layers fold-roll-Expression (layer.Logical relations)
@@ -73,30 +66,23 @@ pub logical_relations_new_tokens : (operator : LogicalOperator) (first : Relatio
 logical_relations_new_tokens operator first second others = ap expression_tokens (logical_relations_new_seen operator first second others)
     ∙ ap (λ (ts : List Lexeme). relation_tokens (relation_seen first) ++ (logical_tokens (logical_seen operator) ++ (relation_tokens (relation_seen second) ++ ts))) (relations_each (logical_seen operator) others.items)
 
-pub relation_sole_simple_seen : (simple : SimpleExpression) → relation_seen (relations.SoleSimple simple) ≡ relation_trees.SoleSimple (simple_seen simple)
-unfolding relation_seen simple_seen
-relation_sole_simple_seen simple = ap relation_seen (sym (relations.rolls-SoleSimple simple)) ∙ by_layers fold-roll-Relation (layer.SoleSimple simple)
-
-pub relation_sole_simple_tokens : (simple : SimpleExpression) → relation_tokens (relation_seen (relations.SoleSimple simple)) ≡ simple_tokens (simple_seen simple)
-relation_sole_simple_tokens simple = ap relation_tokens (relation_sole_simple_seen simple)
-
 pub relation_comparison_seen : (comparison : Box Comparison Global) → relation_seen (relations.Comparison comparison) ≡ comparison_seen comparison.value
 unfolding comparison_seen relation_seen
-relation_comparison_seen comparison = ap relation_seen (sym (relations.rolls-Comparison comparison)) ∙ by_layers fold-roll-Relation (layer.Comparison comparison)
+relation_comparison_seen comparison = ap relation_seen (sym (relations.rolls-Comparison comparison)) ∙ by_layers fold-roll-Relation (layer.Relation::Comparison comparison)
 
 pub relation_comparison_tokens : (comparison : Box Comparison Global) → relation_tokens (relation_seen (relations.Comparison comparison)) ≡ relation_tokens (comparison_seen comparison.value)
 relation_comparison_tokens comparison = ap relation_tokens (relation_comparison_seen comparison)
 
 pub relation_in_mark_seen : (membership : Box MarkMembership Global) → relation_seen (relations.InMark membership) ≡ mark_membership_seen membership.value
 unfolding mark_membership_seen relation_seen
-relation_in_mark_seen membership = ap relation_seen (sym (relations.rolls-InMark membership)) ∙ by_layers fold-roll-Relation (layer.InMark membership)
+relation_in_mark_seen membership = ap relation_seen (sym (relations.rolls-InMark membership)) ∙ by_layers fold-roll-Relation (layer.Relation::InMark membership)
 
 pub relation_in_mark_tokens : (membership : Box MarkMembership Global) → relation_tokens (relation_seen (relations.InMark membership)) ≡ relation_tokens (mark_membership_seen membership.value)
 relation_in_mark_tokens membership = ap relation_tokens (relation_in_mark_seen membership)
 
 pub relation_in_range_seen : (membership : Box RangeMembership Global) → relation_seen (relations.InRange membership) ≡ range_membership_seen membership.value
 unfolding range_membership_seen relation_seen
-relation_in_range_seen membership = ap relation_seen (sym (relations.rolls-InRange membership)) ∙ by_layers fold-roll-Relation (layer.InRange membership)
+relation_in_range_seen membership = ap relation_seen (sym (relations.rolls-InRange membership)) ∙ by_layers fold-roll-Relation (layer.Relation::InRange membership)
 
 pub relation_in_range_tokens : (membership : Box RangeMembership Global) → relation_tokens (relation_seen (relations.InRange membership)) ≡ relation_tokens (range_membership_seen membership.value)
 relation_in_range_tokens membership = ap relation_tokens (relation_in_range_seen membership)
@@ -122,23 +108,16 @@ range_membership_new_seen left not low high = by_layers fold-roll-RangeMembershi
 pub range_membership_new_tokens : (left : SimpleExpression) (not : Option Place) (low : SimpleExpression) (high : SimpleExpression) → relation_tokens (range_membership_seen (roll-RangeMembership (record { left = left; not = not; low = low; high = high }))) ≡ simple_tokens (simple_seen left) ++ (not_tokens (option_map place_label not) ++ word symbols.In ∷ (simple_tokens (simple_seen low) ++ word symbols.DoubleDot ∷ simple_tokens (simple_seen high)))
 range_membership_new_tokens left not low high = ap relation_tokens (range_membership_new_seen left not low high)
 
-pub simple_sole_term_seen : (term : Term) → simple_seen (simples.SoleTerm term) ≡ simple_trees.SimpleExpression None (term_seen term) (added_of [])
-unfolding simple_seen term_seen
-simple_sole_term_seen term = ap simple_seen (sym (simples.rolls-SoleTerm term)) ∙ by_layers fold-roll-SimpleExpression (layer.SoleTerm term)
-
-pub simple_sole_term_tokens : (term : Term) → simple_tokens (simple_seen (simples.SoleTerm term)) ≡ term_tokens (term_seen term)
-simple_sole_term_tokens term = ap simple_tokens (simple_sole_term_seen term) ∙ append-nil (term_tokens (term_seen term))
-
 pub simple_signed_seen : (term : Box SignedTerm Global) → simple_seen (simples.Signed term) ≡ signed_term_seen term.value
 unfolding signed_term_seen simple_seen
-simple_signed_seen term = ap simple_seen (sym (simples.rolls-Signed term)) ∙ by_layers fold-roll-SimpleExpression (layer.Signed term)
+simple_signed_seen term = ap simple_seen (sym (simples.rolls-Signed term)) ∙ by_layers fold-roll-SimpleExpression (layer.SimpleExpression::Signed term)
 
 pub simple_signed_tokens : (term : Box SignedTerm Global) → simple_tokens (simple_seen (simples.Signed term)) ≡ simple_tokens (signed_term_seen term.value)
 simple_signed_tokens term = ap simple_tokens (simple_signed_seen term)
 
 pub simple_sum_seen : (sum : Box Sum Global) → simple_seen (simples.Sum sum) ≡ sum_seen sum.value
 unfolding simple_seen sum_seen
-simple_sum_seen sum = ap simple_seen (sym (simples.rolls-Sum sum)) ∙ by_layers fold-roll-SimpleExpression (layer.Sum sum)
+simple_sum_seen sum = ap simple_seen (sym (simples.rolls-Sum sum)) ∙ by_layers fold-roll-SimpleExpression (layer.SimpleExpression::Sum sum)
 
 pub simple_sum_tokens : (sum : Box Sum Global) → simple_tokens (simple_seen (simples.Sum sum)) ≡ simple_tokens (sum_seen sum.value)
 simple_sum_tokens sum = ap simple_tokens (simple_sum_seen sum)
@@ -166,16 +145,9 @@ added_term_new_seen operator term = by_layers fold-roll-AddedTerm (record { oper
 pub added_term_new_tokens : (operator : AddingOperator) (term : Term) → added_term_tokens (roll-AddedTerm (record { operator = operator; term = term })) ≡ adding_token (adding_seen operator) ∷ term_tokens (term_seen term)
 added_term_new_tokens operator term = ap (λ (t : AddedTermTree). adding_token t.0 ∷ term_tokens t.1) (added_term_new_seen operator term)
 
-pub term_sole_factor_seen : (factor : Factor) → term_seen (terms.SoleFactor factor) ≡ term_trees.Term (factor_seen factor) (multiplied_of [])
-unfolding factor_seen term_seen
-term_sole_factor_seen factor = ap term_seen (sym (terms.rolls-SoleFactor factor)) ∙ by_layers fold-roll-Term (layer.SoleFactor factor)
-
-pub term_sole_factor_tokens : (factor : Factor) → term_tokens (term_seen (terms.SoleFactor factor)) ≡ factor_tokens (factor_seen factor)
-term_sole_factor_tokens factor = ap term_tokens (term_sole_factor_seen factor) ∙ append-nil (factor_tokens (factor_seen factor))
-
 pub term_product_seen : (product : Box Product Global) → term_seen (terms.Product product) ≡ product_seen product.value
 unfolding product_seen term_seen
-term_product_seen product = ap term_seen (sym (terms.rolls-Product product)) ∙ by_layers fold-roll-Term (layer.Product product)
+term_product_seen product = ap term_seen (sym (terms.rolls-Product product)) ∙ by_layers fold-roll-Term (layer.Term::Product product)
 
 pub term_product_tokens : (product : Box Product Global) → term_tokens (term_seen (terms.Product product)) ≡ term_tokens (product_seen product.value)
 term_product_tokens product = ap term_tokens (term_product_seen product)
@@ -195,30 +167,23 @@ multiplied_factor_new_seen operator factor = by_layers fold-roll-MultipliedFacto
 pub multiplied_factor_new_tokens : (operator : MultiplyingOperator) (factor : Factor) → multiplied_factor_tokens (roll-MultipliedFactor (record { operator = operator; factor = factor })) ≡ multiplying_token (multiplying_seen operator) ∷ factor_tokens (factor_seen factor)
 multiplied_factor_new_tokens operator factor = ap (λ (f : MultipliedFactorTree). multiplying_token f.0 ∷ factor_tokens f.1) (multiplied_factor_new_seen operator factor)
 
-pub factor_sole_primary_seen : (primary : Primary) → factor_seen (factors.SolePrimary primary) ≡ factor_trees.SolePrimary (primary_seen primary)
-unfolding factor_seen primary_seen
-factor_sole_primary_seen primary = ap factor_seen (sym (factors.rolls-SolePrimary primary)) ∙ by_layers fold-roll-Factor (layer.SolePrimary primary)
-
-pub factor_sole_primary_tokens : (primary : Primary) → factor_tokens (factor_seen (factors.SolePrimary primary)) ≡ primary_tokens (primary_seen primary)
-factor_sole_primary_tokens primary = ap factor_tokens (factor_sole_primary_seen primary)
-
 pub factor_power_seen : (power : Box Power Global) → factor_seen (factors.Power power) ≡ power_seen power.value
 unfolding factor_seen power_seen
-factor_power_seen power = ap factor_seen (sym (factors.rolls-Power power)) ∙ by_layers fold-roll-Factor (layer.Power power)
+factor_power_seen power = ap factor_seen (sym (factors.rolls-Power power)) ∙ by_layers fold-roll-Factor (layer.Factor::Power power)
 
 pub factor_power_tokens : (power : Box Power Global) → factor_tokens (factor_seen (factors.Power power)) ≡ factor_tokens (power_seen power.value)
 factor_power_tokens power = ap factor_tokens (factor_power_seen power)
 
 pub factor_absolute_seen : (place : Place) (primary : Box Primary Global) → factor_seen (factors.Absolute place primary) ≡ factor_trees.Absolute (place_label place) (primary_seen primary.value)
 unfolding factor_seen primary_seen
-factor_absolute_seen place primary = ap factor_seen (sym (factors.rolls-Absolute place primary)) ∙ by_layers fold-roll-Factor (layer.Absolute place primary)
+factor_absolute_seen place primary = ap factor_seen (sym (factors.rolls-Absolute place primary)) ∙ by_layers fold-roll-Factor (layer.Factor::Absolute place primary)
 
 pub factor_absolute_tokens : (place : Place) (primary : Box Primary Global) → factor_tokens (factor_seen (factors.Absolute place primary)) ≡ labelled symbols.Abs (place_label place) ∷ primary_tokens (primary_seen primary.value)
 factor_absolute_tokens place primary = ap factor_tokens (factor_absolute_seen place primary)
 
 pub factor_negation_seen : (place : Place) (primary : Box Primary Global) → factor_seen (factors.Negation place primary) ≡ factor_trees.Negation (place_label place) (primary_seen primary.value)
 unfolding factor_seen primary_seen
-factor_negation_seen place primary = ap factor_seen (sym (factors.rolls-Negation place primary)) ∙ by_layers fold-roll-Factor (layer.Negation place primary)
+factor_negation_seen place primary = ap factor_seen (sym (factors.rolls-Negation place primary)) ∙ by_layers fold-roll-Factor (layer.Factor::Negation place primary)
 
 pub factor_negation_tokens : (place : Place) (primary : Box Primary Global) → factor_tokens (factor_seen (factors.Negation place primary)) ≡ labelled symbols.Not (place_label place) ∷ primary_tokens (primary_seen primary.value)
 factor_negation_tokens place primary = ap factor_tokens (factor_negation_seen place primary)
@@ -232,36 +197,36 @@ power_new_tokens base exponent = ap factor_tokens (power_new_seen base exponent)
 
 pub primary_numeric_seen : (literal : NumericLiteral) → primary_seen (primaries.Numeric literal) ≡ primary_trees.NumberPrimary (number_label literal)
 unfolding primary_seen
-primary_numeric_seen literal = ap primary_seen (sym (primaries.rolls-Numeric literal)) ∙ by_layers fold-roll-Primary (layer.Numeric literal)
+primary_numeric_seen literal = ap primary_seen (sym (primaries.rolls-Numeric literal)) ∙ by_layers fold-roll-Primary (layer.Primary::Numeric literal)
 
 pub primary_numeric_tokens : (literal : NumericLiteral) → primary_tokens (primary_seen (primaries.Numeric literal)) ≡ labelled symbols.Number (number_label literal) ∷ []
 primary_numeric_tokens literal = ap primary_tokens (primary_numeric_seen literal)
 
 pub primary_text_seen : (literal : Box StringLiteral Global) → primary_seen (primaries.Text literal) ≡ primary_trees.StringPrimary (string_label literal.value)
 unfolding primary_seen
-primary_text_seen literal = ap primary_seen (sym (primaries.rolls-Text literal)) ∙ by_layers fold-roll-Primary (layer.Text literal)
+primary_text_seen literal = ap primary_seen (sym (primaries.rolls-Text literal)) ∙ by_layers fold-roll-Primary (layer.Primary::Text literal)
 
 pub primary_text_tokens : (literal : Box StringLiteral Global) → primary_tokens (primary_seen (primaries.Text literal)) ≡ labelled symbols.StringLiteral (string_label literal.value) ∷ []
 primary_text_tokens literal = ap primary_tokens (primary_text_seen literal)
 
 pub primary_direct_name_seen : (identifier : Identifier) → primary_seen (primaries.DirectName identifier) ≡ primary_trees.NamePrimary (name_trees.Name (identifier_label identifier) (parts_of []))
 unfolding primary_seen
-primary_direct_name_seen identifier = ap primary_seen (sym (primaries.rolls-DirectName identifier)) ∙ by_layers fold-roll-Primary (layer.DirectName identifier)
+primary_direct_name_seen identifier = ap primary_seen (sym (primaries.rolls-DirectName identifier)) ∙ by_layers fold-roll-Primary (layer.Primary::DirectName identifier)
 
 pub primary_longer_name_seen : (name : Box LongName Global) → primary_seen (primaries.LongerName name) ≡ primary_trees.NamePrimary (long_name_seen name.value)
 unfolding long_name_seen primary_seen
-primary_longer_name_seen name = ap primary_seen (sym (primaries.rolls-LongerName name)) ∙ by_layers fold-roll-Primary (layer.LongerName name)
+primary_longer_name_seen name = ap primary_seen (sym (primaries.rolls-LongerName name)) ∙ by_layers fold-roll-Primary (layer.Primary::LongerName name)
 
 pub primary_qualified_seen : (expression : Box QualifiedExpression Global) → primary_seen (primaries.Qualified expression) ≡ qualified_seen expression.value
 unfolding primary_seen qualified_seen
-primary_qualified_seen expression = ap primary_seen (sym (primaries.rolls-Qualified expression)) ∙ by_layers fold-roll-Primary (layer.Qualified expression)
+primary_qualified_seen expression = ap primary_seen (sym (primaries.rolls-Qualified expression)) ∙ by_layers fold-roll-Primary (layer.Primary::Qualified expression)
 
 pub primary_qualified_tokens : (expression : Box QualifiedExpression Global) → primary_tokens (primary_seen (primaries.Qualified expression)) ≡ primary_tokens (qualified_seen expression.value)
 primary_qualified_tokens expression = ap primary_tokens (primary_qualified_seen expression)
 
 pub primary_parenthesized_seen : (inner : Box Parentheses Global) → primary_seen (primaries.Parenthesized inner) ≡ primary_trees.ParenthesizedPrimary (parentheses_seen inner.value)
 unfolding parentheses_seen primary_seen
-primary_parenthesized_seen inner = ap primary_seen (sym (primaries.rolls-Parenthesized inner)) ∙ by_layers fold-roll-Primary (layer.Parenthesized inner)
+primary_parenthesized_seen inner = ap primary_seen (sym (primaries.rolls-Parenthesized inner)) ∙ by_layers fold-roll-Primary (layer.Primary::Parenthesized inner)
 
 pub primary_parenthesized_tokens : (inner : Box Parentheses Global) → primary_tokens (primary_seen (primaries.Parenthesized inner)) ≡ parentheses_tokens (parentheses_seen inner.value)
 primary_parenthesized_tokens inner = ap primary_tokens (primary_parenthesized_seen inner)

@@ -100,23 +100,65 @@ expressions_of es = listed expressions_trees.MoreExpressions expressions_trees.N
 abbrev pub parts_of : List PartTree → PartsTree
 parts_of ps = listed parts_trees.MoreParts parts_trees.NoPart ps
 
+-- ---- a tree of one kind alone, as one of the kind above it
+
+abbrev pub factor_of : PrimaryTree → FactorTree
+factor_of p = factor_trees.SolePrimary p
+
+abbrev pub term_of : FactorTree → TermTree
+term_of f = term_trees.Term f multiplied_trees.NoFactor
+
+abbrev pub simple_of : TermTree → SimpleTree
+simple_of t = simple_trees.SimpleExpression None t added_trees.NoTerm
+
+abbrev pub relation_of : SimpleTree → RelationTree
+relation_of s = relation_trees.SoleSimple s
+
+abbrev pub expression_of : RelationTree → ExpressionTree
+expression_of r = expression_trees.SoleRelation r
+
 -- ---- one layer of a tree, whose parts are seen already
 
 abbrev pub Layer : ((A B C D E F G H I J K L M N O Q R S T U V : Type 0) → Type 0) → Type 0
 Layer X = X ExpressionTree FactorTree PartTree NameTree ParenthesesTree PrimaryTree RelationTree SimpleTree TermTree AddedTermTree RelationTree ExpressionTree NameTree RelationTree MultipliedFactorTree FactorTree TermTree PrimaryTree RelationTree SimpleTree SimpleTree
 
 abbrev pub expression_layer : Layer Expression-F → ExpressionTree
-expression_layer (layer.SoleRelation r) = expression_trees.SoleRelation r
+expression_layer (layer.Expression::Numeric n) = expression_of (relation_of (simple_of (term_of (factor_of (primary_trees.NumberPrimary (number_label n))))))
+expression_layer (layer.Expression::Text s) = expression_of (relation_of (simple_of (term_of (factor_of (primary_trees.StringPrimary (string_label s.value))))))
+expression_layer (layer.Expression::DirectName i) = expression_of (relation_of (simple_of (term_of (factor_of (primary_trees.NamePrimary (name_trees.Name (identifier_label i) parts_trees.NoPart))))))
+expression_layer (layer.Expression::LongerName n) = expression_of (relation_of (simple_of (term_of (factor_of (primary_trees.NamePrimary n.value)))))
+expression_layer (layer.Expression::Qualified q) = expression_of (relation_of (simple_of (term_of (factor_of q.value))))
+expression_layer (layer.Expression::Parenthesized p) = expression_of (relation_of (simple_of (term_of (factor_of (primary_trees.ParenthesizedPrimary p.value)))))
+expression_layer (layer.Expression::Power p) = expression_of (relation_of (simple_of (term_of p.value)))
+expression_layer (layer.Expression::Absolute l p) = expression_of (relation_of (simple_of (term_of (factor_trees.Absolute (place_label l) p.value))))
+expression_layer (layer.Expression::Negation l p) = expression_of (relation_of (simple_of (term_of (factor_trees.Negation (place_label l) p.value))))
+expression_layer (layer.Expression::Product p) = expression_of (relation_of (simple_of p.value))
+expression_layer (layer.Expression::Signed t) = expression_of (relation_of t.value)
+expression_layer (layer.Expression::Sum s) = expression_of (relation_of s.value)
+expression_layer (layer.Expression::Comparison c) = expression_of c.value
+expression_layer (layer.Expression::InMark m) = expression_of m.value
+expression_layer (layer.Expression::InRange m) = expression_of m.value
 expression_layer (layer.Logical l) = l.value
 
 abbrev pub logical_relations_layer : Layer LogicalRelations-F → ExpressionTree
 logical_relations_layer l = expression_trees.Logical (logical_seen l.operator) l.first l.second (relations_of l.others.items)
 
 abbrev pub relation_layer : Layer Relation-F → RelationTree
-relation_layer (layer.SoleSimple s) = relation_trees.SoleSimple s
-relation_layer (layer.Comparison c) = c.value
-relation_layer (layer.InMark m) = m.value
-relation_layer (layer.InRange m) = m.value
+relation_layer (layer.Relation::Numeric n) = relation_of (simple_of (term_of (factor_of (primary_trees.NumberPrimary (number_label n)))))
+relation_layer (layer.Relation::Text s) = relation_of (simple_of (term_of (factor_of (primary_trees.StringPrimary (string_label s.value)))))
+relation_layer (layer.Relation::DirectName i) = relation_of (simple_of (term_of (factor_of (primary_trees.NamePrimary (name_trees.Name (identifier_label i) parts_trees.NoPart)))))
+relation_layer (layer.Relation::LongerName n) = relation_of (simple_of (term_of (factor_of (primary_trees.NamePrimary n.value))))
+relation_layer (layer.Relation::Qualified q) = relation_of (simple_of (term_of (factor_of q.value)))
+relation_layer (layer.Relation::Parenthesized p) = relation_of (simple_of (term_of (factor_of (primary_trees.ParenthesizedPrimary p.value))))
+relation_layer (layer.Relation::Power p) = relation_of (simple_of (term_of p.value))
+relation_layer (layer.Relation::Absolute l p) = relation_of (simple_of (term_of (factor_trees.Absolute (place_label l) p.value)))
+relation_layer (layer.Relation::Negation l p) = relation_of (simple_of (term_of (factor_trees.Negation (place_label l) p.value)))
+relation_layer (layer.Relation::Product p) = relation_of (simple_of p.value)
+relation_layer (layer.Relation::Signed t) = relation_of t.value
+relation_layer (layer.Relation::Sum s) = relation_of s.value
+relation_layer (layer.Relation::Comparison c) = c.value
+relation_layer (layer.Relation::InMark m) = m.value
+relation_layer (layer.Relation::InRange m) = m.value
 
 abbrev pub comparison_layer : Layer Comparison-F → RelationTree
 comparison_layer c = relation_trees.Comparison c.left (relational_seen c.operator) c.right
@@ -131,9 +173,18 @@ abbrev pub added_term_layer : Layer AddedTerm-F → AddedTermTree
 added_term_layer t = (adding_seen t.operator, t.term)
 
 abbrev pub simple_layer : Layer SimpleExpression-F → SimpleTree
-simple_layer (layer.SoleTerm t) = simple_trees.SimpleExpression None t added_trees.NoTerm
-simple_layer (layer.Signed t) = t.value
-simple_layer (layer.Sum s) = s.value
+simple_layer (layer.SimpleExpression::Numeric n) = simple_of (term_of (factor_of (primary_trees.NumberPrimary (number_label n))))
+simple_layer (layer.SimpleExpression::Text s) = simple_of (term_of (factor_of (primary_trees.StringPrimary (string_label s.value))))
+simple_layer (layer.SimpleExpression::DirectName i) = simple_of (term_of (factor_of (primary_trees.NamePrimary (name_trees.Name (identifier_label i) parts_trees.NoPart))))
+simple_layer (layer.SimpleExpression::LongerName n) = simple_of (term_of (factor_of (primary_trees.NamePrimary n.value)))
+simple_layer (layer.SimpleExpression::Qualified q) = simple_of (term_of (factor_of q.value))
+simple_layer (layer.SimpleExpression::Parenthesized p) = simple_of (term_of (factor_of (primary_trees.ParenthesizedPrimary p.value)))
+simple_layer (layer.SimpleExpression::Power p) = simple_of (term_of p.value)
+simple_layer (layer.SimpleExpression::Absolute l p) = simple_of (term_of (factor_trees.Absolute (place_label l) p.value))
+simple_layer (layer.SimpleExpression::Negation l p) = simple_of (term_of (factor_trees.Negation (place_label l) p.value))
+simple_layer (layer.SimpleExpression::Product p) = simple_of p.value
+simple_layer (layer.SimpleExpression::Signed t) = t.value
+simple_layer (layer.SimpleExpression::Sum s) = s.value
 
 abbrev pub signed_term_layer : Layer SignedTerm-F → SimpleTree
 signed_term_layer t = simple_trees.SimpleExpression (sign_seen (Some t.sign)) t.term added_trees.NoTerm
@@ -145,28 +196,41 @@ abbrev pub multiplied_factor_layer : Layer MultipliedFactor-F → MultipliedFact
 multiplied_factor_layer f = (multiplying_seen f.operator, f.factor)
 
 abbrev pub term_layer : Layer Term-F → TermTree
-term_layer (layer.SoleFactor f) = term_trees.Term f multiplied_trees.NoFactor
-term_layer (layer.Product p) = p.value
+term_layer (layer.Term::Numeric n) = term_of (factor_of (primary_trees.NumberPrimary (number_label n)))
+term_layer (layer.Term::Text s) = term_of (factor_of (primary_trees.StringPrimary (string_label s.value)))
+term_layer (layer.Term::DirectName i) = term_of (factor_of (primary_trees.NamePrimary (name_trees.Name (identifier_label i) parts_trees.NoPart)))
+term_layer (layer.Term::LongerName n) = term_of (factor_of (primary_trees.NamePrimary n.value))
+term_layer (layer.Term::Qualified q) = term_of (factor_of q.value)
+term_layer (layer.Term::Parenthesized p) = term_of (factor_of (primary_trees.ParenthesizedPrimary p.value))
+term_layer (layer.Term::Power p) = term_of p.value
+term_layer (layer.Term::Absolute l p) = term_of (factor_trees.Absolute (place_label l) p.value)
+term_layer (layer.Term::Negation l p) = term_of (factor_trees.Negation (place_label l) p.value)
+term_layer (layer.Term::Product p) = p.value
 
 abbrev pub product_layer : Layer Product-F → TermTree
 product_layer p = term_trees.Term p.first (multiplied_of (p.second ∷ p.others.items))
 
 abbrev pub factor_layer : Layer Factor-F → FactorTree
-factor_layer (layer.SolePrimary p) = factor_trees.SolePrimary p
-factor_layer (layer.Power p) = p.value
-factor_layer (layer.Absolute l p) = factor_trees.Absolute (place_label l) p.value
-factor_layer (layer.Negation l p) = factor_trees.Negation (place_label l) p.value
+factor_layer (layer.Factor::Numeric n) = factor_of (primary_trees.NumberPrimary (number_label n))
+factor_layer (layer.Factor::Text s) = factor_of (primary_trees.StringPrimary (string_label s.value))
+factor_layer (layer.Factor::DirectName i) = factor_of (primary_trees.NamePrimary (name_trees.Name (identifier_label i) parts_trees.NoPart))
+factor_layer (layer.Factor::LongerName n) = factor_of (primary_trees.NamePrimary n.value)
+factor_layer (layer.Factor::Qualified q) = factor_of q.value
+factor_layer (layer.Factor::Parenthesized p) = factor_of (primary_trees.ParenthesizedPrimary p.value)
+factor_layer (layer.Factor::Power p) = p.value
+factor_layer (layer.Factor::Absolute l p) = factor_trees.Absolute (place_label l) p.value
+factor_layer (layer.Factor::Negation l p) = factor_trees.Negation (place_label l) p.value
 
 abbrev pub power_layer : Layer Power-F → FactorTree
 power_layer p = factor_trees.Power p.base p.exponent
 
 abbrev pub primary_layer : Layer Primary-F → PrimaryTree
-primary_layer (layer.Numeric n) = primary_trees.NumberPrimary (number_label n)
-primary_layer (layer.Text s) = primary_trees.StringPrimary (string_label s.value)
-primary_layer (layer.DirectName i) = primary_trees.NamePrimary (name_trees.Name (identifier_label i) parts_trees.NoPart)
-primary_layer (layer.LongerName n) = primary_trees.NamePrimary n.value
-primary_layer (layer.Qualified q) = q.value
-primary_layer (layer.Parenthesized p) = primary_trees.ParenthesizedPrimary p.value
+primary_layer (layer.Primary::Numeric n) = primary_trees.NumberPrimary (number_label n)
+primary_layer (layer.Primary::Text s) = primary_trees.StringPrimary (string_label s.value)
+primary_layer (layer.Primary::DirectName i) = primary_trees.NamePrimary (name_trees.Name (identifier_label i) parts_trees.NoPart)
+primary_layer (layer.Primary::LongerName n) = primary_trees.NamePrimary n.value
+primary_layer (layer.Primary::Qualified q) = q.value
+primary_layer (layer.Primary::Parenthesized p) = primary_trees.ParenthesizedPrimary p.value
 
 abbrev pub qualified_layer : Layer QualifiedExpression-F → PrimaryTree
 qualified_layer q = primary_trees.QualifiedPrimary q.mark q.operand

@@ -56,12 +56,28 @@ pub enum Sign {
     Minus(Place),
 }
 
-/// A relation, or two relations and perhaps more with one logical operator between them (ARM 4.4(2)). What is rare stands in a box
-/// of its own, here and below: most expressions are a name or a literal alone.
+/// A relation, or two relations and perhaps more with one logical operator between them (ARM 4.4(2)).
+///
+/// Each kind of expression, from this one down to `Primary`, has the variants of the kind below it and then its own, so that a name or
+/// a literal alone, as most expressions are, takes no more room in one kind than in another. All else stands in a box.
 #[derive(Debug, Drop)]
 #[cycle(expression)]
 pub enum Expression {
-    SoleRelation(Relation),
+    Numeric(NumericLiteral),
+    Text(Box<StringLiteral>),
+    DirectName(Identifier),
+    LongerName(Box<LongName>),
+    Qualified(Box<QualifiedExpression>),
+    Parenthesized(Box<Parentheses>),
+    Power(Box<Power>),
+    Absolute(Place, Box<Primary>),
+    Negation(Place, Box<Primary>),
+    Product(Box<Product>),
+    Signed(Box<SignedTerm>),
+    Sum(Box<Sum>),
+    Comparison(Box<Comparison>),
+    InMark(Box<MarkMembership>),
+    InRange(Box<RangeMembership>),
     Logical(Box<LogicalRelations>),
 }
 
@@ -79,7 +95,18 @@ pub struct LogicalRelations {
 #[derive(Debug, Drop)]
 #[cycle(expression)]
 pub enum Relation {
-    SoleSimple(SimpleExpression),
+    Numeric(NumericLiteral),
+    Text(Box<StringLiteral>),
+    DirectName(Identifier),
+    LongerName(Box<LongName>),
+    Qualified(Box<QualifiedExpression>),
+    Parenthesized(Box<Parentheses>),
+    Power(Box<Power>),
+    Absolute(Place, Box<Primary>),
+    Negation(Place, Box<Primary>),
+    Product(Box<Product>),
+    Signed(Box<SignedTerm>),
+    Sum(Box<Sum>),
     Comparison(Box<Comparison>),
     InMark(Box<MarkMembership>),
     InRange(Box<RangeMembership>),
@@ -117,7 +144,16 @@ pub struct RangeMembership {
 #[derive(Debug, Drop)]
 #[cycle(expression)]
 pub enum SimpleExpression {
-    SoleTerm(Term),
+    Numeric(NumericLiteral),
+    Text(Box<StringLiteral>),
+    DirectName(Identifier),
+    LongerName(Box<LongName>),
+    Qualified(Box<QualifiedExpression>),
+    Parenthesized(Box<Parentheses>),
+    Power(Box<Power>),
+    Absolute(Place, Box<Primary>),
+    Negation(Place, Box<Primary>),
+    Product(Box<Product>),
     Signed(Box<SignedTerm>),
     Sum(Box<Sum>),
 }
@@ -152,7 +188,15 @@ pub struct AddedTerm {
 #[derive(Debug, Drop)]
 #[cycle(expression)]
 pub enum Term {
-    SoleFactor(Factor),
+    Numeric(NumericLiteral),
+    Text(Box<StringLiteral>),
+    DirectName(Identifier),
+    LongerName(Box<LongName>),
+    Qualified(Box<QualifiedExpression>),
+    Parenthesized(Box<Parentheses>),
+    Power(Box<Power>),
+    Absolute(Place, Box<Primary>),
+    Negation(Place, Box<Primary>),
     Product(Box<Product>),
 }
 
@@ -177,7 +221,12 @@ pub struct MultipliedFactor {
 #[derive(Debug, Drop)]
 #[cycle(expression)]
 pub enum Factor {
-    SolePrimary(Primary),
+    Numeric(NumericLiteral),
+    Text(Box<StringLiteral>),
+    DirectName(Identifier),
+    LongerName(Box<LongName>),
+    Qualified(Box<QualifiedExpression>),
+    Parenthesized(Box<Parentheses>),
     Power(Box<Power>),
     Absolute(Place, Box<Primary>),
     Negation(Place, Box<Primary>),
@@ -255,12 +304,28 @@ pub enum NamePart {
 
 impl Expression {
     /// One relation.
-    #[tactic(auto, using(crate::proofs::ExpressionsMade::expression_sole_relation_seen, crate::proofs::ExpressionsMade::expression_sole_relation_tokens))]
+    #[tactic(auto, using(crate::proofs::ExpressionsLifted::expression_numeric_seen, crate::proofs::ExpressionsLifted::relation_numeric_seen, crate::proofs::ExpressionsLifted::expression_text_seen, crate::proofs::ExpressionsLifted::relation_text_seen, crate::proofs::ExpressionsLifted::expression_direct_name_seen, crate::proofs::ExpressionsLifted::relation_direct_name_seen, crate::proofs::ExpressionsLifted::expression_longer_name_seen, crate::proofs::ExpressionsLifted::relation_longer_name_seen, crate::proofs::ExpressionsLifted::expression_qualified_seen, crate::proofs::ExpressionsLifted::relation_qualified_seen, crate::proofs::ExpressionsLifted::expression_parenthesized_seen, crate::proofs::ExpressionsLifted::relation_parenthesized_seen, crate::proofs::ExpressionsLifted::expression_power_seen, crate::proofs::ExpressionsLifted::relation_power_seen, crate::proofs::ExpressionsLifted::expression_absolute_seen, crate::proofs::ExpressionsLifted::relation_absolute_seen, crate::proofs::ExpressionsLifted::expression_negation_seen, crate::proofs::ExpressionsLifted::relation_negation_seen, crate::proofs::ExpressionsLifted::expression_product_seen, crate::proofs::ExpressionsLifted::relation_product_seen, crate::proofs::ExpressionsLifted::expression_signed_seen, crate::proofs::ExpressionsLifted::relation_signed_seen, crate::proofs::ExpressionsLifted::expression_sum_seen, crate::proofs::ExpressionsLifted::relation_sum_seen, crate::proofs::ExpressionsLifted::expression_comparison_seen, crate::proofs::ExpressionsMade::relation_comparison_seen, crate::proofs::ExpressionsLifted::expression_in_mark_seen, crate::proofs::ExpressionsMade::relation_in_mark_seen, crate::proofs::ExpressionsLifted::expression_in_range_seen, crate::proofs::ExpressionsMade::relation_in_range_seen))]
     pub fn sole_relation(relation: Relation) -> Expression
         ensures seen { expression_seen result ≡ expression_trees.SoleRelation (relation_seen relation) }
         ensures tokens { expression_tokens (expression_seen result) ≡ relation_tokens (relation_seen relation) }
     {
-        Expression::SoleRelation(relation)
+        match relation {
+            Relation::Numeric(literal) => Expression::Numeric(literal),
+            Relation::Text(literal) => Expression::Text(literal),
+            Relation::DirectName(identifier) => Expression::DirectName(identifier),
+            Relation::LongerName(name) => Expression::LongerName(name),
+            Relation::Qualified(expression) => Expression::Qualified(expression),
+            Relation::Parenthesized(inner) => Expression::Parenthesized(inner),
+            Relation::Power(power) => Expression::Power(power),
+            Relation::Absolute(place, primary) => Expression::Absolute(place, primary),
+            Relation::Negation(place, primary) => Expression::Negation(place, primary),
+            Relation::Product(product) => Expression::Product(product),
+            Relation::Signed(term) => Expression::Signed(term),
+            Relation::Sum(sum) => Expression::Sum(sum),
+            Relation::Comparison(comparison) => Expression::Comparison(comparison),
+            Relation::InMark(membership) => Expression::InMark(membership),
+            Relation::InRange(membership) => Expression::InRange(membership),
+        }
     }
 
     /// Relations with one logical operator between them.
@@ -296,12 +361,25 @@ impl LogicalRelations {
 
 impl Relation {
     /// One simple expression.
-    #[tactic(auto, using(crate::proofs::ExpressionsMade::relation_sole_simple_seen, crate::proofs::ExpressionsMade::relation_sole_simple_tokens))]
+    #[tactic(auto, using(crate::proofs::ExpressionsLifted::relation_numeric_seen, crate::proofs::ExpressionsLifted::simple_numeric_seen, crate::proofs::ExpressionsLifted::relation_text_seen, crate::proofs::ExpressionsLifted::simple_text_seen, crate::proofs::ExpressionsLifted::relation_direct_name_seen, crate::proofs::ExpressionsLifted::simple_direct_name_seen, crate::proofs::ExpressionsLifted::relation_longer_name_seen, crate::proofs::ExpressionsLifted::simple_longer_name_seen, crate::proofs::ExpressionsLifted::relation_qualified_seen, crate::proofs::ExpressionsLifted::simple_qualified_seen, crate::proofs::ExpressionsLifted::relation_parenthesized_seen, crate::proofs::ExpressionsLifted::simple_parenthesized_seen, crate::proofs::ExpressionsLifted::relation_power_seen, crate::proofs::ExpressionsLifted::simple_power_seen, crate::proofs::ExpressionsLifted::relation_absolute_seen, crate::proofs::ExpressionsLifted::simple_absolute_seen, crate::proofs::ExpressionsLifted::relation_negation_seen, crate::proofs::ExpressionsLifted::simple_negation_seen, crate::proofs::ExpressionsLifted::relation_product_seen, crate::proofs::ExpressionsLifted::simple_product_seen, crate::proofs::ExpressionsLifted::relation_signed_seen, crate::proofs::ExpressionsMade::simple_signed_seen, crate::proofs::ExpressionsLifted::relation_sum_seen, crate::proofs::ExpressionsMade::simple_sum_seen))]
     pub fn sole_simple(simple: SimpleExpression) -> Relation
         ensures seen { relation_seen result ≡ relation_trees.SoleSimple (simple_seen simple) }
         ensures tokens { relation_tokens (relation_seen result) ≡ simple_tokens (simple_seen simple) }
     {
-        Relation::SoleSimple(simple)
+        match simple {
+            SimpleExpression::Numeric(literal) => Relation::Numeric(literal),
+            SimpleExpression::Text(literal) => Relation::Text(literal),
+            SimpleExpression::DirectName(identifier) => Relation::DirectName(identifier),
+            SimpleExpression::LongerName(name) => Relation::LongerName(name),
+            SimpleExpression::Qualified(expression) => Relation::Qualified(expression),
+            SimpleExpression::Parenthesized(inner) => Relation::Parenthesized(inner),
+            SimpleExpression::Power(power) => Relation::Power(power),
+            SimpleExpression::Absolute(place, primary) => Relation::Absolute(place, primary),
+            SimpleExpression::Negation(place, primary) => Relation::Negation(place, primary),
+            SimpleExpression::Product(product) => Relation::Product(product),
+            SimpleExpression::Signed(term) => Relation::Signed(term),
+            SimpleExpression::Sum(sum) => Relation::Sum(sum),
+        }
     }
 
     /// A comparison.
@@ -385,12 +463,23 @@ impl RangeMembership {
 
 impl SimpleExpression {
     /// One term.
-    #[tactic(auto, using(crate::proofs::ExpressionsMade::simple_sole_term_seen, crate::proofs::ExpressionsMade::simple_sole_term_tokens))]
+    #[tactic(auto, using(crate::proofs::ExpressionsLifted::nothing_behind, crate::proofs::ExpressionsLifted::simple_numeric_seen, crate::proofs::ExpressionsLifted::term_numeric_seen, crate::proofs::ExpressionsLifted::simple_text_seen, crate::proofs::ExpressionsLifted::term_text_seen, crate::proofs::ExpressionsLifted::simple_direct_name_seen, crate::proofs::ExpressionsLifted::term_direct_name_seen, crate::proofs::ExpressionsLifted::simple_longer_name_seen, crate::proofs::ExpressionsLifted::term_longer_name_seen, crate::proofs::ExpressionsLifted::simple_qualified_seen, crate::proofs::ExpressionsLifted::term_qualified_seen, crate::proofs::ExpressionsLifted::simple_parenthesized_seen, crate::proofs::ExpressionsLifted::term_parenthesized_seen, crate::proofs::ExpressionsLifted::simple_power_seen, crate::proofs::ExpressionsLifted::term_power_seen, crate::proofs::ExpressionsLifted::simple_absolute_seen, crate::proofs::ExpressionsLifted::term_absolute_seen, crate::proofs::ExpressionsLifted::simple_negation_seen, crate::proofs::ExpressionsLifted::term_negation_seen, crate::proofs::ExpressionsLifted::simple_product_seen, crate::proofs::ExpressionsMade::term_product_seen))]
     pub fn sole_term(term: Term) -> SimpleExpression
         ensures seen { simple_seen result ≡ simple_trees.SimpleExpression None (term_seen term) (added_of []) }
         ensures tokens { simple_tokens (simple_seen result) ≡ term_tokens (term_seen term) }
     {
-        SimpleExpression::SoleTerm(term)
+        match term {
+            Term::Numeric(literal) => SimpleExpression::Numeric(literal),
+            Term::Text(literal) => SimpleExpression::Text(literal),
+            Term::DirectName(identifier) => SimpleExpression::DirectName(identifier),
+            Term::LongerName(name) => SimpleExpression::LongerName(name),
+            Term::Qualified(expression) => SimpleExpression::Qualified(expression),
+            Term::Parenthesized(inner) => SimpleExpression::Parenthesized(inner),
+            Term::Power(power) => SimpleExpression::Power(power),
+            Term::Absolute(place, primary) => SimpleExpression::Absolute(place, primary),
+            Term::Negation(place, primary) => SimpleExpression::Negation(place, primary),
+            Term::Product(product) => SimpleExpression::Product(product),
+        }
     }
 
     /// One term with a sign in front.
@@ -452,12 +541,22 @@ impl AddedTerm {
 
 impl Term {
     /// One factor.
-    #[tactic(auto, using(crate::proofs::ExpressionsMade::term_sole_factor_seen, crate::proofs::ExpressionsMade::term_sole_factor_tokens))]
+    #[tactic(auto, using(crate::proofs::ExpressionsLifted::nothing_behind, crate::proofs::ExpressionsLifted::term_numeric_seen, crate::proofs::ExpressionsLifted::factor_numeric_seen, crate::proofs::ExpressionsLifted::term_text_seen, crate::proofs::ExpressionsLifted::factor_text_seen, crate::proofs::ExpressionsLifted::term_direct_name_seen, crate::proofs::ExpressionsLifted::factor_direct_name_seen, crate::proofs::ExpressionsLifted::term_longer_name_seen, crate::proofs::ExpressionsLifted::factor_longer_name_seen, crate::proofs::ExpressionsLifted::term_qualified_seen, crate::proofs::ExpressionsLifted::factor_qualified_seen, crate::proofs::ExpressionsLifted::term_parenthesized_seen, crate::proofs::ExpressionsLifted::factor_parenthesized_seen, crate::proofs::ExpressionsLifted::term_power_seen, crate::proofs::ExpressionsMade::factor_power_seen, crate::proofs::ExpressionsLifted::term_absolute_seen, crate::proofs::ExpressionsMade::factor_absolute_seen, crate::proofs::ExpressionsLifted::term_negation_seen, crate::proofs::ExpressionsMade::factor_negation_seen))]
     pub fn sole_factor(factor: Factor) -> Term
         ensures seen { term_seen result ≡ term_trees.Term (factor_seen factor) (multiplied_of []) }
         ensures tokens { term_tokens (term_seen result) ≡ factor_tokens (factor_seen factor) }
     {
-        Term::SoleFactor(factor)
+        match factor {
+            Factor::Numeric(literal) => Term::Numeric(literal),
+            Factor::Text(literal) => Term::Text(literal),
+            Factor::DirectName(identifier) => Term::DirectName(identifier),
+            Factor::LongerName(name) => Term::LongerName(name),
+            Factor::Qualified(expression) => Term::Qualified(expression),
+            Factor::Parenthesized(inner) => Term::Parenthesized(inner),
+            Factor::Power(power) => Term::Power(power),
+            Factor::Absolute(place, primary) => Term::Absolute(place, primary),
+            Factor::Negation(place, primary) => Term::Negation(place, primary),
+        }
     }
 
     /// Factors with multiplying operators between them.
@@ -498,12 +597,19 @@ impl MultipliedFactor {
 
 impl Factor {
     /// One primary.
-    #[tactic(auto, using(crate::proofs::ExpressionsMade::factor_sole_primary_seen, crate::proofs::ExpressionsMade::factor_sole_primary_tokens))]
+    #[tactic(auto, using(crate::proofs::ExpressionsLifted::factor_numeric_seen, crate::proofs::ExpressionsMade::primary_numeric_seen, crate::proofs::ExpressionsLifted::factor_text_seen, crate::proofs::ExpressionsMade::primary_text_seen, crate::proofs::ExpressionsLifted::factor_direct_name_seen, crate::proofs::ExpressionsMade::primary_direct_name_seen, crate::proofs::ExpressionsLifted::factor_longer_name_seen, crate::proofs::ExpressionsMade::primary_longer_name_seen, crate::proofs::ExpressionsLifted::factor_qualified_seen, crate::proofs::ExpressionsMade::primary_qualified_seen, crate::proofs::ExpressionsLifted::factor_parenthesized_seen, crate::proofs::ExpressionsMade::primary_parenthesized_seen))]
     pub fn sole_primary(primary: Primary) -> Factor
         ensures seen { factor_seen result ≡ factor_trees.SolePrimary (primary_seen primary) }
         ensures tokens { factor_tokens (factor_seen result) ≡ primary_tokens (primary_seen primary) }
     {
-        Factor::SolePrimary(primary)
+        match primary {
+            Primary::Numeric(literal) => Factor::Numeric(literal),
+            Primary::Text(literal) => Factor::Text(literal),
+            Primary::DirectName(identifier) => Factor::DirectName(identifier),
+            Primary::LongerName(name) => Factor::LongerName(name),
+            Primary::Qualified(expression) => Factor::Qualified(expression),
+            Primary::Parenthesized(inner) => Factor::Parenthesized(inner),
+        }
     }
 
     /// A power.
