@@ -84,6 +84,9 @@ unfolding numbers place_of spelling reserved_words
 number-word Abort = refl
 number-word w = refl
 
+pub places-apart : (v w : ReservedWord) → place_of (spelling v) ≡ place_of (spelling w) → v ≡ w
+places-apart v w same = sym (number-word v) ∙ ap (λ p. get_or reserved_words (slice_index numbers p) Abort) same ∙ number-word w
+
 pub spelling-some : (w : ReservedWord) → nat_lt 0 (length (spelling w)) ≡ true
 unfolding spelling
 spelling-some Abort = refl

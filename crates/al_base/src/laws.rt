@@ -1,5 +1,6 @@
-// What the operations on files mean, for every map of files.
+// What the operations on files mean, for every map of files, and that reserved words are told apart.
 ghost use Rattle.al_base.specs.FileLaws.{PutChangesOne, DeleteChangesOne, RenameMovesOne};
+ghost use Rattle.al_base.specs.ReservedPlaces.{PlacesTellApart};
 
 /// A text that is put stands under its name, and nothing else changes.
 pub fn put_changes_one()
@@ -14,4 +15,9 @@ pub fn delete_changes_one()
 /// After a rename that isn't refused the text stands under its new name alone, and nothing else changes.
 pub fn rename_moves_one()
     ensures { RenameMovesOne }
+{}
+
+/// The place by which a reserved word is looked for (ARM 2.9) is that of no other one.
+pub fn places_tell_apart()
+    ensures { PlacesTellApart }
 {}
