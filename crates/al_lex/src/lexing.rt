@@ -25,6 +25,7 @@ fn mark_len(text: &[u8]) -> usize
 }
 
 /// The place behind a piece that stands at `place`.
+#[inline(always)]
 fn behind(place: Place, piece: Piece) -> Place
     requires line { place.line + 1 < 2 ^ 32 }
     requires column { place.col + piece.len < 2 ^ 32 }
@@ -43,6 +44,7 @@ fn behind(place: Place, piece: Piece) -> Place
 }
 
 /// Adds the token, where the piece is a lexeme.
+#[inline(always)]
 fn note(tokens: &mut Vec<Token>, piece: Piece, start: usize, place: Place) -> Result<(), AllocError>
     requires { start + piece.len < 2 ^ 32 }
     ensures { OnOk result (tokens.new.items ≡ tokens.old.items ++ with_token piece.sort start piece.len place []) }
