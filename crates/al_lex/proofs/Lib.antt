@@ -16,3 +16,4 @@ pub mod Across
 pub mod Order
 pub mod Rising
 pub mod PlainNumbers
+pub mod Underscores

@@ -1,6 +1,6 @@
 -- Numbers of a few digits alone.
-use Rattle.std.proofs.Common.{ℕ, zero, suc, ◌≡◌, ◌==◌, ◌+◌, ◌-◌, ◌*◌, ◌^◌, ◌<◌, ◌≤◌, Bool, true, false, not, cond, ◌&&◌, ◌||◌, List, [], ◌∷◌, length, take, drop, Result, Ok, Err, refl, sym, ap, ◌∙◌, subst, get_or, arith, add-zero, ne_eqb}
-use Rattle.std.specs.Prelude.{nat_lt, nat_le, if◌then◌else◌}
+use Rattle.std.proofs.Common.{ℕ, suc, ◌≡◌, ◌==◌, ◌+◌, ◌-◌, ◌*◌, ◌^◌, ◌<◌, ◌≤◌, Bool, true, false, not, cond, List, [], ◌∷◌, length, take, drop, Ok, refl, sym, ap, ◌∙◌, subst, get_or, arith, add-zero, ne_eqb}
+use Rattle.std.specs.Prelude.{nat_le}
 use Rattle.std.specs.Char.{is_ascii_digit}
 use Rattle.std.specs.List.{list_all, prefix_len}
 use Rattle.std.proofs.lemmas.Bool.{and_from, or_right, leb-true, lt-ltb}
@@ -10,11 +10,9 @@ use Rattle.std.proofs.Math.Nat.{pow-le-pow_right}
 use Rattle.al_base.specs.Identifiers.{is_word_byte}
 use Rattle.al_lex.specs.declared.numbers.Digits.TheVariants.{Decimal}
 use Rattle.al_lex.specs.declared.numbers.Parts.{Parts}
-use Rattle.al_lex.specs.declared.token.LexCode.{LexCode}
-use Rattle.al_lex.specs.declared.token.LexCode.TheVariants.{BadNumber, NumberTooLarge}
-use Rattle.al_lex.specs.Numbers.{based_len, digit_value, exponent_len, exponent_start, goes_on, is_below, is_well_formed, number_at, number_len, numeral_len, numeral_value, parts_of, run_len, runs_on, value_of, with_byte, with_hashes}
+use Rattle.al_lex.specs.Numbers.{based_len, digit_value, exponent_len, exponent_start, is_below, is_well_formed, number_at, number_len, numeral_len, numeral_value, parts_of, run_len, runs_on, value_of, with_byte, with_hashes}
 use Rattle.al_lex.proofs.Joined.{both_left, both_right, none_left, none_right}
-use Rattle.al_lex.proofs.LongestNumbers.{byte_at, from_digit, not_based}
+use Rattle.al_lex.proofs.LongestNumbers.{byte_at, from_digit}
 use Rattle.al_lex.proofs.Numerals.{ends, numeral_is}
 
 abbrev count : List ℕ → ℕ
