@@ -15,3 +15,5 @@ pub mod Found
 pub mod Across
 pub mod Order
 pub mod Rising
+pub mod PlainNumbers
+pub mod Underscores

@@ -25,7 +25,7 @@ space_goes : (d : Digits) (c : ℕ) → is_digit d c ≡ true → goes_on d 95 c
 space_goes Decimal c h = h
 space_goes Hexadecimal c h = h
 
-from_digit : (d : Digits) (b : ℕ) (bs : List ℕ) → is_digit d b ≡ true → run_len d (b ∷ bs) ≡ 1 + run_len d bs
+pub from_digit : (d : Digits) (b : ℕ) (bs : List ℕ) → is_digit d b ≡ true → run_len d (b ∷ bs) ≡ 1 + run_len d bs
 from_digit d b bs h = goes d b bs (or_left (is_digit d b) (b == 95 && is_digit d (get_or bs 0 0)) h)
 
 from_space : (d : Digits) (b : ℕ) (bs : List ℕ) → b ≡ 95 → is_digit d (get_or bs 0 0) ≡ true → run_len d (b ∷ bs) ≡ 1 + run_len d bs
@@ -202,7 +202,7 @@ head_of zero xs h t e = absurd (cc)
 head_of (suc m) [] h t e = absurd (cc)
 head_of (suc m) (x ∷ xs) h t e = cc
 
-byte_at : (n : ℕ) (bs : List ℕ) → get_or (drop n bs) 0 0 ≡ get_or bs n 0
+pub byte_at : (n : ℕ) (bs : List ℕ) → get_or (drop n bs) 0 0 ≡ get_or bs n 0
 byte_at n bs = get_or-drop n bs 0 0 ∙ ap (λ (k : ℕ). get_or bs k 0) (add-zero n)
 
 exponent_first : (b : ℕ) (xs : List ℕ) → IsExponent (b ∷ xs) → is_e b ≡ true
@@ -218,7 +218,7 @@ e_no_digit b h k = elim (cases_eq b 69) [
 e_is_not : (v b : ℕ) → is_e v ≡ false → is_e b ≡ true → b ≡ v → ⊥
 e_is_not v b n h e = let f = ap is_e (sym e) ∙ h in absurd (cc)
 
-not_based : (bs : List ℕ) → (get_or bs 0 0 ≡ 35 → ⊥) → based_len bs ≡ 0
+pub not_based : (bs : List ℕ) → (get_or bs 0 0 ≡ 35 → ⊥) → based_len bs ≡ 0
 not_based bs n = rw (ne_eqb (get_or bs 0 0) 35 n) refl
 
 is_based : (bs : List ℕ) (x : ℕ) → numeral_len Hexadecimal (drop 1 bs) ≡ x → get_or bs 0 0 ≡ 35 → get_or (drop 1 bs) x 0 ≡ 35 → based_len bs ≡ x

@@ -61,6 +61,7 @@ pub enum Delimiter {
 
 /// The delimiter that these two bytes are.
 #[tactic(auto, unfolding(crate::specs::Delimiters::double))]
+#[inline(always)]
 pub(crate) fn double(first: u8, second: u8) -> Option<Delimiter>
     ensures { result ≡ double first second }
 {
@@ -81,6 +82,7 @@ pub(crate) fn double(first: u8, second: u8) -> Option<Delimiter>
 
 /// The delimiter that this byte is.
 #[tactic(auto, unfolding(crate::specs::Delimiters::single))]
+#[inline(always)]
 pub(crate) fn single(byte: u8) -> Option<Delimiter>
     ensures { result ≡ single byte }
 {

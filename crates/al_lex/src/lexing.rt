@@ -25,6 +25,7 @@ fn mark_len(text: &[u8]) -> usize
 }
 
 /// The place behind a piece that stands at `place`.
+#[inline(always)]
 fn behind(place: Place, piece: Piece) -> Place
     requires line { place.line + 1 < 2 ^ 32 }
     requires column { place.col + piece.len < 2 ^ 32 }
@@ -42,22 +43,32 @@ fn behind(place: Place, piece: Piece) -> Place
     }
 }
 
-/// Adds the token, where the piece is a lexeme.
-fn note(tokens: &mut Vec<Token>, piece: Piece, start: usize, place: Place) -> Result<(), AllocError>
-    requires { start + piece.len < 2 ^ 32 }
-    ensures { OnOk result (tokens.new.items ≡ tokens.old.items ++ with_token piece.sort start piece.len place []) }
+/// Adds the token, where the piece is a lexeme, and gives the place behind the piece.
+#[inline(always)]
+fn note(
+    tokens: &mut Vec<Token>,
+    piece: Piece,
+    start: usize,
+    place: Place,
+) -> Result<Place, AllocError>
+    requires token { start + piece.len < 2 ^ 32 }
+    requires line { place.line + 1 < 2 ^ 32 }
+    requires column { place.col + piece.len < 2 ^ 32 }
+    ensures tokens { OnOk result (tokens.new.items ≡ tokens.old.items ++ with_token piece.sort start piece.len place []) }
+    ensures place { IfOk result (λ p. p ≡ behind piece.sort piece.len place) }
 {
-    if let Sort::Lexeme(kind) = piece.sort {
-        tokens.push(Token {
-            kind,
-            span: Span {
-                start: start as u32,
-                len: piece.len as u32,
-                place,
-            },
-        })?;
-    }
-    Ok(())
+    let Sort::Lexeme(kind) = piece.sort else {
+        return Ok(behind(place, piece));
+    };
+    tokens.push(Token {
+        kind,
+        span: Span {
+            start: start as u32,
+            len: piece.len as u32,
+            place,
+        },
+    })?;
+    Ok(behind(place, piece))
 }
 
 /// The lexemes of the text, or its first fault (ARM 2.1 to 2.9).
@@ -85,8 +96,7 @@ pub fn lex(alloc: Global, text: &[u8]) -> Result<Vec<Token>, LexError>
             Ok(piece) => piece,
             Err(code) => return Err(LexError::Fault(LexFault { place, code })),
         };
-        note(&mut tokens, piece, start, place)?;
-        place = behind(place, piece);
+        place = note(&mut tokens, piece, start, place)?;
         start += piece.len;
         (_, rest) = rest.split_at(piece.len);
     }

@@ -1,6 +1,7 @@
 // Numbers.
-ghost use Rattle.std.specs.Prelude.{◌≡◌, ◌≤◌, ◌<◌, ◌+◌, ◌*◌, ◌^◌, ◌-◌, true, min, IfOk, length, slice_index};
+ghost use Rattle.std.specs.Prelude.{◌≡◌, ◌≤◌, ◌<◌, ◌+◌, ◌*◌, ◌^◌, ◌-◌, true, min, take, Ok, IfOk, IfSome, length, slice_index};
 ghost use Rattle.std.specs.Char.{is_ascii_digit};
+ghost use Rattle.std.specs.List.{prefix_len};
 ghost use Rattle.al_lex.specs.Numbers.{based_len, base_value, digit_value, digits_of, exponent_len, exponent_of, exponent_start, goes_on, is_below, is_digit, is_well_formed, number, number_at, number_len, number_value, numeral_len, numeral_value, parts_of, runs_on, value_of, with_byte, with_hashes, with_start};
 
 use crate::token::{Kind, LexCode, Piece, Sort};
@@ -8,6 +9,9 @@ use al_base::is_word_byte;
 
 /// The largest value of a number.
 const LARGEST: u64 = i64::MAX as u64;
+
+/// So many decimal digits have a value below the largest.
+const FEW_DIGITS: usize = 18;
 
 /// Which digits a numeral may have.
 #[derive(Clone, Copy, Debug, PartialEq, Eq)]
@@ -30,12 +34,14 @@ pub(crate) struct Parts {
 }
 
 /// The byte there, or 0 behind the end.
+#[inline(always)]
 fn byte_at(bytes: &[u8], i: usize) -> u8
     ensures { result ≡ slice_index bytes.now i }
 {
     if i < bytes.len() { bytes[i] } else { 0 }
 }
 
+#[inline(always)]
 fn is_digit(digits: Digits, b: u8) -> bool
     ensures { result ≡ is_digit digits b }
 {
@@ -46,6 +52,7 @@ fn is_digit(digits: Digits, b: u8) -> bool
 }
 
 /// Whether a byte, with `next` behind it, goes on with a numeral.
+#[inline(always)]
 fn goes_on(digits: Digits, b: u8, next: u8) -> bool
     ensures { result ≡ goes_on digits b next }
 {
@@ -137,6 +144,7 @@ fn parts_of(bytes: &[u8]) -> Parts
     }
 }
 
+#[inline(always)]
 fn digit_value(b: u8) -> u8
     ensures { result ≡ digit_value b }
 {
@@ -149,6 +157,7 @@ fn digit_value(b: u8) -> u8
 }
 
 /// The value with one byte more, a digit or an underscore; the largest `u64` stands for all above it.
+#[inline(always)]
 fn with_byte(base: u64, value: u64, b: u8) -> u64
     ensures { result ≡ min (with_byte base value b) (2 ^ 64 - 1) }
 {
@@ -271,6 +280,30 @@ fn number_at(parts: Parts, bytes: &[u8]) -> Result<u64, LexCode>
     }
 }
 
+/// How many digits stand in front.
+fn digit_count(bytes: &[u8]) -> usize
+    ensures exact { result ≡ prefix_len is_ascii_digit bytes.now }
+    ensures within { result ≤ length bytes.now }
+{
+    bytes.iter().take_while(|b| b.is_ascii_digit()).count()
+}
+
+/// The length of the number at the front, where it has few digits and nothing else: such a one needs no test of its parts.
+fn plain_len(bytes: &[u8]) -> Option<usize>
+    ensures len { IfSome result (λ n. number_len (parts_of bytes.now) ≡ n) }
+    ensures value { IfSome result (λ n. number_at (parts_of bytes.now) bytes.now ≡ Ok (numeral_value 10 0 (take n bytes.now))) }
+    ensures small { IfSome result (λ n. numeral_value 10 0 (take n bytes.now) < 2 ^ 63) }
+    ensures within { IfSome result (λ n. n ≤ length bytes.now) }
+{
+    let len = digit_count(bytes);
+    let (_, behind) = bytes.split_at(len);
+    if len <= FEW_DIGITS && !runs_on(behind) {
+        Some(len)
+    } else {
+        None
+    }
+}
+
 /// The number at the front of a text that begins with a digit.
 #[tactic(auto, unfolding(crate::specs::Numbers::number))]
 pub(crate) fn number(bytes: &[u8]) -> Result<Piece, LexCode>
@@ -279,6 +312,12 @@ pub(crate) fn number(bytes: &[u8]) -> Result<Piece, LexCode>
     ensures within { IfOk result (λ q. q.len ≤ length bytes.now) }
     ensures some { IfOk result (λ q. 0 < q.len) }
 {
+    if let Some(len) = plain_len(bytes) {
+        return Ok(Piece {
+            sort: Sort::Lexeme(Kind::Number),
+            len,
+        });
+    }
     let parts = parts_of(bytes);
     match number_at(parts, bytes) {
         Ok(_) => Ok(Piece {
@@ -294,5 +333,9 @@ pub(crate) fn number(bytes: &[u8]) -> Result<Piece, LexCode>
 pub fn number_value(text: &[u8]) -> Option<u64>
     ensures { result ≡ number_value text.now }
 {
+    if let Some(len) = plain_len(text) {
+        let (digits, _) = text.split_at(len);
+        return Some(numeral_value(10, digits));
+    }
     number_at(parts_of(text), text).ok()
 }

@@ -27,14 +27,14 @@ loop-rest-preserved c =
     let q = c.in-Ok.piece in
     let p = c.loop-rest.place in
     let near : IsNear (behind q.sort q.len p) (c.loop-rest.start + q.len) = moved q.sort q.len c.loop-rest.start p c.in-Ok.ensures.some c.loop-rest.invariant.line c.loop-rest.invariant.column in
-    let here : IsNear c.behind-place.result (c.loop-rest.start + q.len) = subst (λ (z : Place). IsNear z (c.loop-rest.start + q.len)) (sym c.behind-place.ensures) near in
+    let here : IsNear c.in_ok-place.place (c.loop-rest.start + q.len) = subst (λ (z : Place). IsNear z (c.loop-rest.start + q.len)) (sym c.in_ok-place.ensures.place) near in
     record {
       short = c.loop-rest.invariant.short;
       at = omega (arith, c.loop-rest.invariant.at, c.in-Ok.ensures.within, c.split_at-in-loop-rest.ensures.back_len, ap length c.split_at-in-loop-rest.ensures.back, length-drop q.len c.loop-rest.rest.now);
       line = here.line;
       column = here.column;
-      cut = goes_on c.loop-rest.start p c.behind-place.result c.loop-rest.rest.now _ c.loop-rest.tokens.items c.note.new.tokens.items c.args.text.now q c.loop-rest.invariant.cut
-          (omega (arith, c.in-Ok.ensures.some, c.in-Ok.ensures.within)) c.in-Ok.ensures.exact c.in-Ok.ensures.some c.in_ok-note.ensures c.behind-place.ensures c.split_at-in-loop-rest.ensures.back;
+      cut = goes_on c.loop-rest.start p c.in_ok-place.place c.loop-rest.rest.now _ c.loop-rest.tokens.items c.note.new.tokens.items c.args.text.now q c.loop-rest.invariant.cut
+          (omega (arith, c.in-Ok.ensures.some, c.in-Ok.ensures.within)) c.in-Ok.ensures.exact c.in-Ok.ensures.some c.in_ok-place.ensures.tokens c.in_ok-place.ensures.place c.split_at-in-loop-rest.ensures.back;
     }
 
 pub returns-clause-tokens : goal.returns-clause-tokens
