@@ -12,11 +12,11 @@ use Rattle.al_tree.specs.Lexemes.{identifier_label, number_label, place_label, s
 use Rattle.al_tree.specs.declared.names.Identifier.{Identifier}
 use Rattle.al_tree.specs.declared.names.NumericLiteral.{NumericLiteral}
 use Rattle.al_tree.specs.declared.names.StringLiteral.{StringLiteral}
-use Rattle.al_tree.specs.declared.expression.LogicalOperator.{LogicalOperator}
-use Rattle.al_tree.specs.declared.expression.RelationalOperator.{RelationalOperator}
-use Rattle.al_tree.specs.declared.expression.AddingOperator.{AddingOperator}
-use Rattle.al_tree.specs.declared.expression.MultiplyingOperator.{MultiplyingOperator}
-use Rattle.al_tree.specs.declared.expression.Sign.{Sign}
+use Rattle.al_tree.specs.declared.operator.LogicalOperator.{LogicalOperator}
+use Rattle.al_tree.specs.declared.operator.RelationalOperator.{RelationalOperator}
+use Rattle.al_tree.specs.declared.operator.AddingOperator.{AddingOperator}
+use Rattle.al_tree.specs.declared.operator.MultiplyingOperator.{MultiplyingOperator}
+use Rattle.al_tree.specs.declared.operator.Sign.{Sign}
 use Rattle.al_tree.specs.declared.expression.Expression.{Expression}
 use Rattle.al_tree.specs.declared.expression.Expression.TheVariants.{Logical, rolls-Logical}
 use Rattle.al_tree.specs.declared.expression.LogicalRelations.{LogicalRelations, roll-LogicalRelations}

@@ -5,16 +5,16 @@ use Rattle.al_syntax.specs.ExpressionTrees.{ExpressionTree, RelationsTree, Relat
 use Rattle.al_syntax.specs.ExpressionTrees.{ExpressionTree as expression_trees, RelationsTree as relations_trees, RelationTree as relation_trees, SimpleTree as simple_trees, AddedTree as added_trees, TermTree as term_trees, MultipliedTree as multiplied_trees, FactorTree as factor_trees, PrimaryTree as primary_trees, ParenthesesTree as parentheses_trees, ExpressionsTree as expressions_trees, NameTree as name_trees, PartsTree as parts_trees, PartTree as part_trees}
 use Rattle.al_syntax.specs.ExpressionTrees.{LogicalOperator as LogicalTree, LogicalOperator as logical_trees, RelationalOperator as RelationalTree, RelationalOperator as relational_trees, AddingOperator as AddingTree, AddingOperator as adding_trees, MultiplyingOperator as MultiplyingTree, MultiplyingOperator as multiplying_trees, Sign as SignTree, Sign as sign_trees}
 use Rattle.al_syntax.specs.ExpressionTrees.{adding_token, multiplying_token, factor_tokens, term_tokens}
-use Rattle.al_tree.specs.declared.expression.LogicalOperator.{LogicalOperator}
-use Rattle.al_tree.specs.declared.expression.LogicalOperator.TheVariants as logical
-use Rattle.al_tree.specs.declared.expression.RelationalOperator.{RelationalOperator}
-use Rattle.al_tree.specs.declared.expression.RelationalOperator.TheVariants as relational
-use Rattle.al_tree.specs.declared.expression.AddingOperator.{AddingOperator}
-use Rattle.al_tree.specs.declared.expression.AddingOperator.TheVariants as adding
-use Rattle.al_tree.specs.declared.expression.MultiplyingOperator.{MultiplyingOperator}
-use Rattle.al_tree.specs.declared.expression.MultiplyingOperator.TheVariants as multiplying
-use Rattle.al_tree.specs.declared.expression.Sign.{Sign}
-use Rattle.al_tree.specs.declared.expression.Sign.TheVariants as sign
+use Rattle.al_tree.specs.declared.operator.LogicalOperator.{LogicalOperator}
+use Rattle.al_tree.specs.declared.operator.LogicalOperator.TheVariants as logical
+use Rattle.al_tree.specs.declared.operator.RelationalOperator.{RelationalOperator}
+use Rattle.al_tree.specs.declared.operator.RelationalOperator.TheVariants as relational
+use Rattle.al_tree.specs.declared.operator.AddingOperator.{AddingOperator}
+use Rattle.al_tree.specs.declared.operator.AddingOperator.TheVariants as adding
+use Rattle.al_tree.specs.declared.operator.MultiplyingOperator.{MultiplyingOperator}
+use Rattle.al_tree.specs.declared.operator.MultiplyingOperator.TheVariants as multiplying
+use Rattle.al_tree.specs.declared.operator.Sign.{Sign}
+use Rattle.al_tree.specs.declared.operator.Sign.TheVariants as sign
 use Rattle.al_tree.specs.declared.expression.Expression.{Expression}
 use Rattle.al_tree.specs.declared.expression.LogicalRelations.{LogicalRelations}
 use Rattle.al_tree.specs.declared.expression.Relation.{Relation}

@@ -9,52 +9,10 @@ ghost use Rattle.al_tree.specs.ExpressionViews.{added_of, added_term_seen, added
 ghost use Rattle.al_tree.specs.Lexemes.{identifier_label, number_label, place_label, string_label};
 
 use crate::names::{Identifier, NumericLiteral, StringLiteral};
+use crate::operator::{
+    AddingOperator, LogicalOperator, MultiplyingOperator, RelationalOperator, Sign,
+};
 use al_base::Place;
-
-/// Relations are joined by one of these (ARM 4.4(2)).
-#[derive(Clone, Copy, Debug, PartialEq, Eq)]
-pub enum LogicalOperator {
-    And,
-    AndThen,
-    Or,
-    OrElse,
-    Xor,
-}
-
-/// ARM 4.5.2
-#[derive(Clone, Copy, Debug, PartialEq, Eq)]
-pub enum RelationalOperator {
-    Equal,
-    NotEqual,
-    Less,
-    LessOrEqual,
-    Greater,
-    GreaterOrEqual,
-}
-
-/// ARM 4.5.3; `+` and `-` with their place.
-#[derive(Clone, Copy, Debug, PartialEq, Eq)]
-pub enum AddingOperator {
-    Plus(Place),
-    Minus(Place),
-    Concatenate,
-}
-
-/// ARM 4.5.5
-#[derive(Clone, Copy, Debug, PartialEq, Eq)]
-pub enum MultiplyingOperator {
-    Times,
-    Divide,
-    Mod,
-    Rem,
-}
-
-/// The sign in front of a simple expression (ARM 4.5.4), with its place.
-#[derive(Clone, Copy, Debug, PartialEq, Eq)]
-pub enum Sign {
-    Plus(Place),
-    Minus(Place),
-}
 
 /// A relation, or two relations and perhaps more with one logical operator between them (ARM 4.4(2)).
 ///
@@ -554,8 +512,8 @@ impl Term {
             Factor::Qualified(expression) => Term::Qualified(expression),
             Factor::Parenthesized(inner) => Term::Parenthesized(inner),
             Factor::Power(power) => Term::Power(power),
-            Factor::Absolute(place, primary) => Term::Absolute(place, primary),
-            Factor::Negation(place, primary) => Term::Negation(place, primary),
+            Factor::Absolute(place, operand) => Term::Absolute(place, operand),
+            Factor::Negation(place, operand) => Term::Negation(place, operand),
         }
     }
 

@@ -5,6 +5,7 @@ mod declaration;
 mod expression;
 mod identifier_name;
 mod names;
+mod operator;
 mod spelling;
 mod statement;
 mod symbol;
@@ -18,14 +19,16 @@ pub use declaration::{
     TaskDeclaration, TypeDeclaration, TypeDefinition, UseClause,
 };
 pub use expression::{
-    AddedTerm, AddingOperator, Comparison, Expression, Factor, LogicalOperator, LogicalRelations,
-    LongName, MarkMembership, MultipliedFactor, MultiplyingOperator, NamePart, ObjectName,
-    Parentheses, Power, Primary, Product, QualifiedExpression, RangeMembership, Relation,
-    RelationalOperator, Sign, SignedTerm, SimpleExpression, Sum, Term,
+    AddedTerm, Comparison, Expression, Factor, LogicalRelations, LongName, MarkMembership,
+    MultipliedFactor, NamePart, ObjectName, Parentheses, Power, Primary, Product,
+    QualifiedExpression, RangeMembership, Relation, SignedTerm, SimpleExpression, Sum, Term,
 };
 pub use identifier_name::IdentifierName;
 pub use names::{
     CompoundName, CompoundNames, Identifier, Identifiers, NumericLiteral, StringLiteral,
+};
+pub use operator::{
+    AddingOperator, LogicalOperator, MultiplyingOperator, RelationalOperator, Sign,
 };
 pub use spelling::{literals_are_unquoted, text_of, unquoted, value_of};
 pub use statement::{
