@@ -218,7 +218,7 @@ e_no_digit b h k = elim (cases_eq b 69) [
 e_is_not : (v b : ℕ) → is_e v ≡ false → is_e b ≡ true → b ≡ v → ⊥
 e_is_not v b n h e = let f = ap is_e (sym e) ∙ h in absurd (cc)
 
-pub not_based : (bs : List ℕ) → (get_or bs 0 0 ≡ 35 → ⊥) → based_len bs ≡ 0
+not_based : (bs : List ℕ) → (get_or bs 0 0 ≡ 35 → ⊥) → based_len bs ≡ 0
 not_based bs n = rw (ne_eqb (get_or bs 0 0) 35 n) refl
 
 is_based : (bs : List ℕ) (x : ℕ) → numeral_len Hexadecimal (drop 1 bs) ≡ x → get_or bs 0 0 ≡ 35 → get_or (drop 1 bs) x 0 ≡ 35 → based_len bs ≡ x

@@ -70,8 +70,8 @@ value_small (b ∷ ds) j v h l =
     let len : j + 1 + length ds ≡ j + length (b ∷ ds) = omega arith in
     subst (λ (k : ℕ). numeral_value 10 (with_byte 10 v b) ds < 10 ^ k) len (value_small ds (j + 1) (with_byte 10 v b) (both_right (is_ascii_digit b) _ h) fits)
 
-few_small : (bs : List ℕ) → count bs ≤ 18 → numeral_value 10 0 (take (count bs) bs) < 9223372036854775808
-few_small bs l =
+pub plain_small : (bs : List ℕ) → count bs ≤ 18 → numeral_value 10 0 (take (count bs) bs) < 9223372036854775808
+plain_small bs l =
     let small : numeral_value 10 0 (take (count bs) bs) < 10 ^ (0 + length (take (count bs) bs)) = value_small (take (count bs) bs) 0 0 (front_digits bs) (omega arith) in
     let short : 0 + length (take (count bs) bs) ≤ 18 = omega (arith, l, length-prefix_len is_ascii_digit bs) in
     let most : 10 ^ (0 + length (take (count bs) bs)) ≤ 10 ^ 18 = pow-le-pow_right {n = 10} (omega arith) short in
@@ -123,13 +123,10 @@ module _ (bs : List ℕ) (f : runs_on (drop (count bs) bs) ≡ false) where
 
   at : (s : ℕ) → count bs ≤ 18 → number_at (alone (count bs) s) bs ≡ Ok (numeral_value 10 0 (take (count bs) bs))
   unfolding number_at
-  at s l = rw (well_formed s, value s, lt-ltb _ _ (few_small bs l)) refl
+  at s l = rw (well_formed s, value s, lt-ltb _ _ (plain_small bs l)) refl
 
 pub plain_len : (bs : List ℕ) → runs_on (drop (count bs) bs) ≡ false → number_len (parts_of bs) ≡ count bs
 plain_len bs f = ap number_len (parts bs f) ∙ omega arith
 
 pub plain_value : (bs : List ℕ) → runs_on (drop (count bs) bs) ≡ false → count bs ≤ 18 → number_at (parts_of bs) bs ≡ Ok (numeral_value 10 0 (take (count bs) bs))
 plain_value bs f l = ap (λ (p : Parts). number_at p bs) (parts bs f) ∙ at bs f (exponent_start (drop (count bs) bs)) l
-
-pub plain_small : (bs : List ℕ) → count bs ≤ 18 → numeral_value 10 0 (take (count bs) bs) < 9223372036854775808
-plain_small bs l = few_small bs l

@@ -10,7 +10,7 @@ use al_base::is_word_byte;
 /// The largest value of a number.
 const LARGEST: u64 = i64::MAX as u64;
 
-/// So many decimal digits have a value below the largest.
+/// Numbers of so many decimal digits are never too large.
 const FEW_DIGITS: usize = 18;
 
 /// Which digits a numeral may have.

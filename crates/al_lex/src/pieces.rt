@@ -55,6 +55,7 @@ fn delimiter(bytes: &[u8]) -> Result<Piece, LexCode>
 
 /// The piece at the front of a text that isn't empty.
 #[tactic(auto, unfolding(crate::specs::Pieces::front_piece))]
+#[inline(always)]
 pub(crate) fn front_piece(bytes: &[u8]) -> Result<Piece, LexCode>
     requires { 0 < length bytes.now }
     ensures exact { result ≡ front_piece bytes.now }

@@ -70,6 +70,7 @@ fn word_kind(word: &[u8]) -> Kind
 
 /// The word at the front of a text that begins with a letter.
 #[tactic(auto, using(crate::proofs::Runs::some_word), unfolding(crate::specs::Words::word))]
+#[inline(always)]
 pub(crate) fn word(bytes: &[u8]) -> Result<Piece, LexCode>
     requires { is_ascii_alphabetic (slice_index bytes.now 0) ≡ true }
     ensures exact { result ≡ word bytes.now }
