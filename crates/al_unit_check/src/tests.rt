@@ -3,7 +3,8 @@ use crate::{Checked, OneQuestion, Parts, Properties, StubAnswer, UnitCheck, Unit
 use al_base::{Diagnostic, Name, NoMemory, Place, UnitKey, UnitKind};
 use al_query::{Answer, AnswerKind, Answers, ContextView, Property, Query, Recorder, UnitForm};
 use al_tree::{
-    CompilationUnit, CompoundEnd, CompoundName, Identifier, LibraryItem, PackageDeclaration,
+    CompilationUnit, CompoundEnd, CompoundName, Identifier, IdentifierName, LibraryItem,
+    PackageDeclaration,
 };
 use al_typed::TypedUnit;
 use al_view::{Interface, Part, Row, StaticValue, View, ViewKind};
@@ -209,7 +210,7 @@ impl Answers for OneAnswer {
 
 fn compound_name(alloc: Global) -> Result<CompoundName, NoMemory> {
     let first = Identifier {
-        name: name(alloc)?,
+        name: IdentifierName::of_spelling(alloc, b"p")?,
         place: PLACE,
     };
     Ok(CompoundName {
