@@ -32,7 +32,7 @@ use al_base::Place;
 use al_lex::Token;
 use al_parse_expr::{
     Stop, append, boxed, discrete_range, enter, enter_at, expect, expression, identifier, is_next,
-    skip, skip_at, word_at,
+    read_or_drop, skip, skip_at, word_at,
 };
 use al_tree::{
     Alternative, BlockStatement, Branch, CaseStatement, DeclaredStatements, ElsifBranch,
@@ -214,9 +214,9 @@ fn if_statement<'a>(
     ensures { Gives (λ x. statement_tokens (if_seen x.0)) (λ x. lexemes source.now x.1.now) result (labelled symbols.If (place_label opening) ∷ lexemes source.now tokens.now) (reading depth (grammar (place constructs.IfStatement)) (lexemes source.now tokens.now)) }
 {
     let (first, rest) = branch(alloc, source, depth, tokens)?;
-    let (others, rest) = elsifs(alloc, source, depth, rest)?;
-    let (otherwise, rest) = otherwise(alloc, source, depth, rest)?;
-    let (end, closing, rest) = closing_words(source, Symbol::If, rest)?;
+    let (others, rest) = read_or_drop!(elsifs(alloc, source, depth, rest), first);
+    let (otherwise, rest) = read_or_drop!(otherwise(alloc, source, depth, rest), first);
+    let (end, closing, rest) = read_or_drop!(closing_words(source, Symbol::If, rest), first);
     Ok((
         IfStatement::new(opening, first, others, otherwise, end, closing),
         rest,
