@@ -36,7 +36,8 @@ fn put(
     };
     let text = Rc::new(alloc, Vec::from_slice(alloc, text)?)?;
     let contents = Contents::Headed(header);
-    sources.insert(Name::from_slice(alloc, file)?, Source { text, contents })
+    let source = Rc::new(alloc, Source { text, contents })?;
+    sources.insert(Name::from_slice(alloc, file)?, source)
 }
 
 // A client that mentions Q, whose declaration has this text, and a unit R that mentions nothing.

@@ -114,6 +114,20 @@ module _ {A : Type 0} (seen : A → AnyReading) (lib : Library) (readings : List
       r
       (sym (is ∙ ap (lookup (is_at (name_cmp file))) are_readings ∙ reading_of_file (texts_of lib) file))
 
+module _ (lib : Library) (file : List ℕ) (is_library : lib ≡ library_of (texts_of lib)) (source : Source) (found : Some source ≡ source_at lib file) where
+  its_text : (text : Option (List ℕ)) → option_map source_of text ≡ Some source → source ≡ source_of source.text
+  its_text None is = cc
+  its_text (Some t) is =
+      let whole : source_of t ≡ source = cc in
+      sym whole ∙ ap (λ s. source_of s.text) whole
+
+  -- a source that was looked up is that of the file's text
+  pub source_of_its_text : source ≡ source_of source.text
+  source_of_its_text =
+      its_text
+      (text_of (texts_of lib) file)
+      (sym (found ∙ ap (λ l. source_at l file) is_library ∙ source_of_file file (texts_of lib)))
+
 pub names_of-library_of : (files : Texts) → keys_of (library_of files) ≡ keys_of files
 unfolding library_of
 names_of-library_of [] = refl

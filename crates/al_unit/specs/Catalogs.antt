@@ -16,8 +16,12 @@ abbrev pub contents_of : Reading → Contents
 contents_of (Sentence u) = Headed (header_of u)
 contents_of (Fails place code) = Unread place code
 
+-- what the graph of units has of a file of this text and reading
+abbrev pub source_with : List ℕ → Reading → Source
+source_with text reading = record { text = text; contents = contents_of reading }
+
 abbrev pub source_of : List ℕ → Source
-source_of text = record { text = text; contents = contents_of (reading_of text) }
+source_of text = source_with text (reading_of text)
 
 -- the library of the texts, by what each text is read as
 unfoldable pub library_of : Texts → Library

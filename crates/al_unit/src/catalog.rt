@@ -9,14 +9,14 @@ ghost use Rattle.al_base.specs.Files.{name_cmp, text_of};
 ghost use Rattle.al_tree.specs.UnitViews.{unit_seen};
 ghost use Rattle.al_unit_graph.specs.Dependence.{DependsOn};
 ghost use Rattle.al_unit_graph.specs.Needed.{Needed};
-ghost use Rattle.al_unit_graph.specs.Views.{contents_seen};
+ghost use Rattle.al_unit_graph.specs.Views.{contents_seen, source_seen};
 ghost use Rattle.al_unit_faults.specs.Dependents.{TellsDependents};
 ghost use Rattle.al_unit_faults.specs.FilesSeen.{file_faults_seen};
 ghost use Rattle.al_unit_faults.specs.GraphFaults.{file_faults, graph_faults};
 ghost use Rattle.al_obsolete.specs.Obsolete.{obsolete_of};
 ghost use Rattle.al_obsolete.specs.Orders.{names_seen};
 ghost use Rattle.al_obsolete.specs.Units.{unit_seen as file_unit_seen, units_of};
-ghost use Rattle.al_unit.specs.Catalogs.{contents_of, source_of, library_of, tree_at};
+ghost use Rattle.al_unit.specs.Catalogs.{contents_of, source_of, source_with, library_of, tree_at};
 ghost use Rattle.al_unit.specs.Readings.{reading_of, sentence_of};
 ghost use Rattle.al_unit.specs.ReadingSeen.{reading_seen, readings_seen};
 
@@ -35,7 +35,7 @@ use std::marker::Model;
 use std::rc::Rc;
 
 /// The files of a library, with what each of them is read as. The texts are shared with the files that it was made of, and what
-/// they are read as with the catalog before.
+/// it holds of a file whose text hasn't changed with the catalog before.
 #[derive(Drop)]
 pub struct Catalog {
     alloc: Global,
@@ -83,22 +83,59 @@ fn sentence_of(reading: &Reading) -> Option<&CompilationUnit>
     }
 }
 
-/// What the text of a file is read as: shared where the file had this text before, and else read.
-fn reading_after(
+/// What a catalog holds of a file.
+#[derive(Drop)]
+struct Held {
+    source: Rc<Source>,
+    reading: Rc<Reading>,
+}
+
+/// What the graph of units holds of a file with this text and reading.
+fn source_with(
+    alloc: Global,
+    text: &Rc<Vec<u8>>,
+    reading: &Reading,
+) -> Result<Rc<Source>, NoMemory>
+    ensures { IfOk result (λ source. source_seen source.value ≡ source_with text.now.value.items (reading_seen reading.now)) }
+{
+    let contents = contents_of(alloc, reading)?;
+    let text = text.clone()?;
+    match Rc::new(alloc, Source { text, contents }) {
+        Ok(source) => Ok(source),
+        Err(_) => Err(NoMemory),
+    }
+}
+
+/// Reads the text of a file.
+fn held(alloc: Global, text: &Rc<Vec<u8>>) -> Result<Held, NoMemory>
+    ensures source { IfOk result (λ held. source_seen held.source.value ≡ source_of text.now.value.items) }
+    ensures reading { IfOk result (λ held. reading_seen held.reading.value ≡ reading_of text.now.value.items) }
+{
+    match Rc::new(alloc, read(alloc, text.as_slice())?) {
+        Ok(reading) => {
+            let source = source_with(alloc, text, &reading)?;
+            Ok(Held { source, reading })
+        }
+        Err(_) => Err(NoMemory),
+    }
+}
+
+/// What a catalog holds of a file: shared where the file had this text before, and else read.
+fn held_after(
     alloc: Global,
     before: &Catalog,
     file: &[u8],
-    text: &[u8],
-) -> Result<Rc<Reading>, NoMemory>
-    ensures { IfOk result (λ reading. reading_seen reading.value ≡ reading_of text.now) }
+    text: &Rc<Vec<u8>>,
+) -> Result<Held, NoMemory>
+    ensures source { IfOk result (λ held. source_seen held.source.value ≡ source_of text.now.value.items) }
+    ensures reading { IfOk result (λ held. reading_seen held.reading.value ≡ reading_of text.now.value.items) }
 {
-    if let Some(reading) = before.reading_of_text(file, text) {
-        return Ok(reading.clone()?);
+    if let Some((source, reading)) = before.held_with(file, text.as_slice()) {
+        let source = source.clone()?;
+        let reading = reading.clone()?;
+        return Ok(Held { source, reading });
     }
-    match Rc::new(alloc, read(alloc, text)?) {
-        Ok(reading) => Ok(reading),
-        Err(_) => Err(NoMemory),
-    }
+    held(alloc, text)
 }
 
 /// Puts a file in.
@@ -113,12 +150,9 @@ fn add_file(
     ensures source { OnOk result (sources.new ≡ insert_entry name_cmp sources.old file.now (source_of text.now.value.items)) }
     ensures reading { OnOk result (readings_seen readings.new.entries ≡ insert_entry name_cmp (readings_seen readings.old.entries) file.now (reading_of text.now.value.items)) }
 {
-    let reading = reading_after(alloc, before, file, text.as_slice())?;
-    let contents = contents_of(alloc, &reading)?;
-    let text = text.clone()?;
-    let source = Source { text, contents };
-    sources.insert(Name::from_slice(alloc, file)?, source)?;
-    insert(readings, Name::from_slice(alloc, file)?, reading)
+    let held = held_after(alloc, before, file, text)?;
+    sources.insert(Name::from_slice(alloc, file)?, held.source)?;
+    insert(readings, Name::from_slice(alloc, file)?, held.reading)
 }
 
 impl Catalog {
@@ -144,7 +178,7 @@ impl Catalog {
         Catalog::after(alloc, files, &Catalog::empty(alloc))
     }
 
-    /// Reads all files, but for those whose texts are as they were before: what these are read as is shared.
+    /// Reads all files, but for those whose texts are as they were before: what is held of these is shared.
     ///
     /// # Errors
     ///
@@ -165,15 +199,17 @@ impl Catalog {
         })
     }
 
-    /// What this text of a file is read as, where the file has this text.
-    fn reading_of_text(&self, file: &[u8], text: &[u8]) -> Option<&Rc<Reading>>
-        ensures { IfSome result (λ reading. reading_seen reading.now.value ≡ reading_of text.now) }
+    /// What it holds of a file, where the file has this text.
+    fn held_with(&self, file: &[u8], text: &[u8]) -> Option<(&Rc<Source>, &Rc<Reading>)>
+        ensures source { IfSome result (λ held. source_seen held.0.now.value ≡ source_of text.now) }
+        ensures reading { IfSome result (λ held. reading_seen held.1.now.value ≡ reading_of text.now) }
     {
-        let source = self.sources.source_at(file)?;
+        let source = self.sources.shared_at(file)?;
         if source.text.as_slice() != text {
             return None;
         }
-        reading_at(&self.readings, file)
+        let reading = reading_at(&self.readings, file)?;
+        Some((source, reading))
     }
 
     /// The tree of a unit, where the library has it.

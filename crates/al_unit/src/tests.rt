@@ -139,6 +139,35 @@ fn units_stand_by_file(rt: HostRuntime) -> Result<(), Fail> {
 }
 
 #[test]
+fn faults_stand_by_file(rt: HostRuntime) -> Result<(), Fail> {
+    let texts: [Text; 2] = [
+        (b"a.ads", b"package B is end B;"),
+        (b"m.adb", b"procedure M is begin null; end M;"),
+    ];
+    let catalog = catalog_of(rt.alloc(), &texts)?;
+    let files = catalog.faults_by_file()?;
+    let counts = [(b"a.ads".as_slice(), 1), (b"m.adb", 0)];
+    assert_eq!(rt; files.len(), 2);
+    assert!(rt;
+        files
+            .iter()
+            .zip(counts)
+            .all(|(file, (name, count))| file.file.as_slice() == name && file.faults.len() == count)
+    );
+    Ok(())
+}
+
+#[test]
+fn clients_of_a_marked_unit_depend_on_it(rt: HostRuntime) -> Result<(), Fail> {
+    let catalog = catalog_of(rt.alloc(), &CHILD)?;
+    let dependents = catalog.dependents(&[false, true, false])?;
+    assert!(rt; !dependents.has(b"a.ads"));
+    assert!(rt; !dependents.has(b"a~b.ads"));
+    assert!(rt; dependents.has(b"m.adb"));
+    Ok(())
+}
+
+#[test]
 fn catalog_after_changes_is_one_made_anew(rt: HostRuntime) -> Result<(), Fail> {
     let alloc = rt.alloc();
     let mut files = files_of(alloc, &CHILD)?;

@@ -42,7 +42,7 @@ fn put(alloc: Global, sources: &mut Sources, file: &[u8], header: Header) -> Res
     let text = Rc::new(alloc, Vec::new(alloc))?;
     let contents = Contents::Headed(header);
     let file = Name::from_slice(alloc, file)?;
-    sources.insert(file, Source { text, contents })
+    sources.insert(file, Rc::new(alloc, Source { text, contents })?)
 }
 
 fn package(alloc: Global, sources: &mut Sources, file: &[u8], name: &[u8]) -> Result<(), NoMemory> {

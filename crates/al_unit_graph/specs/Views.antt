@@ -1,6 +1,7 @@
 -- The program's headers and files as plain data.
 use Rattle.std.specs.Prelude.{ℕ, List, map, Vec}
 use Rattle.std.specs.Option.{option_map}
+use Rattle.std.specs.declared.rc.Rc.{Rc}
 use Rattle.al_unit_graph.specs.Headers as plain
 use Rattle.al_unit_graph.specs.declared.header.Mention.{Mention}
 use Rattle.al_unit_graph.specs.declared.header.Header.{Header}
@@ -31,5 +32,5 @@ contents_seen (Unread place code) = plain.Unread place code
 abbrev pub source_seen : Source → plain.Source
 source_seen s = record { text = s.text.value.items; contents = contents_seen s.contents }
 
-abbrev pub library_of : {Y : Type 0} → List (Vec ℕ Y × Source) → plain.Library
-library_of entries = map (λ e. (e.0.items, source_seen e.1)) entries
+abbrev pub library_of : {Y W : Type 0} → List (Vec ℕ Y × Rc Source W) → plain.Library
+library_of entries = map (λ e. (e.0.items, source_seen e.1.value)) entries

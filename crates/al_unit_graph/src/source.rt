@@ -30,11 +30,11 @@ pub struct Source {
     pub contents: Contents,
 }
 
-/// The files of a library, by name.
+/// The files of a library, by name. What a file holds can be shared with another library.
 #[derive(Drop)]
 pub struct Sources {
     pub(crate) alloc: Global,
-    files: BTreeMap<Vec<u8>, Source>,
+    files: BTreeMap<Vec<u8>, Rc<Source>>,
 }
 
 impl Model for Sources {
@@ -58,8 +58,8 @@ impl Sources {
     }
 
     /// Sets what a file holds, a new one too.
-    pub fn insert(&mut self, file: Name, source: Source) -> Result<(), NoMemory>
-        ensures { OnOk result (self.new ≡ insert_entry name_cmp self.old file (source_seen source)) }
+    pub fn insert(&mut self, file: Name, source: Rc<Source>) -> Result<(), NoMemory>
+        ensures { OnOk result (self.new ≡ insert_entry name_cmp self.old file (source_seen source.value)) }
     {
         match self.files.insert(file.into_vec(), source) {
             Ok(_) => Ok(()),
@@ -67,11 +67,21 @@ impl Sources {
         }
     }
 
+    /// What a file holds, as it can be shared.
+    pub fn shared_at(&self, file: &[u8]) -> Option<&Rc<Source>>
+        ensures { option_map (λ source. source_seen source.now.value) result ≡ source_at self.now file.now }
+    {
+        self.files.get(file)
+    }
+
     /// What a file holds.
     pub fn source_at(&self, file: &[u8]) -> Option<&Source>
         ensures { option_map (λ source. source_seen source.now) result ≡ source_at self.now file.now }
     {
-        self.files.get(file)
+        match self.shared_at(file) {
+            None => None,
+            Some(source) => Some(&**source),
+        }
     }
 
     /// The names of the files, in the order of their bytes.

@@ -29,7 +29,7 @@ fn put(alloc: Global, sources: &mut Sources, file: &[u8], header: Header) -> Res
     let text = Rc::new(alloc, Vec::new(alloc))?;
     let contents = Contents::Headed(header);
     let file = Name::from_slice(alloc, file)?;
-    sources.insert(file, Source { text, contents })
+    sources.insert(file, Rc::new(alloc, Source { text, contents })?)
 }
 
 fn key(alloc: Global, name: &[u8], kind: UnitKind) -> Result<UnitKey, NoMemory> {

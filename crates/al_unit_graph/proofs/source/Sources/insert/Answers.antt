@@ -9,5 +9,5 @@ pub returns-in-Ok : goal.returns-in-Ok
 returns-in-Ok c =
     ap library_of c.in-Ok.ensures.entries
     ∙ library_of-insert_entry c.self.inside.files.entries c.into_vec.result c.args.source
-    ∙ ap (λ k. insert_entry name_cmp (library_of c.self.inside.files.entries) k (source_seen c.args.source)) c.into_vec.ensures
-    ∙ ap (λ lib. insert_entry name_cmp lib c.args.file (source_seen c.args.source)) c.self.view_is
+    ∙ ap (λ k. insert_entry name_cmp (library_of c.self.inside.files.entries) k (source_seen c.args.source.value)) c.into_vec.ensures
+    ∙ ap (λ lib. insert_entry name_cmp lib c.args.file (source_seen c.args.source.value)) c.self.view_is
