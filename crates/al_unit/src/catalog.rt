@@ -107,7 +107,7 @@ fn source_with(
 }
 
 /// Reads the text of a file.
-fn held(alloc: Global, text: &Rc<Vec<u8>>) -> Result<Held, NoMemory>
+fn held_anew(alloc: Global, text: &Rc<Vec<u8>>) -> Result<Held, NoMemory>
     ensures source { IfOk result (λ held. source_seen held.source.value ≡ source_of text.now.value.items) }
     ensures reading { IfOk result (λ held. reading_seen held.reading.value ≡ reading_of text.now.value.items) }
 {
@@ -135,7 +135,7 @@ fn held_after(
         let reading = reading.clone()?;
         return Ok(Held { source, reading });
     }
-    held(alloc, text)
+    held_anew(alloc, text)
 }
 
 /// Puts a file in.

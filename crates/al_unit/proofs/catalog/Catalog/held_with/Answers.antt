@@ -1,4 +1,4 @@
-use Rattle.std.proofs.Common.{◌≡◌, true, IfSome, sym, ap, subst, ◌∙◌, arith}
+use Rattle.std.proofs.Common.{◌≡◌, true, Some, sym, ap, subst, ◌∙◌, arith}
 use Rattle.std.proofs.lemmas.Slice.Eq.{bytes_eq-Decides}
 use Rattle.std.specs.Str.{bytes_eq}
 use Rattle.al_unit.specs.Catalogs.{source_of}
@@ -9,4 +9,15 @@ use Rattle.al_unit.proofs.CatalogLemmas.{reading_of_source, source_of_its_text}
 use Rattle.al_unit.proofs.catalog.Catalog.held_with.Goals as goal
 
 pub returns : goal.returns
-returns c = tt
+returns c =
+    let equal : bytes_eq c.as_slice.result.now c.args.text.now ≡ true = grind arith in
+    let same : c.in_ok-source.source.now.value.text.value.items ≡ c.args.text.now = sym (c.as_slice.ensures.value ∙ ap (λ v. v.items) c.deref-2.ensures ∙ ap (λ s. s.text.value.items) c.deref.ensures) ∙ (bytes_eq-Decides c.as_slice.result.now c.args.text.now).0 equal in
+    let source = source_seen c.in_ok-source.source.now.value in
+    record {
+      source =
+        subst (λ t. source ≡ source_of t) same
+        (source_of_its_text c.self.inside.sources c.args.file.now c.self.invariant.is_library source c.in_ok-source.ensures);
+      reading =
+        subst (λ t. reading_seen c.in_ok-reading.reading.now.value ≡ reading_of t) same
+        (reading_of_source (λ r. reading_seen r.now.value) c.self.inside.sources (readings_seen c.self.inside.readings.entries) c.args.file.now c.self.invariant.is_library c.self.invariant.are_readings source c.in_ok-source.ensures (Some c.in_ok-reading.reading) c.in_ok-reading.ensures);
+    }
