@@ -13,3 +13,4 @@ pub mod Labels
 pub mod Picks
 pub mod Sorting
 pub mod Ascending
+pub mod MainLaws

@@ -5,6 +5,7 @@ pub mod Unfinished
 pub mod FindingsSeen
 pub mod Units
 pub mod Batches
+pub mod MainUnits
 pub mod Compiling
 pub mod Laws
 pub mod Orders

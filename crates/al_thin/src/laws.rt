@@ -1,5 +1,6 @@
 // What the findings of files are. The functions do nothing: their contracts are the laws.
 ghost use Rattle.al_thin.specs.Laws.{FindingsAreBroken, UnfinishedAreTold};
+ghost use Rattle.al_thin.specs.MainUnits.{MainIsFound};
 ghost use Rattle.al_thin.specs.Orders.{FindingsAscend};
 
 use al_syntax::{faults_are_found, sentences_are_trees, trees_are_found};
@@ -12,6 +13,12 @@ pub fn findings_are_broken()
 /// The units that aren't compiled yet are just those that aren't of the thin language, each told at the front of its file.
 pub fn unfinished_are_told()
     ensures { UnfinishedAreTold }
+{}
+
+/// Where nothing is wrong with the files, a build lacks a main unit just where no sound unit of its name is a procedure without
+/// parameters (ARM 10.2(7, 29)).
+pub fn main_is_found()
+    ensures { MainIsFound }
 {}
 
 /// What a build finds wrong stands by file, place and code, and nothing is told twice.
