@@ -12,6 +12,3 @@ pub use al_stream::{Counted, Device, Fault, Sink, Source};
 pub use laws::reports_ascend;
 pub use library::Library;
 pub use memory::serve_bytes;
-
-#[cfg(test)]
-mod tests;

@@ -219,8 +219,7 @@ module _ (files : Texts) (main : List ℕ) where
 pub main_is_found : MainIsFound
 unfolding batch
 main_is_found files main clean =
-    let binds : batch files main ≡ bound files main (unit_of_name files main) = ap (λ fs. unless_faulty fs (bound files main (unit_of_name files main))) clean in
-    (
+    let binds : batch files main ≡ bound files main (unit_of_name files main) = ap (λ fs. unless_faulty fs (bound files main (unit_of_name files main))) clean in (
       (λ none unit is. main_is_had files main unit is (sym binds ∙ none)),
       (λ none. binds ∙ none_bound files main none (unit_of_name files main) refl),
     )

@@ -20,6 +20,3 @@ mod unit;
 pub use compiling::{Compiled, Program, compile};
 pub use laws::{findings_are_broken, findings_ascend, main_is_found, unfinished_are_told};
 pub use listing::{obsolete, units};
-
-#[cfg(test)]
-mod tests;

@@ -91,11 +91,7 @@ struct Held {
 }
 
 /// What the graph of units holds of a file with this text and reading.
-fn source_with(
-    alloc: Global,
-    text: &Rc<Vec<u8>>,
-    reading: &Reading,
-) -> Result<Rc<Source>, NoMemory>
+fn source_with(alloc: Global, text: &Rc<Vec<u8>>, reading: &Reading) -> Result<Rc<Source>, NoMemory>
     ensures { IfOk result (λ source. source_seen source.value ≡ source_with text.now.value.items (reading_seen reading.now)) }
 {
     let contents = contents_of(alloc, reading)?;

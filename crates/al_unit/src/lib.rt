@@ -10,8 +10,3 @@ mod readings;
 pub use catalog::{BuiltFiles, Catalog};
 pub use laws::{texts_are_read, texts_are_read_alike};
 pub use reading::{Reading, read};
-
-#[cfg(test)]
-mod fault_tests;
-#[cfg(test)]
-mod tests;

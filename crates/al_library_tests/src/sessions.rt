@@ -1,6 +1,6 @@
 // Sessions from their first byte to their last.
-use crate::{Counted, Device, Ended, Library, serve_bytes, serve_within};
 use al_serve::UnitLibrary;
+use al_session::{Counted, Device, Ended, Library, serve_bytes, serve_within};
 use std::io;
 use std::io::{ErrorKind, Read, Write};
 use std::test::Fail;

@@ -1,5 +1,5 @@
 // Worked libraries and what is wrong with their units.
-use crate::tests::{Fault, Text, has_faults};
+use crate::catalogs::{Fault, Text, has_faults};
 use std::test::Fail;
 
 #[test]

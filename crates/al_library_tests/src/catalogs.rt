@@ -1,6 +1,6 @@
 // Worked libraries.
-use crate::{BuiltFiles, Catalog, Reading};
 use al_base::{Diagnostic, Files, Name, NoMemory, Place, Refusal, UnitKey, UnitKind};
+use al_unit::{BuiltFiles, Catalog, Reading};
 use std::alloc::Global;
 use std::collections::BTreeSet;
 use std::test::Fail;
@@ -149,10 +149,8 @@ fn faults_stand_by_file(rt: HostRuntime) -> Result<(), Fail> {
     let counts = [(b"a.ads".as_slice(), 1), (b"m.adb", 0)];
     assert_eq!(rt; files.len(), 2);
     assert!(rt;
-        files
-            .iter()
-            .zip(counts)
-            .all(|(file, (name, count))| file.file.as_slice() == name && file.faults.len() == count)
+        files.iter().zip(counts).all(|(file, (name, count))| file.file.as_slice() == name
+            && file.faults.len() == count)
     );
     Ok(())
 }

@@ -1,6 +1,6 @@
-// Worked values.
-use crate::{Compiled, compile, units};
+// Worked libraries, and what compiling them gives.
 use al_base::{Files, NoMemory, Refusal};
+use al_thin::{Compiled, compile, units};
 use al_unit::Catalog;
 use std::alloc::Global;
 use std::process::Abort;
