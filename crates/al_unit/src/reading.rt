@@ -12,12 +12,21 @@ use al_tree::CompilationUnit;
 use std::alloc::Global;
 
 /// What the text of a file is read as.
-#[derive(Drop)]
 pub enum Reading {
     /// A compilation unit.
     Sentence(CompilationUnit),
     /// The place and the number of the first lexical fault, or else of the syntax fault.
     Fails(Place, u16),
+}
+
+// Written out, as a crate above then lets a reading go by this call, and needn't prove again how each kind of tree is let go.
+impl Drop for Reading {
+    fn drop(self) {
+        match self {
+            Reading::Sentence(unit) => drop(unit),
+            Reading::Fails(_, _) => {}
+        }
+    }
 }
 
 /// Reads a text.
