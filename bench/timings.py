@@ -1,9 +1,10 @@
 #!/usr/bin/env python3
-"""timings.py PROGRAM [ada | units]: times sessions of growing size (with a word that part alone). Each line is the least of three runs, in milliseconds.
+"""timings.py PROGRAM [ada | units]: times sessions of growing size (with a word that part alone). Each line is the least of three runs, in milliseconds; that of a text of Ada of twelve.
 
 Where an effort is linear, each doubling doubles the time beyond that of the empty session.
 """
 import pathlib
+import resource
 import shutil
 import subprocess
 import sys
@@ -84,29 +85,39 @@ def ada_text(size, last=b"end P;\n"):
         room -= len(piece)
 
 
-def compiler_time(text, runs=3):
-    """The least time of `gcc -c -gnats`, which reads the syntax alone, in milliseconds; None where there is no such compiler."""
-    if not shutil.which("gcc") or not shutil.which("gnatmake"):
-        return None
-    with tempfile.TemporaryDirectory() as folder:
-        (pathlib.Path(folder) / "p.adb").write_bytes(text)
-        best = None
-        for _ in range(runs):
-            start = time.perf_counter()
-            subprocess.run(["gcc", "-c", "-gnats", "p.adb"], cwd=folder, stdout=subprocess.PIPE, stderr=subprocess.PIPE)
-            spent = (time.perf_counter() - start) * 1000
-            best = spent if best is None else min(best, spent)
+def spent_by(command, stream, folder):
+    """The time and the processor time of a command, in milliseconds."""
+    before = resource.getrusage(resource.RUSAGE_CHILDREN)
+    start = time.perf_counter()
+    subprocess.run(command, input=stream, cwd=folder, stdout=subprocess.PIPE, stderr=subprocess.PIPE)
+    spent = time.perf_counter() - start
+    after = resource.getrusage(resource.RUSAGE_CHILDREN)
+    return spent * 1000, (after.ru_utime - before.ru_utime + after.ru_stime - before.ru_stime) * 1000
+
+
+def by_turns(commands, folder, rounds=12):
+    """Runs each command in turn, so many times: the least time and the least processor time of each."""
+    best = [(float("inf"), float("inf"))] * len(commands)
+    for _ in range(rounds):
+        for i, (command, stream) in enumerate(commands):
+            best[i] = tuple(map(min, best[i], spent_by(command, stream, folder)))
     return best
 
 
 def texts_of_ada(program):
+    """Beside `gcc -c -gnats` of the same text, which reads the syntax alone, where there is such a compiler."""
+    has_compiler = shutil.which("gcc") and shutil.which("gnatmake")
     for what, last in (("Ada text", b"end P;\n"), ("Ada text with a fault in its last line", b"end P end;\n")):
         for size in doubled(1 << 16, 1 << 20):
             text = ada_text(size, last)
-            row(program, f"put and build: {what}", len(text), put(b"p.adb", text) + b"build p\n")
-            other = compiler_time(text)
-            if other is not None:
-                print(f"{'  gcc -c -gnats of the same text':<44} {len(text):>9} {other:>10.1f} ms")
+            commands = [([program], put(b"p.adb", text) + b"build p\n")]
+            if has_compiler:
+                commands.append((["gcc", "-c", "-gnats", "p.adb"], b""))
+            with tempfile.TemporaryDirectory() as folder:
+                (pathlib.Path(folder) / "p.adb").write_bytes(text)
+                best = by_turns(commands, folder)
+            for (spent, processor), name in zip(best, (f"put and build: {what}", "  gcc -c -gnats of the same text")):
+                print(f"{name:<56} {size:>9} {spent:>10.1f} ms, of a processor {processor:.1f} ms")
 
 
 def chain(number):
