@@ -1,10 +1,10 @@
 -- What a library keeps of its last build.
 use Rattle.std.specs.Prelude.{ℕ, ◌≡◌, List, Option, Some, None, if◌then◌else◌}
 use Rattle.al_base.specs.Files.{Texts}
-use Rattle.al_base.specs.Batch.{Batch, Run}
+use Rattle.al_base.specs.Batch.{Run}
 use Rattle.al_image.specs.Runs.{run_of_image}
 use Rattle.al_thin.specs.declared.compiling.Compiled.{Compiled}
-use Rattle.al_thin.specs.declared.compiling.Compiled.TheVariants.{Faulty, NoMain, TooLarge, Made}
+use Rattle.al_thin.specs.declared.compiling.Compiled.TheVariants.{Made}
 use Rattle.al_thin.specs.Batches.{batch, run_of}
 use Rattle.al_thin.specs.Compiling.{compiled_seen}
 use Rattle.al_serve.specs.Library.{has_image}
