@@ -15,8 +15,8 @@ pub fn unfinished_are_told()
     ensures { UnfinishedAreTold }
 {}
 
-/// Where nothing is wrong with the files, a build lacks a main unit just where no sound unit of its name is a procedure without
-/// parameters (ARM 10.2(7, 29)).
+/// Where nothing is wrong with the files, a build lacks a main unit just where the name has none: the sound declaration of that name,
+/// or else the sound body, which is a procedure without parameters (ARM 10.2(7, 29)). A file must be able to have the name.
 pub fn main_is_found()
     ensures { MainIsFound }
 {}
