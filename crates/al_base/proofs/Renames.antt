@@ -79,6 +79,7 @@ text_of_tied (e ∷ es) p q same = ap (λ o. cond (is_eq o) (Some e.1) (text_of 
 
 -- where a rename isn't refused, the one file is there, and the other isn't
 pub record MayRename (es : Texts) (old new : List ℕ) : Type 0 where
+  pub is_name : is_file_name new ≡ true
   pub there : is_some (text_of es old) ≡ true
   pub free : is_some (text_of es new) ≡ false
   pub apart : is_eq (name_cmp old new) ≡ false
@@ -86,14 +87,14 @@ pub record MayRename (es : Texts) (old new : List ℕ) : Type 0 where
 
 pub may_rename : (es : Texts) (old new : List ℕ) → rename_refusal es old new ≡ None → MayRename es old new
 unfolding rename_refusal
-may_rename es old new none = tests (is_file_name old) (is_file_name new) (is_some (text_of es old)) refl (is_some (text_of es new)) refl none
+may_rename es old new none = tests (is_file_name old) (is_file_name new) refl (is_some (text_of es old)) refl (is_some (text_of es new)) refl none
   where
-    tests : (a b s : Bool) → is_some (text_of es old) ≡ s → (t : Bool) → is_some (text_of es new) ≡ t → cond (not a) (Some BadName) (cond (not b) (Some BadName) (cond (not s) (Some NoFile) (cond t (Some FileExists) None))) ≡ None → MayRename es old new
-    tests false b s is t free e = cc
-    tests true false s is t free e = cc
-    tests true true false is t free e = cc
-    tests true true true is true free e = cc
-    tests true true true is false free e = record { there = is; free = free; apart = untied (name_cmp old new) refl; apart_back = untied_back (name_cmp new old) refl }
+    tests : (a b : Bool) → is_file_name new ≡ b → (s : Bool) → is_some (text_of es old) ≡ s → (t : Bool) → is_some (text_of es new) ≡ t → cond (not a) (Some BadName) (cond (not b) (Some BadName) (cond (not s) (Some NoFile) (cond t (Some FileExists) None))) ≡ None → MayRename es old new
+    tests false b name s is t free e = cc
+    tests true false name s is t free e = cc
+    tests true true name false is t free e = cc
+    tests true true name true is true free e = cc
+    tests true true name true is false free e = record { is_name = name; there = is; free = free; apart = untied (name_cmp old new) refl; apart_back = untied_back (name_cmp new old) refl }
       where
         untied : (o : Ordering) → name_cmp old new ≡ o → is_eq o ≡ false
         untied Less same = refl

@@ -1,5 +1,6 @@
 -- A finite map from file names to texts: the list of its pairs, in the order of the names' bytes.
-use Rattle.std.specs.Prelude.{◌≡◌, ◌⊎◌, ℕ, ◌&&◌, not, nat_lt, nat_le, List, length, Option, Some, None, is_some, Result, Ok, Err, if◌then◌else◌}
+use Rattle.std.specs.Prelude.{◌≡◌, ◌≤◌, ◌⊎◌, ℕ, true, ◌&&◌, not, nat_lt, nat_le, List, length, Option, Some, None, is_some, Result, Ok, Err, if◌then◌else◌}
+use Rattle.std.specs.List.{AllByRecursion}
 use Rattle.std.specs.Ordering.{nat_cmp}
 use Rattle.std.specs.declared.cmp.Ordering.{Ordering}
 use Rattle.std.specs.Cmp.Lexicographic.{slice_cmp}
@@ -12,6 +13,15 @@ use Rattle.al_base.specs.declared.refusal.Refusal.TheVariants.{BadName, NoFile, 
 -- a name and its text, for each file
 abbrev pub Texts : Type 0
 Texts = List (List ℕ × List ℕ)
+
+-- a file's name, and a text of at most 1 MiB
+abbrev pub IsFile : List ℕ × List ℕ → Type 0
+IsFile file = (is_file_name file.0 ≡ true) × (length file.1 ≤ 1048576)
+
+-- at most 4,096 files
+pub record AreFiles (files : Texts) : Type 0 where
+  pub few : length files ≤ 4096
+  pub each : AllByRecursion IsFile files
 
 -- by their bytes
 abbrev pub name_cmp : List ℕ → List ℕ → Ordering

@@ -28,13 +28,13 @@ fn hyphened(alloc: Global, name: &[u8]) -> Result<Vec<u8>, NoMemory>
     Ok(bytes)
 }
 
-fn hyphen_for_dot(b: u8) -> u8
+pub(crate) fn hyphen_for_dot(b: u8) -> u8
     ensures { result ≡ hyphen_for_dot b }
 {
     if b == b'.' { b'-' } else { b }
 }
 
-fn put_tilde(name: &mut [u8])
+pub(crate) fn put_tilde(name: &mut [u8])
     ensures { name.new ≡ with_tilde name.old }
 {
     if let [b'a' | b'g' | b'i' | b's', second @ b'-', ..] = name {
@@ -42,7 +42,7 @@ fn put_tilde(name: &mut [u8])
     }
 }
 
-fn ending_of(kind: UnitKind) -> &'static [u8]
+pub(crate) fn ending_of(kind: UnitKind) -> &'static [u8]
     ensures { result.now ≡ ending_of kind }
 {
     match kind {

@@ -2,7 +2,7 @@
 ghost use Rattle.std.specs.Prelude.{◌≡◌, [], length, map, IfOk, OnOk, OnErr, slice_get};
 ghost use Rattle.std.specs.Option.{option_copied, option_map};
 ghost use Rattle.al_base.specs.FileLaws.{Ascend};
-ghost use Rattle.al_base.specs.Files.{text_of, with_file, without_file, with_renamed, put_refusal, delete_refusal, rename_refusal, AnswersRefusal, AnswersFirst};
+ghost use Rattle.al_base.specs.Files.{AreFiles, text_of, with_file, without_file, with_renamed, put_refusal, delete_refusal, rename_refusal, AnswersRefusal, AnswersFirst};
 
 use crate::is_file_name;
 use crate::refusal::{NoMemory, Refusal};
@@ -23,12 +23,14 @@ pub struct Files {
 }
 
 impl Model for Files {
-    ghost use Rattle.al_base.specs.Files.{Texts};
+    ghost use Rattle.al_base.specs.Files.{Texts, AreFiles};
     ghost use Rattle.al_base.specs.Pairs.{pairs_of};
 
     ghost Value = { Texts };
 
     ghost view = { λ f. pairs_of f.texts.entries };
+
+    ghost invariant = { λ f. AreFiles (pairs_of f.texts.entries) };
 }
 
 impl Files {
@@ -91,6 +93,7 @@ impl Files {
     pub fn shared(&self) -> Result<Vec<(&[u8], &Rc<Vec<u8>>)>, NoMemory>
         ensures list { IfOk result (λ list. map (λ f. (f.0.now, f.1.now.value.items)) list.items ≡ self.now) }
         ensures ascend { Ascend self.now }
+        ensures files { AreFiles self.now }
     {
         let mut list = Vec::with_capacity(self.alloc, self.texts.len())?;
         for (name, text) in self.texts.iter() {
@@ -132,10 +135,10 @@ impl Files {
         let Ok(text) = Rc::new(self.alloc, text) else {
             return Err(Refusal::NoMemory);
         };
-        match self.texts.insert(name, text) {
-            Ok(_) => Ok(()),
-            Err(_) => Err(Refusal::NoMemory),
-        }
+        let Ok(_) = self.texts.insert(name, text) else {
+            return Err(Refusal::NoMemory);
+        };
+        Ok(())
     }
 
     /// Takes a file away. It takes no memory.

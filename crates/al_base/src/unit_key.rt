@@ -2,7 +2,7 @@
 use crate::name::Name;
 
 /// Which part of a program unit a file holds (ARM 10.1.1, 10.1.3).
-#[derive(Clone, Copy, Debug, PartialEq, Eq, PartialOrd, Ord)]
+#[derive(Clone, Copy, Debug, PartialEq, Eq, PartialOrd, Ord, Hash)]
 pub enum UnitKind {
     /// A library declaration.
     Decl,
@@ -12,8 +12,8 @@ pub enum UnitKind {
     Sub,
 }
 
-/// A unit of a library: its full name in lower case, and which part it is.
-#[derive(Debug, Drop)]
+/// A unit of a library: its full name in lower case, and which part it is. Units are ordered by name, then by part.
+#[derive(Debug, Drop, PartialEq, Eq, PartialOrd, Ord, Hash)]
 pub struct UnitKey {
     pub name: Name,
     pub kind: UnitKind,

@@ -1,6 +1,6 @@
 -- What a compilation unit says of itself, from its tree.
-use Rattle.std.specs.Prelude.{ℕ, Bool, true, false, ◌&&◌, ◌||◌, List, [], ◌∷◌, ◌++◌, map, Option, Some, None, codes}
-use Rattle.std.specs.Option.{is_some, unwrap_or, option_map}
+use Rattle.std.specs.Prelude.{ℕ, Bool, true, false, ◌&&◌, ◌||◌, List, [], ◌∷◌, ◌++◌, map, Option, Some, None, codes, if◌then◌else◌}
+use Rattle.std.specs.Option.{is_none, is_some, unwrap_or, option_map}
 use Rattle.std.specs.List.{flat_map, list_any, last_or, take_while}
 use Rattle.std.specs.Str.{bytes_eq}
 use Rattle.al_base.specs.declared.place.Place.{Place}
@@ -84,6 +84,20 @@ context_mentions (ContextPragma p) = []
 abbrev pub mentions : CompilationUnitTree → List CompoundNameTree
 mentions u = flat_map context_mentions u.context
 
+abbrev pub arguments_in : Option PragmaArgumentsTree → List CompoundNameTree
+arguments_in None = []
+arguments_in (Some a) = names_in a.names
+
+-- the names in a pragma of this name
+abbrev pub pragma_names : List ℕ → ContextTree → List (List ℕ)
+pragma_names word (WithClause n) = []
+pragma_names word (ContextUse u) = []
+pragma_names word (ContextPragma p) = if bytes_eq p.name.text word then map dotted (arguments_in p.arguments) else []
+
+-- the names in the pragmas of this name in the context clause (ARM 10.2.1(20))
+abbrev pub named_in_pragmas : List ℕ → CompilationUnitTree → List (List ℕ)
+named_in_pragmas word u = flat_map (pragma_names word) u.context
+
 abbrev pub stub_of : ItemTree → List (List ℕ)
 stub_of (StubItem s l) = dotted (designator s) ∷ []
 stub_of (CommonItem c) = []
@@ -150,10 +164,6 @@ names_only l [] = true
 names_only l (n ∷ []) = is_only l.text n.first n.selectors
 names_only l (n ∷ m ∷ ns) = false
 
-abbrev pub arguments_in : Option PragmaArgumentsTree → List CompoundNameTree
-arguments_in None = []
-arguments_in (Some a) = names_in a.names
-
 -- pragma Elaborate_Body; or pragma Elaborate_Body (P); with the last identifier P of the package's name (ARM 10.2.1(20))
 abbrev pub is_elaborate_body : CompoundNameTree → PragmaTree → Bool
 is_elaborate_body name p = bytes_eq p.name.text (codes "elaborate_body") && names_only (last_identifier name) (arguments_in p.arguments)
@@ -184,6 +194,26 @@ needs_body (LibraryBody s b) = false
 needs_body (LibraryPackageBody l k) = false
 needs_body (Subunit l o n s b) = false
 
+-- a package's declaration with the pragma
+abbrev pub item_has_elaborate_body : LibraryItemTree → Bool
+item_has_elaborate_body (LibrarySubprogram p s) = false
+item_has_elaborate_body (LibraryPackage p l k) = has_elaborate_body k
+item_has_elaborate_body (LibraryBody s b) = false
+item_has_elaborate_body (LibraryPackageBody l k) = false
+item_has_elaborate_body (Subunit l o n s b) = false
+
+abbrev pub is_parameterless : SpecificationTree → Bool
+is_parameterless (ProcedureSpecification l n f) = is_none f
+is_parameterless (FunctionSpecification l n f r m) = false
+
+-- the declaration or the body of a library procedure without parameters (ARM 10.2(7))
+abbrev pub is_parameterless_procedure : LibraryItemTree → Bool
+is_parameterless_procedure (LibrarySubprogram p s) = is_parameterless s
+is_parameterless_procedure (LibraryPackage p l k) = false
+is_parameterless_procedure (LibraryBody s b) = is_parameterless s
+is_parameterless_procedure (LibraryPackageBody l k) = false
+is_parameterless_procedure (Subunit l o n s b) = false
+
 unfoldable pub header_of : CompilationUnitTree → Header
 header_of u = record {
   name = full_name (parent_body_name u.item) (item_name u.item);
@@ -195,4 +225,8 @@ header_of u = record {
   designator = dotted (item_name u.item);
   mentions = map mention_of (mentions u);
   stubs = stubs u.item;
+  elaborate = named_in_pragmas (codes "elaborate") u;
+  elaborate_all = named_in_pragmas (codes "elaborate_all") u;
+  has_elaborate_body = item_has_elaborate_body u.item;
+  is_parameterless_procedure = is_parameterless_procedure u.item;
 }

@@ -1,14 +1,15 @@
 // The names in context clauses.
 ghost use Rattle.std.specs.Prelude.{◌≡◌, ◌++◌, map, IfOk, OnOk};
 ghost use Rattle.std.specs.List.{flat_map};
-ghost use Rattle.al_tree.specs.DeclarationViews.{compound_seen, compounds_seen};
+ghost use Rattle.std.specs.Option.{option_map};
+ghost use Rattle.al_tree.specs.DeclarationViews.{compound_seen, compounds_seen, pragma_arguments_seen};
 ghost use Rattle.al_tree.specs.UnitViews.{context_seen};
 ghost use Rattle.al_unit_graph.specs.Views.{mention_seen};
-ghost use Rattle.al_header.specs.Units.{context_mentions, mention_of, names_in};
+ghost use Rattle.al_header.specs.Units.{context_mentions, dotted, mention_of, names_in, arguments_in, pragma_names};
 
-use crate::names::mention_of;
-use al_base::NoMemory;
-use al_tree::{CompoundName, CompoundNames, ContextItem};
+use crate::names::{dotted, mention_of};
+use al_base::{Name, NoMemory};
+use al_tree::{CompoundName, CompoundNames, ContextItem, PragmaArguments};
 use al_unit_graph::Mention;
 use std::alloc::Global;
 
@@ -60,6 +61,74 @@ fn add_others(
 {
     for name in names {
         mentions.push(mention_of(alloc, name)?)?;
+    }
+    Ok(())
+}
+
+/// The names in the pragmas of this name, in their order (ARM 10.2.1(20)).
+pub(crate) fn named_in_pragmas(
+    alloc: Global,
+    context: &[ContextItem],
+    word: &[u8],
+) -> Result<Vec<Name>, NoMemory>
+    ensures { IfOk result (λ names. names.items ≡ flat_map (pragma_names word.now) (map context_seen context.now)) }
+{
+    let mut names = Vec::new(alloc);
+    for item in context {
+        add_pragma_names(alloc, item, word, &mut names)?;
+    }
+    Ok(names)
+}
+
+/// Adds the names that an item of a context clause has as a pragma of this name.
+fn add_pragma_names(
+    alloc: Global,
+    item: &ContextItem,
+    word: &[u8],
+    names: &mut Vec<Name>,
+) -> Result<(), NoMemory>
+    ensures { OnOk result (names.new.items ≡ names.old.items ++ pragma_names word.now (context_seen item.now)) }
+{
+    match item {
+        ContextItem::With(_) => Ok(()),
+        ContextItem::Use(_) => Ok(()),
+        ContextItem::Pragma(pragma) => {
+            if pragma.name.name.as_slice() == word {
+                add_arguments(alloc, &pragma.arguments, names)
+            } else {
+                Ok(())
+            }
+        }
+    }
+}
+
+/// Adds the arguments of a pragma.
+fn add_arguments(
+    alloc: Global,
+    arguments: &Option<PragmaArguments>,
+    names: &mut Vec<Name>,
+) -> Result<(), NoMemory>
+    ensures { OnOk result (names.new.items ≡ names.old.items ++ map dotted (arguments_in (option_map pragma_arguments_seen arguments.now))) }
+{
+    match arguments {
+        None => Ok(()),
+        Some(arguments) => {
+            names.push(dotted(alloc, &arguments.names.first)?)?;
+            add_dotted(alloc, arguments.names.others.as_slice(), names)
+        }
+    }
+}
+
+/// Adds these names.
+fn add_dotted(
+    alloc: Global,
+    compounds: &[CompoundName],
+    names: &mut Vec<Name>,
+) -> Result<(), NoMemory>
+    ensures { OnOk result (names.new.items ≡ names.old.items ++ map dotted (map compound_seen compounds.now)) }
+{
+    for compound in compounds {
+        names.push(dotted(alloc, compound)?)?;
     }
     Ok(())
 }

@@ -1,23 +1,25 @@
 // The header of a compilation unit.
 ghost use Rattle.std.specs.Prelude.{◌≡◌, map, IfOk};
 ghost use Rattle.std.specs.Option.{option_map};
-ghost use Rattle.al_base.specs.Batch.{key_of};
 ghost use Rattle.al_tree.specs.UnitViews.{library_item_seen, unit_seen};
-ghost use Rattle.al_unit_graph.specs.Headers.{key_of_unit};
 ghost use Rattle.al_unit_graph.specs.Views.{header_seen, mention_seen};
 ghost use Rattle.al_header.specs.Units.{header_of, mention_of, parent_body_name};
 
-use crate::context::mentions;
-use crate::item::{form_of, is_private, item_name, needs_body, parent_body_name};
+use crate::context::{mentions, named_in_pragmas};
+use crate::item::{
+    form_of, is_parameterless_procedure, is_private, item_has_elaborate_body, item_name,
+    needs_body, parent_body_name,
+};
 use crate::names::{dotted, full_name, mention_of, place_of};
 use crate::stubs::stubs;
-use al_base::{NoMemory, Place, UnitKey};
+use al_base::NoMemory;
 use al_tree::{CompilationUnit, LibraryItem};
-use al_unit_graph::{Header, Mention, kind_of};
+use al_unit_graph::{Header, Mention};
 use std::alloc::Global;
 
 /// What a compilation unit says of itself: its name, where that stands, what it is, whether it is private and needs a body, its
-/// parent body, the names in its with clauses and the stubs in it (ARM 10.1.1 to 10.1.3).
+/// parent body, the names in its with clauses and the stubs in it (ARM 10.1.1 to 10.1.3), what its pragmas say of elaboration
+/// (ARM 10.2.1), and whether it is a procedure without parameters.
 ///
 /// # Errors
 ///
@@ -38,6 +40,10 @@ pub fn header_of(alloc: Global, unit: &CompilationUnit) -> Result<Header, NoMemo
         designator: dotted(alloc, name)?,
         mentions: mentions(alloc, unit.context.as_slice())?,
         stubs: stubs(alloc, item)?,
+        elaborate: named_in_pragmas(alloc, unit.context.as_slice(), b"elaborate")?,
+        elaborate_all: named_in_pragmas(alloc, unit.context.as_slice(), b"elaborate_all")?,
+        has_elaborate_body: item_has_elaborate_body(item),
+        is_parameterless_procedure: is_parameterless_procedure(item),
     })
 }
 
@@ -49,28 +55,4 @@ fn parent_body(alloc: Global, item: &LibraryItem) -> Result<Option<Mention>, NoM
         None => Ok(None),
         Some(name) => Ok(Some(mention_of(alloc, name)?)),
     }
-}
-
-/// The name and the kind of a compilation unit, by which a file is named after it.
-///
-/// # Errors
-///
-/// `NoMemory` where memory is wanted.
-#[tactic(auto, unfolding(al_tree::specs::UnitViews::unit_seen, crate::specs::Units::header_of))]
-pub fn unit_key(alloc: Global, unit: &CompilationUnit) -> Result<UnitKey, NoMemory>
-    ensures { IfOk result (λ key. key_of key ≡ key_of_unit (header_of (unit_seen unit.now))) }
-{
-    let item = &unit.item;
-    Ok(UnitKey {
-        name: full_name(alloc, parent_body_name(item), item_name(item))?,
-        kind: kind_of(form_of(item)),
-    })
-}
-
-/// Where the name of a compilation unit stands; of a subunit the name of its body.
-#[tactic(auto, unfolding(al_tree::specs::UnitViews::unit_seen, crate::specs::Units::header_of))]
-pub fn unit_place(unit: &CompilationUnit) -> Place
-    ensures { result ≡ (header_of (unit_seen unit.now)).place }
-{
-    place_of(item_name(&unit.item))
 }

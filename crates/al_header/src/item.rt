@@ -1,13 +1,13 @@
 // What library items are, by their trees.
 ghost use Rattle.std.specs.Prelude.{◌≡◌};
 ghost use Rattle.std.specs.Option.{option_map};
-ghost use Rattle.al_tree.specs.DeclarationViews.{compound_seen};
+ghost use Rattle.al_tree.specs.DeclarationViews.{compound_seen, specification_seen};
 ghost use Rattle.al_tree.specs.UnitViews.{library_item_seen};
-ghost use Rattle.al_header.specs.Units.{form_of, is_private, item_name, needs_body, parent_body_name};
+ghost use Rattle.al_header.specs.Units.{form_of, is_parameterless, is_parameterless_procedure, is_private, item_has_elaborate_body, item_name, needs_body, parent_body_name};
 
 use crate::names::designator;
-use crate::package::package_needs_body;
-use al_tree::{CompoundName, LibraryItem};
+use crate::package::{has_elaborate_body, package_needs_body};
+use al_tree::{CompoundName, LibraryItem, Specification};
 use al_unit_graph::UnitForm;
 
 /// The name that an item declares or completes; of a subunit the name of its body.
@@ -67,6 +67,42 @@ pub(crate) fn needs_body(item: &LibraryItem) -> bool
         LibraryItem::Subprogram(_, _) => true,
         LibraryItem::Package(_, _, package) => package_needs_body(package),
         LibraryItem::Body(_, _) => false,
+        LibraryItem::PackageBody(_, _) => false,
+        LibraryItem::Subunit(_, _, _, _, _) => false,
+    }
+}
+
+/// Whether it is a package's declaration with the pragma Elaborate_Body in its place (ARM 10.2.1(20)).
+pub(crate) fn item_has_elaborate_body(item: &LibraryItem) -> bool
+    ensures { result ≡ item_has_elaborate_body (library_item_seen item.now) }
+{
+    match item {
+        LibraryItem::Subprogram(_, _) => false,
+        LibraryItem::Package(_, _, package) => has_elaborate_body(package),
+        LibraryItem::Body(_, _) => false,
+        LibraryItem::PackageBody(_, _) => false,
+        LibraryItem::Subunit(_, _, _, _, _) => false,
+    }
+}
+
+/// Whether it specifies a procedure without parameters.
+fn is_parameterless(specification: &Specification) -> bool
+    ensures { result ≡ is_parameterless (specification_seen specification.now) }
+{
+    match specification {
+        Specification::Procedure(_, _, formals) => formals.is_none(),
+        Specification::Function(_, _, _, _, _) => false,
+    }
+}
+
+/// Whether it is the declaration or the body of a library procedure without parameters (ARM 10.2(7)).
+pub(crate) fn is_parameterless_procedure(item: &LibraryItem) -> bool
+    ensures { result ≡ is_parameterless_procedure (library_item_seen item.now) }
+{
+    match item {
+        LibraryItem::Subprogram(_, specification) => is_parameterless(specification),
+        LibraryItem::Package(_, _, _) => false,
+        LibraryItem::Body(specification, _) => is_parameterless(specification),
         LibraryItem::PackageBody(_, _) => false,
         LibraryItem::Subunit(_, _, _, _, _) => false,
     }

@@ -9,5 +9,5 @@ mod names;
 mod package;
 mod stubs;
 
-pub use header::{header_of, unit_key, unit_place};
+pub use header::header_of;
 pub use laws::bodies_are_needed;

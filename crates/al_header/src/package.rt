@@ -5,7 +5,7 @@ ghost use Rattle.std.specs.Option.{option_map};
 ghost use Rattle.al_tree.specs.DeclarationViews.{compound_seen, declaration_seen, pragma_arguments_seen, pragma_seen};
 ghost use Rattle.al_tree.specs.Lexemes.{identifier_label};
 ghost use Rattle.al_tree.specs.UnitViews.{package_seen, private_part_seen};
-ghost use Rattle.al_header.specs.Units.{arguments_in, asks_for_body, declares_nothing, has_elaborate_body, is_completed_by_body, is_elaborate_body, is_only, last_identifier, names_only, package_needs_body, private_declarations};
+ghost use Rattle.al_header.specs.Units.{asks_for_body, declares_nothing, has_elaborate_body, is_completed_by_body, is_elaborate_body, is_only, last_identifier, names_only, package_needs_body, arguments_in, private_declarations};
 
 use al_tree::{
     CommonDeclaration, CompoundName, Declaration, Identifier, PackageDeclaration, Pragma,
@@ -46,7 +46,7 @@ fn are_completed(declarations: &[Declaration]) -> bool
 
 /// Whether the pragma Elaborate_Body stands before every declaration of the package, in its visible part or, where that
 /// declares nothing, in its private part (ARM 10.1.5(4), 10.2.1(20)).
-fn has_elaborate_body(library_package: &PackageDeclaration) -> bool
+pub(crate) fn has_elaborate_body(library_package: &PackageDeclaration) -> bool
     ensures { result ≡ has_elaborate_body (package_seen library_package.now) }
 {
     let visible = library_package.visible.as_slice();

@@ -21,6 +21,3 @@ pub use laws::{pieces_are_longest, places_rise, texts_are_cut, tokens_lie_in_tex
 pub use lexing::{end_place, lex};
 pub use numbers::number_value;
 pub use token::{Kind, LexCode, LexError, LexFault, Token};
-
-#[cfg(test)]
-mod tests;

@@ -1,9 +1,6 @@
-pub mod Lists
-pub mod OrderLemmas
 pub mod UnitLemmas
 pub mod TraceLemmas
 pub mod ListLaws
-pub mod KeySetLemmas
 pub mod WantedLemmas
 pub mod ListingLemmas
 pub mod NumberLemmas

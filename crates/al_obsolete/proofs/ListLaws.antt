@@ -2,8 +2,8 @@
 use Rattle.std.specs.List.{filter}
 use Rattle.al_obsolete.specs.Units.{keys_of_units}
 use Rattle.al_obsolete.specs.Obsolete.{is_obsolete, obsolete_of, ObsoleteAreListed, ObsoleteAscend}
-use Rattle.al_obsolete.proofs.Lists.{from_filter, into_filter}
-use Rattle.al_obsolete.proofs.OrderLemmas.{from_in_order, into_in_order, in_order_ascends}
+use Rattle.al_unit_graph.proofs.Lists.{from_filter, into_filter}
+use Rattle.al_unit_graph.proofs.OrderLemmas.{from_in_order, into_in_order, in_order_ascends}
 use Rattle.al_obsolete.proofs.UnitLemmas.{of_units, into_units}
 use Rattle.al_obsolete.proofs.TraceLemmas.{from_obsolete, into_obsolete}
 

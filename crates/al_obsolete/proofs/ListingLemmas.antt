@@ -21,7 +21,7 @@ use Rattle.al_unit_graph.specs.Library.{unit_in, unit_at}
 use Rattle.al_unit_graph.specs.Dependence.{listed}
 use Rattle.al_unit_graph.specs.Traces.{HasSameTrace, IsTouched, AreReadAlike}
 use Rattle.al_unit_graph.proofs.TraceLemmas.{traces_are_touched}
-use Rattle.al_obsolete.specs.Orders.{key_cmp, in_order, names_seen}
+use Rattle.al_unit_graph.specs.Orders.{key_cmp, in_order, names_seen}
 use Rattle.al_obsolete.specs.Units.{unit_of_file, units_of}
 use Rattle.al_obsolete.specs.Obsolete.{is_same_trace, is_obsolete, obsolete_of}
 use Rattle.al_obsolete.specs.Wanted.{obsolete_by, obsolete_in}

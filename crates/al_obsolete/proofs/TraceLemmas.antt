@@ -18,7 +18,7 @@ use Rattle.al_unit_graph.proofs.BoolLemmas.{both, and}
 use Rattle.al_unit_graph.proofs.MeetLemmas.{meets_reached}
 use Rattle.al_unit_graph.proofs.ObsoleteLemmas.{same_text, told_text}
 use Rattle.al_obsolete.specs.Obsolete.{met, trace, is_same_pair, is_within, is_same_trace, is_obsolete}
-use Rattle.al_obsolete.proofs.Lists.{from_map, into_map, from_all, into_all}
+use Rattle.al_unit_graph.proofs.Lists.{from_map, into_map, from_all, into_all}
 use Rattle.al_obsolete.proofs.UnitLemmas.{file_there, source_of_unit}
 
 module _ (lib : Library) where

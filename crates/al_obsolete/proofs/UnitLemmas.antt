@@ -21,7 +21,7 @@ use Rattle.al_unit_graph.specs.Closures.{is_same_key}
 use Rattle.al_unit_graph.proofs.BoolLemmas.{both}
 use Rattle.al_unit_graph.proofs.ClosureLemmas.{same_key}
 use Rattle.al_obsolete.specs.Units.{unit_of_file, units_of, keys_of_units, UnitsAreHeld}
-use Rattle.al_obsolete.proofs.Lists.{from_map, into_map}
+use Rattle.al_unit_graph.proofs.Lists.{from_map, into_map}
 
 is_itself : (k : UnitKind) → is_kind k k ≡ true
 is_itself Decl = refl

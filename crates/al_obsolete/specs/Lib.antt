@@ -1,4 +1,3 @@
-pub mod Orders
 pub mod Units
 pub mod Obsolete
 pub mod Wanted

@@ -11,7 +11,7 @@ use Rattle.al_graph.specs.Closing.{is_among, closing}
 use Rattle.al_unit_graph.specs.Headers.{Library}
 use Rattle.al_unit_graph.specs.Library.{unit_at}
 use Rattle.al_unit_graph.specs.Traces.{text_at, is_same_text, wants, IsObsolete}
-use Rattle.al_obsolete.specs.Orders.{key_cmp, in_order}
+use Rattle.al_unit_graph.specs.Orders.{key_cmp, in_order}
 use Rattle.al_obsolete.specs.Units.{keys_of_units}
 
 -- the files that a file meets: itself, and what the units in them want

@@ -28,7 +28,7 @@ fn unit_of_file(
     ensures { IfOk result (λ unit. unit_seen unit ≡ unit_of_file sources.now file.now) }
 {
     let name = Name::from_slice(alloc, file)?;
-    match sources.unit_in(file)? {
+    match sources.unit_in(file) {
         Some(header) => Ok((name, Some(key_of_header(alloc, header)?))),
         None => Ok((name, None)),
     }

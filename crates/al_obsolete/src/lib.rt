@@ -2,7 +2,6 @@
 #![tactic(auto)]
 
 mod by_file;
-mod key_set;
 mod laws;
 mod listing;
 #[cfg(test)]

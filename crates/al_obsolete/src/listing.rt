@@ -3,14 +3,13 @@ ghost use Rattle.std.specs.Prelude.{◌≡◌, ◌||◌, not, map, IfOk};
 ghost use Rattle.std.specs.Option.{option_map};
 ghost use Rattle.al_base.specs.Batch.{key_of};
 ghost use Rattle.al_unit_graph.specs.Dependence.{listed};
-ghost use Rattle.al_obsolete.specs.Orders.{names_seen};
+ghost use Rattle.al_unit_graph.specs.Orders.{names_seen};
 ghost use Rattle.al_obsolete.specs.Wanted.{AreTouched, obsolete_by, ListsObsolete};
 
 use crate::by_file::key_of_header;
-use crate::key_set::KeySet;
 use crate::wanted::WantedFiles;
 use al_base::{NoMemory, UnitKey};
-use al_unit_graph::Sources;
+use al_unit_graph::{KeySet, Sources};
 use std::alloc::Global;
 use std::collections::BTreeSet;
 
@@ -50,11 +49,11 @@ fn obsolete_unit(
 ) -> Result<Option<UnitKey>, NoMemory>
     ensures { IfOk result (λ key. listed (option_map key_of key) ≡ obsolete_by built.now (names_seen faulty.now.keys) now.now file.now is_touched) }
 {
-    let Some(header) = now.unit_in(file)? else {
+    let Some(header) = now.unit_in(file) else {
         return Ok(None);
     };
     let key = key_of_header(alloc, header)?;
-    let was_unit = built.has_unit(&key)?;
+    let was_unit = built.has_unit(&key);
     let is_obsolete = differs(was_unit, faulty.contains(file), is_touched);
     if is_obsolete { Ok(Some(key)) } else { Ok(None) }
 }

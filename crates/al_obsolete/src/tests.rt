@@ -1,3 +1,5 @@
+ghost use Rattle.std.specs.Prelude.{◌≤◌, length};
+
 use crate::{obsolete, units};
 use al_base::{Name, NoMemory, Place, UnitKind};
 use al_unit_graph::{Contents, Header, Mention, Source, Sources, UnitForm};
@@ -17,7 +19,9 @@ fn put(
     form: UnitForm,
     mentioned: &[u8],
     text: &[u8],
-) -> Result<(), NoMemory> {
+) -> Result<(), NoMemory>
+    requires { length file.now ≤ 255 }
+{
     let mut mentions = Vec::new(alloc);
     if !mentioned.is_empty() {
         let name = Name::from_slice(alloc, mentioned)?;
@@ -33,6 +37,10 @@ fn put(
         designator: Name::from_slice(alloc, unit)?,
         mentions,
         stubs: Vec::new(alloc),
+        elaborate: Vec::new(alloc),
+        elaborate_all: Vec::new(alloc),
+        has_elaborate_body: false,
+        is_parameterless_procedure: false,
     };
     let text = Rc::new(alloc, Vec::from_slice(alloc, text)?)?;
     let contents = Contents::Headed(header);

@@ -1,8 +1,6 @@
 use al_lex::{Token, lex};
 use al_parse_expr::{Stop, expression, identifier, name_from};
-use al_tree::{
-    AddingOperator, Expression, LogicalOperator, NamePart, ObjectName, Relation, SimpleExpression,
-};
+use al_tree::{AddingOperator, Expression, InfixOperator, LogicalOperator, NamePart};
 use std::alloc::Global;
 use std::test::Fail;
 
@@ -68,7 +66,7 @@ fn keeps_what_is_written(rt: HostRuntime) -> Result<(), Fail> {
     let alloc = rt.alloc();
     let source = b"A or else\n  X not in 7 .. B - 1";
     let tokens = tokens_of(alloc, source)?;
-    let Ok((Expression::Logical(relations), [])) = expression(
+    let Ok((Expression::Infix(relations), [])) = expression(
         alloc,
         source,
         MOST_OPEN,
@@ -76,24 +74,62 @@ fn keeps_what_is_written(rt: HostRuntime) -> Result<(), Fail> {
     ) else {
         return Err(Fail::from("no relations"));
     };
-    assert_eq!(rt; relations.operator, LogicalOperator::OrElse);
-    assert!(rt; relations.others.is_empty());
-    let Relation::InRange(membership) = &relations.second else {
-        return Err(Fail::from("no range"));
+    assert!(rt;
+        matches!(
+            &relations.operator,
+            InfixOperator::Logical(LogicalOperator::OrElse)
+        )
+    );
+    assert!(rt; matches!(&relations.left, Expression::Name(_)));
+    let Expression::Member(membership) = &relations.right else {
+        return Err(Fail::from("no membership"));
     };
     let Some(not) = &membership.not else {
         return Err(Fail::from("no not"));
     };
     assert_eq!(rt; (not.line, not.col), (2, 5));
-    let SimpleExpression::Numeric(literal) = &membership.low else {
+    let Expression::Numeric(literal) = &membership.low else {
         return Err(Fail::from("no number"));
     };
     assert_eq!(rt; literal.value, 7);
-    let SimpleExpression::Sum(difference) = &membership.high else {
+    let Some(Expression::Infix(difference)) = &membership.high else {
         return Err(Fail::from("no minus"));
     };
-    assert!(rt; matches!(difference.second.operator, AddingOperator::Minus(_)));
-    assert!(rt; difference.others.is_empty());
+    assert!(rt;
+        matches!(
+            &difference.operator,
+            InfixOperator::Adding(AddingOperator::Minus(_))
+        )
+    );
+    assert!(rt; matches!(&difference.right, Expression::Numeric(_)));
+    Ok(())
+}
+
+#[test]
+fn leans_to_the_left(rt: HostRuntime) -> Result<(), Fail> {
+    let alloc = rt.alloc();
+    let source = b"A - B + C";
+    let tokens = tokens_of(alloc, source)?;
+    let Ok((Expression::Infix(sum), [])) = expression(alloc, source, MOST_OPEN, tokens.as_slice())
+    else {
+        return Err(Fail::from("no sum"));
+    };
+    let Expression::Infix(difference) = &sum.left else {
+        return Err(Fail::from("no difference at the left"));
+    };
+    assert!(rt;
+        matches!(
+            &sum.operator,
+            InfixOperator::Adding(AddingOperator::Plus(_))
+        )
+    );
+    assert!(rt;
+        matches!(
+            &difference.operator,
+            InfixOperator::Adding(AddingOperator::Minus(_))
+        )
+    );
+    assert!(rt; matches!(&sum.right, Expression::Name(_)));
     Ok(())
 }
 
@@ -108,17 +144,25 @@ fn takes_names_apart(rt: HostRuntime) -> Result<(), Fail> {
     let Ok((name, rest)) = name_from(alloc, source, MOST_OPEN, first, rest) else {
         return Err(Fail::from("no name"));
     };
-    let ObjectName::Longer(name) = &name else {
-        return Err(Fail::from("no parts"));
-    };
     assert_eq!(rt; rest.len(), 2);
-    let NamePart::Selector(selector) = &name.next else {
+    let Expression::Longer(image) = &name else {
+        return Err(Fail::from("no attribute"));
+    };
+    assert!(rt; matches!(&image.part, NamePart::Attribute(_)));
+    let Expression::Longer(indexed) = &image.prefix else {
+        return Err(Fail::from("no arguments"));
+    };
+    let NamePart::Arguments(_, _, more) = &indexed.part else {
+        return Err(Fail::from("no arguments"));
+    };
+    assert_eq!(rt; more.len(), 1);
+    let Expression::Longer(component) = &indexed.prefix else {
         return Err(Fail::from("no selector"));
     };
-    let [NamePart::Arguments(_, _, more), NamePart::Attribute(_)] = name.others.as_slice() else {
-        return Err(Fail::from("other parts"));
+    let NamePart::Selector(selector) = &component.part else {
+        return Err(Fail::from("no selector"));
     };
     assert!(rt; selector.name.as_slice() == b"y".as_slice());
-    assert_eq!(rt; more.len(), 1);
+    assert!(rt; matches!(&component.prefix, Expression::Name(_)));
     Ok(())
 }

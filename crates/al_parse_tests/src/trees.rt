@@ -1,21 +1,20 @@
 // Worked values, and trees made by hand with their lexemes.
 ghost use Rattle.std.specs.Prelude.{◌≡◌, ◌∷◌, ◌++◌, [], None, IfOk, option_map};
 ghost use Rattle.al_syntax.specs.DeclarationTrees.{end_name_tokens, pragma_tokens};
-ghost use Rattle.al_syntax.specs.ExpressionTrees.{simple_tokens, term_tokens};
+ghost use Rattle.al_syntax.specs.ExpressionTrees.{expression_tokens};
 ghost use Rattle.al_syntax.specs.StatementTrees.{statement_tokens};
 ghost use Rattle.al_syntax.specs.Symbols.{Symbol as symbols};
 ghost use Rattle.al_syntax.specs.Words.{labelled, word};
 ghost use Rattle.al_tree.specs.DeclarationViews.{pragma_seen};
-ghost use Rattle.al_tree.specs.ExpressionViews.{simple_seen, term_seen};
+ghost use Rattle.al_tree.specs.ExpressionViews.{expression_seen};
 ghost use Rattle.al_tree.specs.Lexemes.{identifier_label, place_label};
 ghost use Rattle.al_tree.specs.StatementViews.{statement_seen};
 
 use al_base::{NoMemory, Place, ReservedWord, Span};
 use al_lex::{Delimiter, Kind, Token};
 use al_tree::{
-    ExitStatement, Factor, Identifier, IdentifierName, NumericLiteral, ObjectName, Pragma, Primary,
-    Sign, SignedTerm, SimpleExpression, Statement, StringLiteral, Symbol, Term, is_symbol,
-    symbol_of, text_of,
+    ExitStatement, Expression, Identifier, IdentifierName, NumericLiteral, Pragma, PrefixOperator,
+    Prefixed, Sign, Statement, StringLiteral, Symbol, is_symbol, symbol_of, text_of,
 };
 use std::alloc::{AllocFailed, Global};
 use std::test::Fail;
@@ -35,23 +34,19 @@ fn token(kind: Kind, start: u32, len: u32) -> Token
     }
 }
 
-fn named(name: Identifier) -> Term
-    ensures { term_tokens (term_seen result) ≡ labelled symbols.Identifier (identifier_label name) ∷ [] }
-{
-    let name = ObjectName::direct(name);
-    Term::sole_factor(Factor::sole_primary(Primary::named(name)))
-}
-
 /// `- name`
 fn negated(
     alloc: Global,
     place: Place,
     name: Identifier,
-) -> Result<SimpleExpression, AllocFailed<SignedTerm>>
-    ensures { IfOk result (λ s. simple_tokens (simple_seen s) ≡ labelled symbols.Minus (place_label place) ∷ labelled symbols.Identifier (identifier_label name) ∷ []) }
+) -> Result<Expression, AllocFailed<Prefixed>>
+    ensures { IfOk result (λ e. expression_tokens (expression_seen e) ≡ labelled symbols.Minus (place_label place) ∷ labelled symbols.Identifier (identifier_label name) ∷ []) }
 {
-    let term = SignedTerm::new(Sign::Minus(place), named(name));
-    Ok(SimpleExpression::signed(Box::new(alloc, term)?))
+    let negative = Prefixed::new(
+        PrefixOperator::Sign(Sign::Minus(place)),
+        Expression::name(name),
+    );
+    Ok(Expression::prefixed(Box::new(alloc, negative)?))
 }
 
 /// `exit name;`
@@ -117,10 +112,10 @@ fn identifier(alloc: Global, name: &[u8]) -> Result<Identifier, NoMemory> {
 fn makes_trees(rt: HostRuntime) -> Result<(), Fail> {
     let alloc = rt.alloc();
     let negative = negated(alloc, PLACE, identifier(alloc, b"max")?)?;
-    let SimpleExpression::Signed(negative) = &negative else {
+    let Expression::Prefixed(negative) = &negative else {
         return Err(Fail::from("no sign"));
     };
-    assert_eq!(rt; negative.sign, Sign::Minus(PLACE));
+    assert!(rt; matches!(&negative.operator, PrefixOperator::Sign(Sign::Minus(_))));
     let outer = ExitStatement {
         opening: PLACE,
         name: Some(identifier(alloc, b"outer")?),

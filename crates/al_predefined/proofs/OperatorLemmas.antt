@@ -5,9 +5,10 @@ use Rattle.al_view.specs.declared.types.TypeView.{TypeView}
 use Rattle.al_view.specs.Named.{Declarations}
 use Rattle.al_predefined.specs.Operators.{Group, with_operators}
 
-pub with_operators-same : (t u : Symbol) (types others : List TypeView) (declared before new : Declarations) (groups : List Group) → new ≡ with_operators u others before groups → u ≡ t → others ≡ types → before ≡ declared → new ≡ with_operators t types declared groups
-with_operators-same t u types others declared before new groups is symbol same behind =
+pub with_operators-same : (t u : Symbol) (types others : List TypeView) (elsewhere outside declared before new : Declarations) (groups : List Group) → new ≡ with_operators u others outside before groups → u ≡ t → others ≡ types → outside ≡ elsewhere → before ≡ declared → new ≡ with_operators t types elsewhere declared groups
+with_operators-same t u types others elsewhere outside declared before new groups is symbol same apart behind =
     is
-    ∙ ap (λ (s : Symbol). with_operators s others before groups) symbol
-    ∙ ap (λ (l : List TypeView). with_operators t l before groups) same
-    ∙ ap (λ (d : Declarations). with_operators t types d groups) behind
+    ∙ ap (λ (s : Symbol). with_operators s others outside before groups) symbol
+    ∙ ap (λ (l : List TypeView). with_operators t l outside before groups) same
+    ∙ ap (λ (o : Declarations). with_operators t types o before groups) apart
+    ∙ ap (λ (d : Declarations). with_operators t types elsewhere d groups) behind

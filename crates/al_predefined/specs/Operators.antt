@@ -1,5 +1,5 @@
 -- The predefined operators of types.
-use Rattle.std.specs.Prelude.{ℕ, List, [], ◌∷◌, length, fold, codes, Some, None, pos}
+use Rattle.std.specs.Prelude.{ℕ, ◌+◌, List, [], ◌∷◌, length, fold, codes, Some, None, pos}
 use Rattle.al_base.specs.declared.unit_key.UnitKind.TheVariants.{Decl}
 use Rattle.al_view.specs.declared.symbol.Symbol.{Symbol}
 use Rattle.al_view.specs.declared.types.Subtype.{Subtype}
@@ -113,14 +113,14 @@ operator_view t types profile o number = OfSubprogram (record {
   flag = None;
 })
 
--- one more operator of the type
-abbrev pub with_operator : Symbol → List TypeView → OperatorProfile → Declarations → OperatorSymbol → Declarations
-with_operator t types profile declared o =
-    with_view declared (spelling o) (operator_view t types profile o (length (views_of declared (spelling o))))
+-- one more operator of the type; its number counts its homonyms there and in what the unit declares elsewhere
+abbrev pub with_operator : Symbol → List TypeView → OperatorProfile → Declarations → Declarations → OperatorSymbol → Declarations
+with_operator t types profile elsewhere declared o =
+    with_view declared (spelling o) (operator_view t types profile o (length (views_of elsewhere (spelling o)) + length (views_of declared (spelling o))))
 
 -- operators of the type behind what is declared
-abbrev pub with_group : Symbol → List TypeView → Declarations → Group → Declarations
-with_group t types declared g = fold (with_operator t types g.0) declared g.1
+abbrev pub with_group : Symbol → List TypeView → Declarations → Declarations → Group → Declarations
+with_group t types elsewhere declared g = fold (with_operator t types g.0 elsewhere) declared g.1
 
-abbrev pub with_operators : Symbol → List TypeView → Declarations → List Group → Declarations
-with_operators t types declared groups = fold (with_group t types) declared groups
+abbrev pub with_operators : Symbol → List TypeView → Declarations → Declarations → List Group → Declarations
+with_operators t types elsewhere declared groups = fold (with_group t types elsewhere) declared groups

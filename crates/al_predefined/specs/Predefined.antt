@@ -66,9 +66,9 @@ milliseconds = operand (codes "ms") (whole_type integer) ∷ []
 -- Ada.Real_Time (ARM D.8): Time, Time_Span, Clock, the sum of a Time and a Time_Span, and Milliseconds
 abbrev pub real_time : Declarations
 real_time =
-    let types = with_view (with_view [] (codes "time") (of_type time_types)) (codes "time_span") (of_type span_types) in
+    let types = with_view (with_view [] (codes "time") (of_type time_types [])) (codes "time_span") (of_type span_types []) in
     let clock = with_time_function [] time time_types types (codes "clock") in
-    let sum = with_operator time time_types Later clock Plus in
+    let sum = with_operator time time_types Later [] clock Plus in
     with_time_function milliseconds time_span span_types sum (codes "milliseconds")
 
 -- what the predefined package of this name declares (ARM A(2)), where there is one

@@ -19,7 +19,10 @@ abbrev pub boolean : Symbol
 boolean = standard_symbol (codes "boolean")
 
 abbrev pub boolean_definition : TypeDefinition
-boolean_definition = Enumeration (codes "false" ∷ codes "true" ∷ [])
+boolean_definition = Enumeration 2
+
+abbrev pub boolean_literals : List (List ℕ)
+boolean_literals = codes "false" ∷ codes "true" ∷ []
 
 abbrev pub boolean_types : List TypeView
 boolean_types = scalar boolean boolean_definition
@@ -33,9 +36,9 @@ integer_definition = Integer (record { low = negsuc 2147483647; high = pos 21474
 abbrev pub integer_types : List TypeView
 integer_types = scalar integer integer_definition
 
--- a type of these types, the last of them
-abbrev pub of_type : List TypeView → ViewKind
-of_type types = OfType types
+-- a type of these types, the last of them, with the names of its literals
+abbrev pub of_type : List TypeView → List (List ℕ) → ViewKind
+of_type types literals = OfType (record { types = types; literals = literals })
 
 -- a literal of a type
 abbrev pub literal : Symbol → List TypeView → ℕ → ViewKind
@@ -43,20 +46,20 @@ literal t types position = OfLiteral (record { base = t; types = types; position
 
 -- a subtype of Integer from this bound on
 abbrev pub integers_from : ℕ → ViewKind
-integers_from low = OfSubtype (record { subtype = record { base = integer; bounds = Some (record { low = pos low; high = pos 2147483647 }) }; types = [] })
+integers_from low = OfSubtype (record { subtype = record { base = integer; bounds = Some (record { low = pos low; high = pos 2147483647 }) }; types = []; literals = [] })
 
 -- type Boolean is (False, True), with its operators
 abbrev pub with_boolean : Declarations → Declarations
 with_boolean declared =
-    let named = with_view declared (codes "boolean") (OfType boolean_types) in
+    let named = with_view declared (codes "boolean") (of_type boolean_types boolean_literals) in
     let first = with_view named (codes "false") (literal boolean boolean_types 0) in
     let both = with_view first (codes "true") (literal boolean boolean_types 1) in
-    with_operators boolean boolean_types (with_operators boolean boolean_types both (operators_of boolean_definition)) logical
+    with_operators boolean boolean_types [] (with_operators boolean boolean_types [] both (operators_of boolean_definition)) logical
 
 -- type Integer is range -2**31 .. 2**31 - 1, with its operators
 abbrev pub with_integer : Declarations → Declarations
 with_integer declared =
-    with_operators integer integer_types (with_view declared (codes "integer") (OfType integer_types)) (operators_of integer_definition)
+    with_operators integer integer_types [] (with_view declared (codes "integer") (of_type integer_types [])) (operators_of integer_definition)
 
 -- subtype Natural is Integer range 0 .. Integer'Last; subtype Positive is Integer range 1 .. Integer'Last
 abbrev pub with_subtypes : Declarations → Declarations

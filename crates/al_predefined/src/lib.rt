@@ -5,12 +5,12 @@ pub mod laws;
 mod operators;
 mod predefined;
 mod standard;
-#[cfg(test)]
-mod tests;
+mod types;
 
 pub use operators::{
     OperatorProfile, OperatorSymbol, declare_logical, declare_operator, declare_operators, operand,
     operator_view, predefined_symbol, standard_symbol, whole_type,
 };
 pub use predefined::predefined_package;
-pub use standard::{of_type, scalar, standard_package};
+pub use standard::{INTEGER_BOUNDS, no_names, of_type, scalar, standard_package};
+pub use types::{ROOT_BOUNDS, StandardTypes, root_integer, root_operators};

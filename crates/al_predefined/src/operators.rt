@@ -231,49 +231,56 @@ pub fn operator_view(
     Ok(view)
 }
 
-/// One more operator of the type.
+/// One more operator of the type. Its number counts its homonyms in the interface and in what its unit declares elsewhere.
 pub fn declare_operator(
     alloc: Global,
+    elsewhere: &Interface,
     interface: &mut Interface,
     of_type: &Symbol,
     types: &Types,
     profile: OperatorProfile,
     operator: OperatorSymbol,
 ) -> Result<(), NoMemory>
-    ensures { OnOk result (interface.new ≡ with_operator of_type.now types.now profile interface.old operator) }
+    ensures { OnOk result (interface.new ≡ with_operator of_type.now types.now profile elsewhere.now interface.old operator) }
 {
-    let number = interface.views(operator.spelling()).len();
+    let spelling = operator.spelling();
+    let number = elsewhere.views(spelling).len() + interface.views(spelling).len();
     let view = operator_view(alloc, of_type, types, profile, operator, number)?;
-    interface.declare(operator.spelling(), view)?;
+    interface.declare(spelling, view)?;
     Ok(())
 }
 
 fn declare_group(
     alloc: Global,
+    elsewhere: &Interface,
     interface: &mut Interface,
     of_type: &Symbol,
     types: &Types,
     profile: OperatorProfile,
     operators: &[OperatorSymbol],
 ) -> Result<(), NoMemory>
-    ensures { OnOk result (interface.new ≡ with_group of_type.now types.now interface.old (profile, operators.now)) }
+    ensures { OnOk result (interface.new ≡ with_group of_type.now types.now elsewhere.now interface.old (profile, operators.now)) }
 {
     for operator in operators {
-        declare_operator(alloc, interface, of_type, types, profile, *operator)?;
+        declare_operator(
+            alloc, elsewhere, interface, of_type, types, profile, *operator,
+        )?;
     }
     Ok(())
 }
 
 fn declare_arithmetic(
     alloc: Global,
+    elsewhere: &Interface,
     interface: &mut Interface,
     of_type: &Symbol,
     types: &Types,
 ) -> Result<(), NoMemory>
-    ensures { OnOk result (interface.new ≡ with_operators of_type.now types.now interface.old arithmetic) }
+    ensures { OnOk result (interface.new ≡ with_operators of_type.now types.now elsewhere.now interface.old arithmetic) }
 {
     declare_group(
         alloc,
+        elsewhere,
         interface,
         of_type,
         types,
@@ -282,6 +289,7 @@ fn declare_arithmetic(
     )?;
     declare_group(
         alloc,
+        elsewhere,
         interface,
         of_type,
         types,
@@ -291,6 +299,7 @@ fn declare_arithmetic(
     let power = [OperatorSymbol::Power];
     declare_group(
         alloc,
+        elsewhere,
         interface,
         of_type,
         types,
@@ -303,14 +312,16 @@ fn declare_arithmetic(
 /// The logical operators of Boolean, behind what is declared (ARM 4.5.1(2), 4.5.6(3)).
 pub fn declare_logical(
     alloc: Global,
+    elsewhere: &Interface,
     interface: &mut Interface,
     of_type: &Symbol,
     types: &Types,
 ) -> Result<(), NoMemory>
-    ensures { OnOk result (interface.new ≡ with_operators of_type.now types.now interface.old logical) }
+    ensures { OnOk result (interface.new ≡ with_operators of_type.now types.now elsewhere.now interface.old logical) }
 {
     declare_group(
         alloc,
+        elsewhere,
         interface,
         of_type,
         types,
@@ -320,6 +331,7 @@ pub fn declare_logical(
     let not = [OperatorSymbol::Not];
     declare_group(
         alloc,
+        elsewhere,
         interface,
         of_type,
         types,
@@ -330,27 +342,34 @@ pub fn declare_logical(
 }
 
 /// The operators that the declaration of a type declares, behind what is declared (ARM 3.2.3(6)); of Boolean but the
-/// logical ones.
+/// logical ones. Their numbers count their homonyms there and in what the unit declares elsewhere.
 pub fn declare_operators(
     alloc: Global,
+    elsewhere: &Interface,
     interface: &mut Interface,
     of_type: &Symbol,
     types: &Types,
     definition: &TypeDefinition,
 ) -> Result<(), NoMemory>
-    ensures { OnOk result (interface.new ≡ with_operators of_type.now types.now interface.old (operators_of definition.now)) }
+    ensures { OnOk result (interface.new ≡ with_operators of_type.now types.now elsewhere.now interface.old (operators_of definition.now)) }
 {
     let relation = OperatorProfile::Relation;
     match definition {
         TypeDefinition::Integer(_) => {
-            declare_group(alloc, interface, of_type, types, relation, &RELATIONS)?;
-            declare_arithmetic(alloc, interface, of_type, types)?;
+            declare_group(
+                alloc, elsewhere, interface, of_type, types, relation, &RELATIONS,
+            )?;
+            declare_arithmetic(alloc, elsewhere, interface, of_type, types)?;
         }
-        TypeDefinition::Enumeration(_) => {
-            declare_group(alloc, interface, of_type, types, relation, &RELATIONS)?;
+        TypeDefinition::Enumeration { .. } => {
+            declare_group(
+                alloc, elsewhere, interface, of_type, types, relation, &RELATIONS,
+            )?;
         }
         TypeDefinition::Array { .. } | TypeDefinition::Record(_) => {
-            declare_group(alloc, interface, of_type, types, relation, &EQUALITY)?;
+            declare_group(
+                alloc, elsewhere, interface, of_type, types, relation, &EQUALITY,
+            )?;
         }
         TypeDefinition::Time | TypeDefinition::Private => {}
     }

@@ -6,7 +6,7 @@ use crate::operators::{
     OperatorProfile, OperatorSymbol, declare_operator, operand, predefined_symbol, standard_symbol,
     whole_type,
 };
-use crate::standard::{of_type, scalar, standard_package};
+use crate::standard::{no_names, of_type, scalar, standard_package};
 use al_base::NoMemory;
 use al_view::{
     CallKind, Interface, Parameter, Profile, Row, SubprogramView, Subtype, Symbol, TypeDefinition,
@@ -136,8 +136,8 @@ fn real_time(alloc: Global) -> Result<Interface, NoMemory>
     let span = predefined_symbol(alloc, b"ada.real_time", b"time_span")?;
     let spans = scalar(alloc, &span, TypeDefinition::Time)?;
     let mut interface = Interface::new(alloc);
-    interface.declare(b"time", of_type(alloc, &times)?)?;
-    interface.declare(b"time_span", of_type(alloc, &spans)?)?;
+    interface.declare(b"time", of_type(alloc, &times, no_names(alloc)?)?)?;
+    interface.declare(b"time_span", of_type(alloc, &spans, no_names(alloc)?)?)?;
     declare_function(
         alloc,
         &mut interface,
@@ -147,8 +147,10 @@ fn real_time(alloc: Global) -> Result<Interface, NoMemory>
         b"clock",
     )?;
     let later = OperatorProfile::Later;
+    let elsewhere = Interface::new(alloc);
     declare_operator(
         alloc,
+        &elsewhere,
         &mut interface,
         &time,
         &times,

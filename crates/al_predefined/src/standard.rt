@@ -1,17 +1,17 @@
 // What the predefined package Standard declares.
-ghost use Rattle.std.specs.Prelude.{◌≡◌, IfOk, OnOk};
-ghost use Rattle.al_predefined.specs.Standard.{boolean_definition, integers_from, literal, of_type, scalar, standard, with_boolean, with_integer, with_subtypes};
+ghost use Rattle.std.specs.Prelude.{◌≡◌, [], IfOk, OnOk};
+ghost use Rattle.al_predefined.specs.Standard.{boolean_literals, integers_from, literal, of_type, scalar, standard, with_boolean, with_integer, with_subtypes};
 
 use crate::operators::{declare_logical, declare_operators, standard_symbol};
 use al_base::{Name, NoMemory};
 use al_view::{
-    Bounds, Interface, Layout, LiteralView, Row, Subtype, SubtypeView, Symbol, TypeDefinition,
-    TypeView, Types, View, ViewKind,
+    Bounds, DeclaredType, Interface, Layout, LiteralView, Names, Row, Subtype, SubtypeView, Symbol,
+    TypeDefinition, TypeView, Types, View, ViewKind,
 };
 use std::alloc::Global;
 
 /// The bounds of Integer (ARM 3.5.4(11)).
-const INTEGER_BOUNDS: Bounds = Bounds {
+pub const INTEGER_BOUNDS: Bounds = Bounds {
     low: -2147483648,
     high: 2147483647,
 };
@@ -42,15 +42,24 @@ pub fn scalar(alloc: Global, symbol: &Symbol, definition: TypeDefinition) -> Res
     Ok(types)
 }
 
-fn boolean_definition(alloc: Global) -> Result<TypeDefinition, NoMemory>
-    ensures { IfOk result (λ definition. definition ≡ boolean_definition) }
+fn boolean_literals(alloc: Global) -> Result<Names, NoMemory>
+    ensures { IfOk result (λ names. names ≡ boolean_literals) }
 {
     let no = Name::from_slice(alloc, b"false")?;
     let yes = Name::from_slice(alloc, b"true")?;
     let mut names = Row::empty(alloc);
     names.push(no)?;
     names.push(yes)?;
-    Ok(TypeDefinition::Enumeration(names))
+    let names = Names::new(alloc, names)?;
+    Ok(names)
+}
+
+/// The literals of what has none.
+pub fn no_names(alloc: Global) -> Result<Names, NoMemory>
+    ensures { IfOk result (λ names. names ≡ []) }
+{
+    let names = Names::new(alloc, Row::empty(alloc))?;
+    Ok(names)
 }
 
 fn literal(alloc: Global, symbol: &Symbol, types: &Types, position: u32) -> Result<View, NoMemory>
@@ -67,12 +76,13 @@ fn literal(alloc: Global, symbol: &Symbol, types: &Types, position: u32) -> Resu
     Ok(view)
 }
 
-/// A type of these types, the last of them.
-pub fn of_type(alloc: Global, types: &Types) -> Result<View, NoMemory>
-    ensures { IfOk result (λ view. view ≡ of_type types.now) }
+/// A type of these types, the last of them, with the names of its literals.
+pub fn of_type(alloc: Global, types: &Types, literals: Names) -> Result<View, NoMemory>
+    ensures { IfOk result (λ view. view ≡ of_type types.now literals) }
 {
     let types = types.share()?;
-    let view = View::new(alloc, ViewKind::OfType(types))?;
+    let declared = DeclaredType { types, literals };
+    let view = View::new(alloc, ViewKind::OfType(declared))?;
     Ok(view)
 }
 
@@ -80,14 +90,16 @@ fn declare_boolean(alloc: Global, interface: &mut Interface) -> Result<(), NoMem
     ensures { OnOk result (interface.new ≡ with_boolean interface.old) }
 {
     let symbol = standard_symbol(alloc, b"boolean")?;
-    let definition = boolean_definition(alloc)?;
+    let definition = TypeDefinition::Enumeration { literals: 2 };
     let types = scalar(alloc, &symbol, definition)?;
-    interface.declare(b"boolean", of_type(alloc, &types)?)?;
+    let names = boolean_literals(alloc)?;
+    interface.declare(b"boolean", of_type(alloc, &types, names)?)?;
     interface.declare(b"false", literal(alloc, &symbol, &types, 0)?)?;
     interface.declare(b"true", literal(alloc, &symbol, &types, 1)?)?;
-    let definition = boolean_definition(alloc)?;
-    declare_operators(alloc, interface, &symbol, &types, &definition)?;
-    declare_logical(alloc, interface, &symbol, &types)?;
+    let definition = TypeDefinition::Enumeration { literals: 2 };
+    let elsewhere = Interface::new(alloc);
+    declare_operators(alloc, &elsewhere, interface, &symbol, &types, &definition)?;
+    declare_logical(alloc, &elsewhere, interface, &symbol, &types)?;
     Ok(())
 }
 
@@ -96,9 +108,12 @@ fn declare_integer(alloc: Global, interface: &mut Interface) -> Result<(), NoMem
 {
     let symbol = standard_symbol(alloc, b"integer")?;
     let types = scalar(alloc, &symbol, TypeDefinition::Integer(INTEGER_BOUNDS))?;
-    interface.declare(b"integer", of_type(alloc, &types)?)?;
+    let names = no_names(alloc)?;
+    let view = of_type(alloc, &types, names)?;
+    interface.declare(b"integer", view)?;
     let definition = TypeDefinition::Integer(INTEGER_BOUNDS);
-    declare_operators(alloc, interface, &symbol, &types, &definition)?;
+    let elsewhere = Interface::new(alloc);
+    declare_operators(alloc, &elsewhere, interface, &symbol, &types, &definition)?;
     Ok(())
 }
 
@@ -118,6 +133,7 @@ fn integers_from(alloc: Global, low: u32) -> Result<View, NoMemory>
             bounds: Some(bounds),
         },
         types,
+        literals: no_names(alloc)?,
     };
     let view = View::new(alloc, ViewKind::OfSubtype(subtype))?;
     Ok(view)

@@ -1,31 +1,50 @@
 -- What an answer says.
-use Rattle.std.specs.Prelude.{Bool, false, List, [], ◌∷◌, ◌++◌, map, Option, Some, None}
+use Rattle.std.specs.Prelude.{ℕ, Bool, false, List, [], ◌∷◌, ◌++◌, map, Option, Some, None}
 use Rattle.std.specs.List.{flat_map}
 use Rattle.al_base.specs.declared.unit_key.UnitKey.{UnitKey}
+use Rattle.al_base.specs.declared.unit_key.UnitKind.TheVariants.{Decl}
+use Rattle.al_unit_graph.specs.Names.{lineage}
+use Rattle.al_view.specs.declared.types.Subtype.{Subtype}
+use Rattle.al_view.specs.declared.view.Profile.{Profile}
 use Rattle.al_view.specs.declared.view.ViewKind.{ViewKind}
-use Rattle.al_view.specs.Named.{Declarations}
+use Rattle.al_view.specs.declared.view.ViewKind.TheVariants.{OfPackage, OfSubprogram}
 use Rattle.al_view.specs.ViewSymbols.{symbols_of}
 use Rattle.al_query.specs.declared.answer.Completion.{Completion}
 use Rattle.al_query.specs.declared.answer.ContextView.{ContextView}
 use Rattle.al_query.specs.declared.answer.UnitForm.{UnitForm}
+use Rattle.al_query.specs.declared.answer.UnitForm.TheVariants as form
 use Rattle.al_query.specs.declared.answer.UseClause.{UseClause}
 use Rattle.al_query.specs.declared.answer.UseClause.TheVariants.{Package, «Type»}
 use Rattle.al_query.specs.declared.answer.AnswerKind.{AnswerKind}
-use Rattle.al_query.specs.declared.answer.AnswerKind.TheVariants.{Views, Whole, Kind, Parent, IsPrivate, Context, NeedsBody, Completions}
+use Rattle.al_query.specs.declared.answer.AnswerKind.TheVariants.{Views, Kind, Parent, IsPrivate, Context, NeedsBody, Completions}
 
 -- the views of a name; none in an answer to another question
 abbrev pub views_of : AnswerKind → List ViewKind
 views_of (Views views) = views
 views_of _ = []
 
--- the names of a part with their views, none where that isn't answered
-abbrev pub whole_of : AnswerKind → Option Declarations
-whole_of (Whole interface) = Some interface
-whole_of _ = None
+-- a subprogram that has a result is a function (ARM 6.1)
+abbrev pub form_of_profile : Profile → UnitForm
+form_of_profile p = at p.result
+  where
+    at : Option Subtype → UnitForm
+    at (Some r) = form.Function
+    at None = form.Procedure
 
--- what the unit is, none where that isn't answered
+-- what a unit with that own view is, none where no library unit has such a view
+abbrev pub form_of_view : ViewKind → Option UnitForm
+form_of_view (OfPackage s) = Some form.Package
+form_of_view (OfSubprogram s) = Some (form_of_profile s.profile)
+form_of_view _ = None
+
+-- the unit's own view, none where that isn't answered
+abbrev pub own_view_of : AnswerKind → Option ViewKind
+own_view_of (Kind view) = Some view
+own_view_of _ = None
+
+-- what the unit is, none where its own view isn't answered
 abbrev pub form_of : AnswerKind → Option UnitForm
-form_of (Kind form) = Some form
+form_of (Kind view) = form_of_view view
 form_of _ = None
 
 -- the parent unit, none where there is none or that isn't answered
@@ -57,8 +76,13 @@ abbrev pub clause_units : UseClause → List UnitKey
 clause_units (Package unit) = unit ∷ []
 clause_units («Type» symbol) = symbol.unit ∷ []
 
+abbrev pub declaration : List ℕ → UnitKey
+declaration name = record { name = name; kind = Decl }
+
+-- the units that a context names: each unit of a with clause with its ancestors, as who names a unit names these (ARM
+-- 10.1.2(6)), and those of the use clauses
 abbrev pub context_units : ContextView → List UnitKey
-context_units c = c.withs ++ flat_map clause_units c.uses ++ flat_map (λ u. clause_units u.clause) c.uses_inside
+context_units c = flat_map (λ u. map declaration (lineage u.name)) c.withs ++ flat_map clause_units c.uses ++ flat_map (λ u. clause_units u.clause) c.uses_inside
 
 abbrev pub view_units : ViewKind → List UnitKey
 view_units v = map (λ s. s.unit) (symbols_of v)
@@ -66,7 +90,7 @@ view_units v = map (λ s. s.unit) (symbols_of v)
 -- the units that an answer names
 unfoldable pub units_named : AnswerKind → List UnitKey
 units_named (Views views) = flat_map view_units views
-units_named (Whole interface) = flat_map (λ e. flat_map view_units e.1) interface
+units_named (Kind view) = view_units view
 units_named (Parent (Some unit)) = unit ∷ []
 units_named (Context c) = context_units c
 units_named (Completions completions) = flat_map (λ c. view_units c.view) completions

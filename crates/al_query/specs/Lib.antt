@@ -1,5 +1,8 @@
 pub mod Answers
+pub mod Asked
+pub mod BodyLaws
 pub mod Hashing
+pub mod Known
 pub mod Queries
 pub mod QueryLaws
 pub mod Reads

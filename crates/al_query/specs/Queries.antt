@@ -4,7 +4,7 @@ use Rattle.std.specs.Str.{bytes_eq}
 use Rattle.al_base.specs.declared.unit_key.UnitKey.{UnitKey}
 use Rattle.al_view.specs.Symbols.{same_unit, same_part}
 use Rattle.al_query.specs.declared.query.Query.{Query}
-use Rattle.al_query.specs.declared.query.Query.TheVariants.{Named, Whole, Of}
+use Rattle.al_query.specs.declared.query.Query.TheVariants.{Named, Of}
 use Rattle.al_query.specs.declared.query.Property.{Property}
 use Rattle.al_query.specs.declared.query.Property.TheVariants.{Kind, Parent, IsPrivate, Context, NeedsBody, Completions}
 
@@ -20,12 +20,10 @@ same_property _ _ = false
 -- whether two questions are one
 abbrev pub same_query : Query → Query → Bool
 same_query (Named u p n) (Named v q m) = same_unit u v && same_part p q && bytes_eq n m
-same_query (Whole u p) (Whole v q) = same_unit u v && same_part p q
 same_query (Of u p) (Of v q) = same_unit u v && same_property p q
 same_query _ _ = false
 
 -- the unit that a question asks about
 abbrev pub unit_of : Query → UnitKey
 unit_of (Named u p n) = u
-unit_of (Whole u p) = u
 unit_of (Of u p) = u

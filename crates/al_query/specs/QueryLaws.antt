@@ -6,7 +6,7 @@ use Rattle.std.proofs.lemmas.Slice.Eq.{bytes_eq-Decides}
 use Rattle.al_view.specs.Symbols.{same_unit, same_part}
 use Rattle.al_view.proofs.SymbolLemmas.{both, and_both, same_unit-one, same_unit-self, same_part-one, same_part-self}
 use Rattle.al_query.specs.declared.query.Query.{Query}
-use Rattle.al_query.specs.declared.query.Query.TheVariants.{Named, Whole, Of}
+use Rattle.al_query.specs.declared.query.Query.TheVariants.{Named, Of}
 use Rattle.al_query.specs.declared.query.Property.{Property}
 use Rattle.al_query.specs.declared.query.Property.TheVariants.{Kind, Parent, IsPrivate, Context, NeedsBody, Completions}
 use Rattle.al_query.specs.Hashing.{hashed}
@@ -30,11 +30,6 @@ same_query-one (Named u p n) (Named v q m) h =
     let part = same_part-one p q more.1 in
     let name = (bytes_eq-Decides n m).0 parts.1 in
     ap (λ x. Named x p n) unit ∙ ap (λ x. Named v x n) part ∙ ap (λ x. Named v q x) name
-same_query-one (Whole u p) (Whole v q) h =
-    let parts = both (same_unit u v) (same_part p q) h in
-    let unit = same_unit-one u v parts.0 in
-    let part = same_part-one p q parts.1 in
-    ap (λ x. Whole x p) unit ∙ ap (λ x. Whole v x) part
 same_query-one (Of u p) (Of v q) h =
     let parts = both (same_unit u v) (same_property p q) h in
     let unit = same_unit-one u v parts.0 in
@@ -55,7 +50,6 @@ same_query-self (Named u p n) =
     and_both (same_unit u u && same_part p p) (bytes_eq n n)
     (and_both (same_unit u u) (same_part p p) (same_unit-self u) (same_part-self p))
     ((bytes_eq-Decides n n).1 refl)
-same_query-self (Whole u p) = and_both (same_unit u u) (same_part p p) (same_unit-self u) (same_part-self p)
 same_query-self (Of u p) = and_both (same_unit u u) (same_property p p) (same_unit-self u) (same_property-self p)
 
 same_query-turned : (a b : Query) → same_query a b ≡ true → same_query b a ≡ true

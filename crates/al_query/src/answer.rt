@@ -1,10 +1,10 @@
 // Answers to questions of units.
 ghost use Rattle.std.specs.Prelude.{◌≡◌, IfOk};
 ghost use Rattle.std.specs.Option.{option_copied};
-ghost use Rattle.al_query.specs.Answers.{completions_of, context_of, form_of, is_private_of, needs_body_of, parent_of, views_of, whole_of};
+ghost use Rattle.al_query.specs.Answers.{completions_of, context_of, form_of, form_of_profile, form_of_view, is_private_of, needs_body_of, own_view_of, parent_of, views_of};
 
 use al_base::{Name, NoMemory, UnitKey};
-use al_view::{Interface, Part, Row, Symbol, View, Views};
+use al_view::{Part, Profile, Row, Symbol, View, ViewKind, Views};
 use std::alloc::Global;
 use std::marker::Model;
 use std::rc::Rc;
@@ -15,6 +15,27 @@ pub enum UnitForm {
     Package,
     Procedure,
     Function,
+}
+
+/// A subprogram of that profile is a function where it has a result, else a procedure (ARM 6.1).
+fn form_by_profile(profile: &Profile) -> UnitForm
+    ensures { result ≡ form_of_profile profile.now }
+{
+    match &profile.result {
+        Some(_) => UnitForm::Function,
+        None => UnitForm::Procedure,
+    }
+}
+
+/// What a unit with that view is; none where the view is no library unit's.
+pub fn form_by_view(view: &View) -> Option<UnitForm>
+    ensures { result ≡ form_of_view view.now }
+{
+    match view.kind() {
+        ViewKind::OfPackage(_) => Some(UnitForm::Package),
+        ViewKind::OfSubprogram(subprogram) => Some(form_by_profile(&subprogram.profile)),
+        _ => None,
+    }
 }
 
 /// A use clause, as resolved (ARM 8.4).
@@ -60,10 +81,8 @@ pub enum AnswerKind {
     Nothing,
     /// The views of a name in a part, in text order.
     Views(Views),
-    /// The names of a part with their views.
-    Whole(Interface),
-    /// What the unit is.
-    Kind(UnitForm),
+    /// The unit's own view: a package, or a subprogram with its profile.
+    Kind(View),
     /// Its parent unit; none of a root unit.
     Parent(Option<UnitKey>),
     /// Whether it is a private unit.
@@ -122,22 +141,22 @@ impl Answer {
         }
     }
 
-    /// The names of a part with their views, where that is answered.
-    pub fn whole(&self) -> Option<&Interface>
-        ensures { option_copied result ≡ whole_of self.now }
+    /// The unit's own view, where it is answered.
+    pub fn own_view(&self) -> Option<&View>
+        ensures { option_copied result ≡ own_view_of self.now }
     {
         match self.kind() {
-            AnswerKind::Whole(interface) => Some(interface),
+            AnswerKind::Kind(view) => Some(view),
             _ => None,
         }
     }
 
-    /// What the unit is, where that is answered.
+    /// What the unit is, where its own view is answered.
     pub fn form(&self) -> Option<UnitForm>
         ensures { result ≡ form_of self.now }
     {
         match self.kind() {
-            AnswerKind::Kind(form) => Some(*form),
+            AnswerKind::Kind(view) => form_by_view(view),
             _ => None,
         }
     }

@@ -3,12 +3,15 @@
 
 mod answer;
 mod key;
+pub mod laws;
 mod query;
 mod recorder;
 mod same;
 #[cfg(test)]
 mod tests;
 
-pub use answer::{Answer, AnswerKind, Completion, ContextView, UnitForm, UseClause, UseInPart};
+pub use answer::{
+    Answer, AnswerKind, Completion, ContextView, UnitForm, UseClause, UseInPart, form_by_view,
+};
 pub use query::{Property, Query};
 pub use recorder::{Answers, ReadLog, Recorder};

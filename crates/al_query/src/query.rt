@@ -9,7 +9,7 @@ use std::alloc::Global;
 /// What every unit can be asked for.
 #[derive(Clone, Copy, Debug, PartialEq, Eq)]
 pub enum Property {
-    /// What it is (ARM 10.1.1).
+    /// What it is, by its own view (ARM 10.1.1).
     Kind,
     /// Its parent unit (ARM 10.1.1(10)).
     Parent,
@@ -32,11 +32,6 @@ pub enum Query {
         part: Part,
         name: Name,
     },
-    /// All that a part of it declares.
-    Whole {
-        unit: UnitKey,
-        part: Part,
-    },
     /// One of its properties.
     Of {
         unit: UnitKey,
@@ -51,7 +46,6 @@ impl Query {
     {
         match self {
             Query::Named { unit, .. } => unit,
-            Query::Whole { unit, .. } => unit,
             Query::Of { unit, .. } => unit,
         }
     }
@@ -69,13 +63,6 @@ impl Query {
                     name: by,
                 },
             ) => { is_unit(unit, of) && part.is(in_part) && name.as_slice() == by.as_slice() }
-            (
-                Query::Whole { unit, part },
-                Query::Whole {
-                    unit: of,
-                    part: in_part,
-                },
-            ) => { is_unit(unit, of) && part.is(in_part) }
             (
                 Query::Of { unit, property },
                 Query::Of {
@@ -96,10 +83,6 @@ impl Query {
                 unit: copied_unit(alloc, unit)?,
                 part: part.copy(alloc)?,
                 name: Name::from_slice(alloc, name.as_slice())?,
-            }),
-            Query::Whole { unit, part } => Ok(Query::Whole {
-                unit: copied_unit(alloc, unit)?,
-                part: part.copy(alloc)?,
             }),
             Query::Of { unit, property } => Ok(Query::Of {
                 unit: copied_unit(alloc, unit)?,

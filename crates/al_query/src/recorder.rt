@@ -4,7 +4,8 @@ ghost use Rattle.std.specs.Option.{option_copied, option_map};
 ghost use Rattle.al_base.specs.declared.unit_key.UnitKey.{UnitKey};
 ghost use Rattle.al_query.specs.declared.query.Query.{Query};
 ghost use Rattle.al_query.specs.declared.answer.AnswerKind.{AnswerKind};
-ghost use Rattle.al_query.specs.Reads.{Agrees, Agrees-prop, Grounded-prop, KeepsGrounded, logged, recorded};
+ghost use Rattle.al_query.specs.Known.{Learns};
+ghost use Rattle.al_query.specs.Reads.{Agrees, Agrees-prop, Told, logged, recorded};
 
 use crate::answer::Answer;
 use crate::query::Query;
@@ -120,8 +121,8 @@ impl<A: Answers> Recorder<A> {
         ensures asked { self.new.asked ≡ self.old.asked }
         ensures answer { IfOk result (λ answer. answer ≡ A.table self.old.asked query.now) }
         ensures log { IfOk result (λ answer. self.new.log ≡ logged self.old.log query.now answer) }
-        ensures told { IfOk result (λ answer. (t : Query → AnswerKind) → Agrees t self.new.log → (Agrees t self.old.log) × (t query.now ≡ answer)) }
-        ensures grounded { IfOk result (λ answer. KeepsGrounded self.old.log self.new.log query.now answer) }
+        ensures told { IfOk result (λ answer. Told self.old.log self.new.log (λ t. t query.now ≡ answer)) }
+        ensures learns { IfOk result (λ answer. Learns self.old.log self.new.log query.now answer) }
         ensures err { OnErr result (self.new.log ≡ self.old.log) }
     {
         if let Some(answer) = self.log.find(query) {
@@ -133,6 +134,13 @@ impl<A: Answers> Recorder<A> {
         let query = query.copy(self.alloc)?;
         self.log.push(query, kept)?;
         Ok(answer)
+    }
+
+    /// Who is asked agrees with what was asked so far: each recorded answer is still the one that is given.
+    pub fn agrees(&self)
+        ensures { Agrees (A.table self.now.asked) self.now.log }
+    {
+        let _log = &self.log;
     }
 
     /// What was asked. It takes no memory.

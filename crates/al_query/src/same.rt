@@ -52,8 +52,7 @@ impl Same for AnswerKind {
         match (self, other) {
             (AnswerKind::Nothing, AnswerKind::Nothing) => true,
             (AnswerKind::Views(views), AnswerKind::Views(other)) => views.is_same(other),
-            (AnswerKind::Whole(names), AnswerKind::Whole(other)) => names.is_same(other),
-            (AnswerKind::Kind(form), AnswerKind::Kind(other)) => form.is_same(other),
+            (AnswerKind::Kind(view), AnswerKind::Kind(other)) => view.is_same(other),
             (AnswerKind::Parent(parent), AnswerKind::Parent(other)) => parent.is_same(other),
             (AnswerKind::IsPrivate(b), AnswerKind::IsPrivate(other)) => *b == *other,
             (AnswerKind::Context(context), AnswerKind::Context(other)) => context.is_same(other),

@@ -28,7 +28,7 @@ decided v f h = at f.begun h
     at true k = refl
     at false k = some-homograph v f.views (not-false (list_all may_be_overloaded f.views) k)
 
-any-decided : (v : ViewKind) (fs : List Found) → list_any decides fs ≡ true → list_any (shuts_out v) fs ≡ true
+pub any-decided : (v : ViewKind) (fs : List Found) → list_any decides fs ≡ true → list_any (shuts_out v) fs ≡ true
 any-decided v [] h = absurd (cc)
 any-decided v (f ∷ fs) h = at (decides f) refl h (any-decided v fs)
   where
@@ -36,7 +36,7 @@ any-decided v (f ∷ fs) h = at (decides f) refl h (any-decided v fs)
     at true i k more = ap (λ b. b || list_any (shuts_out v) fs) (decided v f i)
     at false i k more = or-right (shuts_out v f) (list_any (shuts_out v) fs) (more k)
 
-filter-none : (p : ViewKind → Bool) → ((v : ViewKind) → p v ≡ true) → (xs : List ViewKind) → filter (λ x. not (p x)) xs ≡ []
+pub filter-none : (p : ViewKind → Bool) → ((v : ViewKind) → p v ≡ true) → (xs : List ViewKind) → filter (λ x. not (p x)) xs ≡ []
 filter-none p h [] = refl
 filter-none p h (x ∷ xs) = ap (λ b. cond (not b) (x ∷ filter (λ y. not (p y)) xs) (filter (λ y. not (p y)) xs)) (h x) ∙ filter-none p h xs
 

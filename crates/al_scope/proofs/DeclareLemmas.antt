@@ -13,7 +13,7 @@ use Rattle.al_query.specs.declared.query.Query.{Query}
 use Rattle.al_query.specs.declared.answer.AnswerKind.{AnswerKind}
 use Rattle.al_scope.specs.declared.region.Region.{Region}
 use Rattle.al_scope.specs.Places.{Place, in_last, with_declared}
-use Rattle.al_scope.specs.Visible.{declared_by, found_in, has_homograph_in}
+use Rattle.al_scope.specs.Visible.{declared_by, found_in, here}
 use Rattle.al_scope.specs.VisibleSet.{AllOnce, Has, Once, StaysOnce}
 use Rattle.al_scope.proofs.DistinctLemmas.{any-self, once-join}
 use Rattle.al_scope.proofs.HidingLemmas.{append-assoc}
@@ -71,10 +71,10 @@ once-region t m name other v r h one = at (bytes_eq other name) refl
         subst (λ (n : List ℕ). Once (found_in t m n (with_declared name v r)).views) (sym e) (once-named t m name v r h before)
     at false i = subst (λ (l : List ViewKind). Once (flat_map (declared_by t m other) r.parts ++ l)) (sym (with_view-other r.declared name other v i)) one
 
-once-declared : (t : Query → AnswerKind) (m : Declarations) (name other : List ℕ) (v : ViewKind) (rs : List Region) → has_homograph_in t m name v rs ≡ false → AllOnce (map (found_in t m other) rs) → AllOnce (map (found_in t m other) (in_last (with_declared name v) rs))
+once-declared : (t : Query → AnswerKind) (m : Declarations) (name other : List ℕ) (v : ViewKind) (rs : List Region) → list_any (homographs v) (here t m name rs) ≡ false → AllOnce (map (found_in t m other) rs) → AllOnce (map (found_in t m other) (in_last (with_declared name v) rs))
 once-declared t m name other v [] h one = tt
 once-declared t m name other v (r ∷ []) h one = (once-region t m name other v r h one.0, tt)
 once-declared t m name other v (r ∷ q ∷ inner) h one = (one.0, once-declared t m name other v (q ∷ inner) h one.1)
 
-pub stays-declared : (t : Query → AnswerKind) (name : List ℕ) (v : ViewKind) (old : Place) (m : Declarations) (rs : List Region) → has_homograph_in t old.mentioned name v old.regions ≡ false → rs ≡ in_last (with_declared name v) old.regions → m ≡ old.mentioned → StaysOnce t old (record { mentioned = m; regions = rs })
+pub stays-declared : (t : Query → AnswerKind) (name : List ℕ) (v : ViewKind) (old : Place) (m : Declarations) (rs : List Region) → list_any (homographs v) (here t old.mentioned name old.regions) ≡ false → rs ≡ in_last (with_declared name v) old.regions → m ≡ old.mentioned → StaysOnce t old (record { mentioned = m; regions = rs })
 stays-declared t name v old m rs h regions mentioned other one = rw (regions, mentioned) (once-declared t old.mentioned name other v old.regions h one)

@@ -2,7 +2,6 @@
 use Rattle.std.proofs.Common.{◌≡◌, ℕ, List, [], ◌∷◌, Bool, true, false, cond, inl, inr, Option, Some, None, refl, sym, ◌∙◌, ap, subst}
 use Rattle.std.specs.List.{find}
 use Rattle.std.specs.Option.{option_map, option_map_or}
-use Rattle.al_base.specs.declared.unit_key.UnitKey.{UnitKey}
 use Rattle.al_view.specs.declared.symbol.Symbol.{Symbol}
 use Rattle.al_view.specs.declared.view.ViewKind.{ViewKind}
 use Rattle.al_view.specs.Named.{Declarations}
@@ -11,12 +10,10 @@ use Rattle.al_view.proofs.SymbolLemmas.{same_symbol-one, same_symbol-self}
 use Rattle.al_query.specs.declared.query.Query.{Query}
 use Rattle.al_query.specs.declared.answer.AnswerKind.{AnswerKind}
 use Rattle.al_scope.specs.declared.region.Region.{Region}
-use Rattle.al_scope.specs.Expanded.{Encloses, IsSelected, is_region_of, region_of, within}
-use Rattle.al_scope.specs.Grounds.{AllKnown, StaysGrounded}
-use Rattle.al_scope.specs.Places.{part_units, region_units}
+use Rattle.al_scope.specs.Expanded.{Encloses, IsSelected, within}
+use Rattle.al_scope.specs.Places.{is_region_of}
 use Rattle.al_scope.specs.Visible.{found_in}
 use Rattle.al_scope.specs.VisibleSet.{Has}
-use Rattle.al_scope.proofs.GroundLemmas.{known-left, known-right}
 
 -- of a construct is just the region that has its symbol
 construct-is : (s : Symbol) (o : Option Symbol) → option_map_or (same_symbol s) o false ≡ true → o ≡ Some s
@@ -47,15 +44,3 @@ within-selects t m name s (r ∷ rs) = at (is_region_of s r) refl (within-select
     at : (b : Bool) → is_region_of s r ≡ b → IsSelected t m name s rs (within t m name s rs) → IsSelected t m name s (r ∷ rs) (option_map (λ q. (found_in t m name q).views) (cond b (Some r) (find (is_region_of s) rs)))
     at true i more = (r, inl refl, construct-is s r.construct i, refl)
     at false i more = selected-further t m name s r rs (within t m name s rs) i more
-
--- its units are among those of all regions
-known-found : (ks : List UnitKey) (s : Symbol) (rs : List Region) (r : Region) → region_of s rs ≡ Some r → AllKnown ks (region_units rs) → AllKnown ks (part_units r.parts)
-known-found ks s [] r e h = absurd (cc)
-known-found ks s (q ∷ rs) r e h = at (is_region_of s q) e (λ k. known-found ks s rs r k (known-right ks (part_units q.parts) (region_units rs) h))
-  where
-    at : (b : Bool) → cond b (Some q) (find (is_region_of s) rs) ≡ Some r → (region_of s rs ≡ Some r → AllKnown ks (part_units r.parts)) → AllKnown ks (part_units r.parts)
-    at true i more = let same : q ≡ r = cc in subst (λ (x : Region). AllKnown ks (part_units x.parts)) same (known-left ks (part_units q.parts) (region_units rs) h)
-    at false i more = more i
-
-pub stays-found : (s : Symbol) (rs : List Region) (r : Region) (old new : List (Query × AnswerKind)) → region_of s rs ≡ Some r → StaysGrounded (part_units r.parts) old new → StaysGrounded (region_units rs) old new
-stays-found s rs r old new e one known grounded h = one known grounded (known-found _ s rs r e h)

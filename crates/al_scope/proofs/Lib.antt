@@ -2,10 +2,11 @@ pub mod DecideLemmas
 pub mod DeclareLemmas
 pub mod DistinctLemmas
 pub mod ExpandedLemmas
-pub mod GroundLemmas
 pub mod HidingLemmas
 pub mod NameLemmas
 pub mod OnceLemmas
+pub mod PartLemmas
 pub mod PlaceLemmas
+pub mod SearchLemmas
 pub mod UseLemmas
 pub mod VisibleLemmas

@@ -1,16 +1,15 @@
 -- The innermost region of a place.
-use Rattle.std.proofs.Common.{◌≡◌, ℕ, ◌+◌, ◌-◌, zero, suc, List, [], ◌∷◌, length, set, get_or, slice_get, Some, None, refl, ap, arith}
-use Rattle.std.specs.List.{list_any}
+use Rattle.std.proofs.Common.{◌≡◌, ℕ, ◌+◌, ◌-◌, ◌<◌, ◌≤◌, Bool, true, false, cond, zero, suc, List, [], ◌∷◌, ◌++◌, length, set, get_or, slice_get, Some, None, refl, sym, subst, ap, arith}
 use Rattle.std.specs.List.Sorted.{IsStrictlySortedBy}
 use Rattle.al_query.specs.declared.query.Query.{Query}
-use Rattle.al_view.specs.declared.view.ViewKind.{ViewKind}
+use Rattle.al_view.specs.declared.symbol.Symbol.{Symbol}
 use Rattle.al_query.specs.declared.answer.AnswerKind.{AnswerKind}
 use Rattle.al_scope.specs.declared.region.Region.{Region}
+use Rattle.al_scope.specs.declared.region.UnitPart.{UnitPart}
 use Rattle.al_view.specs.Named.{Declarations}
-use Rattle.al_scope.specs.Places.{in_last, uses_at}
+use Rattle.al_scope.specs.Places.{in_last, inner_parts, is_region_of, place_of, uses_at, with_part}
 use Rattle.al_scope.specs.UseClauses.{EachOnce}
-use Rattle.al_scope.specs.Visible.{has_homograph_in, found_in}
-use Rattle.al_view.specs.Homographs.{homographs}
+use Rattle.al_scope.specs.Visible.{found_in, here}
 
 pub in_last-is : (change : Region → Region) (xs : List Region) (n : ℕ) (d new : Region) → n + 1 ≡ length xs → new ≡ change (get_or xs n d) → set xs n new ≡ in_last change xs
 in_last-is change [] n d new h e = absurd (omega arith)
@@ -21,14 +20,45 @@ in_last-is change (x ∷ y ∷ ys) (suc n) d new h e =
     let less : n + 1 ≡ length (y ∷ ys) = omega arith in
     ap (λ (l : List Region). x ∷ l) (in_last-is change (y ∷ ys) n d new less e)
 
-pub homograph_in-is : (t : Query → AnswerKind) (m : Declarations) (name : List ℕ) (v : ViewKind) (xs : List Region) (n : ℕ) (d : Region) → n + 1 ≡ length xs → has_homograph_in t m name v xs ≡ list_any (homographs v) (found_in t m name (get_or xs n d)).views
-homograph_in-is t m name v [] n d h = absurd (omega arith)
-homograph_in-is t m name v (x ∷ []) zero d h = refl
-homograph_in-is t m name v (x ∷ []) (suc n) d h = absurd (omega arith)
-homograph_in-is t m name v (x ∷ y ∷ ys) zero d h = absurd (omega arith)
-homograph_in-is t m name v (x ∷ y ∷ ys) (suc n) d h =
+-- what the innermost region has, and the parts that it continues
+pub here-is : (t : Query → AnswerKind) (m : Declarations) (name : List ℕ) (xs : List Region) (n : ℕ) (d : Region) → n + 1 ≡ length xs → here t m name xs ≡ (found_in t m name (get_or xs n d)).views
+here-is t m name [] n d h = absurd (omega arith)
+here-is t m name (x ∷ []) zero d h = refl
+here-is t m name (x ∷ []) (suc n) d h = absurd (omega arith)
+here-is t m name (x ∷ y ∷ ys) zero d h = absurd (omega arith)
+here-is t m name (x ∷ y ∷ ys) (suc n) d h =
     let less : n + 1 ≡ length (y ∷ ys) = omega arith in
-    homograph_in-is t m name v (y ∷ ys) n d less
+    here-is t m name (y ∷ ys) n d less
+
+pub inner_parts-is : (xs : List Region) (n : ℕ) (d : Region) → n + 1 ≡ length xs → inner_parts xs ≡ (get_or xs n d).parts
+inner_parts-is [] n d h = absurd (omega arith)
+inner_parts-is (x ∷ []) zero d h = refl
+inner_parts-is (x ∷ []) (suc n) d h = absurd (omega arith)
+inner_parts-is (x ∷ y ∷ ys) zero d h = absurd (omega arith)
+inner_parts-is (x ∷ y ∷ ys) (suc n) d h =
+    let less : n + 1 ≡ length (y ∷ ys) = omega arith in
+    inner_parts-is (y ∷ ys) n d less
+
+-- a part more at the construct's region
+with_part-at : (s : Symbol) (p : UnitPart) (xs : List Region) (d new : Region) → place_of s xs < length xs → new ≡ record (get_or xs (place_of s xs) d) { parts = (get_or xs (place_of s xs) d).parts ++ p ∷ [] } → set xs (place_of s xs) new ≡ with_part s p xs
+with_part-at s p [] d new h e = absurd (omega arith)
+with_part-at s p (x ∷ xs) d new h e = at (is_region_of s x) h e (with_part-at s p xs d new)
+  where
+    at : (b : Bool) → cond b 0 (suc (place_of s xs)) < length (x ∷ xs) → new ≡ record (get_or (x ∷ xs) (cond b 0 (suc (place_of s xs))) d) { parts = (get_or (x ∷ xs) (cond b 0 (suc (place_of s xs))) d).parts ++ p ∷ [] } → (place_of s xs < length xs → new ≡ record (get_or xs (place_of s xs) d) { parts = (get_or xs (place_of s xs) d).parts ++ p ∷ [] } → set xs (place_of s xs) new ≡ with_part s p xs) → set (x ∷ xs) (cond b 0 (suc (place_of s xs))) new ≡ cond b (record x { parts = x.parts ++ p ∷ [] } ∷ xs) (x ∷ with_part s p xs)
+    at true h e more = ap (λ (r : Region). r ∷ xs) e
+    at false h e more = ap (λ (l : List Region). x ∷ l) (more (omega arith) e)
+
+pub with_part-is : (s : Symbol) (p : UnitPart) (xs : List Region) (n : ℕ) (d new : Region) → n ≡ place_of s xs → n < length xs → new ≡ record (get_or xs n d) { parts = (get_or xs n d).parts ++ p ∷ [] } → set xs n new ≡ with_part s p xs
+with_part-is s p xs n d new is less e =
+    subst (λ (k : ℕ). k < length xs → new ≡ record (get_or xs k d) { parts = (get_or xs k d).parts ++ p ∷ [] } → set xs k new ≡ with_part s p xs) (sym is) (with_part-at s p xs d new) less e
+
+pub with_part-none : (s : Symbol) (p : UnitPart) (xs : List Region) → length xs ≤ place_of s xs → xs ≡ with_part s p xs
+with_part-none s p [] h = refl
+with_part-none s p (x ∷ xs) h = at (is_region_of s x) h (with_part-none s p xs)
+  where
+    at : (b : Bool) → length (x ∷ xs) ≤ cond b 0 (suc (place_of s xs)) → (length xs ≤ place_of s xs → xs ≡ with_part s p xs) → x ∷ xs ≡ cond b (record x { parts = x.parts ++ p ∷ [] } ∷ xs) (x ∷ with_part s p xs)
+    at true h more = absurd (omega arith)
+    at false h more = ap (λ (l : List Region). x ∷ l) (more (omega arith))
 
 -- the use clauses that hold are those of the last region
 uses_at-is : (xs : List Region) (n : ℕ) (r : Region) → n + 1 ≡ length xs → slice_get xs n ≡ Some r → uses_at xs ≡ r.uses

@@ -177,7 +177,3 @@ visible-exactly t name place v = (to, from)
 
 pub visible-exactly_is : (t : Query → AnswerKind) (name : List ℕ) (place : Place) (views : List ViewKind) → views ≡ visible_at t name place → (v : ViewKind) → Has views v ↔ IsVisible t name place v
 visible-exactly_is t name place views e v = rw e (visible-exactly t name place v)
-
--- the pieces put together
-pub visible-is : (t : Query → AnswerKind) (name : List ℕ) (place : Place) (fs : List Found) (all d u vs : List ViewKind) → fs ≡ map (found_in t place.mentioned name) place.regions → all ≡ potential t place.mentioned name (uses_at place.regions) → d ≡ direct fs → u ≡ use_visible fs all → vs ≡ d ++ u → vs ≡ visible_at t name place
-visible-is t name place fs all d u vs f a x y z = rw (z, x, y, f, a) refl

@@ -1,20 +1,18 @@
--- Expanded names whose prefix is a construct that encloses the place (ARM 4.1.3(4, 13)).
-use Rattle.std.specs.Prelude.{◌≡◌, ℕ, List, Bool, false, Option, Some, MatchOption}
+-- Expanded names: the prefix is a construct that encloses the place, or a package of the library (ARM 4.1.3(4, 13)).
+use Rattle.std.specs.Prelude.{◌≡◌, ℕ, List, ◌∷◌, [], Option, Some, MatchOption, unwrap_or}
 use Rattle.std.specs.List.{find}
 use Rattle.std.specs.Option.{option_map, option_map_or}
 use Rattle.al_view.specs.declared.symbol.Symbol.{Symbol}
 use Rattle.al_view.specs.declared.view.ViewKind.{ViewKind}
 use Rattle.al_view.specs.Named.{Declarations}
-use Rattle.al_view.specs.Symbols.{same_symbol}
+use Rattle.al_view.specs.declared.part.Part.TheVariants.{Visible}
 use Rattle.al_query.specs.declared.query.Query.{Query}
 use Rattle.al_query.specs.declared.answer.AnswerKind.{AnswerKind}
 use Rattle.al_scope.specs.declared.region.Region.{Region}
-use Rattle.al_scope.specs.Visible.{found_in}
+use Rattle.al_scope.specs.declared.region.UnitPart.{UnitPart}
+use Rattle.al_scope.specs.Places.{Place, is_region_of}
+use Rattle.al_scope.specs.Visible.{declared_by, found_in}
 use Rattle.al_scope.specs.VisibleSet.{Has}
-
--- whether it is the region of that subprogram, task, protected object or entry
-abbrev pub is_region_of : Symbol → Region → Bool
-is_region_of s r = option_map_or (same_symbol s) r.construct false
 
 -- the outermost region of that construct, if one is round the place
 abbrev pub region_of : Symbol → List Region → Option Region
@@ -32,3 +30,20 @@ Encloses s regions = (r : Region) × Has regions r × (r.construct ≡ Some s)
 abbrev pub IsSelected : (Query → AnswerKind) → Declarations → List ℕ → Symbol → List Region → Option (List ViewKind) → Type 0
 IsSelected t m name s regions selected =
     MatchOption selected (Encloses s regions → ⊥) (λ views. (r : Region) × Has regions r × (r.construct ≡ Some s) × ((found_in t m name r).views ≡ views))
+
+-- the visible part of the unit with this symbol
+abbrev pub part_of : Symbol → UnitPart
+part_of s = record { unit = s.unit; part = Visible }
+
+-- what a package's name selects: where it encloses the place what its region has, with what stands in its private part and body so
+-- far; else what its visible part declares
+abbrev pub selected_at : (Query → AnswerKind) → List ℕ → Symbol → Place → List ViewKind
+selected_at t name s place = unwrap_or (within t place.mentioned name s place.regions) (declared_by t place.mentioned name (part_of s))
+
+-- the parts that are asked then
+abbrev pub selected_parts : Symbol → Place → List UnitPart
+selected_parts s place = option_map_or (λ r. r.parts) (region_of s place.regions) (part_of s ∷ [])
+
+-- the parts that are asked where the prefix is a construct that is no package
+abbrev pub within_parts : Symbol → Place → List UnitPart
+within_parts s place = option_map_or (λ r. r.parts) (region_of s place.regions) []

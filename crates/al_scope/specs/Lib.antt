@@ -1,7 +1,8 @@
+pub mod Asked
 pub mod Expanded
-pub mod Grounds
 pub mod NameSets
 pub mod Places
+pub mod Searches
 pub mod UseClauses
 pub mod Visible
 pub mod VisibleSet

@@ -1,5 +1,7 @@
 -- A place: the list of the regions round it, outermost first, and the library units that are mentioned there.
-use Rattle.std.specs.Prelude.{map, flat_map, ℕ, List, [], ◌∷◌, ◌++◌, Bool, ◌&&◌, Some, None, codes, if◌then◌else◌}
+use Rattle.std.specs.Prelude.{map, flat_map, ℕ, suc, List, [], ◌∷◌, ◌++◌, Bool, false, ◌&&◌, ◌||◌, not, Some, None, codes, if◌then◌else◌}
+use Rattle.std.specs.List.{list_any}
+use Rattle.std.specs.Option.{option_map_or}
 use Rattle.std.specs.Str.{bytes_eq}
 use Rattle.std.specs.BTreeSet.{insert_key}
 use Rattle.al_base.specs.Files.{name_cmp}
@@ -10,10 +12,10 @@ use Rattle.al_view.specs.declared.symbol.Symbol.{Symbol}
 use Rattle.al_view.specs.declared.view.ViewKind.{ViewKind}
 use Rattle.al_view.specs.Interfaces.{views_of, with_view}
 use Rattle.al_view.specs.Named.{Declarations}
-use Rattle.al_view.specs.Symbols.{same_kind, same_part}
+use Rattle.al_view.specs.Symbols.{same_kind, same_part, same_symbol, same_unit}
 use Rattle.al_scope.specs.declared.region.UnitPart.{UnitPart}
 use Rattle.al_scope.specs.declared.region.Region.{Region}
-use Rattle.al_scope.specs.UseClauses.{Uses, package_unit, package_units}
+use Rattle.al_scope.specs.UseClauses.{Uses, package_unit, with_package, with_type}
 
 pub record Place : Type 0 where
   -- library units by their full names, each with its view
@@ -43,9 +45,9 @@ with_mentioned unit v mentioned = first (views_of mentioned unit)
 abbrev pub part_units : List UnitPart → List UnitKey
 part_units parts = map (λ p. p.unit) parts
 
--- the units that regions continue
-abbrev pub region_units : List Region → List UnitKey
-region_units regions = flat_map (λ r. part_units r.parts) regions
+-- the parts that regions continue
+abbrev pub region_parts : List Region → List UnitPart
+region_parts regions = flat_map (λ r. r.parts) regions
 
 -- the use clauses that hold in the innermost region
 abbrev pub uses_at : List Region → Uses
@@ -53,15 +55,28 @@ uses_at [] = []
 uses_at (r ∷ []) = r.uses
 uses_at (r ∷ q ∷ inner) = uses_at (q ∷ inner)
 
--- the units whose declarations may be visible at a place
+-- the visible parts of the packages of use clauses
+abbrev pub use_parts : Uses → List UnitPart
+use_parts uses = map (λ u. visible_part u.0) uses
+
+-- the parts whose declarations may be visible at a place
+abbrev pub place_parts : Place → List UnitPart
+place_parts place = region_parts place.regions ++ use_parts (uses_at place.regions)
+
 abbrev pub place_units : Place → List UnitKey
-place_units place = region_units place.regions ++ package_units (uses_at place.regions)
+place_units place = part_units (place_parts place)
+
+-- the parts that the innermost region continues
+abbrev pub inner_parts : List Region → List UnitPart
+inner_parts [] = []
+inner_parts (r ∷ []) = r.parts
+inner_parts (r ∷ q ∷ inner) = inner_parts (q ∷ inner)
 
 -- a region that is entered: nothing is declared in it, and the use clauses round it hold in it too (ARM 8.4(6))
 abbrev pub entered : List UnitPart → List Region → Region
 entered parts regions = record { construct = None; parts = parts; declared = []; begun = []; uses = uses_at regions }
 
--- the same, of a subprogram, task, protected object or entry
+-- the same, of a package, a subprogram, a task, a protected object or an entry
 abbrev pub entered_construct : Symbol → List UnitPart → List Region → Region
 entered_construct s parts regions = record (entered parts regions) { construct = Some s }
 
@@ -82,3 +97,39 @@ with_begun name r = record r { begun = insert_key name_cmp r.begun name }
 -- a region with a use clause
 abbrev pub with_uses : (Uses → Uses) → Region → Region
 with_uses clause r = record r { uses = clause r.uses }
+
+-- whether it is the region of that construct
+abbrev pub is_region_of : Symbol → Region → Bool
+is_region_of s r = option_map_or (same_symbol s) r.construct false
+
+-- at which place the outermost region of a construct stands, from 0; where there is none, how many regions there are
+abbrev pub place_of : Symbol → List Region → ℕ
+place_of s [] = 0
+place_of s (r ∷ rs) = if is_region_of s r then 0 else suc (place_of s rs)
+
+-- a part more for the outermost region of a construct
+abbrev pub with_part : Symbol → UnitPart → List Region → List Region
+with_part s p [] = []
+with_part s p (r ∷ rs) = if is_region_of s r then record r { parts = r.parts ++ p ∷ [] } ∷ rs else r ∷ with_part s p rs
+
+-- whether it is the region of a construct of the unit: of the unit itself, or of one in it
+abbrev pub is_within : UnitKey → Region → Bool
+is_within unit r = option_map_or (λ s. same_unit unit s.unit) r.construct false
+
+-- whether the unit encloses the place
+abbrev pub encloses : UnitKey → List Region → Bool
+encloses unit regions = list_any (is_within unit) regions
+
+-- a use clause in the innermost region that names the package (ARM 8.4(3)). It has no effect where the package encloses the
+-- place: what it declares is directly visible there, or hidden.
+abbrev pub with_use : UnitKey → List Region → List Region
+with_use unit regions = if encloses unit regions then regions else in_last (with_uses (with_package unit.name)) regions
+
+-- whether the type is declared round the place: by a body, or by a unit that encloses the place
+abbrev pub is_declared_round : Symbol → List Region → Bool
+is_declared_round s regions = not (same_kind s.unit.kind Decl) || encloses s.unit regions
+
+-- a use type clause in the innermost region that names the type (ARM 8.4(4)). It has no effect where the type is declared round the
+-- place: its operators are declared beside it.
+abbrev pub with_use_type : Symbol → List Region → List Region
+with_use_type s regions = if is_declared_round s regions then regions else in_last (with_uses (with_type s)) regions

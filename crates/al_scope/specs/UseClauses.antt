@@ -38,12 +38,9 @@ with_type s uses =
     let before = use_of uses s.unit.name in
     insert_entry name_cmp uses s.unit.name (record before { types = before.types ++ s ∷ [] })
 
--- the packages of use clauses
+-- the package of that name
 abbrev pub package_unit : List ℕ → UnitKey
 package_unit name = record { name = name; kind = Decl }
-
-abbrev pub package_units : Uses → List UnitKey
-package_units uses = map (λ u. package_unit u.0) uses
 
 -- what use clauses open of what the package declares (ARM 8.4(8)): all of it where one names the package, the operators
 -- of the types else

@@ -1,5 +1,5 @@
 -- What is visible at a place (ARM 8.3, 8.4), as a list.
-use Rattle.std.specs.Prelude.{ℕ, List, [], ◌∷◌, ◌++◌, Bool, false, ◌&&◌, ◌||◌, not, nat_lt, length, map, filter, flat_map, if◌then◌else◌}
+use Rattle.std.specs.Prelude.{ℕ, List, [], ◌∷◌, ◌++◌, Bool, ◌&&◌, ◌||◌, not, nat_lt, length, map, filter, flat_map, if◌then◌else◌}
 use Rattle.std.specs.List.{list_any, list_all}
 use Rattle.std.specs.Str.{bytes_eq}
 use Rattle.al_view.specs.declared.view.ViewKind.{ViewKind}
@@ -69,8 +69,8 @@ visible_at t name place =
     let founds = map (found_in t place.mentioned name) place.regions in
     direct founds ++ use_visible founds (potential t place.mentioned name (uses_at place.regions))
 
--- whether the innermost region has a homograph
-abbrev pub has_homograph_in : (Query → AnswerKind) → Declarations → List ℕ → ViewKind → List Region → Bool
-has_homograph_in t m name v [] = false
-has_homograph_in t m name v (r ∷ []) = list_any (homographs v) (found_in t m name r).views
-has_homograph_in t m name v (r ∷ q ∷ inner) = has_homograph_in t m name v (q ∷ inner)
+-- what the innermost region has of a name
+abbrev pub here : (Query → AnswerKind) → Declarations → List ℕ → List Region → List ViewKind
+here t m name [] = []
+here t m name (r ∷ []) = (found_in t m name r).views
+here t m name (r ∷ q ∷ inner) = here t m name (q ∷ inner)

@@ -1,8 +1,10 @@
 // What regions have of one name, and what of it is visible.
-ghost use Rattle.std.specs.Prelude.{◌≡◌, ◌++◌, IfOk, filter, not};
+ghost use Rattle.std.specs.Prelude.{◌≡◌, List, [], ◌∷◌, IfOk, OnOk, filter, not};
 ghost use Rattle.std.specs.List.{list_all, list_any};
 ghost use Rattle.al_view.specs.Homographs.{homographs, may_be_overloaded};
-ghost use Rattle.al_scope.specs.Visible.{clash, decides, direct, shuts_out, use_visible};
+ghost use Rattle.al_scope.specs.declared.hiding.Found.{Found};
+ghost use Rattle.al_scope.specs.Searches.{IsSearch};
+ghost use Rattle.al_scope.specs.Visible.{clash, decides, shuts_out, use_visible};
 
 use al_base::NoMemory;
 use al_view::{View, Views};
@@ -50,30 +52,6 @@ fn left_by(alloc: Global, founds: &[Found], views: &Views) -> Result<Views, NoMe
     Ok(left)
 }
 
-/// One region further in: its own views, then what it leaves of the outer ones.
-fn step(alloc: Global, outer: &Views, found: &Found) -> Result<Views, NoMemory>
-    ensures { IfOk result (λ views. views ≡ found.now.views ++ filter (λ v. not (shuts_out v found.now)) outer.now) }
-{
-    let mut views = found.views.copy(alloc)?;
-    for view in outer.as_slice() {
-        if !shuts(view, found) {
-            views.push(view.share()?)?;
-        }
-    }
-    Ok(views)
-}
-
-/// The directly visible ones, in one pass inward.
-pub fn direct_of(alloc: Global, founds: &[Found]) -> Result<Views, NoMemory>
-    ensures { IfOk result (λ views. views ≡ direct founds.now) }
-{
-    let mut views = Views::new(alloc);
-    for found in founds {
-        views = step(alloc, &views, found)?;
-    }
-    Ok(views)
-}
-
 /// Whether all may be overloaded.
 fn all_overload(views: &[View]) -> bool
     ensures { result ≡ list_all may_be_overloaded views.now }
@@ -89,11 +67,39 @@ fn is_decided(found: &Found) -> bool
     found.begun || !all_overload(found.views.as_slice())
 }
 
-/// Whether some region shuts out every other declaration of the name.
-pub fn any_decides(founds: &[Found]) -> bool
-    ensures { result ≡ list_any decides founds.now }
-{
-    founds.iter().any(|found| is_decided(found))
+/// What regions have of one name, from the innermost outward, so far as they were looked into.
+#[derive(Drop)]
+pub struct Search {
+    /// What is directly visible of it, of the innermost region first.
+    pub direct: Views,
+    /// What each region has that was looked into, innermost first.
+    pub founds: Vec<Found>,
+    /// Whether one of them decides: it shuts out every other declaration of the name.
+    pub is_decided: bool,
+}
+
+impl Search {
+    /// No region was looked into. It takes no memory.
+    pub fn new(alloc: Global) -> Self
+        ensures { IsSearch [] result }
+    {
+        Search {
+            direct: Views::new(alloc),
+            founds: Vec::new(alloc),
+            is_decided: false,
+        }
+    }
+
+    /// Looks into one region further out, which has this of the name.
+    pub fn go_outward(&mut self, alloc: Global, found: Found) -> Result<(), NoMemory>
+        ensures { OnOk result ((founds : List Found) → IsSearch founds self.old → IsSearch (found ∷ founds) self.new) }
+    {
+        let seen = left_by(alloc, self.founds.as_slice(), &found.views)?;
+        self.direct.append(seen.as_slice())?;
+        self.is_decided = self.is_decided || is_decided(&found);
+        self.founds.push(found)?;
+        Ok(())
+    }
 }
 
 /// Whether several are there that can't all be overloaded.

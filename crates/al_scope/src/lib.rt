@@ -2,12 +2,12 @@
 #![tactic(auto)]
 
 mod hiding;
+pub mod laws;
 mod names;
 mod questions;
 mod region;
 mod scope;
-#[cfg(test)]
-mod tests;
+mod search;
 mod uses;
 
 pub use region::UnitPart;

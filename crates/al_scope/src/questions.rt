@@ -1,17 +1,15 @@
 // What units declare under a name, as they are asked.
 ghost use Rattle.std.specs.Prelude.{◌≡◌, [], ◌∷◌, ◌++◌, IfOk, flat_map};
-ghost use Rattle.al_query.specs.declared.query.Query.{Query};
-ghost use Rattle.al_query.specs.declared.query.Query.TheVariants.{Named};
-ghost use Rattle.al_query.specs.declared.answer.AnswerKind.{AnswerKind};
-ghost use Rattle.al_query.specs.Reads.{Agrees};
-ghost use Rattle.al_scope.specs.Grounds.{StaysGrounded};
-ghost use Rattle.al_scope.specs.Places.{child_name, is_visible_part, part_units, visible_part};
+ghost use Rattle.al_query.specs.Reads.{Told};
+ghost use Rattle.al_scope.specs.Asked.{AsksParts, query_of};
+ghost use Rattle.al_scope.specs.Expanded.{part_of};
+ghost use Rattle.al_scope.specs.Places.{child_name, is_visible_part, visible_part};
 ghost use Rattle.al_scope.specs.Visible.{children_in, declared_by};
 
 use crate::region::UnitPart;
 use al_base::{Name, NoMemory, UnitKey, UnitKind};
 use al_query::{Answers, Query, Recorder};
-use al_view::{Interface, Part, Views, copied_unit};
+use al_view::{Interface, Part, Symbol, Views, copied_unit};
 use std::alloc::Global;
 
 /// The visible part of the package of that name.
@@ -25,6 +23,16 @@ pub fn visible_part_of(alloc: Global, package_name: &[u8]) -> Result<UnitPart, N
     };
     Ok(UnitPart {
         unit,
+        part: Part::Visible,
+    })
+}
+
+/// The visible part of the unit with that symbol.
+pub fn visible_part_at(alloc: Global, symbol: &Symbol) -> Result<UnitPart, NoMemory>
+    ensures { IfOk result (λ part. part ≡ part_of symbol.now) }
+{
+    Ok(UnitPart {
+        unit: copied_unit(alloc, &symbol.unit)?,
         part: Part::Visible,
     })
 }
@@ -50,7 +58,7 @@ fn child_of(alloc: Global, parent: &[u8], name: &[u8]) -> Result<Vec<u8>, NoMemo
 
 /// The question of what a part of a unit declares under a name.
 fn query_of(alloc: Global, from: &UnitPart, name: &[u8]) -> Result<Query, NoMemory>
-    ensures { IfOk result (λ query. query ≡ Named from.now.unit from.now.part name.now) }
+    ensures { IfOk result (λ query. query ≡ query_of name.now from.now) }
 {
     Ok(Query::Named {
         unit: copied_unit(alloc, &from.unit)?,
@@ -86,8 +94,8 @@ pub fn ask_more<A: Answers>(
     recorder: &mut Recorder<A>,
 ) -> Result<(), NoMemory>
     ensures asked { recorder.new.asked ≡ recorder.old.asked }
-    ensures told { IfOk result (λ _. (t : Query → AnswerKind) → Agrees t recorder.new.log → Agrees t recorder.old.log × (views.new ≡ views.old ++ declared_by t mentioned.now name.now from.now)) }
-    ensures grounded { IfOk result (λ _. StaysGrounded (from.now.unit ∷ []) recorder.old.log recorder.new.log) }
+    ensures told { IfOk result (λ _. Told recorder.old.log recorder.new.log (λ t. views.new ≡ views.old ++ declared_by t mentioned.now name.now from.now)) }
+    ensures asks { IfOk result (λ _. AsksParts (from.now ∷ []) name.now recorder.old.log recorder.new.log) }
 {
     let query = query_of(alloc, from, name)?;
     let answer = recorder.ask(&query)?;
@@ -105,8 +113,8 @@ pub fn ask_each<A: Answers>(
     recorder: &mut Recorder<A>,
 ) -> Result<Views, NoMemory>
     ensures asked { recorder.new.asked ≡ recorder.old.asked }
-    ensures told { IfOk result (λ views. (t : Query → AnswerKind) → Agrees t recorder.new.log → Agrees t recorder.old.log × (views ≡ flat_map (declared_by t mentioned.now name.now) parts.now)) }
-    ensures grounded { IfOk result (λ _. StaysGrounded (part_units parts.now) recorder.old.log recorder.new.log) }
+    ensures told { IfOk result (λ views. Told recorder.old.log recorder.new.log (λ t. views ≡ flat_map (declared_by t mentioned.now name.now) parts.now)) }
+    ensures asks { IfOk result (λ _. AsksParts parts.now name.now recorder.old.log recorder.new.log) }
 {
     let mut views = Views::new(alloc);
     for part in parts {

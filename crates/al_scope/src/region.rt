@@ -1,13 +1,12 @@
 // A region: what is declared in it so far, what is begun, and what its use clauses name.
 ghost use Rattle.std.specs.Prelude.{◌≡◌, [], None, is_ok, if◌then◌else◌};
-ghost use Rattle.al_scope.specs.Expanded.{is_region_of};
-ghost use Rattle.al_scope.specs.Places.{with_begun, with_declared, with_uses};
+ghost use Rattle.al_scope.specs.Places.{is_region_of, is_within, with_begun, with_declared, with_uses};
 ghost use Rattle.al_scope.specs.UseClauses.{with_package, with_type};
 
 use crate::names::NameSet;
 use crate::uses::UseClauses;
 use al_base::{NoMemory, UnitKey};
-use al_view::{Interface, Part, Row, Symbol, View};
+use al_view::{Interface, Part, Row, Symbol, View, is_unit};
 use std::alloc::Global;
 
 /// A part of a unit.
@@ -20,8 +19,7 @@ pub struct UnitPart {
 /// A declarative region up to a place in it (ARM 8.1).
 #[derive(Drop)]
 pub struct Region {
-    /// The subprogram, task, protected object or entry whose region it is; none of a block, a loop, a record or a
-    /// package's part.
+    /// The package, subprogram, task, protected object or entry whose region it is; none of a block, a loop or a record.
     pub construct: Option<Symbol>,
     /// The parts of units that it continues.
     pub parts: Row<UnitPart>,
@@ -48,12 +46,22 @@ impl Region {
         }
     }
 
-    /// Whether it is the region of that subprogram, task, protected object or entry.
+    /// Whether it is the region of that construct.
     pub fn is_of(&self, construct: &Symbol) -> bool
         ensures { result ≡ is_region_of construct.now self.now }
     {
         match &self.construct {
             Some(own) => construct.is(own),
+            None => false,
+        }
+    }
+
+    /// Whether it is the region of a construct of the unit: of the unit itself, or of one in it.
+    pub fn is_in(&self, unit: &UnitKey) -> bool
+        ensures { result ≡ is_within unit.now self.now }
+    {
+        match &self.construct {
+            Some(own) => is_unit(unit, &own.unit),
             None => false,
         }
     }

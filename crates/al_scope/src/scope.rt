@@ -1,110 +1,29 @@
 // The regions round a place, and what they make visible.
-ghost use Rattle.std.specs.Prelude.{◌≡◌, ◌<◌, List, [], ◌∷◌, ◌++◌, ◌↔◌, IfOk, OnErr, OnOk, IsTrue, map, length, not, is_ok, if◌then◌else◌};
+ghost use Rattle.std.specs.Prelude.{◌≡◌, ◌<◌, ◌≤◌, List, [], ◌∷◌, ◌++◌, ◌↔◌, IfOk, OnErr, OnOk, IsTrue, length, not, is_ok, if◌then◌else◌};
+ghost use Rattle.std.specs.List.{list_any};
 ghost use Rattle.std.specs.Option.{option_copied};
 ghost use Rattle.al_view.specs.declared.view.ViewKind.{ViewKind};
-ghost use Rattle.al_query.specs.declared.query.Query.{Query};
-ghost use Rattle.al_query.specs.declared.answer.AnswerKind.{AnswerKind};
-ghost use Rattle.al_query.specs.Reads.{Agrees};
+ghost use Rattle.al_view.specs.Homographs.{homographs};
+ghost use Rattle.al_query.specs.Asked.{AsksOf, by_name};
+ghost use Rattle.al_query.specs.Reads.{HoldsBy, Told};
 ghost use Rattle.al_scope.specs.declared.region.Region.{Region};
-ghost use Rattle.al_scope.specs.Expanded.{IsSelected, region_of, within};
-ghost use Rattle.al_scope.specs.Grounds.{StaysGrounded};
-ghost use Rattle.al_scope.specs.Places.{entered, entered_construct, in_last, part_units, place_units, region_units, uses_at, visible_part, with_begun, with_declared, with_mentioned, with_uses};
-ghost use Rattle.al_scope.specs.UseClauses.{EachOnce, package_unit, package_units, with_package, with_type};
-ghost use Rattle.al_scope.specs.Visible.{declared_by, found_in, has_homograph_in, potential, use_visible, visible_at};
-ghost use Rattle.al_scope.specs.VisibleSet.{AreApart, DeclareOnce, Has, IsVisible, KeepsOnce, Once, StaysOnce};
+ghost use Rattle.al_scope.specs.Asked.{AsksParts};
+ghost use Rattle.al_scope.specs.Expanded.{IsSelected, part_of, region_of, selected_at, selected_parts, within, within_parts};
+ghost use Rattle.al_scope.specs.Places.{encloses, entered, entered_construct, in_last, inner_parts, is_declared_round, part_units, place_of, place_units, uses_at, with_begun, with_declared, with_mentioned, with_part, with_use, with_use_type};
+ghost use Rattle.al_scope.specs.Searches.{searched_parts};
+ghost use Rattle.al_scope.specs.Visible.{declared_by, here, visible_at};
+ghost use Rattle.al_scope.specs.VisibleSet.{Has, IsVisible, KeepsOnce, StaysOnce};
 
-use crate::hiding::{Found, any_decides, direct_of, has_homograph, use_visible_of};
-use crate::questions::{ask_each, ask_more, visible_part_of};
+use crate::hiding::{Search, has_homograph};
+use crate::questions::{ask_more, visible_part_at};
 use crate::region::{Region, UnitPart};
+use crate::search::{find, search_outward, used_of};
 use crate::uses::UseClauses;
-use al_base::NoMemory;
+use al_base::{NoMemory, UnitKey, UnitKind};
 use al_query::{Answers, Recorder};
 use al_view::{Interface, Row, Symbol, View, Views};
 use std::alloc::Global;
 use std::marker::Model;
-
-/// What a region has of a name.
-fn find<A: Answers>(
-    alloc: Global,
-    mentioned: &Interface,
-    region: &Region,
-    name: &[u8],
-    recorder: &mut Recorder<A>,
-) -> Result<Found, NoMemory>
-    ensures asked { recorder.new.asked ≡ recorder.old.asked }
-    ensures told { IfOk result (λ found. (t : Query → AnswerKind) → Agrees t recorder.new.log → Agrees t recorder.old.log × (found ≡ found_in t mentioned.now name.now region.now)) }
-    ensures grounded { IfOk result (λ _. StaysGrounded (part_units region.now.parts) recorder.old.log recorder.new.log) }
-{
-    let mut views = ask_each(alloc, mentioned, region.parts.as_slice(), name, recorder)?;
-    views.append(region.declared.views(name))?;
-    let begun = region.begun.contains(name);
-    Ok(Found { begun, views })
-}
-
-/// What each region has of a name.
-fn find_each<A: Answers>(
-    alloc: Global,
-    mentioned: &Interface,
-    regions: &[Region],
-    name: &[u8],
-    recorder: &mut Recorder<A>,
-) -> Result<Vec<Found>, NoMemory>
-    ensures asked { recorder.new.asked ≡ recorder.old.asked }
-    ensures told { IfOk result (λ founds. (t : Query → AnswerKind) → Agrees t recorder.new.log → Agrees t recorder.old.log × (founds.items ≡ map (found_in t mentioned.now name.now) regions.now)) }
-    ensures grounded { IfOk result (λ _. StaysGrounded (region_units regions.now) recorder.old.log recorder.new.log) }
-{
-    let mut founds = Vec::new(alloc);
-    for region in regions {
-        let found = find(alloc, mentioned, region, name, recorder)?;
-        founds.push(found)?;
-    }
-    Ok(founds)
-}
-
-/// What is potentially use-visible of a name, by the use clauses that hold in the innermost region.
-fn potential_of<A: Answers>(
-    alloc: Global,
-    mentioned: &Interface,
-    regions: &[Region],
-    name: &[u8],
-    recorder: &mut Recorder<A>,
-) -> Result<Views, NoMemory>
-    ensures asked { recorder.new.asked ≡ recorder.old.asked }
-    ensures told { IfOk result (λ views. (t : Query → AnswerKind) → Agrees t recorder.new.log → Agrees t recorder.old.log × (views ≡ potential t mentioned.now name.now (uses_at regions.now))) }
-    ensures grounded { IfOk result (λ _. StaysGrounded (package_units (uses_at regions.now)) recorder.old.log recorder.new.log) }
-    ensures each { IfOk result (λ _. EachOnce (uses_at regions.now)) }
-{
-    match regions.last() {
-        Some(region) => {
-            let views = region.uses.potential(mentioned, name, recorder)?;
-            Ok(views)
-        }
-        None => Ok(Views::new(alloc)),
-    }
-}
-
-/// What is use-visible of a name, of which the regions have this. No package is asked where a region has what shuts out
-/// every other declaration.
-fn used_of<A: Answers>(
-    alloc: Global,
-    mentioned: &Interface,
-    regions: &[Region],
-    founds: &[Found],
-    name: &[u8],
-    recorder: &mut Recorder<A>,
-) -> Result<Views, NoMemory>
-    ensures asked { recorder.new.asked ≡ recorder.old.asked }
-    ensures told { IfOk result (λ used. (t : Query → AnswerKind) → Agrees t recorder.new.log → Agrees t recorder.old.log × (used ≡ use_visible founds.now (potential t mentioned.now name.now (uses_at regions.now)))) }
-    ensures grounded { IfOk result (λ _. StaysGrounded (package_units (uses_at regions.now)) recorder.old.log recorder.new.log) }
-    ensures once { IfOk result (λ used. (t : Query → AnswerKind) → Agrees t recorder.new.log → DeclareOnce t mentioned.now name.now (uses_at regions.now) → AreApart t mentioned.now name.now → Once used) }
-{
-    if any_decides(founds) {
-        return Ok(Views::new(alloc));
-    }
-    let views = potential_of(alloc, mentioned, regions, name, recorder)?;
-    let used = use_visible_of(alloc, founds, &views)?;
-    Ok(used)
-}
 
 /// The use clauses that hold in the innermost region.
 fn uses_of(alloc: Global, regions: &[Region]) -> Result<UseClauses, NoMemory>
@@ -119,11 +38,28 @@ fn uses_of(alloc: Global, regions: &[Region]) -> Result<UseClauses, NoMemory>
     }
 }
 
-/// The outermost region of that subprogram, task, protected object or entry.
+/// The outermost region of that construct.
 fn region_of<'a>(regions: &'a [Region], construct: &Symbol) -> Option<&'a Region>
     ensures { option_copied result ≡ region_of construct.now regions.now }
 {
     regions.iter().find(|region| region.is_of(construct))
+}
+
+/// At which place the outermost region of the construct stands, from 0; where there is none, how many regions there are.
+fn place_of(regions: &[Region], construct: &Symbol) -> usize
+    ensures is { result ≡ place_of construct.now regions.now }
+    ensures most { result ≤ length regions.now }
+{
+    match regions {
+        [] => 0,
+        [region, inner @ ..] => {
+            if region.is_of(construct) {
+                0
+            } else {
+                place_of(inner, construct) + 1
+            }
+        }
+    }
 }
 
 /// The regions round a place, outermost first, and the library units that are mentioned there.
@@ -194,8 +130,8 @@ impl Scope {
         Ok(())
     }
 
-    /// Enters the region of a subprogram, task, protected object or entry, which may then be the prefix of an expanded
-    /// name (ARM 4.1.3(4, 13)). Blocks and loops are entered by `enter`, also those that have names (a choice).
+    /// Enters the region of a package, a subprogram, a task, a protected object or an entry, which may then be the prefix of
+    /// an expanded name (ARM 4.1.3(4, 13)). Blocks and loops are entered by `enter`, also those that have names (a choice).
     pub fn enter_construct(
         &mut self,
         construct: Symbol,
@@ -235,31 +171,108 @@ impl Scope {
         Ok(())
     }
 
-    /// A use clause that names the package (ARM 8.4(3)).
-    pub fn use_package(&mut self, package_name: &[u8]) -> Result<(), NoMemory>
-        requires { 0 < length self.old.regions }
-        ensures new { self.new.regions ≡ (if is_ok result then in_last (with_uses (with_package package_name.now)) self.old.regions else self.old.regions) }
+    /// Whether the unit encloses the place: a region round it is that of the unit, or of a construct in it.
+    pub fn is_in(&self, unit: &UnitKey) -> bool
+        ensures { result ≡ encloses unit.now self.now.regions }
+    {
+        self.regions.iter().any(|region| region.is_in(unit))
+    }
+
+    /// From here on the outermost region of the construct continues this part too: where the private part of a library
+    /// package or the body of a library subprogram begins, the private parts of its ancestors are seen (ARM 8.2(5)).
+    pub fn add_part(&mut self, construct: &Symbol, part: UnitPart) -> Result<(), NoMemory>
+        ensures ok { OnOk result (self.new.regions ≡ with_part construct.now part self.old.regions) }
+        ensures err { OnErr result (self.new.regions ≡ self.old.regions) }
         ensures depth { length self.new.regions ≡ length self.old.regions }
         ensures mentioned { self.new.mentioned ≡ self.old.mentioned }
     {
-        let last = self.regions.len() - 1;
-        let region = &mut self.regions[last];
-        region.use_package(package_name)?;
+        let at = place_of(self.regions.as_slice(), construct);
+        if at < self.regions.len() {
+            let region = &mut self.regions[at];
+            region.parts.push(part)?;
+        }
         Ok(())
     }
 
-    /// A use type clause that names the type (ARM 8.4(4)), which the visible part of its unit declares. The operators of
-    /// a type that a region round the place declares need no clause, as they are declared beside it (ARM 3.2.3(6)).
-    pub fn use_type(&mut self, symbol: Symbol) -> Result<(), NoMemory>
+    /// A use clause that names the package, in the innermost region (ARM 8.4(3)). It has no effect where the package
+    /// encloses the place: all that it opens is directly visible there, or hidden.
+    pub fn use_package(&mut self, unit: &UnitKey) -> Result<(), NoMemory>
         requires { 0 < length self.old.regions }
-        ensures new { self.new.regions ≡ (if is_ok result then in_last (with_uses (with_type symbol)) self.old.regions else self.old.regions) }
+        ensures new { self.new.regions ≡ (if is_ok result then with_use unit.now self.old.regions else self.old.regions) }
         ensures depth { length self.new.regions ≡ length self.old.regions }
         ensures mentioned { self.new.mentioned ≡ self.old.mentioned }
     {
+        if self.is_in(unit) {
+            return Ok(());
+        }
+        let last = self.regions.len() - 1;
+        let region = &mut self.regions[last];
+        region.use_package(unit.name.as_slice())?;
+        Ok(())
+    }
+
+    /// Whether the type is declared round the place: by a body, or by a unit that encloses the place.
+    fn is_declared_round(&self, symbol: &Symbol) -> bool
+        ensures { result ≡ is_declared_round symbol.now self.now.regions }
+    {
+        !matches!(symbol.unit.kind, UnitKind::Decl) || self.is_in(&symbol.unit)
+    }
+
+    /// A use type clause that names the type, in the innermost region (ARM 8.4(4)). It has no effect where the type is declared
+    /// round the place: its operators are declared beside it (ARM 3.2.3(6)).
+    pub fn use_type(&mut self, symbol: Symbol) -> Result<(), NoMemory>
+        requires { 0 < length self.old.regions }
+        ensures new { self.new.regions ≡ (if is_ok result then with_use_type symbol self.old.regions else self.old.regions) }
+        ensures depth { length self.new.regions ≡ length self.old.regions }
+        ensures mentioned { self.new.mentioned ≡ self.old.mentioned }
+    {
+        if self.is_declared_round(&symbol) {
+            return Ok(());
+        }
         let last = self.regions.len() - 1;
         let region = &mut self.regions[last];
         region.use_type(symbol)?;
         Ok(())
+    }
+
+    /// What the innermost region has of a name, with the parts that it continues: what a new declaration of the name may be
+    /// a homograph of, and what it may complete.
+    pub fn declared_here<A: Answers>(
+        &self,
+        name: &[u8],
+        recorder: &mut Recorder<A>,
+    ) -> Result<Views, NoMemory>
+        requires { 0 < length self.now.regions }
+        ensures asked { recorder.new.asked ≡ recorder.old.asked }
+        ensures told { IfOk result (λ views. Told recorder.old.log recorder.new.log (λ t. views ≡ here t self.now.mentioned name.now self.now.regions)) }
+        ensures asks { IfOk result (λ _. AsksOf (part_units (inner_parts self.now.regions)) (by_name (name.now ∷ [])) recorder.old.log recorder.new.log) }
+    {
+        let last = self.regions.len() - 1;
+        let found = find(
+            self.alloc,
+            &self.mentioned,
+            &self.regions[last],
+            name,
+            recorder,
+        )?;
+        Ok(found.views)
+    }
+
+    /// Whether the innermost region has a homograph, so that the declaration wouldn't fit there (ARM 8.3(26)).
+    pub fn has_homograph<A: Answers>(
+        &self,
+        name: &[u8],
+        view: &View,
+        recorder: &mut Recorder<A>,
+    ) -> Result<bool, NoMemory>
+        requires { 0 < length self.now.regions }
+        ensures asked { recorder.new.asked ≡ recorder.old.asked }
+        ensures told { IfOk result (λ has. Told recorder.old.log recorder.new.log (λ t. has ≡ list_any (homographs view.now) (here t self.now.mentioned name.now self.now.regions))) }
+        ensures asks { IfOk result (λ _. AsksOf (part_units (inner_parts self.now.regions)) (by_name (name.now ∷ [])) recorder.old.log recorder.new.log) }
+    {
+        let views = self.declared_here(name, recorder)?;
+        let has = has_homograph(view, views.as_slice());
+        Ok(has)
     }
 
     /// Declares, unless the innermost region has a homograph (ARM 8.3(26)): then it answers false and changes nothing.
@@ -271,53 +284,21 @@ impl Scope {
     ) -> Result<bool, NoMemory>
         requires { 0 < length self.old.regions }
         ensures asked { recorder.new.asked ≡ recorder.old.asked }
-        ensures told { IfOk result (λ fits. (t : Query → AnswerKind) → Agrees t recorder.new.log → Agrees t recorder.old.log × (fits ≡ not (has_homograph_in t self.old.mentioned name.now view self.old.regions))) }
-        ensures grounded { IfOk result (λ _. StaysGrounded (region_units self.old.regions) recorder.old.log recorder.new.log) }
+        ensures told { IfOk result (λ fits. Told recorder.old.log recorder.new.log (λ t. fits ≡ not (list_any (homographs view) (here t self.old.mentioned name.now self.old.regions)))) }
+        ensures asks { IfOk result (λ _. AsksOf (part_units (inner_parts self.old.regions)) (by_name (name.now ∷ [])) recorder.old.log recorder.new.log) }
         ensures new { IfOk result (λ fits. self.new.regions ≡ (if fits then in_last (with_declared name.now view) self.old.regions else self.old.regions)) }
-        ensures once { IfOk result (λ _. (t : Query → AnswerKind) → Agrees t recorder.new.log → StaysOnce t self.old self.new) }
+        ensures once { IfOk result (λ _. HoldsBy recorder.new.log (λ t. StaysOnce t self.old self.new)) }
         ensures depth { length self.new.regions ≡ length self.old.regions }
         ensures mentioned { self.new.mentioned ≡ self.old.mentioned }
         ensures err { OnErr result (self.new.regions ≡ self.old.regions) }
     {
-        let last = self.regions.len() - 1;
-        let found = find(
-            self.alloc,
-            &self.mentioned,
-            &self.regions[last],
-            name,
-            recorder,
-        )?;
-        if has_homograph(&view, found.views.as_slice()) {
+        if self.has_homograph(name, &view, recorder)? {
             return Ok(false);
         }
+        let last = self.regions.len() - 1;
         let region = &mut self.regions[last];
         region.declare(name, view)?;
         Ok(true)
-    }
-
-    /// What is visible by selection of a name in the package (ARM 4.1.3(4), 8.3(8)), in text order and its mentioned
-    /// children last.
-    pub fn selected<A: Answers>(
-        &self,
-        package_name: &[u8],
-        name: &[u8],
-        recorder: &mut Recorder<A>,
-    ) -> Result<Views, NoMemory>
-        ensures asked { recorder.new.asked ≡ recorder.old.asked }
-        ensures told { IfOk result (λ views. (t : Query → AnswerKind) → Agrees t recorder.new.log → Agrees t recorder.old.log × (views ≡ declared_by t self.now.mentioned name.now (visible_part package_name.now))) }
-        ensures grounded { IfOk result (λ _. StaysGrounded (package_unit package_name.now ∷ []) recorder.old.log recorder.new.log) }
-    {
-        let part = visible_part_of(self.alloc, package_name)?;
-        let mut views = Views::new(self.alloc);
-        ask_more(
-            self.alloc,
-            &self.mentioned,
-            &part,
-            name,
-            &mut views,
-            recorder,
-        )?;
-        Ok(views)
     }
 
     /// What is visible by selection of a name in a construct that encloses the place (ARM 4.1.3(4, 13), 8.3(8)): what
@@ -330,9 +311,9 @@ impl Scope {
         recorder: &mut Recorder<A>,
     ) -> Result<Option<Views>, NoMemory>
         ensures asked { recorder.new.asked ≡ recorder.old.asked }
-        ensures told { IfOk result (λ views. (t : Query → AnswerKind) → Agrees t recorder.new.log → Agrees t recorder.old.log × (views ≡ within t self.now.mentioned name.now construct.now self.now.regions)) }
-        ensures grounded { IfOk result (λ _. StaysGrounded (region_units self.now.regions) recorder.old.log recorder.new.log) }
-        ensures selected { IfOk result (λ views. (t : Query → AnswerKind) → Agrees t recorder.new.log → IsSelected t self.now.mentioned name.now construct.now self.now.regions views) }
+        ensures told { IfOk result (λ views. Told recorder.old.log recorder.new.log (λ t. views ≡ within t self.now.mentioned name.now construct.now self.now.regions)) }
+        ensures asks { IfOk result (λ _. AsksOf (part_units (within_parts construct.now self.now)) (by_name (name.now ∷ [])) recorder.old.log recorder.new.log) }
+        ensures selected { IfOk result (λ views. HoldsBy recorder.new.log (λ t. IsSelected t self.now.mentioned name.now construct.now self.now.regions views)) }
     {
         match region_of(self.regions.as_slice(), construct) {
             Some(region) => {
@@ -343,30 +324,84 @@ impl Scope {
         }
     }
 
+    /// What the visible part of the package declares under a name, in text order and its mentioned children last.
+    fn declared_by<A: Answers>(
+        &self,
+        prefix: &Symbol,
+        name: &[u8],
+        recorder: &mut Recorder<A>,
+    ) -> Result<Views, NoMemory>
+        ensures asked { recorder.new.asked ≡ recorder.old.asked }
+        ensures told { IfOk result (λ views. Told recorder.old.log recorder.new.log (λ t. views ≡ declared_by t self.now.mentioned name.now (part_of prefix.now))) }
+        ensures asks { IfOk result (λ _. AsksOf (part_units (part_of prefix.now ∷ [])) (by_name (name.now ∷ [])) recorder.old.log recorder.new.log) }
+    {
+        let part = visible_part_at(self.alloc, prefix)?;
+        let mut views = Views::new(self.alloc);
+        ask_more(
+            self.alloc,
+            &self.mentioned,
+            &part,
+            name,
+            &mut views,
+            recorder,
+        )?;
+        Ok(views)
+    }
+
+    /// What is visible by selection of a name in the package with this symbol (ARM 4.1.3(4), 8.3(8)): where it encloses the
+    /// place, what its region has, with what stands in its private part and body so far; else what its visible part declares,
+    /// in text order and its mentioned children last.
+    pub fn selected<A: Answers>(
+        &self,
+        prefix: &Symbol,
+        name: &[u8],
+        recorder: &mut Recorder<A>,
+    ) -> Result<Views, NoMemory>
+        ensures asked { recorder.new.asked ≡ recorder.old.asked }
+        ensures told { IfOk result (λ views. Told recorder.old.log recorder.new.log (λ t. views ≡ selected_at t name.now prefix.now self.now)) }
+        ensures asks { IfOk result (λ _. AsksOf (part_units (selected_parts prefix.now self.now)) (by_name (name.now ∷ [])) recorder.old.log recorder.new.log) }
+    {
+        match region_of(self.regions.as_slice(), prefix) {
+            Some(region) => {
+                let found = find(self.alloc, &self.mentioned, region, name, recorder)?;
+                Ok(found.views)
+            }
+            None => {
+                let views = self.declared_by(prefix, name, recorder)?;
+                Ok(views)
+            }
+        }
+    }
+
     /// What is visible of a name (ARM 8.3, 8.4): directly visible ones first, innermost region first, then use-visible
-    /// ones in the order of their package and text.
+    /// ones in the order of their package and text. It looks from the innermost region outward and stops at the first that
+    /// shuts out every other declaration; packages that use clauses open are asked where there is none.
     pub fn visible<A: Answers>(
         &self,
         name: &[u8],
         recorder: &mut Recorder<A>,
     ) -> Result<Views, NoMemory>
         ensures asked { recorder.new.asked ≡ recorder.old.asked }
-        ensures told { IfOk result (λ views. (t : Query → AnswerKind) → Agrees t recorder.new.log → Agrees t recorder.old.log × (views ≡ visible_at t name.now self.now)) }
-        ensures grounded { IfOk result (λ _. StaysGrounded (place_units self.now) recorder.old.log recorder.new.log) }
-        ensures once { IfOk result (λ views. (t : Query → AnswerKind) → Agrees t recorder.new.log → KeepsOnce t name.now self.now views) }
-        ensures exactly { IfOk result (λ views. (t : Query → AnswerKind) → Agrees t recorder.new.log → (v : ViewKind) → Has views v ↔ IsVisible t name.now self.now v) }
+        ensures told { IfOk result (λ views. Told recorder.old.log recorder.new.log (λ t. views ≡ visible_at t name.now self.now)) }
+        ensures asks { IfOk result (λ _. AsksOf (place_units self.now) (by_name (name.now ∷ [])) recorder.old.log recorder.new.log) }
+        ensures stops { IfOk result (λ _. HoldsBy recorder.new.log (λ t. AsksParts (searched_parts t name.now self.now) name.now recorder.old.log recorder.new.log)) }
+        ensures once { IfOk result (λ views. HoldsBy recorder.new.log (λ t. KeepsOnce t name.now self.now views)) }
+        ensures exactly { IfOk result (λ views. HoldsBy recorder.new.log (λ t. (v : ViewKind) → Has views v ↔ IsVisible t name.now self.now v)) }
     {
         let regions = self.regions.as_slice();
-        let founds = find_each(self.alloc, &self.mentioned, regions, name, recorder)?;
+        let search = search_outward(self.alloc, &self.mentioned, regions, name, recorder)?;
         let used = used_of(
             self.alloc,
             &self.mentioned,
             regions,
-            founds.as_slice(),
+            &search,
             name,
             recorder,
         )?;
-        let mut visible = direct_of(self.alloc, founds.as_slice())?;
+        let Search {
+            direct: mut visible,
+            ..
+        } = search;
         visible.append(used.as_slice())?;
         Ok(visible)
     }

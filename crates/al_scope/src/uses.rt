@@ -4,11 +4,10 @@ ghost use Rattle.std.specs.List.{list_any};
 ghost use Rattle.std.specs.BTreeMap.{insert_entry};
 ghost use Rattle.al_base.specs.Files.{name_cmp};
 ghost use Rattle.al_view.specs.Operators.{is_operator_of};
-ghost use Rattle.al_query.specs.declared.query.Query.{Query};
-ghost use Rattle.al_query.specs.declared.answer.AnswerKind.{AnswerKind};
-ghost use Rattle.al_query.specs.Reads.{Agrees};
-ghost use Rattle.al_scope.specs.Grounds.{StaysGrounded};
-ghost use Rattle.al_scope.specs.UseClauses.{EachOnce, no_use, opens, package_unit, package_units, use_of, with_package, with_type};
+ghost use Rattle.al_query.specs.Reads.{Told};
+ghost use Rattle.al_scope.specs.Asked.{AsksParts};
+ghost use Rattle.al_scope.specs.Places.{use_parts, visible_part};
+ghost use Rattle.al_scope.specs.UseClauses.{EachOnce, no_use, opens, use_of, with_package, with_type};
 ghost use Rattle.al_scope.specs.Visible.{opened_by, potential};
 
 use crate::questions::{ask_more, visible_part_of};
@@ -177,8 +176,8 @@ impl UseClauses {
         recorder: &mut Recorder<A>,
     ) -> Result<Views, NoMemory>
         ensures asked { recorder.new.asked ≡ recorder.old.asked }
-        ensures told { IfOk result (λ views. (t : Query → AnswerKind) → Agrees t recorder.new.log → Agrees t recorder.old.log × (views ≡ potential t mentioned.now name.now self.now)) }
-        ensures grounded { IfOk result (λ _. StaysGrounded (package_units self.now) recorder.old.log recorder.new.log) }
+        ensures told { IfOk result (λ views. Told recorder.old.log recorder.new.log (λ t. views ≡ potential t mentioned.now name.now self.now)) }
+        ensures asks { IfOk result (λ _. AsksParts (use_parts self.now) name.now recorder.old.log recorder.new.log) }
         ensures each { IfOk result (λ _. EachOnce self.now) }
     {
         let mut views = Views::new(self.alloc);
@@ -207,8 +206,8 @@ fn ask_used<A: Answers>(
     recorder: &mut Recorder<A>,
 ) -> Result<Views, NoMemory>
     ensures asked { recorder.new.asked ≡ recorder.old.asked }
-    ensures told { IfOk result (λ views. (t : Query → AnswerKind) → Agrees t recorder.new.log → Agrees t recorder.old.log × (views ≡ opened_by t mentioned.now name.now (package_name.now, used.now))) }
-    ensures grounded { IfOk result (λ _. StaysGrounded (package_unit package_name.now ∷ []) recorder.old.log recorder.new.log) }
+    ensures told { IfOk result (λ views. Told recorder.old.log recorder.new.log (λ t. views ≡ opened_by t mentioned.now name.now (package_name.now, used.now))) }
+    ensures asks { IfOk result (λ _. AsksParts (visible_part package_name.now ∷ []) name.now recorder.old.log recorder.new.log) }
 {
     let part = visible_part_of(alloc, package_name)?;
     let mut declared = Views::new(alloc);

@@ -3,7 +3,7 @@ use Rattle.std.proofs.Common.{◌≡◌, ◌≢◌, ℕ, ◌+◌, ◌<◌, ◌�
 use Rattle.std.specs.Prelude.{slice_index}
 use Rattle.std.proofs.lemmas.Bool.{cases_lt}
 use Rattle.std.proofs.lemmas.Bool.Decides.{nat_tests}
-use Rattle.std.proofs.lemmas.List.{take_at, drop_at, get_or_at, get_or_append_left, length-take, take_all}
+use Rattle.std.proofs.lemmas.List.{take_at, drop_at, get_or_at, get_or_append_left, length-take, length_push, take-append-drop, length-take-le, take_all}
 use Rattle.al_serve.specs.declared.line.Simple.{Simple}
 use Rattle.al_serve.specs.declared.line.Simple.TheVariants as simple
 use Rattle.al_serve.specs.Lines.{Command, Put, BadLength, LineKind, PutLine, WholeLine, Bad, line_of, after_line, after_put, by_cut, first, by_words, words_of}
@@ -16,7 +16,7 @@ use Rattle.al_stream.specs.Input.{Moment}
 use Rattle.al_base.specs.declared.refusal.Refusal.TheVariants.{BadLength as BadLengthRefusal}
 use Rattle.al_serve.specs.Replies.{refused}
 use Rattle.al_stream.specs.Reading.{IsLine, ReadsLine}
-use Rattle.al_serve.specs.Acting.{left_by, IsCommand, IsText, ActsOn, ActsOnRest, AnswersAndEnds, StopsShort, StopsInText}
+use Rattle.al_serve.specs.Acting.{left_by, IsCommand, IsText, WantsPulls, WantsPullsForText, ActsOn, ActsOnRest, AnswersAndEnds, StopsShort, StopsInText}
 use Rattle.al_stream.proofs.Moments.{reads_then, stops_then}
 use Rattle.al_stream.proofs.Cuts.{cut_at_found}
 
@@ -70,8 +70,24 @@ module _ (bytes line : List ℕ) (is_line : IsLine bytes line) where
         (first_line at_end bytes (text ++ more) is_line.no_end ∙ ap (λ k. after_line at_end k (text ++ more)) (kind_of kind is) ∙ is_text.is_rest at_end more follows);
   }
 
-  pub stops_from_text : (name : List ℕ) (len : ℕ) (text : List ℕ) → PutLine name len ≡ line_of line → after_put false name len text ≡ None → first false ((bytes ++ 10 ∷ []) ++ text) ≡ None
-  stops_from_text name len text is none = first_line false bytes text is_line.no_end ∙ ap (λ k. after_line false k text) (kind_of (PutLine name len) is) ∙ none
+  pub open_from_text : (kind : LineKind) (text : List ℕ) → kind ≡ line_of line → after_line false kind text ≡ None → first false ((bytes ++ 10 ∷ []) ++ text) ≡ None
+  open_from_text kind text is none = first_line false bytes text is_line.no_end ∙ ap (λ k. after_line false k text) (kind_of kind is) ∙ none
+
+  pub wants_from_text : (kind : LineKind) (text : List ℕ) (last : Bool) (most : ℕ) → kind ≡ line_of line → WantsPullsForText kind text last most → WantsPulls ((bytes ++ 10 ∷ []) ++ text) last (length bytes + 1 + most)
+  wants_from_text kind text last most is wants = record {
+    early = (bytes ++ 10 ∷ []) ++ wants.early;
+    late = wants.late;
+    parts = ap (λ t. (bytes ++ 10 ∷ []) ++ t) wants.parts ∙ sym (append_assoc (bytes ++ 10 ∷ []) wants.early wants.late);
+    unfinished = open_from_text kind wants.early is wants.unfinished;
+    count = omega (arith, length-append (bytes ++ 10 ∷ []) wants.early, length_push bytes 10, wants.count);
+    one_more = λ e. omega (arith, length-append (bytes ++ 10 ∷ []) text, length_push bytes 10, wants.one_more e);
+  }
+
+  pub wants_line : WantsPulls (bytes ++ 10 ∷ []) false (length bytes + 1)
+  wants_line = record { early = bytes; late = 10 ∷ []; parts = refl; unfinished = first_open bytes is_line.no_end; count = refl; one_more = λ e. length_push bytes 10 }
+
+  pub wants_end : WantsPulls bytes true (length bytes + 1)
+  wants_end = record { early = bytes; late = []; parts = sym (append-nil bytes); unfinished = first_open bytes is_line.no_end; count = refl; one_more = λ e. cc }
 
   -- a line that needs nothing behind it
   pub command_whole : (kind : LineKind) (command : Command) → kind ≡ line_of line → ((at_end : Bool) (more : List ℕ) → after_line at_end kind more ≡ Some (command, left_by command more)) → IsCommand (bytes ++ 10 ∷ []) command false
@@ -129,6 +145,31 @@ module _ (name : List ℕ) (len : ℕ) where
   unfolding after_put
   text_open text short = let few : ltb len (length text) ≡ false = grind (arith, nat_tests) in rw few refl
 
+  pub wants_text : (text : List ℕ) → length text ≡ len → WantsPullsForText (PutLine name len) (text ++ 10 ∷ []) false (len + 1)
+  wants_text text count = record {
+    early = text;
+    late = 10 ∷ [];
+    parts = refl;
+    unfinished = text_open text (omega arith);
+    count = omega arith;
+    one_more = λ e. omega (arith, length_push text 10);
+  }
+
+  pub wants_end_in_text : (text : List ℕ) → length text ≤ len → WantsPullsForText (PutLine name len) text true (length text + 1)
+  wants_end_in_text text short = record { early = text; late = []; parts = sym (append-nil text); unfinished = text_open text short; count = refl; one_more = λ e. cc }
+
+  pub wants_line_end : (text : List ℕ) → length text ≡ len + 1 → WantsPullsForText (PutLine name len) text false (len + 1)
+  wants_line_end text count =
+      let early : length (take len text) ≡ len = length-take-le len text (omega arith) in
+      record {
+        early = take len text;
+        late = drop len text;
+        parts = sym (take-append-drop len text);
+        unfinished = text_open (take len text) (omega arith);
+        count = omega arith;
+        one_more = λ e. count;
+      }
+
 -- a put at the end of the input has no text
 pub put_at_end : (name : List ℕ) (len : ℕ) → after_line true (PutLine name len) [] ≡ Some (BadLength, [])
 unfolding after_put
@@ -144,7 +185,9 @@ acts_on_line m old new line true kind command read is some all before after repl
   command = command;
   bytes = read.0 ++ 10 ∷ [];
   last = false;
+  most = length read.0 + 1;
   reads = read.2;
+  wants = wants_line read.0 line read.1;
   is_command = command_whole read.0 line read.1 kind command is all;
   answers = answers;
   at_end = λ e. cc;
@@ -154,7 +197,9 @@ acts_on_line m old new line false kind command read is some all before after rep
   command = command;
   bytes = read.0;
   last = true;
+  most = length read.0 + 1;
   reads = read.2;
+  wants = wants_end read.0 line read.1;
   is_command = command_last read.0 line read.1 kind command is (some_bytes read.0 line read.1 (some refl)) (all true []);
   answers = answers;
   at_end = λ _. read.3;
@@ -167,7 +212,9 @@ acts_on_last_put m old new line name len read is some before after reply ends is
   command = BadLength;
   bytes = read.0;
   last = true;
+  most = length read.0 + 1;
   reads = read.2;
+  wants = wants_end read.0 line read.1;
   is_command = command_last read.0 line read.1 (PutLine name len) BadLength is (some_bytes read.0 line read.1 some) (put_at_end name len);
   answers = answers;
   at_end = λ _. read.3;
@@ -180,7 +227,9 @@ acts_on_put m old mid new line kind read is before after reply ends is_last not_
   command = acted.command;
   bytes = (read.0 ++ 10 ∷ []) ++ acted.bytes;
   last = acted.last;
-  reads = reads_then read.2 acted.reads;
+  most = length read.0 + 1 + acted.most;
+  reads = reads_then _ (omega arith) read.2 acted.reads;
+  wants = wants_from_text read.0 line read.1 kind acted.bytes acted.last acted.most is acted.wants;
   is_command = command_from_text read.0 line read.1 kind acted.bytes acted.command acted.last is acted.is_text;
   answers = acted.answers;
   at_end = acted.at_end;
@@ -190,6 +239,6 @@ acts_on_put m old mid new line kind read is before after reply ends is_last not_
 pub stops_in_put : (old mid new : Moment) (line name : List ℕ) (len : ℕ) → ReadsLine old mid line (Ok true) → PutLine name len ≡ line_of line → StopsInText name len mid new → StopsShort old new
 stops_in_put old mid new line name len read is stopped = record {
   bytes = (read.0 ++ 10 ∷ []) ++ stopped.bytes;
-  no_command = stops_from_text read.0 line read.1 name len stopped.bytes is stopped.no_text;
-  stops = stops_then read.2 stopped.stops;
+  no_command = open_from_text read.0 line read.1 (PutLine name len) stopped.bytes is stopped.no_text;
+  stops = stops_then (omega (arith, length_push read.0 10)) read.2 stopped.stops;
 }

@@ -6,8 +6,8 @@ use Rattle.al_serve.specs.declared.serving.Ended.{Ended}
 use Rattle.al_serve.specs.declared.serving.Ended.TheVariants as ended
 use Rattle.al_serve.specs.Lines.{Command, Put, Delete, Rename, Build, Run, Report, ReportUnits, ReportObsolete, Quit, Bad, BadLength, first}
 use Rattle.al_serve.specs.Session.{Outcome, answer, over, prepend, after_answer, turn, session}
-use Rattle.al_serve.specs.Acting.{AnswersAndEnds, left_by, MayFollow, IsCommand}
-use Rattle.al_serve.specs.Serving.{IsInput}
+use Rattle.al_serve.specs.Acting.{AnswersAndEnds, left_by, MayFollow, IsCommand, WantsPulls}
+use Rattle.al_serve.specs.Serving.{IsInput, IsOpen}
 
 pub session-zero : (m : Meaning) (at_end : Bool) (files : State) (marks : List Bool) (bytes : List ℕ) → session m at_end 0 files marks bytes ≡ over files
 unfolding session
@@ -59,9 +59,24 @@ module _ (m : Meaning) (before after : State) (reply : List ℕ) where
   answer_ends ReportObsolete ends e a some go rest = let n = a.0 in cc
   answer_ends Bad ends e a some go rest = let n = a.0 in cc
 
+-- where a command after which the session goes on stands first, the session is open as it is with what follows
+opens : (m : Meaning) (before after : State) (reply : List ℕ) (command : Command) → AnswersAndEnds m before after reply None command → (n : ℕ) (bytes more : List ℕ) → first false bytes ≡ Some (command, left_by command more) → IsOpen n more → IsOpen (suc n) bytes
+opens m before after reply (Put name text) a n bytes more is o = IsOpen.goes_on is tt o
+opens m before after reply (Delete name) a n bytes more is o = IsOpen.goes_on is tt o
+opens m before after reply (Rename old new) a n bytes more is o = IsOpen.goes_on is tt o
+opens m before after reply (Build unit) a n bytes more is o = IsOpen.goes_on is tt o
+opens m before after reply (Run steps) a n bytes more is o = IsOpen.goes_on is tt o
+opens m before after reply (Report subject) a n bytes more is o = IsOpen.goes_on is tt o
+opens m before after reply ReportUnits a n bytes more is o = IsOpen.goes_on is tt o
+opens m before after reply ReportObsolete a n bytes more is o = IsOpen.goes_on is tt o
+opens m before after reply Bad a n bytes more is o = IsOpen.goes_on is tt o
+opens m before after reply Quit a n bytes more is o = let e = a.0 in cc
+opens m before after reply BadLength a n bytes more is o = let e = a.0 in cc
+
 -- one turn, whatever may follow
 pub record Turned (m : Meaning) (before after : State) (reply : List ℕ) (ends : Option Ended) (bytes : List ℕ) (last marked : Bool) : Type 0 where
   pub goes : ends ≡ None → (at_end : Bool) (n : ℕ) (marks : List Bool) (more : List ℕ) → MayFollow last at_end more → session m at_end (suc n) before (marked ∷ marks) (bytes ++ more) ≡ prepend reply (session m at_end n after marks more)
+  pub opens : ends ≡ None → last ≡ false → (n : ℕ) (more : List ℕ) → IsOpen n more → IsOpen (suc n) (bytes ++ more)
   pub stops : (e : Ended) → ends ≡ Some e → (at_end : Bool) (n : ℕ) (marks : List Bool) (more : List ℕ) → MayFollow last at_end more → session m at_end (suc n) before (marked ∷ marks) (bytes ++ more) ≡ record { replies = reply; state = after; ended = e }
 
 pub turned : (m : Meaning) (before after : State) (reply : List ℕ) (ends : Option Ended) (bytes : List ℕ) (last : Bool) (command : Command) → IsCommand bytes command last → AnswersAndEnds m before after reply ends command → (marked : Bool) × Turned m before after reply ends bytes last marked
@@ -70,6 +85,7 @@ turned m before after reply None bytes last command is a =
       one.marked,
       record {
         goes = λ none at_end n marks more follows. session-suc m at_end n before one.marked marks (bytes ++ more) ∙ ap (turn m (λ fs rest. session m at_end n fs marks rest) before one.marked) (is.is_first at_end more follows) ∙ one.goes (λ fs rest. session m at_end n fs marks rest) more;
+        opens = λ none not_last n more o. opens m before after reply command a n (bytes ++ more) more (is.is_first false more (λ last_too. cc)) o;
         stops = λ e some. cc;
       },
     )
@@ -77,6 +93,7 @@ turned m before after reply (Some e) bytes last command is a = (
   false,
   record {
     goes = λ none. cc;
+    opens = λ none. cc;
     stops = λ f some at_end n marks more follows. session-suc m at_end n before false marks (bytes ++ more) ∙ ap (turn m (λ fs rest. session m at_end n fs marks rest) before false) (is.is_first at_end more follows) ∙ answer_ends m before after reply command (Some e) f a some (λ fs rest. session m at_end n fs marks rest) (left_by command more);
   },
 )
@@ -84,14 +101,18 @@ turned m before after reply (Some e) bytes last command is a = (
 -- After so many turns, the session over what was taken and whatever comes is what was replied, and then the session over what comes.
 pub record Reached (m : Meaning) (start now : State) (taken done : List ℕ) (count : ℕ) : Type 0 where
   pub marks : List Bool
+  pub opens : (n : ℕ) (more : List ℕ) → IsOpen n more → IsOpen (count + n) (taken ++ more)
   pub step : (at_end : Bool) (n : ℕ) (later : List Bool) (more : List ℕ) → session m at_end (count + n) start (marks ++ later) (taken ++ more) ≡ prepend done (session m at_end n now later more)
 
 pub reached_start : (m : Meaning) (files : State) → Reached m files files [] [] 0
-reached_start m files = record { marks = []; step = λ at_end n later more. ap (λ k. session m at_end k files later more) (zero-add n) }
+reached_start m files = record { marks = []; opens = λ n more o. rw zero-add o; step = λ at_end n later more. ap (λ k. session m at_end k files later more) (zero-add n) }
 
-pub reached_more : {m : Meaning} {start now next : State} {taken done : List ℕ} (bytes reply : List ℕ) {count : ℕ} (marked : Bool) → Reached m start now taken done count → ((at_end : Bool) (n : ℕ) (marks : List Bool) (more : List ℕ) → session m at_end (suc n) now (marked ∷ marks) (bytes ++ more) ≡ prepend reply (session m at_end n next marks more)) → Reached m start next (taken ++ bytes) (done ++ reply) (count + 1)
-reached_more {m} {start} {now} {next} {taken} {done} bytes reply {count} marked reached one = record {
+pub reached_more : {m : Meaning} {start now next : State} {taken done : List ℕ} (bytes reply : List ℕ) {count : ℕ} (marked : Bool) → Reached m start now taken done count → ((n : ℕ) (more : List ℕ) → IsOpen n more → IsOpen (suc n) (bytes ++ more)) → ((at_end : Bool) (n : ℕ) (marks : List Bool) (more : List ℕ) → session m at_end (suc n) now (marked ∷ marks) (bytes ++ more) ≡ prepend reply (session m at_end n next marks more)) → Reached m start next (taken ++ bytes) (done ++ reply) (count + 1)
+reached_more {m} {start} {now} {next} {taken} {done} bytes reply {count} marked reached one_opens one = record {
   marks = reached.marks ++ marked ∷ [];
+  opens = λ n more o.
+      let k : (count + 1) + n ≡ count + suc n = omega arith in
+      rw (k, append_assoc taken bytes more) (reached.opens (suc n) (bytes ++ more) (one_opens n more o));
   step = λ at_end n later more.
       let k : (count + 1) + n ≡ count + suc n = omega arith in
       rw (k, append_assoc reached.marks (marked ∷ []) later, append_assoc taken bytes more)
@@ -116,3 +137,7 @@ none_left (Some xs) h = h
 pub known-nil : (x : Option (List ℕ)) → prepend_known [] x ≡ x
 known-nil None = refl
 known-nil (Some xs) = refl
+
+-- the end of the input, where no command begins
+pub wants_nothing : WantsPulls [] true 1
+wants_nothing = record { early = []; late = []; parts = refl; unfinished = first-nil false; count = omega arith; one_more = λ e. cc }

@@ -1,5 +1,5 @@
 -- What one turn of a session does.
-use Rattle.std.specs.Prelude.{◌≡◌, ℕ, Bool, true, false, List, [], ◌++◌, Option, Some, None}
+use Rattle.std.specs.Prelude.{◌≡◌, ℕ, Bool, true, false, List, [], ◌++◌, ◌+◌, length, Option, Some, None}
 use Rattle.std.specs.Io.KnownBytes.{IsAtEnd}
 use Rattle.al_serve.specs.Library.{State, Meaning}
 use Rattle.al_serve.specs.declared.serving.Ended.{Ended}
@@ -37,12 +37,33 @@ pub record IsCommand (bytes : List ℕ) (command : Command) (last : Bool) : Type
 pub record IsText (kind : LineKind) (bytes : List ℕ) (command : Command) (last : Bool) : Type 0 where
   pub is_rest : (at_end : Bool) (more : List ℕ) → MayFollow last at_end more → after_line at_end kind (bytes ++ more) ≡ Some (command, left_by command more)
 
+-- So many pulls were wanted for a command: one for each byte but the last, and one more for that or for the end of the input, as
+-- without it there was no whole command.
+pub record WantsPulls (bytes : List ℕ) (last : Bool) (most : ℕ) : Type 0 where
+  pub early : List ℕ
+  pub late : List ℕ
+  pub parts : bytes ≡ early ++ late
+  pub unfinished : first false early ≡ None
+  pub count : most ≡ length early + 1
+  pub one_more : last ≡ false → length bytes ≡ most
+
+-- the same of the text of a put
+pub record WantsPullsForText (kind : LineKind) (bytes : List ℕ) (last : Bool) (most : ℕ) : Type 0 where
+  pub early : List ℕ
+  pub late : List ℕ
+  pub parts : bytes ≡ early ++ late
+  pub unfinished : after_line false kind early ≡ None
+  pub count : most ≡ length early + 1
+  pub one_more : last ≡ false → length bytes ≡ most
+
 -- a command is read and carried out; last says whether the input ended with it
 pub record ActsOn (m : Meaning) (old new : Moment) (before after : State) (reply : List ℕ) (ends : Option Ended) (is_last : Bool) : Type 0 where
   pub command : Command
   pub bytes : List ℕ
   pub last : Bool
-  pub reads : Reads old new bytes
+  pub most : ℕ
+  pub reads : Reads old new bytes most
+  pub wants : WantsPulls bytes last most
   pub is_command : IsCommand bytes command last
   pub answers : AnswersAndEnds m before after reply ends command
   pub at_end : last ≡ true → IsAtEnd new.ahead
@@ -53,7 +74,9 @@ pub record ActsOnRest (m : Meaning) (kind : LineKind) (old new : Moment) (before
   pub command : Command
   pub bytes : List ℕ
   pub last : Bool
-  pub reads : Reads old new bytes
+  pub most : ℕ
+  pub reads : Reads old new bytes most
+  pub wants : WantsPullsForText kind bytes last most
   pub is_text : IsText kind bytes command last
   pub answers : AnswersAndEnds m before after reply ends command
   pub at_end : last ≡ true → IsAtEnd new.ahead

@@ -1,5 +1,6 @@
 -- The bytes of replies.
-use Rattle.std.specs.Prelude.{ℕ, ◌==◌, List, [], ◌++◌, length, codes, decimal, Option, Some, None, if◌then◌else◌}
+use Rattle.std.specs.Prelude.{ℕ, List, [], ◌++◌, length, codes, decimal, Option, Some, None}
+use Rattle.std.specs.Option.{unwrap_or}
 use Rattle.std.specs.List.{flat_map}
 use Rattle.al_base.specs.declared.unit_key.UnitKind.{UnitKind}
 use Rattle.al_base.specs.declared.unit_key.UnitKind.TheVariants.{Decl, Body, Sub}
@@ -8,6 +9,8 @@ use Rattle.al_base.specs.declared.run.RunEnd.TheVariants.{Finished, Idle, Spent,
 use Rattle.al_base.specs.declared.refusal.Refusal.{Refusal}
 use Rattle.al_base.specs.declared.refusal.Refusal.TheVariants.{NotBuilt, NoImage}
 use Rattle.al_base.specs.Refusals as refusals
+use Rattle.al_base.specs.Rules as broken
+use Rattle.al_base.specs.declared.rule.Rule.TheVariants.{NotYet}
 use Rattle.al_base.specs.Batch.{Batch, Faulty, NoMain, TooLarge, Made, Run, Finding, Key}
 use Rattle.al_stream.specs.Hexadecimal.{hex_lines}
 use Rattle.al_base.specs.Files.{Texts}
@@ -25,28 +28,9 @@ ok = codes "ok\n"
 abbrev pub refused : Refusal → List ℕ
 refused refusal = codes "refused " ++ decimal (refusals.number_of refusal) ++ codes " " ++ refusals.word_of refusal ++ line_end
 
--- what each rule says when it is broken
+-- what a rule says when it is broken
 abbrev pub message_of : ℕ → List ℕ
-message_of code =
-    if code == 1 then codes "E001 illegal character"
-    else if code == 2 then codes "E002 bad identifier"
-    else if code == 3 then codes "E003 bad number"
-    else if code == 4 then codes "E004 number too large"
-    else if code == 5 then codes "E005 bad string"
-    else if code == 6 then codes "E006 identifier too long"
-    else if code == 101 then codes "E101 syntax"
-    else if code == 201 then codes "E201 file name"
-    else if code == 202 then codes "E202 missing unit"
-    else if code == 203 then codes "E203 dependence cycle"
-    else if code == 204 then codes "E204 private child"
-    else if code == 205 then codes "E205 missing parent"
-    else if code == 206 then codes "E206 no stub"
-    else if code == 207 then codes "E207 reserved unit"
-    else if code == 208 then codes "E208 depends on faults"
-    else if code == 209 then codes "E209 body does not fit"
-    else if code == 308 then codes "E308 end name"
-    else if code == 401 then codes "E401 not visible"
-    else codes "E700 not yet"
+message_of code = broken.message_of (unwrap_or (broken.rule_of code) NotYet)
 
 -- FILE:LINE:COL: CODE TEXT
 abbrev pub finding_line : Finding → List ℕ

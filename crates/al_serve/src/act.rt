@@ -40,7 +40,7 @@ pub fn act<S: Source, L: UnitLibrary>(
     requires few { tick ≤ 10000 }
     ensures acted { IfOk result (λ acted. MatchOption acted
         ((L.state library.new ≡ L.state library.old) × IsAtEnd (moment S.ahead S.faults S.pulls source.new buffer.new).ahead
-        × Reads (moment S.ahead S.faults S.pulls source.old buffer.old) (moment S.ahead S.faults S.pulls source.new buffer.new) [])
+        × Reads (moment S.ahead S.faults S.pulls source.old buffer.old) (moment S.ahead S.faults S.pulls source.new buffer.new) [] 1)
         (λ acted. ActsOn (with_tick L.meaning tick) (moment S.ahead S.faults S.pulls source.old buffer.old)
         (moment S.ahead S.faults S.pulls source.new buffer.new) (L.state library.old) (L.state library.new)
         (reply_seen L.meaning (L.state library.new) acted.reply) acted.ended acted.is_last)) }

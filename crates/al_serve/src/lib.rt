@@ -6,6 +6,7 @@ mod answering;
 mod laws;
 mod library;
 mod line;
+mod memory;
 mod pieces;
 mod reply;
 mod reports;
@@ -14,4 +15,5 @@ mod subject;
 
 pub use laws::sessions_are_ordered;
 pub use library::{Built, Outcome, UnitLibrary};
+pub use memory::serve_bytes;
 pub use serving::{Ended, MAX_COMMANDS, MAX_PULLS, serve, serve_within};

@@ -6,7 +6,7 @@ ghost use Rattle.al_stream.specs.Output.{Adds};
 ghost use Rattle.al_serve.specs.Library.{file_unit_of};
 ghost use Rattle.al_serve.specs.Replies.{refused, message_of, finding_line, kind_word, key_line, file_line, end_word, run_reply};
 
-use al_base::{Diagnostic, Name, Ran, Refusal, RunEnd, UnitKey, UnitKind};
+use al_base::{Diagnostic, Name, Ran, Refusal, Rule, RunEnd, UnitKey, UnitKind};
 use al_stream::{Device, Sink, emit, emit_number};
 
 /// Writes that a command is refused, with the number and the word of the refusal.
@@ -17,7 +17,7 @@ pub fn emit_refusal<K: Sink>(
 ) -> Result<(), Device>
     requires { IsOk so_far → K.faults writer.old < 2 ^ 64 - 1 }
     ensures faults { IsOk result → IsOk so_far × (K.faults writer.new ≡ K.faults writer.old) }
-    ensures told { Adds K.written K.faults writer.old writer.new so_far result (refused refusal) }
+    ensures told { Adds K.written K.faults K.waits writer.old writer.new so_far result (refused refusal) }
 {
     let so_far = emit(so_far, writer, b"refused ");
     let so_far = emit_number(so_far, writer, usize::from(refusal.number()));
@@ -26,29 +26,13 @@ pub fn emit_refusal<K: Sink>(
     emit(so_far, writer, b"\n")
 }
 
+// What the rule of this number says.
 fn message_of(code: u16) -> &'static [u8]
     ensures { result.now ≡ message_of code }
 {
-    match code {
-        1 => b"E001 illegal character",
-        2 => b"E002 bad identifier",
-        3 => b"E003 bad number",
-        4 => b"E004 number too large",
-        5 => b"E005 bad string",
-        6 => b"E006 identifier too long",
-        101 => b"E101 syntax",
-        201 => b"E201 file name",
-        202 => b"E202 missing unit",
-        203 => b"E203 dependence cycle",
-        204 => b"E204 private child",
-        205 => b"E205 missing parent",
-        206 => b"E206 no stub",
-        207 => b"E207 reserved unit",
-        208 => b"E208 depends on faults",
-        209 => b"E209 body does not fit",
-        308 => b"E308 end name",
-        401 => b"E401 not visible",
-        _ => b"E700 not yet",
+    match Rule::of(code) {
+        Some(rule) => rule.message(),
+        None => Rule::NotYet.message(),
     }
 }
 
@@ -60,7 +44,7 @@ fn emit_finding<K: Sink>(
 ) -> Result<(), Device>
     requires { IsOk so_far → K.faults writer.old < 2 ^ 64 - 1 }
     ensures faults { IsOk result → IsOk so_far × (K.faults writer.new ≡ K.faults writer.old) }
-    ensures told { Adds K.written K.faults writer.old writer.new so_far result (finding_line (finding_of diagnostic.now)) }
+    ensures told { Adds K.written K.faults K.waits writer.old writer.new so_far result (finding_line (finding_of diagnostic.now)) }
 {
     let so_far = emit(so_far, writer, diagnostic.file.as_slice());
     let so_far = emit(so_far, writer, b":");
@@ -80,7 +64,7 @@ pub fn emit_findings<K: Sink>(
 ) -> Result<(), Device>
     requires { IsOk so_far → K.faults writer.old < 2 ^ 64 - 1 }
     ensures faults { IsOk result → IsOk so_far × (K.faults writer.new ≡ K.faults writer.old) }
-    ensures told { Adds K.written K.faults writer.old writer.new so_far result (flat_map finding_line (map finding_of diagnostics.now)) }
+    ensures told { Adds K.written K.faults K.waits writer.old writer.new so_far result (flat_map finding_line (map finding_of diagnostics.now)) }
 {
     for diagnostic in diagnostics {
         so_far = emit_finding(so_far, writer, diagnostic);
@@ -106,7 +90,7 @@ fn emit_key<K: Sink>(
 ) -> Result<(), Device>
     requires { IsOk so_far → K.faults writer.old < 2 ^ 64 - 1 }
     ensures faults { IsOk result → IsOk so_far × (K.faults writer.new ≡ K.faults writer.old) }
-    ensures told { Adds K.written K.faults writer.old writer.new so_far result (key_line (key_of key.now)) }
+    ensures told { Adds K.written K.faults K.waits writer.old writer.new so_far result (key_line (key_of key.now)) }
 {
     let so_far = emit(so_far, writer, key.name.as_slice());
     let so_far = emit(so_far, writer, b" ");
@@ -122,7 +106,7 @@ pub fn emit_keys<K: Sink>(
 ) -> Result<(), Device>
     requires { IsOk so_far → K.faults writer.old < 2 ^ 64 - 1 }
     ensures faults { IsOk result → IsOk so_far × (K.faults writer.new ≡ K.faults writer.old) }
-    ensures told { Adds K.written K.faults writer.old writer.new so_far result (flat_map key_line (map key_of keys.now)) }
+    ensures told { Adds K.written K.faults K.waits writer.old writer.new so_far result (flat_map key_line (map key_of keys.now)) }
 {
     for key in keys {
         so_far = emit_key(so_far, writer, key);
@@ -139,7 +123,7 @@ fn emit_file_line<K: Sink>(
 ) -> Result<(), Device>
     requires { IsOk so_far → K.faults writer.old < 2 ^ 64 - 1 }
     ensures faults { IsOk result → IsOk so_far × (K.faults writer.new ≡ K.faults writer.old) }
-    ensures told { Adds K.written K.faults writer.old writer.new so_far result (file_line (file_unit_of (file.now, unit.now))) }
+    ensures told { Adds K.written K.faults K.waits writer.old writer.new so_far result (file_line (file_unit_of (file.now, unit.now))) }
 {
     let so_far = emit(so_far, writer, file.as_slice());
     let Some(key) = unit else {
@@ -160,7 +144,7 @@ pub fn emit_file_lines<K: Sink>(
 ) -> Result<(), Device>
     requires { IsOk so_far → K.faults writer.old < 2 ^ 64 - 1 }
     ensures faults { IsOk result → IsOk so_far × (K.faults writer.new ≡ K.faults writer.old) }
-    ensures told { Adds K.written K.faults writer.old writer.new so_far result (flat_map file_line (map file_unit_of files.now)) }
+    ensures told { Adds K.written K.faults K.waits writer.old writer.new so_far result (flat_map file_line (map file_unit_of files.now)) }
 {
     for (file, unit) in files {
         so_far = emit_file_line(so_far, writer, file, unit);
@@ -187,7 +171,7 @@ pub fn emit_ran<K: Sink>(
 ) -> Result<(), Device>
     requires { IsOk so_far → K.faults writer.old < 2 ^ 64 - 1 }
     ensures faults { IsOk result → IsOk so_far × (K.faults writer.new ≡ K.faults writer.old) }
-    ensures told { Adds K.written K.faults writer.old writer.new so_far result (run_reply (run_of ran.now)) }
+    ensures told { Adds K.written K.faults K.waits writer.old writer.new so_far result (run_reply (run_of ran.now)) }
 {
     let so_far = emit(so_far, writer, b"output ");
     let output = ran.output.as_slice();

@@ -1,7 +1,7 @@
 // The replies to builds and reports, as the last build gives them.
-ghost use Rattle.std.specs.Prelude.{◌≡◌, ◌-◌, ◌^◌, ◌<◌, IsOk, map, codes, length};
+ghost use Rattle.std.specs.Prelude.{◌≡◌, ◌-◌, ◌^◌, ◌<◌, false, IsOk, OnOk, map, codes, length};
 ghost use Rattle.al_base.specs.Batch.{finding_of, key_of};
-ghost use Rattle.al_stream.specs.Output.{WritesReply, Adds};
+ghost use Rattle.al_stream.specs.Output.{sink_moment, WritesReply, Adds};
 ghost use Rattle.al_serve.specs.Outcomes.{outcome_seen};
 ghost use Rattle.al_serve.specs.Library.{file_unit_of};
 ghost use Rattle.al_serve.specs.ReplySeen.{reply_seen};
@@ -23,7 +23,7 @@ fn emit_diagnostics<K: Sink>(
 ) -> Result<(), Device>
     requires { IsOk so_far → K.faults writer.old < 2 ^ 64 - 1 }
     ensures faults { IsOk result → IsOk so_far × (K.faults writer.new ≡ K.faults writer.old) }
-    ensures told { Adds K.written K.faults writer.old writer.new so_far result (listing word.now finding_line (map finding_of diagnostics.now)) }
+    ensures told { Adds K.written K.faults K.waits writer.old writer.new so_far result (listing word.now finding_line (map finding_of diagnostics.now)) }
 {
     let so_far = emit(so_far, writer, word);
     let so_far = emit_number(so_far, writer, diagnostics.len());
@@ -40,7 +40,7 @@ fn emit_order<K: Sink>(
 ) -> Result<(), Device>
     requires { IsOk so_far → K.faults writer.old < 2 ^ 64 - 1 }
     ensures faults { IsOk result → IsOk so_far × (K.faults writer.new ≡ K.faults writer.old) }
-    ensures told { Adds K.written K.faults writer.old writer.new so_far result (listing word.now key_line (map key_of order.now)) }
+    ensures told { Adds K.written K.faults K.waits writer.old writer.new so_far result (listing word.now key_line (map key_of order.now)) }
 {
     let so_far = emit(so_far, writer, word);
     let so_far = emit_number(so_far, writer, order.len());
@@ -57,7 +57,7 @@ fn emit_units<K: Sink>(
 ) -> Result<(), Device>
     requires { IsOk so_far → K.faults writer.old < 2 ^ 64 - 1 }
     ensures faults { IsOk result → IsOk so_far × (K.faults writer.new ≡ K.faults writer.old) }
-    ensures told { Adds K.written K.faults writer.old writer.new so_far result (listing word.now file_line (map file_unit_of files.now)) }
+    ensures told { Adds K.written K.faults K.waits writer.old writer.new so_far result (listing word.now file_line (map file_unit_of files.now)) }
 {
     let so_far = emit(so_far, writer, word);
     let so_far = emit_number(so_far, writer, files.len());
@@ -72,7 +72,7 @@ fn emit_image<K: Sink>(
 ) -> Result<(), Device>
     requires { IsOk so_far → K.faults writer.old < 2 ^ 64 - 1 }
     ensures faults { IsOk result → IsOk so_far × (K.faults writer.new ≡ K.faults writer.old) }
-    ensures told { Adds K.written K.faults writer.old writer.new so_far result (image_text image.now) }
+    ensures told { Adds K.written K.faults K.waits writer.old writer.new so_far result (image_text image.now) }
 {
     let so_far = emit(so_far, writer, b"image ");
     let so_far = emit_number(so_far, writer, image.len());
@@ -88,7 +88,7 @@ fn emit_built<K: Sink>(
 ) -> Result<(), Device>
     requires { IsOk so_far → K.faults writer.old < 2 ^ 64 - 1 }
     ensures faults { IsOk result → IsOk so_far × (K.faults writer.new ≡ K.faults writer.old) }
-    ensures told { Adds K.written K.faults writer.old writer.new so_far result (built_line items bytes) }
+    ensures told { Adds K.written K.faults K.waits writer.old writer.new so_far result (built_line items bytes) }
 {
     let so_far = emit(so_far, writer, b"built ");
     let so_far = emit_number(so_far, writer, items);
@@ -104,7 +104,7 @@ fn emit_no_main<K: Sink>(
 ) -> Result<(), Device>
     requires { IsOk so_far → K.faults writer.old < 2 ^ 64 - 1 }
     ensures faults { IsOk result → IsOk so_far × (K.faults writer.new ≡ K.faults writer.old) }
-    ensures told { Adds K.written K.faults writer.old writer.new so_far result (no_main_line main.now) }
+    ensures told { Adds K.written K.faults K.waits writer.old writer.new so_far result (no_main_line main.now) }
 {
     let so_far = emit(so_far, writer, b"failed B1 main ");
     let so_far = emit(so_far, writer, main);
@@ -120,7 +120,7 @@ fn emit_outcome<K: Sink>(
 ) -> Result<(), Device>
     requires { IsOk so_far → K.faults writer.old < 2 ^ 64 - 1 }
     ensures faults { IsOk result → IsOk so_far × (K.faults writer.new ≡ K.faults writer.old) }
-    ensures told { Adds K.written K.faults writer.old writer.new so_far result (build_reply main.now (outcome_seen outcome.now)) }
+    ensures told { Adds K.written K.faults K.waits writer.old writer.new so_far result (build_reply main.now (outcome_seen outcome.now)) }
 {
     match outcome {
         Outcome::Faulty(diagnostics) => emit_diagnostics(so_far, writer, b"failed ", diagnostics),
@@ -138,7 +138,7 @@ fn report_diagnostics<K: Sink>(
 ) -> Result<(), Device>
     requires { IsOk so_far → K.faults writer.old < 2 ^ 64 - 1 }
     ensures faults { IsOk result → IsOk so_far × (K.faults writer.new ≡ K.faults writer.old) }
-    ensures told { Adds K.written K.faults writer.old writer.new so_far result (report_reply Subject.Diagnostics (outcome_seen outcome.now)) }
+    ensures told { Adds K.written K.faults K.waits writer.old writer.new so_far result (report_reply Subject.Diagnostics (outcome_seen outcome.now)) }
 {
     match outcome {
         Outcome::Faulty(diagnostics) => {
@@ -158,7 +158,7 @@ fn report_order<K: Sink>(
 ) -> Result<(), Device>
     requires { IsOk so_far → K.faults writer.old < 2 ^ 64 - 1 }
     ensures faults { IsOk result → IsOk so_far × (K.faults writer.new ≡ K.faults writer.old) }
-    ensures told { Adds K.written K.faults writer.old writer.new so_far result (order_reply (outcome_seen outcome.now)) }
+    ensures told { Adds K.written K.faults K.waits writer.old writer.new so_far result (order_reply (outcome_seen outcome.now)) }
 {
     match outcome {
         Outcome::Faulty(_) => emit_refusal(so_far, writer, Refusal::NoImage),
@@ -176,7 +176,7 @@ fn report_image<K: Sink>(
 ) -> Result<(), Device>
     requires { IsOk so_far → K.faults writer.old < 2 ^ 64 - 1 }
     ensures faults { IsOk result → IsOk so_far × (K.faults writer.new ≡ K.faults writer.old) }
-    ensures told { Adds K.written K.faults writer.old writer.new so_far result (image_reply (outcome_seen outcome.now)) }
+    ensures told { Adds K.written K.faults K.waits writer.old writer.new so_far result (image_reply (outcome_seen outcome.now)) }
 {
     match outcome {
         Outcome::Faulty(_) => emit_refusal(so_far, writer, Refusal::NoImage),
@@ -195,7 +195,7 @@ fn emit_report<K: Sink>(
 ) -> Result<(), Device>
     requires { IsOk so_far → K.faults writer.old < 2 ^ 64 - 1 }
     ensures faults { IsOk result → IsOk so_far × (K.faults writer.new ≡ K.faults writer.old) }
-    ensures told { Adds K.written K.faults writer.old writer.new so_far result (report_reply subject (outcome_seen outcome.now)) }
+    ensures told { Adds K.written K.faults K.waits writer.old writer.new so_far result (report_reply subject (outcome_seen outcome.now)) }
 {
     match subject {
         Subject::Diagnostics => report_diagnostics(so_far, writer, outcome),
@@ -211,8 +211,9 @@ pub fn write_reply<K: Sink, L: UnitLibrary>(
     reply: &Reply,
 ) -> Result<(), Device>
     requires { K.faults writer.old < 2 ^ 64 - 1 }
-    ensures { WritesReply (K.written writer.old) (K.written writer.new) (K.faults writer.old) (K.faults writer.new)
+    ensures told { WritesReply (sink_moment K.written K.faults K.waits writer.old) (sink_moment K.written K.faults K.waits writer.new)
         (reply_seen L.meaning (L.state library.now) reply.now) result }
+    ensures passed { OnOk result (K.waits writer.new ≡ false) }
 {
     let so_far = emit_reply(writer, library, reply);
     finish(so_far, writer)
@@ -224,7 +225,7 @@ fn emit_reply<K: Sink, L: UnitLibrary>(
     reply: &Reply,
 ) -> Result<(), Device>
     requires { K.faults writer.old < 2 ^ 64 - 1 }
-    ensures { WritesReply (K.written writer.old) (K.written writer.new) (K.faults writer.old) (K.faults writer.new)
+    ensures { WritesReply (sink_moment K.written K.faults K.waits writer.old) (sink_moment K.written K.faults K.waits writer.new)
         (reply_seen L.meaning (L.state library.now) reply.now) result }
 {
     match reply {

@@ -1,5 +1,7 @@
 // The session.
-ghost use Rattle.std.specs.Prelude.{◌≡◌, ◌+◌, ◌-◌, ◌^◌, ◌<◌, ◌≤◌, ◌⊎◌, IfOk, IsErrOf};
+ghost use Rattle.std.specs.Prelude.{◌+◌, ◌-◌, ◌^◌, ◌<◌, ◌≤◌, IfOk, IsErrOf};
+ghost use Rattle.al_stream.specs.Input.{source_moment};
+ghost use Rattle.al_stream.specs.Output.{sink_moment};
 ghost use Rattle.al_serve.specs.Library.{with_tick};
 ghost use Rattle.al_serve.specs.Serving.{Serves, StopsReading, StopsWriting};
 
@@ -35,20 +37,15 @@ pub fn serve_within<S: Source, K: Sink, L: UnitLibrary>(
     requires some { 1 ≤ tick }
     requires few { tick ≤ 10000 }
 
-    // What is written is the replies to what is read, and nothing else.
-    ensures served { IfOk result (Serves (with_tick L.meaning tick) commands (S.ahead reader.old)
-        (K.written writer.old) (K.written writer.new) (L.state library.old) (L.state library.new)) }
+    // What is written is the replies to what is read, and nothing else; and no more is read than they want.
+    ensures served { IfOk result (Serves (with_tick L.meaning tick) commands (source_moment S.ahead S.faults S.pulls reader.old) (source_moment S.ahead S.faults S.pulls reader.new)
+        (sink_moment K.written K.faults K.waits writer.old) (sink_moment K.written K.faults K.waits writer.new) (L.state library.old) (L.state library.new)) }
 
-    // A device that fails leaves a front of them.
-    ensures read { IsErrOf result Device.Read → StopsReading (with_tick L.meaning tick) commands (S.ahead reader.old)
-        (S.ahead reader.new) (K.written writer.old) (K.written writer.new) (L.state library.old) (L.state library.new) }
-    ensures write { IsErrOf result Device.Write → StopsWriting (with_tick L.meaning tick) commands (S.ahead reader.old)
-        (K.written writer.old) (K.written writer.new) (L.state library.old) (L.state library.new) }
-
-    // It fails only where the device failed, or no pull was left.
-    ensures read_cause { IsErrOf result Device.Read →
-        (S.faults reader.new ≡ S.faults reader.old + 1) ⊎ (S.pulls reader.new ≡ S.pulls reader.old + pulls) }
-    ensures write_cause { IsErrOf result Device.Write → K.faults writer.new ≡ K.faults writer.old + 1 }
+    // A device that fails leaves a prefix of them.
+    ensures read { IsErrOf result Device.Read → StopsReading (with_tick L.meaning tick) commands pulls (source_moment S.ahead S.faults S.pulls reader.old) (source_moment S.ahead S.faults S.pulls reader.new)
+        (sink_moment K.written K.faults K.waits writer.old) (sink_moment K.written K.faults K.waits writer.new) (L.state library.old) (L.state library.new) }
+    ensures write { IsErrOf result Device.Write → StopsWriting (with_tick L.meaning tick) commands (source_moment S.ahead S.faults S.pulls reader.old)
+        (sink_moment K.written K.faults K.waits writer.old) (sink_moment K.written K.faults K.waits writer.new) (L.state library.old) (L.state library.new) }
 {
     let mut buffer = Buffer::new(pulls);
     for _ in 0..commands {
@@ -85,15 +82,12 @@ pub fn serve<S: Source, K: Sink, L: UnitLibrary>(
     requires write_faults { K.faults writer.old < 2 ^ 64 - 1 }
     requires some { 1 ≤ tick }
     requires few { tick ≤ 10000 }
-    ensures served { IfOk result (Serves (with_tick L.meaning tick) MAX_COMMANDS (S.ahead reader.old)
-        (K.written writer.old) (K.written writer.new) (L.state library.old) (L.state library.new)) }
-    ensures read { IsErrOf result Device.Read → StopsReading (with_tick L.meaning tick) MAX_COMMANDS (S.ahead reader.old)
-        (S.ahead reader.new) (K.written writer.old) (K.written writer.new) (L.state library.old) (L.state library.new) }
-    ensures write { IsErrOf result Device.Write → StopsWriting (with_tick L.meaning tick) MAX_COMMANDS (S.ahead reader.old)
-        (K.written writer.old) (K.written writer.new) (L.state library.old) (L.state library.new) }
-    ensures read_cause { IsErrOf result Device.Read →
-        (S.faults reader.new ≡ S.faults reader.old + 1) ⊎ (S.pulls reader.new ≡ S.pulls reader.old + MAX_PULLS) }
-    ensures write_cause { IsErrOf result Device.Write → K.faults writer.new ≡ K.faults writer.old + 1 }
+    ensures served { IfOk result (Serves (with_tick L.meaning tick) MAX_COMMANDS (source_moment S.ahead S.faults S.pulls reader.old) (source_moment S.ahead S.faults S.pulls reader.new)
+        (sink_moment K.written K.faults K.waits writer.old) (sink_moment K.written K.faults K.waits writer.new) (L.state library.old) (L.state library.new)) }
+    ensures read { IsErrOf result Device.Read → StopsReading (with_tick L.meaning tick) MAX_COMMANDS MAX_PULLS (source_moment S.ahead S.faults S.pulls reader.old) (source_moment S.ahead S.faults S.pulls reader.new)
+        (sink_moment K.written K.faults K.waits writer.old) (sink_moment K.written K.faults K.waits writer.new) (L.state library.old) (L.state library.new) }
+    ensures write { IsErrOf result Device.Write → StopsWriting (with_tick L.meaning tick) MAX_COMMANDS (source_moment S.ahead S.faults S.pulls reader.old)
+        (sink_moment K.written K.faults K.waits writer.old) (sink_moment K.written K.faults K.waits writer.new) (L.state library.old) (L.state library.new) }
 {
     serve_within(
         alloc,

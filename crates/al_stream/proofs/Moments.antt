@@ -1,5 +1,5 @@
 -- What is read in turn is read as a whole.
-use Rattle.std.proofs.Common.{◌≡◌, ℕ, ◌+◌, List, [], ◌∷◌, ◌++◌, take, drop, Option, Some, None, refl, ap, sym, ◌∙◌, append_assoc, append-nil, inl, inr}
+use Rattle.std.proofs.Common.{◌≡◌, ℕ, ◌+◌, ◌≤◌, List, [], ◌∷◌, ◌++◌, length, take, drop, Option, Some, None, refl, ap, sym, ◌∙◌, append_assoc, append-nil, length-append, arith, inl, inr}
 use Rattle.std.proofs.lemmas.List.{take-append-drop}
 use Rattle.std.specs.Io.KnownBytes.{Consumes, Appends, Keeps, prepend_known}
 use Rattle.al_stream.specs.Input.{Moment, moment, Reads, Stops}
@@ -41,29 +41,37 @@ appends_keeps (Some xs) (Some ys) (Some zs) bs h k = k ∙ h
 pub append_then : (a b c xs ys : List ℕ) → b ≡ a ++ xs → c ≡ b ++ ys → c ≡ a ++ (xs ++ ys)
 append_then a b c xs ys h k = k ∙ ap (λ r. r ++ ys) h ∙ append_assoc a xs ys
 
-pub reads_none : (m : Moment) → Reads m m []
-reads_none m = record { told = consumes_none m.ahead; no_fault = refl; counted = refl }
+pub reads_none : (m : Moment) → Reads m m [] 0
+reads_none m = record { told = consumes_none m.ahead; no_fault = refl; counted = refl; few = omega arith }
 
 -- the first bytes in the buffer are read where it lets go of them
 pub reads_front : {S : Type 0} (ahead : S → Option (List ℕ)) (faults pulls : S → ℕ) (source : S) (old new : List ℕ × ℕ) (n : ℕ)
-    → new.0 ≡ drop n old.0 → new.1 ≡ old.1 → Reads (moment ahead faults pulls source old) (moment ahead faults pulls source new) (take n old.0)
+    → new.0 ≡ drop n old.0 → new.1 ≡ old.1 → Reads (moment ahead faults pulls source old) (moment ahead faults pulls source new) (take n old.0) 0
 reads_front ahead faults pulls source old new n rest left = record {
   told = rw rest (consumes_front n old.0 (ahead source));
   no_fault = refl;
   counted = ap (λ l. pulls source + l) left;
+  few = omega arith;
 }
 
-pub reads_then : {a b c : Moment} {xs ys : List ℕ} → Reads a b xs → Reads b c ys → Reads a c (xs ++ ys)
-reads_then {a} {b} {c} {xs} {ys} h k = record {
+pub reads_then : {a b c : Moment} {xs ys : List ℕ} {m n : ℕ} (most : ℕ) → m + n ≤ most → Reads a b xs m → Reads b c ys n → Reads a c (xs ++ ys) most
+reads_then {a} {b} {c} {xs} {ys} {m} {n} most le h k = record {
   told = consumes_then a.ahead b.ahead c.ahead xs ys h.told k.told;
   no_fault = k.no_fault ∙ h.no_fault;
   counted = k.counted ∙ h.counted;
+  few = let one = h.few in let two = k.few in omega arith;
 }
 
-pub stops_then : {a b c : Moment} {xs ys : List ℕ} → Reads a b xs → Stops b c ys → Stops a c (xs ++ ys)
-stops_then {a} {b} {c} {xs} {ys} h k = record {
+pub reads_within : {a b : Moment} {xs : List ℕ} {m : ℕ} (most : ℕ) → m ≤ most → Reads a b xs m → Reads a b xs most
+reads_within {a} {b} {xs} {m} most le h = record { told = h.told; no_fault = h.no_fault; counted = h.counted; few = let one = h.few in omega arith }
+
+pub stops_then : {a b c : Moment} {xs ys : List ℕ} {m : ℕ} → m ≤ length xs → Reads a b xs m → Stops b c ys → Stops a c (xs ++ ys)
+stops_then {a} {b} {c} {xs} {ys} {m} le h k = record {
   told = consumes_then a.ahead b.ahead c.ahead xs ys h.told k.told;
   none_held = k.none_held;
-  cause = elim k.cause [ inl e ↦ inl (e ∙ ap (λ n. n + 1) h.no_fault) | inr e ↦ inr e ];
+  cause = elim k.cause [
+    | inl e ↦ inl (record { counted = e.counted ∙ ap (λ n. n + 1) h.no_fault })
+    | inr e ↦ inr (record { no_fault = e.no_fault ∙ h.no_fault; none_left = e.none_left; few = let one = h.few in let two = e.few in omega (arith, length-append xs ys) })
+  ];
   counted = k.counted ∙ h.counted;
 }

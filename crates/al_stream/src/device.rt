@@ -1,5 +1,5 @@
 // Where the commands come from, and where the replies go.
-ghost use Rattle.std.specs.Prelude.{◌≡◌, ℕ, ◌+◌, ◌-◌, ◌^◌, ◌<◌, ◌≤◌, List, Option, IfOk, length};
+ghost use Rattle.std.specs.Prelude.{◌≡◌, ℕ, ◌+◌, ◌-◌, ◌^◌, ◌<◌, ◌≤◌, Bool, false, List, Option, IfOk, OnErr, OnOk, length};
 ghost use Rattle.std.specs.Io.{ReadsAtMost, WritesAtMost};
 ghost use Rattle.std.specs.Io.KnownBytes.{ReadConsumes, WriteAppends, Keeps};
 ghost use Rattle.al_stream.specs.Device.{CountsFault};
@@ -50,37 +50,45 @@ pub trait Sink {
     /// How many pushes and flushes have failed.
     ghost faults: { Self → ℕ };
 
+    /// Whether something of what was written may be held back still.
+    ghost waits: { Self → Bool };
+
     /// Writes a front of the bytes, which is empty only if they are.
     fn push(&mut self, bytes: &[u8]) -> Result<usize, Fault>
         requires { faults self.old < 2 ^ 64 - 1 }
         ensures bound { WritesAtMost result bytes.now }
         ensures some { IfOk result (λ n. 0 < length bytes.now → 0 < n) }
         ensures bytes { WriteAppends (written self.old) (written self.new) result bytes.now }
+        ensures held { OnErr result (waits self.new ≡ waits self.old) }
         ensures fault { CountsFault (faults self.old) (faults self.new) result };
 
     /// Passes on what was written and is held back.
     fn flush(&mut self) -> Result<(), Fault>
         requires { faults self.old < 2 ^ 64 - 1 }
         ensures bytes { Keeps (written self.old) (written self.new) }
+        ensures passed { OnOk result (waits self.new ≡ false) }
+        ensures held { OnErr result (waits self.new ≡ waits self.old) }
         ensures fault { CountsFault (faults self.old) (faults self.new) result };
 }
 
-/// A reader or a writer of std, with a count of its calls and of those that failed.
+/// A reader or a writer of std, with a count of its calls and of those that failed, and whether a flush is due.
 #[derive(Drop)]
 pub struct Counted<D> {
     inner: D,
     faults: u64,
     calls: u64,
+    waits: bool,
 }
 
 impl<D> Counted<D> {
     pub fn new(inner: D) -> Self
-        ensures { result ≡ record { inner = inner; faults = 0; calls = 0 } }
+        ensures { result ≡ record { inner = inner; faults = 0; calls = 0; waits = false } }
     {
         Counted {
             inner,
             faults: 0,
             calls: 0,
+            waits: false,
         }
     }
 
@@ -117,9 +125,14 @@ impl<D: Write> Sink for Counted<D> {
 
     ghost faults = { λ c. c.faults };
 
+    ghost waits = { λ c. c.waits };
+
     fn push(&mut self, bytes: &[u8]) -> Result<usize, Fault> {
         match self.inner.write(bytes) {
-            Ok(count) if count > 0 || bytes.is_empty() => Ok(count),
+            Ok(count) if count > 0 || bytes.is_empty() => {
+                self.waits = true;
+                Ok(count)
+            }
             _ => {
                 self.faults += 1;
                 Err(Fault)
@@ -129,7 +142,10 @@ impl<D: Write> Sink for Counted<D> {
 
     fn flush(&mut self) -> Result<(), Fault> {
         match self.inner.flush() {
-            Ok(()) => Ok(()),
+            Ok(()) => {
+                self.waits = false;
+                Ok(())
+            }
             Err(_) => {
                 self.faults += 1;
                 Err(Fault)

@@ -1,5 +1,5 @@
 // Writing in pieces, which takes no memory.
-ghost use Rattle.std.specs.Prelude.{◌≡◌, ◌-◌, ◌^◌, ◌<◌, ◌≤◌, [], IsOk, length, decimal};
+ghost use Rattle.std.specs.Prelude.{◌≡◌, ◌-◌, ◌^◌, ◌<◌, ◌≤◌, [], false, IsOk, OnOk, length, decimal};
 ghost use Rattle.al_stream.specs.Hexadecimal.{hex_line, hex_lines};
 ghost use Rattle.al_stream.specs.Output.{Adds};
 
@@ -14,7 +14,7 @@ use itoa::Buffer;
 pub fn emit<K: Sink>(so_far: Result<(), Device>, writer: &mut K, piece: &[u8]) -> Result<(), Device>
     requires { IsOk so_far → K.faults writer.old < 2 ^ 64 - 1 }
     ensures faults { IsOk result → IsOk so_far × (K.faults writer.new ≡ K.faults writer.old) }
-    ensures told { Adds K.written K.faults writer.old writer.new so_far result piece.now }
+    ensures told { Adds K.written K.faults K.waits writer.old writer.new so_far result piece.now }
 {
     if so_far.is_err() {
         return so_far;
@@ -25,7 +25,8 @@ pub fn emit<K: Sink>(so_far: Result<(), Device>, writer: &mut K, piece: &[u8]) -
 /// Ends a reply: passes on what the writer holds back of it, unless a piece failed.
 pub fn finish<K: Sink>(so_far: Result<(), Device>, writer: &mut K) -> Result<(), Device>
     requires { IsOk so_far → K.faults writer.old < 2 ^ 64 - 1 }
-    ensures { Adds K.written K.faults writer.old writer.new so_far result [] }
+    ensures told { Adds K.written K.faults K.waits writer.old writer.new so_far result [] }
+    ensures passed { OnOk result (K.waits writer.new ≡ false) }
 {
     so_far?;
     match writer.flush() {
@@ -42,7 +43,7 @@ pub fn emit_number<K: Sink>(
 ) -> Result<(), Device>
     requires { IsOk so_far → K.faults writer.old < 2 ^ 64 - 1 }
     ensures faults { IsOk result → IsOk so_far × (K.faults writer.new ≡ K.faults writer.old) }
-    ensures told { Adds K.written K.faults writer.old writer.new so_far result (decimal number) }
+    ensures told { Adds K.written K.faults K.waits writer.old writer.new so_far result (decimal number) }
 {
     let mut digits = Buffer::new();
     emit(so_far, writer, digits.format(number).as_bytes())
@@ -59,7 +60,7 @@ fn emit_hex_line<K: Sink>(
     requires room { IsOk so_far → K.faults writer.old < 2 ^ 64 - 1 }
     requires short { length bytes.now ≤ 32 }
     ensures faults { IsOk result → IsOk so_far × (K.faults writer.new ≡ K.faults writer.old) }
-    ensures told { Adds K.written K.faults writer.old writer.new so_far result (hex_line bytes.now) }
+    ensures told { Adds K.written K.faults K.waits writer.old writer.new so_far result (hex_line bytes.now) }
 {
     let mut text = [0; 65];
     for (i, byte) in bytes.iter().enumerate() {
@@ -80,7 +81,7 @@ pub fn emit_hex<K: Sink>(
 ) -> Result<(), Device>
     requires { IsOk so_far → K.faults writer.old < 2 ^ 64 - 1 }
     ensures faults { IsOk result → IsOk so_far × (K.faults writer.new ≡ K.faults writer.old) }
-    ensures told { Adds K.written K.faults writer.old writer.new so_far result (hex_lines bytes.now) }
+    ensures told { Adds K.written K.faults K.waits writer.old writer.new so_far result (hex_lines bytes.now) }
 {
     for line in bytes.chunks(32) {
         so_far = emit_hex_line(so_far, writer, line);

@@ -2,7 +2,7 @@
 //! Nothing here knows a command.
 //!
 //! - [`Source`] and [`Sink`] are a reader and a writer whose bytes, calls and failures a contract can name;
-//!   [`Counted`] makes them of std's `Read` and `Write`. A failed call is a [`Fault`], and a caller is told only
+//!   [`Counted`] makes them of std's `Read` and `Write`, and [`Bytes`] is a reader of bytes in memory. A failed call is a [`Fault`], and a caller is told only
 //!   which [`Device`] failed.
 //! - [`Buffer`] gives the bytes of a source in turn, within a bound on the number of pulls.
 //! - [`read_line`] reads a line into a [`KeptLine`], [`read_text`] reads a text of known length into a [`Text`].
@@ -11,6 +11,7 @@
 #![tactic(auto)]
 
 mod buffer;
+mod bytes;
 mod device;
 mod emitting;
 mod kept;
@@ -19,12 +20,10 @@ mod reading;
 mod writing;
 
 pub use buffer::Buffer;
+pub use bytes::Bytes;
 pub use device::{Counted, Device, Fault, Sink, Source};
 pub use emitting::{emit, emit_hex, emit_number, finish};
 pub use kept::KeptLine;
 pub use laws::cut_is_first;
 pub use reading::{Text, read_line, read_text};
 pub use writing::write_all;
-
-#[cfg(test)]
-mod tests;

@@ -1,16 +1,16 @@
 // Writing of bytes.
 ghost use Rattle.std.specs.Prelude.{◌-◌, ◌^◌, ◌<◌};
-ghost use Rattle.al_stream.specs.Output.{WritesReply};
+ghost use Rattle.al_stream.specs.Output.{sink_moment, WritesReply};
 
 use crate::device::{Device, Sink};
 
 /// Writes all of the bytes, by as many pushes as it takes.
 ///
 /// # Errors
-/// [`Device::Write`] where a push fails: a front of the bytes is written then.
+/// [`Device::Write`] where a push fails: a prefix of the bytes is written then.
 pub fn write_all<K: Sink>(writer: &mut K, bytes: &[u8]) -> Result<(), Device>
     requires { K.faults writer.old < 2 ^ 64 - 1 }
-    ensures { WritesReply (K.written writer.old) (K.written writer.new) (K.faults writer.old) (K.faults writer.new)
+    ensures { WritesReply (sink_moment K.written K.faults K.waits writer.old) (sink_moment K.written K.faults K.waits writer.new)
         bytes.now result }
 {
     let mut done = 0;

@@ -7,7 +7,7 @@ use Rattle.std.specs.Ordering.{nat_cmp}
 use Rattle.std.specs.Map.{keys_of}
 use Rattle.al_base.specs.Batch.{Finding}
 use Rattle.al_base.specs.Files.{Texts, name_cmp}
-use Rattle.al_obsolete.specs.Orders.{names_seen}
+use Rattle.al_unit_graph.specs.Orders.{names_seen}
 use Rattle.al_unit_faults.specs.Dependents.{TellsDependents}
 use Rattle.al_unit_faults.specs.GraphFaults.{file_faults}
 use Rattle.al_unit_faults.specs.declared.dependents.Dependents.{Dependents}

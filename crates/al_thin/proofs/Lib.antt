@@ -10,6 +10,7 @@ pub mod DependentLaws
 pub mod FindingLaws
 pub mod UnfinishedLaws
 pub mod Labels
+pub mod CallPlaces
 pub mod Picks
 pub mod Sorting
 pub mod Ascending

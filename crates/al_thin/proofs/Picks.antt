@@ -1,6 +1,6 @@
 -- What is found at labels of a file, in the order of the labels.
 use Rattle.std.proofs.Common.{◌≡◌, ℕ, Bool, true, false, not, List, [], ◌∷◌, ◌++◌, Option, Some, None, IfSome, if◌then◌else◌, refl, ap, subst, sym, ◌∙◌}
-use Rattle.std.specs.Option.{option_map}
+use Rattle.std.specs.Option.{option_and_then, option_map}
 use Rattle.std.specs.List.{AllByRecursion, flat_map}
 use Rattle.std.specs.List.Sorted.{IsStrictlySortedBy}
 use Rattle.std.specs.Ordering.{nat_cmp, ordering_then, is_eq}
@@ -14,8 +14,10 @@ use Rattle.al_base.specs.Files.{name_cmp}
 use Rattle.al_grammar.specs.Grammar.{Label, Lexeme, each, maybe}
 use Rattle.al_syntax.specs.Symbols.{Symbol as symbols}
 use Rattle.al_syntax.specs.Words.{word, labelled}
-use Rattle.al_syntax.specs.ExpressionTrees.{parts_tokens}
-use Rattle.al_syntax.specs.ExpressionTrees.NameTree.{Name}
+use Rattle.al_syntax.specs.ExpressionTrees.{ExpressionTree, name_tokens}
+use Rattle.al_syntax.specs.ExpressionTrees.ExpressionTree.{Longer}
+use Rattle.al_syntax.specs.ExpressionTrees.ExpressionsTree.{NoExpression}
+use Rattle.al_syntax.specs.ExpressionTrees.PartTree.{Arguments}
 use Rattle.al_syntax.specs.DeclarationTrees.{CompoundNameTree, behind as behind_each, compound_tokens, specification_tokens}
 use Rattle.al_syntax.specs.StatementTrees.{StatementTree as AnyStatement, StatementsTree, MoreStatementsTree, CompoundEndTree, BodyTree, statement_tokens, statements_tokens, more_statements_tokens, compound_end_tokens, body_tokens}
 use Rattle.al_syntax.specs.StatementTrees.StatementTree.{NullStatement, CallStatement}
@@ -25,10 +27,11 @@ use Rattle.al_syntax.specs.StatementTrees.BodyTree.{Body}
 use Rattle.al_syntax.specs.StatementTrees.ItemsTree.{NoItem}
 use Rattle.al_syntax.specs.UnitTrees.{LibraryItemTree, CompilationUnitTree, context_tokens, library_item_tokens, tokens_of}
 use Rattle.al_syntax.specs.UnitTrees.LibraryItemTree.{LibraryBody}
-use Rattle.al_thin.specs.ThinTrees.{StatementTree, OperationTree, called, is_nothing, in_front, procedure_name, sole_end_name, thin_body, thin_context, thin_item, thin_more, thin_parts, thin_statement, thin_statements, thin_unit}
+use Rattle.al_thin.specs.ThinTrees.{StatementTree, OperationTree, called, is_nothing, line_operation, literal_of, operation, operation_at, text_operation, in_front, procedure_name, sole_end_name, thin_body, thin_context, thin_item, thin_more, thin_parts, thin_statement, thin_statements, thin_unit}
 use Rattle.al_thin.specs.ThinTrees.StatementTree.{CallTree}
 use Rattle.al_thin.specs.Findings.{finding, finding_when, label_place, statement_findings, call_findings, end_findings, check_findings}
 use Rattle.al_unit_faults.specs.Orders.{finding_cmp}
+use Rattle.al_thin.proofs.CallPlaces.{Starts, applied_starts, more, operation_starts}
 use Rattle.al_thin.proofs.Labels.{labels, labels-append, label_cmp}
 
 equal : (o : Ordering) → is_eq o ≡ true → o ≡ Equal
@@ -106,13 +109,24 @@ module _ (file : List ℕ) where
   all_behind found xs ys (Some x) p = behind_lexemes xs ys (found x) p
 
   -- a call at its first label
-  call_at : (l : Label) (xs : List Lexeme) (o : Option OperationTree) → IfSome (option_map (CallTree (label_place l)) o) (λ s. Picks (l ∷ labels xs) (statement_findings file s))
+  call_at : (l : Label) (xs : List Label) (o : Option OperationTree) → IfSome (option_map (λ c. CallTree c.0 c.1) (operation_at l o)) (λ s. Picks (l ∷ xs) (statement_findings file s))
   call_at l xs None = tt
-  call_at l xs (Some operation) = take 401 (nothing (labels xs))
+  call_at l xs (Some operation) = take 401 (nothing xs)
+
+  call_by_name : (e : ExpressionTree) (xs : List Lexeme) (g : Label × Label → Option OperationTree) (o : Option (Label × Label)) → IfSome o (λ n. Starts e n.0)
+      → IfSome (option_map (λ c. CallTree c.0 c.1) (option_and_then (λ n. operation_at n.0 (g n)) o)) (λ s. Picks (labels (name_tokens e ++ xs)) (statement_findings file s))
+  call_by_name e xs g None h = tt
+  call_by_name e xs g (Some n) h =
+      subst (λ (ls : List Label). IfSome (option_map (λ c. CallTree c.0 c.1) (operation_at n.0 (g n))) (λ s. Picks ls (statement_findings file s))) (sym (more e xs n.0 h)) (call_at n.0 (h.0 ++ labels xs) (g n))
+
+  call_picks_in : (e : ExpressionTree) → IfSome (option_map (λ c. CallTree c.0 c.1) (called e)) (λ s. Picks (labels (name_tokens e ++ word symbols.Semicolon ∷ [])) (statement_findings file s))
+  call_picks_in (Longer e (Arguments p a NoExpression)) =
+      call_by_name (Longer e (Arguments p a NoExpression)) (word symbols.Semicolon ∷ []) (λ n. option_and_then (text_operation n.1) (literal_of a)) (operation e) (applied_starts e p a (operation e) (operation_starts e))
+  call_picks_in e = call_by_name e (word symbols.Semicolon ∷ []) (λ n. line_operation n.1) (operation e) (operation_starts e)
 
   statement_picks : (s : AnyStatement) → PicksIn (statement_findings file) (statement_tokens s) (thin_statement s)
   statement_picks NullStatement = none
-  statement_picks (CallStatement (Name l ps)) = call_at l (parts_tokens ps ++ word symbols.Semicolon ∷ []) (called (Name l ps))
+  statement_picks (CallStatement e) = call_picks_in e
   statement_picks s = tt
 
   front_picks : (xs ys : List Lexeme) (s : Option StatementTree) (ss : Option (List StatementTree)) → PicksIn (statement_findings file) xs s → PicksIn all_findings ys ss → PicksIn all_findings (xs ++ ys) (in_front s ss)

@@ -3,18 +3,9 @@
 use Rattle.std.specs.Prelude.{ℕ, Bool, true, false, ◌&&◌, List, [], ◌∷◌, Option, Some, None, option_map, option_and_then, bytes_eq, codes, if◌then◌else◌}
 use Rattle.al_base.specs.declared.place.Place.{Place}
 use Rattle.al_grammar.specs.Grammar.{Label}
-use Rattle.al_syntax.specs.ExpressionTrees.{ExpressionTree, RelationTree, SimpleTree, TermTree, FactorTree, PrimaryTree, NameTree, PartsTree, PartTree}
-use Rattle.al_syntax.specs.ExpressionTrees.ExpressionTree.{SoleRelation}
-use Rattle.al_syntax.specs.ExpressionTrees.RelationTree.{SoleSimple}
-use Rattle.al_syntax.specs.ExpressionTrees.SimpleTree.{SimpleExpression}
-use Rattle.al_syntax.specs.ExpressionTrees.TermTree.{Term}
-use Rattle.al_syntax.specs.ExpressionTrees.FactorTree.{SolePrimary}
-use Rattle.al_syntax.specs.ExpressionTrees.PrimaryTree.{StringPrimary}
-use Rattle.al_syntax.specs.ExpressionTrees.AddedTree.{NoTerm}
-use Rattle.al_syntax.specs.ExpressionTrees.MultipliedTree.{NoFactor}
+use Rattle.al_syntax.specs.ExpressionTrees.{ExpressionTree, PartTree}
+use Rattle.al_syntax.specs.ExpressionTrees.ExpressionTree.{Text, Name, Longer}
 use Rattle.al_syntax.specs.ExpressionTrees.ExpressionsTree.{NoExpression}
-use Rattle.al_syntax.specs.ExpressionTrees.NameTree.{Name}
-use Rattle.al_syntax.specs.ExpressionTrees.PartsTree.{NoPart, MoreParts}
 use Rattle.al_syntax.specs.ExpressionTrees.PartTree.{Selector, Arguments}
 use Rattle.al_syntax.specs.DeclarationTrees.{CompoundNameTree, CompoundNamesTree, SpecificationTree}
 use Rattle.al_syntax.specs.DeclarationTrees.SpecificationTree.{ProcedureSpecification}
@@ -50,29 +41,37 @@ abbrev pub is_called : Label → List ℕ → Bool
 is_called l text = bytes_eq l.text text
 
 -- an expression that is a string literal alone
-abbrev pub primary_literal : PrimaryTree → Option Label
-primary_literal (StringPrimary s) = Some s
-primary_literal p = None
-
-abbrev pub factor_literal : FactorTree → Option Label
-factor_literal (SolePrimary p) = primary_literal p
-factor_literal f = None
-
-abbrev pub term_literal : TermTree → Option Label
-term_literal (Term f NoFactor) = factor_literal f
-term_literal t = None
-
-abbrev pub simple_literal : SimpleTree → Option Label
-simple_literal (SimpleExpression None t NoTerm) = term_literal t
-simple_literal s = None
-
-abbrev pub relation_literal : RelationTree → Option Label
-relation_literal (SoleSimple s) = simple_literal s
-relation_literal r = None
-
 abbrev pub literal_of : ExpressionTree → Option Label
-literal_of (SoleRelation r) = relation_literal r
+literal_of (Text s) = Some s
 literal_of e = None
+
+-- an expression that is an identifier alone
+abbrev pub identifier_of : ExpressionTree → Option Label
+identifier_of (Name l) = Some l
+identifier_of e = None
+
+-- a name and the part behind it
+abbrev pub longer_of : ExpressionTree → Option (ExpressionTree × PartTree)
+longer_of (Longer e p) = Some (e, p)
+longer_of e = None
+
+-- . identifier
+abbrev pub selector : PartTree → Option Label
+selector (Selector l) = Some l
+selector p = None
+
+-- ( expression )
+abbrev pub part_argument : PartTree → Option ExpressionTree
+part_argument (Arguments l e NoExpression) = Some e
+part_argument p = None
+
+-- prefix . identifier
+abbrev pub selected : ExpressionTree → Option (ExpressionTree × Label)
+selected e = option_and_then (λ n. option_map (λ l. (n.0, l)) (selector n.1)) (longer_of e)
+
+-- prefix ( expression )
+abbrev pub applied : ExpressionTree → Option (ExpressionTree × ExpressionTree)
+applied e = option_and_then (λ n. option_map (λ a. (n.0, a)) (part_argument n.1)) (longer_of e)
 
 abbrev pub text_operation : Label → Label → Option OperationTree
 text_operation name literal =
@@ -80,53 +79,51 @@ text_operation name literal =
     else if is_called name (codes "put_line") then Some (PutLineTree literal.text)
     else None
 
-abbrev pub is_no_part : PartsTree → Bool
-is_no_part NoPart = true
-is_no_part (MoreParts p ps) = false
-
--- ( expression )
-abbrev pub part_argument : PartTree → Option ExpressionTree
-part_argument (Arguments l e NoExpression) = Some e
-part_argument p = None
-
--- ( expression ) and nothing behind it
-abbrev pub sole_argument : PartsTree → Option ExpressionTree
-sole_argument (MoreParts p NoPart) = part_argument p
-sole_argument ps = None
-
 abbrev pub line_operation : Label → Option OperationTree
 line_operation name = if is_called name (codes "new_line") then Some NewLineTree else None
 
--- by the operation's name and what stands behind it
-abbrev pub operation_of : Label → PartsTree → Option OperationTree
-operation_of name ps =
-    if is_no_part ps then line_operation name
-    else option_and_then (text_operation name) (option_and_then literal_of (sole_argument ps))
+-- an identifier that is Ada
+abbrev pub ada : Label → Option Label
+ada l = if is_called l (codes "ada") then Some l else None
 
--- . identifier, and what is behind it
-abbrev pub selector : PartTree → Option Label
-selector (Selector l) = Some l
-selector p = None
+-- prefix . Text_IO, where the prefix is Ada
+abbrev pub text_io : ExpressionTree × Label → Option Label
+text_io n = if is_called n.1 (codes "text_io") then option_and_then ada (identifier_of n.0) else None
 
-abbrev pub selected : PartsTree → Option (Label × PartsTree)
-selected NoPart = None
-selected (MoreParts p ps) = option_map (λ l. (l, ps)) (selector p)
+-- Ada . Text_IO, by its first identifier
+abbrev pub library : ExpressionTree → Option Label
+library e = option_and_then text_io (selected e)
 
--- Text_IO . operation
-abbrev pub library_call : Label × PartsTree → Option OperationTree
-library_call library =
-    if is_called library.0 (codes "text_io") then option_and_then (λ operation. operation_of operation.0 operation.1) (selected library.1) else None
+-- Ada . Text_IO . operation, by its first identifier and its last
+abbrev pub operation : ExpressionTree → Option (Label × Label)
+operation e = option_and_then (λ n. option_map (λ l. (l, n.1)) (library n.0)) (selected e)
+
+abbrev pub place_of : Label → Place
+place_of l = record { line = l.line; col = l.col }
+
+-- at the place of Ada
+abbrev pub operation_at : Label → Option OperationTree → Option (Place × OperationTree)
+operation_at l o = option_map (λ x. (place_of l, x)) o
+
+-- Ada . Text_IO . operation ( literal )
+abbrev pub text_call : ExpressionTree × ExpressionTree → Option (Place × OperationTree)
+text_call n = option_and_then (λ o. operation_at o.0 (option_and_then (text_operation o.1) (literal_of n.1))) (operation n.0)
 
 -- Ada . Text_IO . operation
-abbrev pub called : NameTree → Option OperationTree
-called (Name ada ps) = if is_called ada (codes "ada") then option_and_then library_call (selected ps) else None
+abbrev pub line_call : ExpressionTree → Option (Place × OperationTree)
+line_call e = option_and_then (λ o. operation_at o.0 (line_operation o.1)) (operation e)
 
-abbrev pub first_place : NameTree → Place
-first_place (Name l ps) = record { line = l.line; col = l.col }
+abbrev pub call_by : ExpressionTree → Option (ExpressionTree × ExpressionTree) → Option (Place × OperationTree)
+call_by e None = line_call e
+call_by e (Some n) = text_call n
+
+-- a call of a procedure of Ada.Text_IO
+abbrev pub called : ExpressionTree → Option (Place × OperationTree)
+called e = call_by e (applied e)
 
 abbrev pub thin_statement : AnyStatement → Option StatementTree
 thin_statement NullStatement = Some NullTree
-thin_statement (CallStatement n) = option_map (CallTree (first_place n)) (called n)
+thin_statement (CallStatement n) = option_map (λ c. CallTree c.0 c.1) (called n)
 thin_statement s = None
 
 abbrev pub in_front : Option StatementTree → Option (List StatementTree) → Option (List StatementTree)

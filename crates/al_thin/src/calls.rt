@@ -1,17 +1,17 @@
 // Calls of the procedures of Ada.Text_IO (ARM A.10).
-ghost use Rattle.std.specs.Prelude.{◌≡◌, map};
-ghost use Rattle.std.specs.Option.{option_and_then, option_map};
-ghost use Rattle.al_tree.specs.ExpressionViews.{expression_seen, long_name_seen, name_seen, part_seen, parts_of};
+ghost use Rattle.std.specs.Prelude.{◌≡◌};
+ghost use Rattle.std.specs.Option.{option_map};
+ghost use Rattle.al_tree.specs.ExpressionViews.{expression_seen, part_seen};
 ghost use Rattle.al_tree.specs.Lexemes.{identifier_label, string_label};
-ghost use Rattle.al_thin.specs.ThinTrees.{called, first_place, library_call, line_operation, literal_of, operation_of, part_argument, selected, selector, sole_argument, text_operation};
+ghost use Rattle.al_thin.specs.ThinTrees.{applied, called, library, line_call, line_operation, longer_of, operation, part_argument, selected, selector, text_call, text_operation};
 ghost use Rattle.al_thin.specs.ThinSeen.{output_seen};
 
-use crate::literals::{is_called, literal_of};
+use crate::literals::{identifier_of, is_called, literal_of};
 use al_base::Place;
-use al_tree::{Expression, Identifier, LongName, NamePart, ObjectName, StringLiteral};
+use al_tree::{Expression, Identifier, NamePart, StringLiteral};
 
 /// What a call puts out.
-#[derive(Clone, Copy, Debug)]
+#[derive(Clone, Copy)]
 pub(crate) enum Output<'a> {
     /// A line's end.
     NewLine,
@@ -32,8 +32,18 @@ fn text_output<'a>(name: &Identifier, literal: &'a StringLiteral) -> Option<Outp
     None
 }
 
+fn line_output<'a>(name: &Identifier) -> Option<Output<'a>>
+    ensures { option_map output_seen result ≡ line_operation (identifier_label name.now) }
+{
+    if is_called(name, b"new_line") {
+        Some(Output::NewLine)
+    } else {
+        None
+    }
+}
+
 /// The expression of `(expression)`.
-#[tactic(auto, using(al_tree::proofs::ExpressionsMade::part_selector_seen, al_tree::proofs::ExpressionsMade::part_arguments_seen, al_tree::proofs::ExpressionsMade::part_attribute_seen, al_tree::proofs::ExpressionsMade::part_range_attribute_seen))]
+#[tactic(auto, using(al_tree::proofs::ExpressionsMade::part_selector_seen, al_tree::proofs::ExpressionsMade::part_arguments_seen, al_tree::proofs::ExpressionsMade::part_attribute_seen, al_tree::proofs::ExpressionsMade::part_range_attribute_seen, al_tree::proofs::ExpressionsMade::part_operand_seen))]
 fn part_argument(part: &NamePart) -> Option<&Expression>
     ensures { option_map (λ e. expression_seen e.now) result ≡ part_argument (part_seen part.now) }
 {
@@ -45,66 +55,11 @@ fn part_argument(part: &NamePart) -> Option<&Expression>
         NamePart::Selector(_) => None,
         NamePart::Attribute(_) => None,
         NamePart::RangeAttribute => None,
+        NamePart::Operand(_) => None,
     }
 }
 
-/// The expression of `(expression)`, where nothing is behind it.
-fn sole_argument(parts: &[NamePart]) -> Option<&Expression>
-    ensures { option_map (λ e. expression_seen e.now) result ≡ sole_argument (parts_of (map part_seen parts.now)) }
-{
-    match parts {
-        [part] => part_argument(part),
-        [] => None,
-        [_, _, ..] => None,
-    }
-}
-
-fn argument_literal(parts: &[NamePart]) -> Option<&StringLiteral>
-    ensures { option_map (λ s. string_label s.now) result ≡ option_and_then literal_of (sole_argument (parts_of (map part_seen parts.now))) }
-{
-    match sole_argument(parts) {
-        Some(argument) => literal_of(argument),
-        None => None,
-    }
-}
-
-/// What the procedure of this name puts out, by what stands behind its name.
-fn output_of<'a>(name: &Identifier, parts: &'a [NamePart]) -> Option<Output<'a>>
-    ensures { option_map output_seen result ≡ operation_of (identifier_label name.now) (parts_of (map part_seen parts.now)) }
-{
-    if parts.is_empty() {
-        return line_output(name);
-    }
-    match argument_literal(parts) {
-        Some(literal) => text_output(name, literal),
-        None => None,
-    }
-}
-
-fn line_output<'a>(name: &Identifier) -> Option<Output<'a>>
-    ensures { option_map output_seen result ≡ line_operation (identifier_label name.now) }
-{
-    if is_called(name, b"new_line") {
-        Some(Output::NewLine)
-    } else {
-        None
-    }
-}
-
-/// `. identifier`, and what is behind it.
-fn selected(parts: &[NamePart]) -> Option<(&Identifier, &[NamePart])>
-    ensures { option_map (λ x. (identifier_label x.0.now, parts_of (map part_seen x.1.now))) result ≡ selected (parts_of (map part_seen parts.now)) }
-{
-    match parts {
-        [] => None,
-        [part, rest @ ..] => match selector(part) {
-            Some(identifier) => Some((identifier, rest)),
-            None => None,
-        },
-    }
-}
-
-#[tactic(auto, using(al_tree::proofs::ExpressionsMade::part_selector_seen, al_tree::proofs::ExpressionsMade::part_arguments_seen, al_tree::proofs::ExpressionsMade::part_attribute_seen, al_tree::proofs::ExpressionsMade::part_range_attribute_seen))]
+#[tactic(auto, using(al_tree::proofs::ExpressionsMade::part_selector_seen, al_tree::proofs::ExpressionsMade::part_arguments_seen, al_tree::proofs::ExpressionsMade::part_attribute_seen, al_tree::proofs::ExpressionsMade::part_range_attribute_seen, al_tree::proofs::ExpressionsMade::part_operand_seen))]
 fn selector(part: &NamePart) -> Option<&Identifier>
     ensures { option_map (λ i. identifier_label i.now) result ≡ selector (part_seen part.now) }
 {
@@ -113,53 +68,114 @@ fn selector(part: &NamePart) -> Option<&Identifier>
         NamePart::Arguments(_, _, _) => None,
         NamePart::Attribute(_) => None,
         NamePart::RangeAttribute => None,
+        NamePart::Operand(_) => None,
     }
 }
 
-/// `Text_IO . operation`
-fn library_call<'a>(library: &Identifier, parts: &'a [NamePart]) -> Option<Output<'a>>
-    ensures { option_map output_seen result ≡ library_call (identifier_label library.now, parts_of (map part_seen parts.now)) }
+/// A name and the part behind it.
+#[tactic(auto, using(crate::proofs::Fields::longer_fields, crate::proofs::Fields::prefixed_is_no_longer, crate::proofs::Fields::infix_is_no_longer, crate::proofs::Fields::member_is_no_longer, al_tree::proofs::ExpressionsMade::expression_numeric_seen, al_tree::proofs::ExpressionsMade::expression_text_seen, al_tree::proofs::ExpressionsMade::expression_name_seen, al_tree::proofs::ExpressionsMade::expression_longer_seen, al_tree::proofs::ExpressionsMade::expression_prefixed_seen, al_tree::proofs::ExpressionsMade::expression_infix_seen, al_tree::proofs::ExpressionsMade::expression_member_seen, al_tree::proofs::ExpressionsMade::expression_group_seen))]
+fn longer_of(expression: &Expression) -> Option<(&Expression, &NamePart)>
+    ensures { option_map (λ n. (expression_seen n.0.now, part_seen n.1.now)) result ≡ longer_of (expression_seen expression.now) }
 {
-    if !is_called(library, b"text_io") {
-        return None;
+    match expression {
+        Expression::Longer(name) => Some((&name.prefix, &name.part)),
+        Expression::Numeric(_) => None,
+        Expression::Text(_) => None,
+        Expression::Name(_) => None,
+        Expression::Prefixed(_) => None,
+        Expression::Infix(_) => None,
+        Expression::Member(_) => None,
+        Expression::Group(_) => None,
     }
-    match selected(parts) {
-        Some((operation, rest)) => output_of(operation, rest),
+}
+
+/// `prefix . identifier`
+fn selected(expression: &Expression) -> Option<(&Expression, &Identifier)>
+    ensures { option_map (λ n. (expression_seen n.0.now, identifier_label n.1.now)) result ≡ selected (expression_seen expression.now) }
+{
+    match longer_of(expression) {
+        Some((prefix, part)) => match selector(part) {
+            Some(identifier) => Some((prefix, identifier)),
+            None => None,
+        },
         None => None,
     }
 }
 
-#[tactic(auto, using(crate::proofs::Fields::called_fields))]
-fn long_call(name: &LongName) -> Option<Output<'_>>
-    ensures { option_map output_seen result ≡ called (long_name_seen name.now) }
+/// `prefix ( expression )`
+fn applied(expression: &Expression) -> Option<(&Expression, &Expression)>
+    ensures { option_map (λ n. (expression_seen n.0.now, expression_seen n.1.now)) result ≡ applied (expression_seen expression.now) }
 {
-    if !is_called(&name.first, b"ada") {
-        return None;
-    }
-    match selector(&name.next) {
-        Some(library) => library_call(library, name.others.as_slice()),
+    match longer_of(expression) {
+        Some((prefix, part)) => match part_argument(part) {
+            Some(argument) => Some((prefix, argument)),
+            None => None,
+        },
         None => None,
     }
 }
 
-/// What a call of `Ada.Text_IO` puts out.
-#[tactic(auto, using(crate::proofs::Fields::direct_is_no_call, al_tree::proofs::ExpressionsMade::name_direct_seen, al_tree::proofs::ExpressionsMade::name_longer_seen))]
-pub(crate) fn called(name: &ObjectName) -> Option<Output<'_>>
-    ensures { option_map output_seen result ≡ called (name_seen name.now) }
+/// `Ada . Text_IO`, by its first identifier.
+fn library(expression: &Expression) -> Option<&Identifier>
+    ensures { option_map (λ i. identifier_label i.now) result ≡ library (expression_seen expression.now) }
 {
-    match name {
-        ObjectName::Direct(_) => None,
-        ObjectName::Longer(long) => long_call(long),
+    match selected(expression) {
+        Some((prefix, name)) if is_called(name, b"text_io") => match identifier_of(prefix) {
+            Some(ada) if is_called(ada, b"ada") => Some(ada),
+            _ => None,
+        },
+        _ => None,
     }
 }
 
-/// Where a name begins.
-#[tactic(auto, using(crate::proofs::Fields::longer_place, al_tree::proofs::ExpressionsMade::name_direct_seen, al_tree::proofs::ExpressionsMade::name_longer_seen))]
-pub(crate) fn first_place(name: &ObjectName) -> Place
-    ensures { result ≡ first_place (name_seen name.now) }
+/// `Ada . Text_IO . operation`, by its first identifier and its last.
+fn operation(expression: &Expression) -> Option<(&Identifier, &Identifier)>
+    ensures { option_map (λ n. (identifier_label n.0.now, identifier_label n.1.now)) result ≡ operation (expression_seen expression.now) }
 {
-    match name {
-        ObjectName::Direct(identifier) => identifier.place,
-        ObjectName::Longer(long) => long.first.place,
+    match selected(expression) {
+        Some((prefix, name)) => match library(prefix) {
+            Some(ada) => Some((ada, name)),
+            None => None,
+        },
+        None => None,
+    }
+}
+
+/// `Ada . Text_IO . operation ( literal )`
+fn text_call<'a>(name: &'a Expression, argument: &'a Expression) -> Option<(Place, Output<'a>)>
+    ensures { option_map (λ c. (c.0, output_seen c.1)) result ≡ text_call (expression_seen name.now, expression_seen argument.now) }
+{
+    let Some((ada, operation)) = operation(name) else {
+        return None;
+    };
+    let Some(literal) = literal_of(argument) else {
+        return None;
+    };
+    match text_output(operation, literal) {
+        Some(output) => Some((ada.place, output)),
+        None => None,
+    }
+}
+
+/// `Ada . Text_IO . operation`
+fn line_call(name: &Expression) -> Option<(Place, Output<'_>)>
+    ensures { option_map (λ c. (c.0, output_seen c.1)) result ≡ line_call (expression_seen name.now) }
+{
+    let Some((ada, operation)) = operation(name) else {
+        return None;
+    };
+    match line_output(operation) {
+        Some(output) => Some((ada.place, output)),
+        None => None,
+    }
+}
+
+/// Where a call of a procedure of `Ada.Text_IO` begins, and what it puts out.
+pub(crate) fn called(name: &Expression) -> Option<(Place, Output<'_>)>
+    ensures { option_map (λ c. (c.0, output_seen c.1)) result ≡ called (expression_seen name.now) }
+{
+    match applied(name) {
+        Some((name, argument)) => text_call(name, argument),
+        None => line_call(name),
     }
 }

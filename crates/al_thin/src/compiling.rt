@@ -136,9 +136,9 @@ fn unit_of_name<'a>(
         return Ok(None);
     }
     let declaration = key(alloc, main, UnitKind::Decl)?;
-    match catalog.unit(&declaration)? {
+    match catalog.unit(&declaration) {
         Some(unit) => Ok(Some(unit)),
-        None => catalog.unit(&body),
+        None => Ok(catalog.unit(&body)),
     }
 }
 

@@ -4,7 +4,7 @@ ghost use Rattle.std.specs.List.{fold};
 ghost use Rattle.std.specs.BTreeSet.{insert_key};
 ghost use Rattle.al_base.specs.Batch.{finding_of, key_of};
 ghost use Rattle.al_base.specs.Files.{name_cmp};
-ghost use Rattle.al_obsolete.specs.Orders.{names_seen};
+ghost use Rattle.al_unit_graph.specs.Orders.{names_seen};
 ghost use Rattle.al_obsolete.specs.Units.{unit_seen};
 ghost use Rattle.al_thin.specs.Units.{faulty_files, obsolete_of, units_of};
 

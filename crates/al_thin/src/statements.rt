@@ -5,13 +5,13 @@ ghost use Rattle.al_tree.specs.StatementViews.{more_statements_of, statement_see
 ghost use Rattle.al_thin.specs.ThinTrees.{thin_more, thin_statement, thin_statements};
 ghost use Rattle.al_thin.specs.ThinSeen.{thin_seen};
 
-use crate::calls::{Output, called, first_place};
+use crate::calls::{Output, called};
 use al_base::{NoMemory, Place};
 use al_tree::{Statement, Statements};
 use std::alloc::Global;
 
 /// A statement of the thin language.
-#[derive(Clone, Copy, Debug)]
+#[derive(Clone, Copy)]
 pub(crate) enum ThinStatement<'a> {
     Null,
     /// A call of `Ada.Text_IO`, with its place and what it puts out.
@@ -26,7 +26,7 @@ fn thin_statement(statement: &Statement) -> Option<ThinStatement<'_>>
     match statement {
         Statement::Null => Some(ThinStatement::Null),
         Statement::Call(name) => match called(name) {
-            Some(output) => Some(ThinStatement::Call(first_place(name), output)),
+            Some((place, output)) => Some(ThinStatement::Call(place, output)),
             None => None,
         },
         Statement::Assignment(_) => None,

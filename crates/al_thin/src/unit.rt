@@ -18,7 +18,7 @@ use al_tree::{
 use std::alloc::Global;
 
 /// A unit of the thin language: a procedure without parameters and declarations.
-#[derive(Debug, Drop)]
+#[derive(Drop)]
 pub(crate) struct ThinUnit<'a> {
     /// There is a with clause, which names `Ada.Text_IO`.
     pub with_clause: bool,

@@ -1,8 +1,7 @@
 -- What an expression that was just made is seen as.
 use Rattle.std.proofs.Common.{◌≡◌, ℕ, Bool, map, Option, sym, ap, ◌∙◌, Vec, Box, Global}
-use Rattle.al_view.specs.declared.symbol.Symbol.{Symbol}
 use Rattle.al_view.specs.declared.types.Bounds.{Bounds}
-use Rattle.al_view.specs.declared.view.CallKind.{CallKind}
+use Rattle.al_view.specs.declared.types.StaticValue.{StaticValue}
 use Rattle.al_view.specs.declared.view.Mode.{Mode}
 use Rattle.al_view.specs.declared.view.ObjectPlace.{ObjectPlace}
 use Rattle.al_typed.specs.declared.label.BinaryOperator.{BinaryOperator}
@@ -13,6 +12,7 @@ use Rattle.al_typed.specs.declared.label.UnaryOperator.{UnaryOperator}
 use Rattle.al_typed.specs.ExpressionTrees.{TypedTree as typed_trees, FormTree as form_trees, NameTree as name_trees, ValueTree as value_trees, ActualTree as actual_trees, CallTree as call_trees}
 use Rattle.al_typed.specs.ExpressionViews.{by_layers, actual_seen, actuals_of, call_seen, form_seen, name_seen, typed_seen, value_seen, values_of}
 use Rattle.al_typed.specs.declared.expression.Actual.{Actual}
+use Rattle.al_typed.specs.declared.expression.Callee.{Callee}
 use Rattle.al_typed.specs.declared.expression.Actual.TheVariants.{In, Variable, rolls-In, rolls-Variable}
 use Rattle.al_typed.specs.declared.expression.Form.{Form}
 use Rattle.al_typed.specs.declared.expression.Form.TheVariants.{Literal, Named, Unary, Binary, ShortCircuit, Membership, Converted, Aggregate, Others, Call, Clock, rolls-Literal, rolls-Named, rolls-Unary, rolls-Binary, rolls-ShortCircuit, rolls-Membership, rolls-Converted, rolls-Aggregate, rolls-Others, rolls-Call, rolls-Clock}
@@ -28,9 +28,9 @@ pub typed_made : (labels : Labels) (form : Form) → typed_seen (roll-Typed (rec
 unfolding form_seen typed_seen
 typed_made labels form = by_layers fold-roll-Typed (record { labels = labels; form = form })
 
-pub literal_made : form_seen Literal ≡ form_trees.LiteralForm
+pub literal_made : (value : StaticValue) → form_seen (Literal value) ≡ form_trees.LiteralForm value
 unfolding form_seen
-literal_made = ap form_seen (sym rolls-Literal) ∙ by_layers fold-roll-Form layer.Literal
+literal_made value = ap form_seen (sym (rolls-Literal value)) ∙ by_layers fold-roll-Form (layer.Literal value)
 
 pub named_made : (name : TypedName) → form_seen (Named name) ≡ form_trees.NamedForm (name_seen name)
 unfolding form_seen name_seen
@@ -96,6 +96,6 @@ pub variable_made : (name : TypedName) (words : ℕ) (mode : Mode) (formal actua
 unfolding actual_seen name_seen
 variable_made name words mode formal actual slot = ap actual_seen (sym (rolls-Variable name words mode formal actual slot)) ∙ by_layers fold-roll-Actual (layer.Variable name words mode formal actual slot)
 
-pub call_made : (callee : Symbol) (kind : CallKind) (flag : Option ObjectPlace) (actuals : Vec Actual Global) → call_seen (roll-TypedCall (record { callee = callee; kind = kind; flag = flag; actuals = actuals })) ≡ call_trees.Called callee kind flag (actuals_of (map actual_seen actuals.items))
+pub call_made : (callee : Callee) (flag : Option ObjectPlace) (words : ℕ) (actuals : Vec Actual Global) → call_seen (roll-TypedCall (record { callee = callee; flag = flag; words = words; actuals = actuals })) ≡ call_trees.Called callee flag words (actuals_of (map actual_seen actuals.items))
 unfolding actual_seen call_seen
-call_made callee kind flag actuals = by_layers fold-roll-TypedCall (record { callee = callee; kind = kind; flag = flag; actuals = actuals })
+call_made callee flag words actuals = by_layers fold-roll-TypedCall (record { callee = callee; flag = flag; words = words; actuals = actuals })

@@ -1,10 +1,10 @@
 -- Expressions with their labels, as plain data.
 use Rattle.std.specs.Prelude.{ℕ, Bool, Option}
-use Rattle.al_view.specs.declared.symbol.Symbol.{Symbol}
 use Rattle.al_view.specs.declared.types.Bounds.{Bounds}
-use Rattle.al_view.specs.declared.view.CallKind.{CallKind}
+use Rattle.al_view.specs.declared.types.StaticValue.{StaticValue}
 use Rattle.al_view.specs.declared.view.Mode.{Mode}
 use Rattle.al_view.specs.declared.view.ObjectPlace.{ObjectPlace}
+use Rattle.al_typed.specs.declared.expression.Callee.{Callee}
 use Rattle.al_typed.specs.declared.label.BinaryOperator.{BinaryOperator}
 use Rattle.al_typed.specs.declared.label.Conversion.{Conversion}
 use Rattle.al_typed.specs.declared.label.Labels.{Labels}
@@ -18,7 +18,7 @@ mutual
 
   -- what it is
   pub data FormTree : Type 0 where
-    LiteralForm : FormTree
+    LiteralForm : StaticValue → FormTree
     NamedForm : NameTree → FormTree
     UnaryForm : UnaryOperator → TypedTree → FormTree
     BinaryForm : BinaryOperator → TypedTree → TypedTree → FormTree
@@ -58,6 +58,6 @@ mutual
     NoActual : ActualsTree
     MoreActuals : ActualTree → ActualsTree → ActualsTree
 
-  -- what is called and how, what tells that it is elaborated, the actuals in the order of the formals
+  -- what is called, what tells that it is elaborated, the words of the actuals, these in the order of the formals
   pub data CallTree : Type 0 where
-    Called : Symbol → CallKind → Option ObjectPlace → ActualsTree → CallTree
+    Called : Callee → Option ObjectPlace → ℕ → ActualsTree → CallTree

@@ -31,7 +31,7 @@ actual_layer (layer.In v) = actual_trees.InActual v
 actual_layer (layer.Variable n w m f a s) = actual_trees.VariableActual n w m f a s
 
 abbrev pub form_layer : Layer Form-F → FormTree
-form_layer layer.Literal = form_trees.LiteralForm
+form_layer (layer.Literal v) = form_trees.LiteralForm v
 form_layer (layer.Named n) = form_trees.NamedForm n
 form_layer (layer.Unary o x) = form_trees.UnaryForm o x.value
 form_layer (layer.Binary o x y) = form_trees.BinaryForm o x.value y.value
@@ -55,7 +55,7 @@ abbrev pub typed_layer : Layer Typed-F → TypedTree
 typed_layer t = typed_trees.Labelled t.labels t.form
 
 abbrev pub call_layer : Layer TypedCall-F → CallTree
-call_layer c = call_trees.Called c.callee c.kind c.flag (actuals_of c.actuals.items)
+call_layer c = call_trees.Called c.callee c.flag c.words (actuals_of c.actuals.items)
 
 -- ---- whole trees, layer by layer
 

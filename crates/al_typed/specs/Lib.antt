@@ -4,5 +4,6 @@ pub mod ExpressionViews
 pub mod Listed
 pub mod StatementTrees
 pub mod StatementViews
-pub mod Symbols
 pub mod UnitTrees
+pub mod Uses
+pub mod WellFormed

@@ -16,8 +16,8 @@ pub data PieceTree : Type 0 where
 pub data SchemeTree : Type 0 where
   ForeverScheme : SchemeTree
   WhileScheme : TypedTree → SchemeTree
-  -- whether in reverse, the bounds, the range of the mark, the first of the two words of the frame
-  ForScheme : Bool → TypedTree → TypedTree → Option Bounds → ℕ → SchemeTree
+  -- whether in reverse, the bounds, the range of the mark, the words of the frame for the parameter and for its last value
+  ForScheme : Bool → TypedTree → TypedTree → Option Bounds → ℕ → ℕ → SchemeTree
 
 mutual
   -- with the line of the first token

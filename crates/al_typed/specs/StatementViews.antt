@@ -25,7 +25,7 @@ piece_seen (pieces.EnumerationImage value names) = piece_trees.EnumerationImage 
 abbrev pub scheme_seen : LoopScheme → SchemeTree
 scheme_seen schemes.Forever = scheme_trees.ForeverScheme
 scheme_seen (schemes.While condition) = scheme_trees.WhileScheme (typed_seen condition)
-scheme_seen (schemes.For is_reverse low high mark slot) = scheme_trees.ForScheme is_reverse (typed_seen low) (typed_seen high) mark slot
+scheme_seen (schemes.For is_reverse low high mark parameter last) = scheme_trees.ForScheme is_reverse (typed_seen low) (typed_seen high) mark parameter last
 
 -- ---- lists
 

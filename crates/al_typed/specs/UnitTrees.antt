@@ -28,13 +28,14 @@ pub record BodyTree : Type 0 where
   pub formals : List FormalWords
   pub inside : ElaborationTree
 
--- a unit: its elaboration, its bodies in text order, the words of its objects and flags
+-- a unit: its elaboration, its bodies in text order, the words of its objects, flags and protected objects
 pub record UnitTree : Type 0 where
   pub unit : UnitKey
   pub elaboration : Option ElaborationTree
   pub bodies : List BodyTree
   pub words : ℕ
   pub objects : List DataPlace
+  pub flags : List DataPlace
   pub protected_objects : List ProtectedWords
 
 unfoldable pub elaboration_seen : Elaboration → ElaborationTree
@@ -50,5 +51,6 @@ unit_seen u = record {
   bodies = map body_seen u.bodies.items;
   words = u.words;
   objects = u.objects;
+  flags = u.flags;
   protected_objects = u.protected_objects;
 }

@@ -13,7 +13,7 @@ pub struct TypedDeclaration {
     pub form: DeclarationForm,
 }
 
-/// The value of a component of a protected object (ARM 9.4), which has so many words from this word of the object on.
+/// The value of a component of a protected object (ARM 9.4), which has so many words from this word of its components on.
 #[derive(Drop)]
 pub struct ComponentValue {
     pub word: u32,
@@ -30,7 +30,8 @@ pub enum DeclarationForm {
         words: u32,
         value: Option<CheckedValue>,
     },
-    /// A subprogram's declaration: what tells that its body is elaborated begins with no (ARM 3.11(10)).
+    /// A subprogram's declaration: what tells that its body is elaborated begins with no (ARM 3.11(10)). A flag among a unit's
+    /// words does so by itself.
     Subprogram(ObjectPlace),
     /// A body or stub of what has a declaration of its own: its body is elaborated from here on (ARM 3.11(10), 10.1.3).
     Elaborated(ObjectPlace),

@@ -5,7 +5,7 @@ ghost use Rattle.al_typed.specs.ExpressionViews.{actual_seen, actuals_of, call_s
 
 use crate::label::{BinaryOperator, Conversion, Labels, ShortCircuit, UnaryOperator};
 use al_base::NoMemory;
-use al_view::{Bounds, CallKind, Mode, ObjectPlace, Symbol};
+use al_view::{Bounds, Mode, ObjectPlace, StaticValue, Symbol};
 use std::alloc::Global;
 
 /// An expression with its labels.
@@ -20,16 +20,15 @@ pub struct Typed {
 #[derive(Drop)]
 #[cycle(expression)]
 pub enum Form {
-    /// A literal, a named number, or an attribute that is one number (ARM 2.4, 3.3.2, 3.5(12, 13), 3.6.2): its value is its
-    /// label.
-    Literal,
+    /// A literal, a named number, or an attribute that is one number (ARM 2.4, 3.3.2, 3.5(12, 13), 3.6.2).
+    Literal(StaticValue),
     /// An object or a part of one (ARM 3.3).
     Named(TypedName),
     Unary(UnaryOperator, Box<Typed>),
     Binary(BinaryOperator, Box<Typed>, Box<Typed>),
     ShortCircuit(ShortCircuit, Box<Typed>, Box<Typed>),
     /// A membership test (ARM 4.5.2(3)): the value, whether it has a `not`, both bounds, and the word of the frame that keeps
-    /// the value meanwhile.
+    /// the value meanwhile, 0 where the test is static.
     Membership {
         value: Box<Typed>,
         is_negated: bool,
@@ -37,6 +36,8 @@ pub enum Form {
         high: Box<Typed>,
         slot: u32,
     },
+    /// A conversion, a qualified expression, or an attribute or function that is like one: its operand, and the range that
+    /// what comes of it is checked against.
     Converted(Conversion, Box<CheckedValue>),
     /// A positional aggregate (ARM 4.3.3).
     Aggregate(Vec<CheckedValue>),
@@ -98,15 +99,27 @@ pub enum Actual {
     },
 }
 
+/// What is called. Operators and the subprograms of predefined packages are forms of their own.
+#[derive(Drop)]
+pub enum Callee {
+    /// A subprogram that the body at this depth of nesting declares, 1 of the outermost; 0 where it is declared at library
+    /// level (ARM 6.4).
+    Subprogram { symbol: Symbol, depth: u32 },
+    /// A subprogram of a protected object (ARM 9.5.1).
+    Protected(Symbol),
+    /// The entry of a protected object (ARM 9.5.3).
+    Entry(Symbol),
+}
+
 /// A call (ARM 6.4, 9.5.3).
 #[derive(Drop)]
 #[cycle(expression)]
 pub struct TypedCall {
-    /// The subprogram or entry that is called.
-    pub callee: Symbol,
-    pub kind: CallKind,
+    pub callee: Callee,
     /// What tells that its body is elaborated (ARM 3.11(10)), where there is something to tell.
     pub flag: Option<ObjectPlace>,
+    /// How many words the actuals take together.
+    pub words: u32,
     /// In the order of the formals.
     pub actuals: Vec<Actual>,
 }
@@ -124,10 +137,10 @@ impl Typed {
 impl Form {
     /// A literal, a named number, or an attribute that is one number.
     #[tactic(auto, using(crate::proofs::ExpressionsMade::literal_made))]
-    pub fn literal() -> Form
-        ensures { form_seen result ≡ form_trees.LiteralForm }
+    pub fn literal(value: StaticValue) -> Form
+        ensures { form_seen result ≡ form_trees.LiteralForm value }
     {
-        Form::Literal
+        Form::Literal(value)
     }
 
     /// An object or a part of one.
@@ -334,17 +347,17 @@ impl TypedCall {
     /// A call with its actuals in the order of the formals.
     #[tactic(auto, using(crate::proofs::ExpressionsMade::call_made))]
     pub fn new(
-        callee: Symbol,
-        kind: CallKind,
+        callee: Callee,
         flag: Option<ObjectPlace>,
+        words: u32,
         actuals: Vec<Actual>,
     ) -> TypedCall
-        ensures { call_seen result ≡ call_trees.Called callee kind flag (actuals_of (map actual_seen actuals.items)) }
+        ensures { call_seen result ≡ call_trees.Called callee flag words (actuals_of (map actual_seen actuals.items)) }
     {
         TypedCall {
             callee,
-            kind,
             flag,
+            words,
             actuals,
         }
     }

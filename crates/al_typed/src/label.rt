@@ -1,6 +1,6 @@
 // What an expression is labelled with.
 use al_base::Place;
-use al_view::{StaticValue, Symbol};
+use al_view::{Bounds, StaticValue, Symbol};
 
 /// The type of an expression.
 #[derive(Drop)]
@@ -18,9 +18,12 @@ pub struct Labels {
     pub place: Place,
     /// Its type (ARM 8.6).
     pub of: ExpressionType,
+    /// The range of its nominal subtype, where it is a scalar name of an object or of a part of one, a call, a conversion or a
+    /// qualified expression whose subtype is static (ARM 3.3(23), 4.9(26), 5.4(7)).
+    pub bounds: Option<Bounds>,
     /// How many words its value takes.
     pub words: u32,
-    /// Its value, where it is static (ARM 4.9).
+    /// Its value, where it is static (ARM 4.9). The code of such an expression is its value, whatever its form is.
     pub value: Option<StaticValue>,
 }
 

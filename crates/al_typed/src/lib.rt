@@ -5,12 +5,10 @@ mod declaration;
 mod expression;
 mod label;
 mod statement;
-#[cfg(test)]
-mod tests;
 mod unit;
 
 pub use declaration::{ComponentValue, DeclarationForm, TypedDeclaration};
-pub use expression::{Actual, CheckedValue, Form, Typed, TypedCall, TypedName};
+pub use expression::{Actual, Callee, CheckedValue, Form, Typed, TypedCall, TypedName};
 pub use label::{BinaryOperator, Conversion, ExpressionType, Labels, ShortCircuit, UnaryOperator};
 pub use statement::{Alternative, Branch, LoopScheme, Piece, StatementForm, TypedStatement};
 pub use unit::{

@@ -17,7 +17,7 @@ pub enum Piece {
     Text(Row<u8>),
     /// `S'Image (value)` of an integer type (ARM 3.5(35)).
     IntegerImage(Typed),
-    /// The same of an enumeration type, with the names of its literals in upper case, by position.
+    /// The same of an enumeration type, with the names of its literals in upper case, by position, each of at most 255 bytes.
     EnumerationImage { value: Typed, names: Row<Name> },
 }
 
@@ -26,14 +26,15 @@ pub enum Piece {
 pub enum LoopScheme {
     Forever,
     While(Typed),
-    /// From one bound to the other, with the range of the mark that stands before `range`, and the first of the two words of
-    /// the frame that keep the parameter and the last value.
+    /// From one bound to the other, with the range of the mark that stands before `range`, and the two words of the frame that
+    /// keep the parameter and the last value that it is to have.
     For {
         is_reverse: bool,
         low: Typed,
         high: Typed,
         mark: Option<Bounds>,
-        slot: u32,
+        parameter: u32,
+        last: u32,
     },
 }
 

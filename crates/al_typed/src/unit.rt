@@ -9,10 +9,11 @@ use crate::statement::TypedStatement;
 use al_base::UnitKey;
 use al_view::{Mode, ObjectPlace, Priority, Row, Symbol};
 
-/// A formal parameter: its mode (ARM 6.1(16)) and its number of words.
-#[derive(Clone, Copy, Debug)]
+/// A formal parameter: its mode (ARM 6.1(16)), and its words from this word of the frame on.
+#[derive(Clone, Copy)]
 pub struct FormalWords {
     pub mode: Mode,
+    pub word: u32,
     pub words: u32,
 }
 
@@ -26,8 +27,10 @@ pub struct EntryOf {
 /// What has a body.
 #[derive(Drop)]
 pub enum BodyKind {
-    /// ARM 6.3
-    Procedure,
+    /// With the number of words that it copies back: those of its formals of mode `out` and `in out` (ARM 6.3, 6.4.1(17)).
+    Procedure {
+        copied: u32,
+    },
     /// With the number of words of its result, and the line of its `end` (ARM 6.3, 6.5(20)).
     Function {
         words: u32,
@@ -35,10 +38,12 @@ pub enum BodyKind {
     },
     /// ARM 9.1
     Task,
-    /// A procedure of this protected object (ARM 9.5.1), with the object's entry, which it may open.
+    /// A procedure of this protected object (ARM 9.5.1), with the object's entry, which it may open, and the number of words
+    /// that it copies back.
     ProtectedProcedure {
         object: Symbol,
         entry: Option<EntryOf>,
+        copied: u32,
     },
     /// A function of this protected object, with the number of words of its result and the line of its `end`.
     ProtectedFunction {
@@ -54,7 +59,7 @@ pub enum BodyKind {
 }
 
 /// What is done when something is elaborated or called: declarations, then statements, with so many words in its frame beside
-/// the parameters.
+/// the parameters. A frame's words are numbered from 3 on, its parameters first.
 #[derive(Drop)]
 pub struct Elaboration {
     /// The line of the first token.
@@ -64,7 +69,8 @@ pub struct Elaboration {
     pub statements: Vec<TypedStatement>,
 }
 
-/// A body: of what, at which depth of nesting, with which parameters.
+/// A body: of what, at which depth of nesting, with which parameters. The depth is in how many bodies it stands, itself
+/// counted, so 1 at library level. The elaboration of a unit has depth 1 too.
 #[derive(Drop)]
 pub struct TypedBody {
     pub symbol: Symbol,
@@ -74,14 +80,15 @@ pub struct TypedBody {
     pub inside: Elaboration,
 }
 
-/// A symbol, and from which of a unit's words on its object or flag lies.
+/// A symbol, and from which of its unit's words on its object or flag lies.
 #[derive(Drop)]
 pub struct DataPlace {
     pub symbol: Symbol,
     pub word: u32,
 }
 
-/// The words of a protected object (ARM 9.4) in its unit, and its ceiling (ARM D.3), which is 0 to 30.
+/// The words of a protected object's components (ARM 9.4) in its unit, and its ceiling (ARM D.3), which is 0 to 30. Its flag
+/// lies outside of them, so that it can be read without entering the object.
 #[derive(Drop)]
 pub struct ProtectedWords {
     pub symbol: Symbol,
@@ -98,9 +105,12 @@ pub struct TypedUnit {
     pub elaboration: Option<Elaboration>,
     /// Its bodies, in the order of their first tokens.
     pub bodies: Vec<TypedBody>,
-    /// How many words its objects and flags take.
+    /// How many words its objects, flags and protected objects take.
     pub words: u32,
+    /// Its objects, those in protected objects apart.
     pub objects: Row<DataPlace>,
+    /// The flags of its subprograms and protected objects.
+    pub flags: Row<DataPlace>,
     pub protected_objects: Row<ProtectedWords>,
 }
 
@@ -170,9 +180,10 @@ impl TypedUnit {
         bodies: Vec<TypedBody>,
         words: u32,
         objects: Row<DataPlace>,
+        flags: Row<DataPlace>,
         protected_objects: Row<ProtectedWords>,
     ) -> TypedUnit
-        ensures { unit_seen result ≡ record { unit = unit; elaboration = option_map elaboration_seen elaboration; bodies = map body_seen bodies.items; words = words; objects = objects; protected_objects = protected_objects } }
+        ensures { unit_seen result ≡ record { unit = unit; elaboration = option_map elaboration_seen elaboration; bodies = map body_seen bodies.items; words = words; objects = objects; flags = flags; protected_objects = protected_objects } }
     {
         TypedUnit {
             unit,
@@ -180,6 +191,7 @@ impl TypedUnit {
             bodies,
             words,
             objects,
+            flags,
             protected_objects,
         }
     }

@@ -1,20 +1,19 @@
 // The catalog of a library's files.
-ghost use Rattle.std.specs.Prelude.{◌≡◌, ◌↔◌, ◌⊎◌, ℕ, Bool, List, [], map, IfOk, IfSome, OnOk};
+ghost use Rattle.std.specs.Prelude.{◌≡◌, ◌≤◌, ◌⊎◌, ℕ, Bool, List, [], length, map, IfOk, IfSome, OnOk};
 ghost use Rattle.std.specs.Option.{option_map};
-ghost use Rattle.std.specs.List.{Contains};
 ghost use Rattle.std.specs.BTreeMap.{insert_entry};
 ghost use Rattle.std.specs.Map.{keys_of};
-ghost use Rattle.al_base.specs.Batch.{Key, finding_of, key_of};
+ghost use Rattle.al_base.specs.Batch.{finding_of, key_of};
 ghost use Rattle.al_base.specs.Files.{name_cmp, text_of};
 ghost use Rattle.al_tree.specs.UnitViews.{unit_seen};
 ghost use Rattle.al_unit_graph.specs.Dependence.{DependsOn};
-ghost use Rattle.al_unit_graph.specs.Needed.{Needed};
+ghost use Rattle.al_unit_graph.specs.Needed.{ListsUnits, Needed};
 ghost use Rattle.al_unit_graph.specs.Views.{contents_seen, source_seen};
 ghost use Rattle.al_unit_faults.specs.Dependents.{TellsDependents};
 ghost use Rattle.al_unit_faults.specs.FilesSeen.{file_faults_seen};
 ghost use Rattle.al_unit_faults.specs.GraphFaults.{file_faults, graph_faults};
 ghost use Rattle.al_obsolete.specs.Obsolete.{obsolete_of};
-ghost use Rattle.al_obsolete.specs.Orders.{names_seen};
+ghost use Rattle.al_unit_graph.specs.Orders.{names_seen};
 ghost use Rattle.al_obsolete.specs.Units.{unit_seen as file_unit_seen, units_of};
 ghost use Rattle.al_unit.specs.Catalogs.{contents_of, source_of, source_with, library_of, tree_at};
 ghost use Rattle.al_unit.specs.Readings.{reading_of, sentence_of};
@@ -23,7 +22,7 @@ ghost use Rattle.al_unit.specs.ReadingSeen.{reading_seen, readings_seen};
 use crate::laws::texts_are_read_alike;
 use crate::reading::{Reading, read};
 use crate::readings::{insert, reading_at};
-use al_base::{Diagnostic, Files, Name, NoMemory, UnitKey, file_name_of};
+use al_base::{Diagnostic, Files, Name, NoMemory, UnitKey};
 use al_header::header_of;
 use al_obsolete::{obsolete, units};
 use al_tree::CompilationUnit;
@@ -143,6 +142,7 @@ fn add_file(
     sources: &mut Sources,
     readings: &mut BTreeMap<Vec<u8>, Rc<Reading>>,
 ) -> Result<(), NoMemory>
+    requires { length file.now ≤ 255 }
     ensures source { OnOk result (sources.new ≡ insert_entry name_cmp sources.old file.now (source_of text.now.value.items)) }
     ensures reading { OnOk result (readings_seen readings.new.entries ≡ insert_entry name_cmp (readings_seen readings.old.entries) file.now (reading_of text.now.value.items)) }
 {
@@ -210,20 +210,13 @@ impl Catalog {
 
     /// The tree of a unit, where the library has it.
     #[tactic(auto, unfolding(crate::specs::Catalogs::tree_at))]
-    pub fn unit(&self, key: &UnitKey) -> Result<Option<&CompilationUnit>, NoMemory>
-        ensures { IfOk result (λ unit. option_map (λ u. unit_seen u.now) unit ≡ tree_at self.now (key_of key.now)) }
+    pub fn unit(&self, key: &UnitKey) -> Option<&CompilationUnit>
+        ensures { option_map (λ u. unit_seen u.now) result ≡ tree_at self.now (key_of key.now) }
     {
-        let is_there = self
-            .sources
-            .unit_at(key.name.as_slice(), key.kind)?
-            .is_some();
-        if !is_there {
-            return Ok(None);
-        }
-        let file = file_name_of(self.alloc, key)?;
+        let file = self.sources.file_of_unit(key)?;
         match reading_at(&self.readings, file.as_slice()) {
-            None => Ok(None),
-            Some(reading) => Ok(sentence_of(reading)),
+            None => None,
+            Some(reading) => sentence_of(reading),
         }
     }
 
@@ -237,25 +230,25 @@ impl Catalog {
         }
     }
 
-    /// What a unit depends on, by way of others too (ARM 10.1.1(26)).
+    /// The units on which a unit depends, by way of others too (ARM 10.1.1(26)), in the order of the keys.
     pub fn depends(&self, key: &UnitKey) -> Result<Vec<UnitKey>, NoMemory>
-        ensures { IfOk result (λ keys. (y : Key) → Contains (map key_of keys.items) y ↔ DependsOn (library_of self.now) (key_of key.now) y) }
+        ensures { IfOk result (λ keys. ListsUnits (library_of self.now) (map key_of keys.items) (DependsOn (library_of self.now) (key_of key.now))) }
     {
         let keys = self.sources.depends(key)?;
         Ok(keys)
     }
 
-    /// A unit and what it depends on, by way of others too (ARM 10.1.1(26)).
+    /// A unit and the units on which it depends, by way of others too (ARM 10.1.1(26)), in the order of the keys.
     pub fn closure(&self, key: &UnitKey) -> Result<Vec<UnitKey>, NoMemory>
-        ensures { IfOk result (λ keys. (y : Key) → Contains (map key_of keys.items) y ↔ ((key_of key.now ≡ y) ⊎ DependsOn (library_of self.now) (key_of key.now) y)) }
+        ensures { IfOk result (λ keys. ListsUnits (library_of self.now) (map key_of keys.items) (λ y. (key_of key.now ≡ y) ⊎ DependsOn (library_of self.now) (key_of key.now) y)) }
     {
         let keys = self.sources.closure(key)?;
         Ok(keys)
     }
 
-    /// What a partition with this main unit needs (ARM 10.2(2..7)).
+    /// The units that a partition with this main unit needs (ARM 10.2(2..7)), in the order of the keys.
     pub fn needed(&self, main: &[u8]) -> Result<Vec<UnitKey>, NoMemory>
-        ensures { IfOk result (λ keys. (y : Key) → Contains (map key_of keys.items) y ↔ Needed (library_of self.now) main.now y) }
+        ensures { IfOk result (λ keys. ListsUnits (library_of self.now) (map key_of keys.items) (Needed (library_of self.now) main.now)) }
     {
         let keys = self.sources.needed(main)?;
         Ok(keys)

@@ -42,12 +42,12 @@ below_told name (Some a) = ((λ is. any (ancestors name) a is), (λ c. told_any 
 
 descendant_told : (lib : Library) (name : List ℕ) (ancestor : Option (List ℕ)) → Decides (is_private_descendant lib name ancestor) (IsPrivateDescendant lib name ancestor)
 descendant_told lib name ancestor =
-    let test : List ℕ → Bool = λ between. descends_below between ancestor && is_private lib between in (
+    let test : List ℕ → Bool = λ between. is_private lib between && descends_below between ancestor in (
       (λ is.
           let r = any_from test (lineage name) is in
-          let parts = both (descends_below r.0 ancestor) (is_private lib r.0) r.2 in
-          (r.0, r.1, (below_told r.0 ancestor).0 parts.0, (private_told lib r.0).0 parts.1)),
-      (λ d. any_into test (lineage name) d.0 d.1 (and (descends_below d.0 ancestor) (is_private lib d.0) ((below_told d.0 ancestor).1 d.2) ((private_told lib d.0).1 d.3))),
+          let parts = both (is_private lib r.0) (descends_below r.0 ancestor) r.2 in
+          (r.0, r.1, (below_told r.0 ancestor).0 parts.1, (private_told lib r.0).0 parts.0)),
+      (λ d. any_into test (lineage name) d.0 d.1 (and (is_private lib d.0) (descends_below d.0 ancestor) ((private_told lib d.0).1 d.3) ((below_told d.0 ancestor).1 d.2))),
     )
 
 other_kind : (k : UnitKind) → Decides (not (is_kind k Decl)) (k ≢ Decl)
@@ -68,7 +68,7 @@ module _ (lib : Library) (h : Header) (parent : Option (List ℕ)) where
   may = may_mention_as lib h parent
 
   abbrev open_to : List ℕ → Bool
-  open_to name = descends name parent && is_behind_declaration lib h
+  open_to name = is_behind_declaration lib h && descends name parent
 
   mention_told : may_mention_children lib h parent ≡ true → MayMentionChildrenOf lib h parent
   mention_told is =
@@ -78,7 +78,7 @@ module _ (lib : Library) (h : Header) (parent : Option (List ℕ)) where
         part,
         elim (either (is_private_descendant lib r.0 parent) (open_to r.0) r.2) [
           | inl p ↦ inl ((descendant_told lib r.0 parent).0 p)
-          | inr o ↦ let parts = both (descends r.0 parent) (is_behind_declaration lib h) o in inr ((descends_told r.0 parent).0 parts.0, (behind_told lib h).0 parts.1)
+          | inr o ↦ let parts = both (is_behind_declaration lib h) (descends r.0 parent) o in inr ((descends_told r.0 parent).0 parts.1, (behind_told lib h).0 parts.0)
         ],
       )
 
@@ -87,7 +87,7 @@ module _ (lib : Library) (h : Header) (parent : Option (List ℕ)) where
       let part = (parts_are_told lib h m.0).1 m.1 in
       let holds = or (is_private_descendant lib m.0 parent) (open_to m.0) (elim m.2 [
         | inl p ↦ inl ((descendant_told lib m.0 parent).1 p)
-        | inr o ↦ inr (and (descends m.0 parent) (is_behind_declaration lib h) ((descends_told m.0 parent).1 o.0) ((behind_told lib h).1 o.1))
+        | inr o ↦ inr (and (is_behind_declaration lib h) (descends m.0 parent) ((behind_told lib h).1 o.1) ((descends_told m.0 parent).1 o.0))
       ]) in
       passes_some may (part_of lib h) m.0 part holds
 

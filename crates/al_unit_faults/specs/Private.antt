@@ -29,7 +29,7 @@ descends_below name ancestor = option_map_or (is_one_of (ancestors name)) ancest
 
 -- it, or a unit between it and the ancestor, is private
 abbrev pub is_private_descendant : Library → List ℕ → Option (List ℕ) → Bool
-is_private_descendant lib name ancestor = list_any (λ between. descends_below between ancestor && is_private lib between) (lineage name)
+is_private_descendant lib name ancestor = list_any (λ between. is_private lib between && descends_below between ancestor) (lineage name)
 
 -- a body or a subunit, and not a body that acts as a declaration
 abbrev pub is_behind_declaration : Library → Header → Bool
@@ -37,7 +37,7 @@ is_behind_declaration lib h = not (is_kind (kind_of h.form) Decl) && not (acts_a
 
 -- for a unit that is part of this library unit
 abbrev pub may_mention_as : Library → Header → Option (List ℕ) → List ℕ → Bool
-may_mention_as lib h parent name = is_private_descendant lib name parent || (descends name parent && is_behind_declaration lib h)
+may_mention_as lib h parent name = is_private_descendant lib name parent || (is_behind_declaration lib h && descends name parent)
 
 -- the private children of this parent, None being Standard, may be mentioned in the unit
 abbrev pub may_mention_children : Library → Header → Option (List ℕ) → Bool

@@ -46,7 +46,7 @@ impl Numbers {
     ) -> Result<Option<usize>, NoMemory>
         ensures { IfOk result (λ number. number ≡ node_of sources.now (numbers_seen self.now) (key_of key.now)) }
     {
-        if sources.unit_at(key.name.as_slice(), key.kind)?.is_none() {
+        if !sources.has_unit(key) {
             return Ok(None);
         }
         let file = file_name_of(alloc, key)?;
@@ -60,7 +60,7 @@ impl Numbers {
         ensures { IfOk result (λ found. found.items ≡ targets sources.now (numbers_seen self.now) file.now) }
     {
         let mut targets = Vec::new(alloc);
-        let Some(header) = sources.unit_in(file)? else {
+        let Some(header) = sources.unit_in(file) else {
             return Ok(targets);
         };
         let keys = sources.dependences(header)?;

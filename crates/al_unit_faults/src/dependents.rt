@@ -62,7 +62,7 @@ fn steps_to_flagged(
 ) -> Result<bool, NoMemory>
     ensures { IfOk result (λ is. is ≡ steps_to_flagged sources.now (numbers_seen numbers.now) flags.now file.now) }
 {
-    let Some(header) = sources.unit_in(file)? else {
+    let Some(header) = sources.unit_in(file) else {
         return Ok(false);
     };
     let keys = sources.dependences(header)?;

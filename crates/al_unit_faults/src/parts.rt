@@ -1,29 +1,25 @@
 // The library unit of which a unit is part.
-ghost use Rattle.std.specs.Prelude.{◌≡◌, ℕ, suc, length, map, IfOk};
+ghost use Rattle.std.specs.Prelude.{◌≡◌, ℕ, suc, length, map};
 ghost use Rattle.std.specs.Option.{option_map};
 ghost use Rattle.al_unit_graph.specs.Views.{header_seen};
 ghost use Rattle.al_unit_faults.specs.Parts.{part_within, part_of};
 
-use al_base::{NoMemory, UnitKind};
+use al_base::UnitKind;
 use al_unit_graph::{Header, Sources};
 
 /// The library unit of which a unit is part, through so many parent bodies at most (ARM 10.1.3(8)).
-fn part_within<'a>(
-    sources: &'a Sources,
-    count: usize,
-    header: &'a Header,
-) -> Result<Option<&'a [u8]>, NoMemory>
-    ensures { IfOk result (λ name. option_map (λ n. n.now) name ≡ part_within (suc count) sources.now (header_seen header.now)) }
+fn part_within<'a>(sources: &'a Sources, count: usize, header: &'a Header) -> Option<&'a [u8]>
+    ensures { option_map (λ n. n.now) result ≡ part_within (suc count) sources.now (header_seen header.now) }
 {
     let Some(parent) = &header.parent_body else {
-        return Ok(Some(header.name.as_slice()));
+        return Some(header.name.as_slice());
     };
     let name = parent.name.as_slice();
-    let Some(outer) = sources.unit_at(name, UnitKind::Sub)? else {
-        return Ok(Some(name));
+    let Some(outer) = sources.unit_at(name, UnitKind::Sub) else {
+        return Some(name);
     };
     let Some(rest) = count.checked_sub(1) else {
-        return Ok(None);
+        return None;
     };
     part_within(sources, rest, outer)
 }
@@ -35,9 +31,9 @@ pub(crate) fn part_of<'a>(
     sources: &'a Sources,
     count: usize,
     header: &'a Header,
-) -> Result<Option<&'a [u8]>, NoMemory>
+) -> Option<&'a [u8]>
     requires { count ≡ length sources.now }
-    ensures { IfOk result (λ name. option_map (λ n. n.now) name ≡ part_of sources.now (header_seen header.now)) }
+    ensures { option_map (λ n. n.now) result ≡ part_of sources.now (header_seen header.now) }
 {
     part_within(sources, count, header)
 }

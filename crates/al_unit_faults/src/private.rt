@@ -15,12 +15,12 @@ use al_unit_graph::{
 use std::alloc::Global;
 
 /// Whether the declaration of this name is sound and private (ARM 10.1.1(12)).
-fn is_private(sources: &Sources, name: &[u8]) -> Result<bool, NoMemory>
-    ensures { IfOk result (λ is. is ≡ is_private sources.now name.now) }
+fn is_private(sources: &Sources, name: &[u8]) -> bool
+    ensures { result ≡ is_private sources.now name.now }
 {
-    match sources.unit_at(name, UnitKind::Decl)? {
-        Some(header) => Ok(header.is_private),
-        None => Ok(false),
+    match sources.unit_at(name, UnitKind::Decl) {
+        Some(header) => header.is_private,
+        None => false,
     }
 }
 
@@ -65,10 +65,10 @@ fn has_private_below(
     names: &[&[u8]],
     ancestor: Option<&[u8]>,
 ) -> Result<bool, NoMemory>
-    ensures { IfOk result (λ is. is ≡ list_any (λ n. descends_below n (option_map (λ a. a.now) ancestor.entry) && is_private sources.now n) (map (λ n. n.now) names.now)) }
+    ensures { IfOk result (λ is. is ≡ list_any (λ n. is_private sources.now n && descends_below n (option_map (λ a. a.now) ancestor.entry)) (map (λ n. n.now) names.now)) }
 {
     for name in names {
-        if descends_below(alloc, name, ancestor)? && is_private(sources, name)? {
+        if is_private(sources, name) && descends_below(alloc, name, ancestor)? {
             return Ok(true);
         }
     }
@@ -76,12 +76,12 @@ fn has_private_below(
 }
 
 /// Whether a unit is a body or a subunit, and not a body that acts as a declaration (ARM 10.1.4(4)).
-fn is_behind_declaration(sources: &Sources, header: &Header) -> Result<bool, NoMemory>
-    ensures { IfOk result (λ is. is ≡ is_behind_declaration sources.now (header_seen header.now)) }
+fn is_behind_declaration(sources: &Sources, header: &Header) -> bool
+    ensures { result ≡ is_behind_declaration sources.now (header_seen header.now) }
 {
-    let has_file = sources.has_declaration_file(header.name.as_slice())?;
+    let has_file = sources.has_declaration_file(header.name.as_slice());
     let acts = is_subprogram_body(header.form) && !has_file;
-    Ok(kind_of(header.form) != UnitKind::Decl && !acts)
+    kind_of(header.form) != UnitKind::Decl && !acts
 }
 
 /// Whether the private children of a parent may be mentioned in a unit that is part of this library unit.
@@ -98,7 +98,7 @@ fn may_mention_as(
     if has_private_below(alloc, sources, names.as_slice(), parent)? {
         return Ok(true);
     }
-    Ok(descends(alloc, name, parent)? && is_behind_declaration(sources, header)?)
+    Ok(is_behind_declaration(sources, header) && descends(alloc, name, parent)?)
 }
 
 /// Whether a private child may not be mentioned in a unit that is part of this library unit.
@@ -112,7 +112,7 @@ fn is_hidden(
     requires { option_map (λ n. n.now) part ≡ part_of sources.now (header_seen header.now) }
     ensures { IfOk result (λ is. is ≡ is_hidden sources.now (header_seen header.now) child.now) }
 {
-    if !is_private(sources, child)? {
+    if !is_private(sources, child) {
         return Ok(false);
     }
     match part {
@@ -177,7 +177,7 @@ pub(crate) fn add_private_faults(
     requires { count ≡ length sources.now }
     ensures { OnOk result (map finding_of found.new.items ≡ map finding_of found.old.items ++ flat_map (private_faults sources.now file.now (header_seen header.now)) (map mention_seen header.now.mentions.items)) }
 {
-    let part = part_of(sources, count, header)?;
+    let part = part_of(sources, count, header);
     for mention in header.mentions.as_slice() {
         add_private_fault(alloc, sources, file, header, part, mention, found)?;
     }

@@ -1,3 +1,5 @@
+ghost use Rattle.std.specs.Prelude.{◌≤◌, length};
+
 use crate::faults;
 use al_base::{Name, NoMemory, Place};
 use al_unit_graph::{Contents, Header, Mention, Source, Sources, UnitForm};
@@ -23,6 +25,10 @@ fn unit(alloc: Global, name: &[u8], form: UnitForm) -> Result<Header, NoMemory> 
         designator: Name::from_slice(alloc, name)?,
         mentions: Vec::new(alloc),
         stubs: Vec::new(alloc),
+        elaborate: Vec::new(alloc),
+        elaborate_all: Vec::new(alloc),
+        has_elaborate_body: false,
+        is_parameterless_procedure: false,
     })
 }
 
@@ -38,14 +44,18 @@ fn private(alloc: Global, name: &[u8]) -> Result<Header, NoMemory> {
     Ok(header)
 }
 
-fn put(alloc: Global, sources: &mut Sources, file: &[u8], header: Header) -> Result<(), NoMemory> {
+fn put(alloc: Global, sources: &mut Sources, file: &[u8], header: Header) -> Result<(), NoMemory>
+    requires { length file.now ≤ 255 }
+{
     let text = Rc::new(alloc, Vec::new(alloc))?;
     let contents = Contents::Headed(header);
     let file = Name::from_slice(alloc, file)?;
     sources.insert(file, Rc::new(alloc, Source { text, contents })?)
 }
 
-fn package(alloc: Global, sources: &mut Sources, file: &[u8], name: &[u8]) -> Result<(), NoMemory> {
+fn package(alloc: Global, sources: &mut Sources, file: &[u8], name: &[u8]) -> Result<(), NoMemory>
+    requires { length file.now ≤ 255 }
+{
     let header = unit(alloc, name, UnitForm::PackageDeclaration)?;
     put(alloc, sources, file, header)
 }
@@ -154,5 +164,42 @@ fn a_wrong_name_hides_the_rest(rt: HostRuntime) -> Result<(), Fail> {
     put(alloc, &mut sources, b"c.ads", twice)?;
     assert_eq!(rt; count_of(alloc, &sources, 201)?, (1, 2));
     assert_eq!(rt; count_of(alloc, &sources, 202)?, (1, 2));
+    Ok(())
+}
+
+#[test]
+fn a_child_of_a_procedure_has_no_parent(rt: HostRuntime) -> Result<(), Fail> {
+    let alloc = rt.alloc();
+    let mut sources = Sources::new(alloc);
+    let procedure = unit(alloc, b"m", UnitForm::SubprogramBody)?;
+    put(alloc, &mut sources, b"m.adb", procedure)?;
+    package(alloc, &mut sources, b"m-c.ads", b"m.c")?;
+    assert_eq!(rt; count_of(alloc, &sources, 205)?, (1, 1));
+    Ok(())
+}
+
+#[test]
+fn a_body_of_another_kind_does_not_fit(rt: HostRuntime) -> Result<(), Fail> {
+    let alloc = rt.alloc();
+    let mut sources = Sources::new(alloc);
+    let mut declaration = unit(alloc, b"p", UnitForm::PackageDeclaration)?;
+    declaration.needs_body = true;
+    put(alloc, &mut sources, b"p.ads", declaration)?;
+    let body = unit(alloc, b"p", UnitForm::SubprogramBody)?;
+    put(alloc, &mut sources, b"p.adb", body)?;
+    assert_eq!(rt; count_of(alloc, &sources, 209)?, (1, 1));
+    Ok(())
+}
+
+#[test]
+fn no_file_declares_standard(rt: HostRuntime) -> Result<(), Fail> {
+    let alloc = rt.alloc();
+    let mut sources = Sources::new(alloc);
+    package(alloc, &mut sources, b"standard.ads", b"standard")?;
+    let form = UnitForm::PackageDeclaration;
+    let client = with(alloc, b"q", form, b"standard")?;
+    put(alloc, &mut sources, b"q.ads", client)?;
+    assert_eq!(rt; count_of(alloc, &sources, 202)?, (1, 2));
+    assert_eq!(rt; count_of(alloc, &sources, 207)?, (1, 2));
     Ok(())
 }

@@ -7,3 +7,8 @@ pub mod ClosureLemmas
 pub mod SeenLemmas
 pub mod SourceLemmas
 pub mod NameLemmas
+pub mod UnitLemmas
+pub mod Lists
+pub mod OrderLemmas
+pub mod KeySetLemmas
+pub mod ListedLemmas

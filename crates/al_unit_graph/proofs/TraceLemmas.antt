@@ -8,9 +8,9 @@ use Rattle.std.proofs.lemmas.Slice.Eq.{bytes_eq-Decides}
 use Rattle.al_base.specs.FileNames.{file_name_of}
 use Rattle.al_base.specs.declared.unit_key.UnitKind.TheVariants.{Decl, Body}
 use Rattle.al_unit_graph.specs.Headers.{Mention, Header, Library, is_library_body}
-use Rattle.al_unit_graph.specs.Names.{lineage, parent_of, is_without_file}
+use Rattle.al_unit_graph.specs.Names.{lineage, parent_of}
 use Rattle.al_unit_graph.specs.Library.{source_at, is_there, unit_in, held}
-use Rattle.al_unit_graph.specs.Traces.{text_at, declaration_files, own_files, parent_files, mention_files, wanted_files, Meets, HasSameTrace, IsTouched, AreReadAlike, TracesAreTouched}
+use Rattle.al_unit_graph.specs.Traces.{text_at, has_no_file, declaration_files, own_files, parent_files, mention_files, wanted_files, Meets, HasSameTrace, IsTouched, AreReadAlike, TracesAreTouched}
 use Rattle.al_unit_graph.specs.Traces.Meets.{itself, wanted}
 use Rattle.al_graph.proofs.Members.{first}
 
@@ -41,7 +41,7 @@ module _ (old new : Library) where
   Alike file = source_at old file ≡ source_at new file
 
   -- the declaration is looked for in the same files, where the first of them is alike in both
-  declaration_by : (name : List ℕ) (b there : Bool) → is_without_file name ≡ b → is_there new (file_name_of (name, Decl)) ≡ there → ((y : List ℕ) → Contains (declaration_files new name) y → Alike y) → declaration_files old name ≡ declaration_files new name
+  declaration_by : (name : List ℕ) (b there : Bool) → has_no_file name ≡ b → is_there new (file_name_of (name, Decl)) ≡ there → ((y : List ℕ) → Contains (declaration_files new name) y → Alike y) → declaration_files old name ≡ declaration_files new name
   declaration_by name true there without is all = rw without refl
   declaration_by name false true without is all =
       let at_first : Contains (declaration_files new name) (file_name_of (name, Decl)) = rw without (rw is (first (file_name_of (name, Decl)) [])) in
@@ -53,7 +53,7 @@ module _ (old new : Library) where
       rw without (rw same refl)
 
   declaration_alike : (name : List ℕ) → ((y : List ℕ) → Contains (declaration_files new name) y → Alike y) → declaration_files old name ≡ declaration_files new name
-  declaration_alike name all = declaration_by name (is_without_file name) (is_there new (file_name_of (name, Decl))) refl refl all
+  declaration_alike name all = declaration_by name (has_no_file name) (is_there new (file_name_of (name, Decl))) refl refl all
 
   mention_alike : (m : Mention) → ((y : List ℕ) → Contains (mention_files new m) y → Alike y) → mention_files old m ≡ mention_files new m
   mention_alike m all = flat_map_alike Alike (declaration_files old) (declaration_files new) declaration_alike (lineage m.name) all

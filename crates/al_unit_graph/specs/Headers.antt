@@ -31,6 +31,14 @@ pub record Header : Type 0 where
   pub mentions : List Mention
   -- the names of the stubs that stand immediately in a body's declarative part (ARM 10.1.3(2))
   pub stubs : List (List ℕ)
+  -- the names in the pragmas Elaborate of the context clause (ARM 10.2.1(20))
+  pub elaborate : List (List ℕ)
+  -- .. and in the pragmas Elaborate_All
+  pub elaborate_all : List (List ℕ)
+  -- a package's declaration with the pragma Elaborate_Body in its place (ARM 10.2.1(20))
+  pub has_elaborate_body : Bool
+  -- a procedure without parameters, which alone can be the main unit (ARM 10.2(7))
+  pub is_parameterless_procedure : Bool
 
 -- a unit; or no compilation unit, with the place and the number of the first lexical fault, or else of the syntax fault
 pub data Contents : Type 0 where

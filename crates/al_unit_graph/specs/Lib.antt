@@ -7,4 +7,5 @@ pub mod FaultLists
 pub mod Needed
 pub mod Closures
 pub mod Traces
+pub mod Orders
 pub mod Views

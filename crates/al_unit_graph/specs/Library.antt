@@ -1,6 +1,7 @@
 -- Which files hold which units.
-use Rattle.std.specs.Prelude.{ℕ, Bool, true, false, ◌&&◌, not, List, Option, Some, None, if◌then◌else◌}
+use Rattle.std.specs.Prelude.{ℕ, ◌≤◌, Bool, true, false, ◌&&◌, not, List, length, Option, Some, None, if◌then◌else◌}
 use Rattle.std.specs.Option.{is_some, option_and_then, option_map_or}
+use Rattle.std.specs.List.{AllByRecursion}
 use Rattle.std.specs.Str.{bytes_eq}
 use Rattle.std.specs.Map.{lookup}
 use Rattle.std.specs.BTreeMap.{is_at}
@@ -11,6 +12,10 @@ use Rattle.al_base.specs.declared.unit_key.UnitKind.{UnitKind}
 use Rattle.al_base.specs.declared.unit_key.UnitKind.TheVariants.{Decl, Body, Sub}
 use Rattle.al_unit_graph.specs.Headers.{Header, Contents, Headed, Unread, Source, Library, kind_of, key_of_unit, is_subprogram_body}
 use Rattle.al_unit_graph.specs.Names.{is_without_file, is_reserved}
+
+-- each file has a name of at most 255 bytes
+abbrev pub HasShortNames : Library → Type 0
+HasShortNames lib = AllByRecursion (λ e. length e.0 ≤ 255) lib
 
 abbrev pub source_at : Library → List ℕ → Option Source
 source_at lib file = lookup (is_at (name_cmp file)) lib
@@ -46,9 +51,18 @@ is_kind Sub Body = false
 abbrev pub of_key : Key → Header → Option Header
 of_key key h = if bytes_eq h.name key.0 && is_kind (kind_of h.form) key.1 then Some h else None
 
+-- the same of what the unit's own file holds
+abbrev pub headed_as : Contents → Key → Option Header
+headed_as (Headed h) key = if (bytes_eq h.name key.0 && is_kind (kind_of h.form) key.1) && not (is_reserved key.0) then Some h else None
+headed_as (Unread place code) key = None
+
 -- the unit of the library with this name and kind
 unfoldable pub unit_at : Library → Key → Option Header
 unit_at lib key = option_and_then (of_key key) (unit_in lib (file_name_of key))
+
+-- the library has a unit with this name and kind
+abbrev pub is_unit : Library → Key → Bool
+is_unit lib key = is_some (unit_at lib key)
 
 -- there is a file for the declaration, sound or not
 abbrev pub has_declaration_file : Library → List ℕ → Bool

@@ -1,16 +1,22 @@
 -- The units that a partition needs (ARM 10.2(2..7)).
-use Rattle.std.specs.Prelude.{◌≡◌, ℕ, List, [], ◌∷◌, ◌++◌, Some, if◌then◌else◌}
-use Rattle.std.specs.Option.{is_some}
+use Rattle.std.specs.Prelude.{◌≡◌, ◌↔◌, ℕ, true, List, [], ◌∷◌, ◌++◌, Some, if◌then◌else◌}
 use Rattle.std.specs.List.{Contains, flat_map}
+use Rattle.std.specs.List.Sorted.{IsStrictlySortedBy}
 use Rattle.al_base.specs.Batch.{Key}
 use Rattle.al_base.specs.declared.unit_key.UnitKind.TheVariants.{Decl, Body, Sub}
 use Rattle.al_unit_graph.specs.Headers.{Header, Library}
-use Rattle.al_unit_graph.specs.Library.{unit_at, declaration_of}
+use Rattle.al_unit_graph.specs.Library.{unit_at, is_unit, declaration_of}
 use Rattle.al_unit_graph.specs.Dependence.{direct}
+use Rattle.al_unit_graph.specs.Orders.{key_cmp}
+
+-- the units of the library that are so, each once, in the order of the keys
+pub record ListsUnits (lib : Library) (keys : List Key) (IsSo : Key → Type 0) : Type 0 where
+  pub ascend : IsStrictlySortedBy key_cmp keys
+  pub all : (y : Key) → Contains keys y ↔ (IsSo y × (is_unit lib y ≡ true))
 
 -- the unit of this key, where the library has it
 abbrev pub present : Library → Key → List Key
-present lib key = if is_some (unit_at lib key) then key ∷ [] else []
+present lib key = if is_unit lib key then key ∷ [] else []
 
 -- the body of a declaration
 abbrev pub body_of : Library → Key → List Key

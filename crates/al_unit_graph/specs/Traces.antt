@@ -1,5 +1,5 @@
 -- Which units are obsolete since the last build (ARM 10.1.4(5, 7)).
-use Rattle.std.specs.Prelude.{Bool, true, false, not, bytes_eq, ◌≡◌, ◌≢◌, ◌⊎◌, ◌↔◌, ℕ, List, [], ◌∷◌, ◌++◌, Option, Some, None, if◌then◌else◌}
+use Rattle.std.specs.Prelude.{Bool, true, false, not, ◌||◌, nat_lt, length, bytes_eq, ◌≡◌, ◌≢◌, ◌⊎◌, ◌↔◌, ℕ, List, [], ◌∷◌, ◌++◌, Option, Some, None, if◌then◌else◌}
 use Rattle.std.specs.Bool.{Decides}
 use Rattle.std.specs.Option.{option_map, option_map_or}
 use Rattle.std.specs.List.{Contains, flat_map}
@@ -13,16 +13,20 @@ use Rattle.al_unit_graph.specs.Library.{source_at, is_there, unit_in, unit_at}
 abbrev pub text_at : Library → List ℕ → Option (List ℕ)
 text_at lib file = option_map (λ source. source.text) (source_at lib file)
 
+-- no file declares the unit; or its name has more than 251 bytes, and a file's name, which has four more, not more than 255
+abbrev pub has_no_file : List ℕ → Bool
+has_no_file name = is_without_file name || nat_lt 251 (length name)
+
 -- the files in which the declaration of a unit is looked for
 abbrev pub declaration_files : Library → List ℕ → List (List ℕ)
 declaration_files lib name =
-    if is_without_file name then []
+    if has_no_file name then []
     else if is_there lib (file_name_of (name, Decl)) then file_name_of (name, Decl) ∷ []
     else file_name_of (name, Decl) ∷ file_name_of (name, Body) ∷ []
 
 -- the file in which a parent body is looked for
 abbrev pub body_files : List ℕ → List (List ℕ)
-body_files name = if is_without_file name then [] else file_name_of (name, Body) ∷ []
+body_files name = if has_no_file name then [] else file_name_of (name, Body) ∷ []
 
 -- those of its declaration, where it is a body
 abbrev pub own_files : Library → Header → List (List ℕ)

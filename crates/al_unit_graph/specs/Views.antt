@@ -23,6 +23,10 @@ header_seen h = record {
   designator = h.designator;
   mentions = map mention_seen h.mentions.items;
   stubs = h.stubs.items;
+  elaborate = h.elaborate.items;
+  elaborate_all = h.elaborate_all.items;
+  has_elaborate_body = h.has_elaborate_body;
+  is_parameterless_procedure = h.is_parameterless_procedure;
 }
 
 abbrev pub contents_seen : Contents → plain.Contents

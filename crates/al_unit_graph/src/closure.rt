@@ -1,14 +1,19 @@
 // What units depend on and need, by way of others too.
 ghost use Rattle.std.specs.Prelude.{◌≡◌, ◌++◌, ◌∷◌, [], ◌↔◌, ◌⊎◌, map, IfOk, OnOk};
-ghost use Rattle.std.specs.List.{Contains, flat_map};
+ghost use Rattle.std.specs.List.{Contains, filter, flat_map, fold};
+ghost use Rattle.std.specs.BTreeSet.{insert_key};
 ghost use Rattle.al_base.specs.Batch.{key_of, Key};
 ghost use Rattle.al_unit_graph.specs.Dependence.{direct, DependsOn};
 ghost use Rattle.al_unit_graph.specs.Needed.{present, body_of, Needed};
 ghost use Rattle.al_base.specs.declared.unit_key.UnitKind.TheVariants.{Sub};
 ghost use Rattle.al_graph.specs.Closing.{Reached};
 ghost use Rattle.al_unit_graph.specs.Closures.{needs, next};
+ghost use Rattle.al_unit_graph.specs.Library.{is_unit};
+ghost use Rattle.al_unit_graph.specs.Orders.{key_cmp, in_order};
+ghost use Rattle.al_unit_graph.specs.Needed.{ListsUnits};
 
 use crate::key_list::{KeyList, copy_of};
+use crate::key_set::KeySet;
 use crate::source::Sources;
 use al_base::{Name, NoMemory, UnitKey, UnitKind};
 use std::alloc::Global;
@@ -27,7 +32,7 @@ impl Sources {
     pub fn direct(&self, key: &UnitKey) -> Result<Vec<UnitKey>, NoMemory>
         ensures { IfOk result (λ keys. map key_of keys.items ≡ direct self.now (key_of key.now)) }
     {
-        match self.unit_at(key.name.as_slice(), key.kind)? {
+        match self.unit(key) {
             Some(header) => self.dependences(header),
             None => Ok(Vec::new(self.alloc)),
         }
@@ -42,7 +47,7 @@ impl Sources {
     ) -> Result<(), NoMemory>
         ensures { OnOk result (map key_of keys.new.items ≡ map key_of keys.old.items ++ present self.now (name.now, kind)) }
     {
-        if self.unit_at(name, kind)?.is_some() {
+        if self.unit_at(name, kind).is_some() {
             let name = Name::from_slice(self.alloc, name)?;
             keys.push(UnitKey { name, kind })?;
         }
@@ -90,7 +95,7 @@ impl Sources {
     {
         let mut keys = self.direct(key)?;
         self.add_body(key, &mut keys)?;
-        if let Some(header) = self.unit_at(key.name.as_slice(), key.kind)? {
+        if let Some(header) = self.unit(key) {
             self.add_subunits(key.name.as_slice(), header.stubs.as_slice(), &mut keys)?;
         }
         Ok(keys)
@@ -122,32 +127,58 @@ impl Sources {
         Ok(list.keys)
     }
 
-    /// What the unit depends on, by way of others too.
+    /// Adds a key, where the library has the unit.
+    fn add_unit(&self, key: &UnitKey, units: &mut KeySet) -> Result<(), NoMemory>
+        ensures { OnOk result (units.new ≡ fold (insert_key key_cmp) units.old (filter (is_unit self.now) (key_of key.now ∷ []))) }
+    {
+        if self.has_unit(key) {
+            units.insert(copy_of(self.alloc, key)?)?;
+        }
+        Ok(())
+    }
+
+    /// The units of the library among these, each once, in the order of the keys.
+    #[tactic(auto, unfolding(crate::specs::Orders::in_order))]
+    fn units_among(&self, keys: &[UnitKey]) -> Result<Vec<UnitKey>, NoMemory>
+        ensures { IfOk result (λ units. map key_of units.items ≡ in_order (filter (is_unit self.now) (map key_of keys.now))) }
+    {
+        let mut units = KeySet::new(self.alloc);
+        for key in keys {
+            self.add_unit(key, &mut units)?;
+        }
+        let list = units.into_keys()?;
+        Ok(list)
+    }
+
+    /// The units on which a unit depends, by way of others too, in the order of the keys.
     pub fn depends(&self, key: &UnitKey) -> Result<Vec<UnitKey>, NoMemory>
-        ensures { IfOk result (λ keys. (y : Key) → Contains (map key_of keys.items) y ↔ DependsOn self.now (key_of key.now) y) }
+        ensures { IfOk result (λ units. ListsUnits self.now (map key_of units.items) (DependsOn self.now (key_of key.now))) }
     {
         let first = self.direct(key)?;
         let keys = self.reached(Step::Dependence, first.as_slice())?;
-        Ok(keys)
+        let units = self.units_among(keys.as_slice())?;
+        Ok(units)
     }
 
-    /// The unit itself and what it depends on, by way of others too.
+    /// The unit itself and the units on which it depends, by way of others too, in the order of the keys.
     pub fn closure(&self, key: &UnitKey) -> Result<Vec<UnitKey>, NoMemory>
-        ensures { IfOk result (λ keys. (y : Key) → Contains (map key_of keys.items) y ↔ ((key_of key.now ≡ y) ⊎ DependsOn self.now (key_of key.now) y)) }
+        ensures { IfOk result (λ units. ListsUnits self.now (map key_of units.items) (λ y. (key_of key.now ≡ y) ⊎ DependsOn self.now (key_of key.now) y)) }
     {
         let mut first = Vec::new(self.alloc);
         first.push(copy_of(self.alloc, key)?)?;
         let keys = self.reached(Step::Dependence, first.as_slice())?;
-        Ok(keys)
+        let units = self.units_among(keys.as_slice())?;
+        Ok(units)
     }
 
-    /// What a partition with this main unit needs (ARM 10.2(2..7)).
+    /// The units that a partition with this main unit needs (ARM 10.2(2..7)), in the order of the keys.
     pub fn needed(&self, main: &[u8]) -> Result<Vec<UnitKey>, NoMemory>
-        ensures { IfOk result (λ keys. (y : Key) → Contains (map key_of keys.items) y ↔ Needed self.now main.now y) }
+        ensures { IfOk result (λ units. ListsUnits self.now (map key_of units.items) (Needed self.now main.now)) }
     {
         let mut first = Vec::new(self.alloc);
         self.add_declaration(main, &mut first)?;
         let keys = self.reached(Step::Need, first.as_slice())?;
-        Ok(keys)
+        let units = self.units_among(keys.as_slice())?;
+        Ok(units)
     }
 }

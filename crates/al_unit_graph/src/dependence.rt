@@ -48,29 +48,29 @@ fn add_key(
 impl Sources {
     /// Which part of the unit declares it, in a file that may not be sound.
     #[tactic(auto, unfolding(crate::specs::Library::declaration_of))]
-    pub fn declaration_of(&self, name: &[u8]) -> Result<Option<UnitKind>, NoMemory>
-        ensures { IfOk result (λ kind. option_map (λ k. (name.now, k)) kind ≡ declaration_of self.now name.now) }
+    pub fn declaration_of(&self, name: &[u8]) -> Option<UnitKind>
+        ensures { option_map (λ k. (name.now, k)) result ≡ declaration_of self.now name.now }
     {
-        if self.has_declaration_file(name)? {
-            return Ok(Some(UnitKind::Decl));
+        if self.has_declaration_file(name) {
+            return Some(UnitKind::Decl);
         }
-        match self.unit_at(name, UnitKind::Body)? {
-            Some(header) if is_subprogram_body(header.form) => Ok(Some(UnitKind::Body)),
-            _ => Ok(None),
+        match self.unit_at(name, UnitKind::Body) {
+            Some(header) if is_subprogram_body(header.form) => Some(UnitKind::Body),
+            _ => None,
         }
     }
 
     /// Whether the parent body of this name is a library unit's body or a subunit, in a file that may not be sound.
     #[tactic(auto, unfolding(crate::specs::Library::parent_body_of))]
-    pub fn parent_body_of(&self, name: &[u8]) -> Result<Option<UnitKind>, NoMemory>
-        ensures { IfOk result (λ kind. option_map (λ k. (name.now, k)) kind ≡ parent_body_of self.now name.now) }
+    pub fn parent_body_of(&self, name: &[u8]) -> Option<UnitKind>
+        ensures { option_map (λ k. (name.now, k)) result ≡ parent_body_of self.now name.now }
     {
-        if !self.has_body_file(name)? {
-            return Ok(None);
+        if !self.has_body_file(name) {
+            return None;
         }
-        match self.unit_at(name, UnitKind::Sub)? {
-            Some(_) => Ok(Some(UnitKind::Sub)),
-            None => Ok(Some(UnitKind::Body)),
+        match self.unit_at(name, UnitKind::Sub) {
+            Some(_) => Some(UnitKind::Sub),
+            None => Some(UnitKind::Body),
         }
     }
 
@@ -89,7 +89,7 @@ impl Sources {
         ensures { OnOk result (map key_of keys.new.items ≡ map key_of keys.old.items ++ own_declaration self.now (header_seen header.now)) }
     {
         let name = header.name.as_slice();
-        if is_library_body(header.form) && self.has_declaration_file(name)? {
+        if is_library_body(header.form) && self.has_declaration_file(name) {
             add_key(self.alloc, name, Some(UnitKind::Decl), keys)
         } else {
             Ok(())
@@ -103,7 +103,7 @@ impl Sources {
         match &header.parent_body {
             Some(parent) => {
                 let name = parent.name.as_slice();
-                let kind = self.parent_body_of(name)?;
+                let kind = self.parent_body_of(name);
                 add_key(self.alloc, name, kind, keys)
             }
             None => {
@@ -121,7 +121,7 @@ impl Sources {
     ) -> Result<(), NoMemory>
         ensures { OnOk result (map key_of keys.new.items ≡ map key_of keys.old.items ++ declared self.now name.now) }
     {
-        let kind = self.declaration_of(name)?;
+        let kind = self.declaration_of(name);
         add_key(self.alloc, name, kind, keys)
     }
 

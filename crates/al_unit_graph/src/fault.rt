@@ -13,7 +13,8 @@ use crate::dependence::is_library_body;
 use crate::header::{Header, Mention, UnitForm};
 use crate::names::{is_predefined, is_reserved, parent_of};
 use crate::source::Sources;
-use crate::units::{file_of, kind_of};
+use crate::units::kind_of;
+use crate::wanted::file_of;
 use al_base::{Diagnostic, Name, NoMemory, Place, UnitKind};
 use std::alloc::Global;
 
@@ -76,7 +77,7 @@ fn is_package_body(form: UnitForm) -> bool
 }
 
 /// Whether the name is one of these.
-pub(crate) fn contains_name(names: &[Name], name: &[u8]) -> bool
+fn contains_name(names: &[Name], name: &[u8]) -> bool
     ensures { result ≡ list_any (λ n. bytes_eq n name.now) names.now }
 {
     for n in names {
@@ -96,11 +97,10 @@ fn fits(body: &Header, declaration: &Header) -> bool
 
 impl Sources {
     /// Whether a unit that is named has no declaration, and isn't there without one.
-    fn is_missing(&self, name: &[u8]) -> Result<bool, NoMemory>
-        ensures { IfOk result (λ is. is ≡ is_missing self.now name.now) }
+    fn is_missing(&self, name: &[u8]) -> bool
+        ensures { result ≡ is_missing self.now name.now }
     {
-        let declaration = self.declaration_of(name)?;
-        Ok(!is_predefined(name) && declaration.is_none())
+        !is_predefined(name) && self.declaration_of(name).is_none()
     }
 
     /// Adds a unit that is mentioned and has no declaration.
@@ -112,7 +112,7 @@ impl Sources {
     ) -> Result<(), NoMemory>
         ensures { OnOk result (map finding_of found.new.items ≡ map finding_of found.old.items ++ mention_faults self.now file.now (mention_seen mention.now)) }
     {
-        let is_missing = self.is_missing(mention.name.as_slice())?;
+        let is_missing = self.is_missing(mention.name.as_slice());
         add_if(self.alloc, is_missing, file, mention.place, 202, found)
     }
 
@@ -132,38 +132,38 @@ impl Sources {
     }
 
     /// Whether there is no declaration of a package of this name, sound or not.
-    fn is_no_parent(&self, parent: &[u8]) -> Result<bool, NoMemory>
-        ensures { IfOk result (λ is. is ≡ is_no_parent self.now parent.now) }
+    fn is_no_parent(&self, parent: &[u8]) -> bool
+        ensures { result ≡ is_no_parent self.now parent.now }
     {
-        let Some(kind) = self.declaration_of(parent)? else {
-            return Ok(true);
+        let Some(kind) = self.declaration_of(parent) else {
+            return true;
         };
-        match self.unit_at(parent, kind)? {
-            Some(declaration) => Ok(!is_package(declaration.form)),
-            None => Ok(false),
+        match self.unit_at(parent, kind) {
+            Some(declaration) => !is_package(declaration.form),
+            None => false,
         }
     }
 
     /// Whether a child's parent is no package.
-    fn has_no_parent(&self, name: &[u8]) -> Result<bool, NoMemory>
-        ensures { IfOk result (λ is. is ≡ has_no_parent self.now (parent_of name.now)) }
+    fn has_no_parent(&self, name: &[u8]) -> bool
+        ensures { result ≡ has_no_parent self.now (parent_of name.now) }
     {
         match parent_of(name) {
             Some(parent) => self.is_no_parent(parent),
-            None => Ok(false),
+            None => false,
         }
     }
 
     /// Whether the parent body is sound and has no such stub.
-    fn has_no_stub(&self, parent: &[u8], stub: &[u8]) -> Result<bool, NoMemory>
-        ensures { IfOk result (λ is. is ≡ has_no_stub self.now parent.now stub.now) }
+    fn has_no_stub(&self, parent: &[u8], stub: &[u8]) -> bool
+        ensures { result ≡ has_no_stub self.now parent.now stub.now }
     {
-        let Some(kind) = self.parent_body_of(parent)? else {
-            return Ok(false);
+        let Some(kind) = self.parent_body_of(parent) else {
+            return false;
         };
-        match self.unit_at(parent, kind)? {
-            Some(body) => Ok(!contains_name(body.stubs.as_slice(), stub)),
-            None => Ok(false),
+        match self.unit_at(parent, kind) {
+            Some(body) => !contains_name(body.stubs.as_slice(), stub),
+            None => false,
         }
     }
 
@@ -178,29 +178,29 @@ impl Sources {
     {
         match &header.parent_body {
             None => {
-                let is_so = self.has_no_parent(header.name.as_slice())?;
+                let is_so = self.has_no_parent(header.name.as_slice());
                 add_if(self.alloc, is_so, file, header.place, 205, found)
             }
             Some(parent) => {
                 let name = parent.name.as_slice();
-                let is_missing = !self.has_body_file(name)?;
+                let is_missing = !self.has_body_file(name);
                 add_if(self.alloc, is_missing, file, parent.place, 202, found)?;
-                let is_so = self.has_no_stub(name, header.designator.as_slice())?;
+                let is_so = self.has_no_stub(name, header.designator.as_slice());
                 add_if(self.alloc, is_so, file, header.place, 206, found)
             }
         }
     }
 
     /// Whether a body's declaration is sound and the body doesn't fit it.
-    fn is_misfit(&self, header: &Header) -> Result<bool, NoMemory>
-        ensures { IfOk result (λ is. is ≡ is_misfit self.now (header_seen header.now)) }
+    fn is_misfit(&self, header: &Header) -> bool
+        ensures { result ≡ is_misfit self.now (header_seen header.now) }
     {
         if !is_library_body(header.form) {
-            return Ok(false);
+            return false;
         }
-        match self.unit_at(header.name.as_slice(), UnitKind::Decl)? {
-            Some(declaration) => Ok(!fits(header, declaration)),
-            None => Ok(false),
+        match self.unit_at(header.name.as_slice(), UnitKind::Decl) {
+            Some(declaration) => !fits(header, declaration),
+            None => false,
         }
     }
 
@@ -213,10 +213,10 @@ impl Sources {
     ) -> Result<(), NoMemory>
         ensures { OnOk result (map finding_of found.new.items ≡ map finding_of found.old.items ++ declaration_faults self.now file.now (header_seen header.now)) }
     {
-        let has_file = self.has_declaration_file(header.name.as_slice())?;
+        let has_file = self.has_declaration_file(header.name.as_slice());
         let is_missing = is_package_body(header.form) && !has_file;
         add_if(self.alloc, is_missing, file, header.place, 202, found)?;
-        let is_misfit = self.is_misfit(header)?;
+        let is_misfit = self.is_misfit(header);
         add_if(self.alloc, is_misfit, file, header.place, 209, found)
     }
 

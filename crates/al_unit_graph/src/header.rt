@@ -38,4 +38,12 @@ pub struct Header {
     pub mentions: Vec<Mention>,
     /// The names of the stubs that stand immediately in a body's declarative part (ARM 10.1.3(2)).
     pub stubs: Vec<Name>,
+    /// The names in the pragmas Elaborate of the context clause (ARM 10.2.1(20)).
+    pub elaborate: Vec<Name>,
+    /// The names in the pragmas Elaborate_All of the context clause (ARM 10.2.1(20)).
+    pub elaborate_all: Vec<Name>,
+    /// A package's declaration with the pragma Elaborate_Body in its place (ARM 10.2.1(20)).
+    pub has_elaborate_body: bool,
+    /// A procedure without parameters, which alone can be the main unit (ARM 10.2(7)).
+    pub is_parameterless_procedure: bool,
 }

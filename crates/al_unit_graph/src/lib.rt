@@ -7,8 +7,8 @@ mod dependence;
 mod fault;
 mod header;
 mod key_list;
+mod key_set;
 mod laws;
-mod name_list;
 mod names;
 mod source;
 mod trace;
@@ -18,10 +18,11 @@ mod wanted;
 pub use dependence::is_subprogram_body;
 pub use fault::name_faults;
 pub use header::{Header, Mention, UnitForm};
+pub use key_set::KeySet;
 pub use laws::{name_faults_are_misnames, own_faults_are_broken, traces_are_touched};
 pub use names::{ancestors, is_predefined, is_reserved, lineage, parent_of};
 pub use source::{Contents, Source, Sources};
-pub use units::{held, kind_of};
+pub use units::kind_of;
 
 #[cfg(test)]
 mod tests;

@@ -1,14 +1,16 @@
 // The files of a library, and what they are read as.
-ghost use Rattle.std.specs.Prelude.{◌≡◌, [], map, IfOk, OnOk};
+ghost use Rattle.std.specs.Prelude.{◌≡◌, ◌≤◌, [], length, map, true, None, IfOk, IfSome, MatchOption, OnOk};
 ghost use Rattle.std.specs.Map.{keys_of};
 ghost use Rattle.std.specs.Option.{option_map};
 ghost use Rattle.std.specs.BTreeMap.{insert_entry};
+ghost use Rattle.al_base.specs.Batch.{key_of};
+ghost use Rattle.al_base.specs.FileNames.{file_name_of};
 ghost use Rattle.al_base.specs.Files.{name_cmp};
-ghost use Rattle.al_unit_graph.specs.Library.{source_at, is_there};
+ghost use Rattle.al_unit_graph.specs.Library.{source_at, unit_at, is_unit};
 ghost use Rattle.al_unit_graph.specs.Views.{source_seen};
 
 use crate::header::Header;
-use al_base::{Name, NoMemory, Place};
+use al_base::{FileKey, Name, NoMemory, Place, UnitKey, UnitKind};
 use std::alloc::Global;
 use std::collections::BTreeMap;
 use std::marker::Model;
@@ -39,11 +41,14 @@ pub struct Sources {
 
 impl Model for Sources {
     ghost use Rattle.al_unit_graph.specs.Headers.{Library};
+    ghost use Rattle.al_unit_graph.specs.Library.{HasShortNames};
     ghost use Rattle.al_unit_graph.specs.Views.{library_of};
 
     ghost Value = { Library };
 
     ghost view = { λ s. library_of s.files.entries };
+
+    ghost invariant = { λ s. HasShortNames (library_of s.files.entries) };
 }
 
 impl Sources {
@@ -59,28 +64,53 @@ impl Sources {
 
     /// Sets what a file holds, a new one too.
     pub fn insert(&mut self, file: Name, source: Rc<Source>) -> Result<(), NoMemory>
+        requires { length file ≤ 255 }
         ensures { OnOk result (self.new ≡ insert_entry name_cmp self.old file (source_seen source.value)) }
     {
-        match self.files.insert(file.into_vec(), source) {
-            Ok(_) => Ok(()),
-            Err(_) => Err(NoMemory),
-        }
+        let Ok(_) = self.files.insert(file.into_vec(), source) else {
+            return Err(NoMemory);
+        };
+        Ok(())
     }
 
     /// What a file holds, as it can be shared.
     pub fn shared_at(&self, file: &[u8]) -> Option<&Rc<Source>>
-        ensures { option_map (λ source. source_seen source.now.value) result ≡ source_at self.now file.now }
+        ensures source { option_map (λ source. source_seen source.now.value) result ≡ source_at self.now file.now }
+        ensures short { IfSome result (λ _. length file.now ≤ 255) }
     {
         self.files.get(file)
     }
 
     /// What a file holds.
     pub fn source_at(&self, file: &[u8]) -> Option<&Source>
-        ensures { option_map (λ source. source_seen source.now) result ≡ source_at self.now file.now }
+        ensures source { option_map (λ source. source_seen source.now) result ≡ source_at self.now file.now }
+        ensures short { IfSome result (λ _. length file.now ≤ 255) }
     {
         match self.shared_at(file) {
             None => None,
             Some(source) => Some(&**source),
+        }
+    }
+
+    /// What the file holds in which this part of the unit of the name is looked for. It takes no memory.
+    pub(crate) fn source_of(&self, name: &[u8], kind: UnitKind) -> Option<&Source>
+        ensures { option_map (λ source. source_seen source.now) result ≡ source_at self.now (file_name_of (name.now, kind)) }
+    {
+        let _ = &self.files;
+        match FileKey::of(name, kind) {
+            Some(file) => self.source_at(file.as_slice()),
+            None => None,
+        }
+    }
+
+    /// The name of the file in which the library has the unit. It takes no memory.
+    pub fn file_of_unit(&self, key: &UnitKey) -> Option<FileKey>
+        ensures { MatchOption result (unit_at self.now (key_of key.now) ≡ None) (λ file. (file ≡ file_name_of (key_of key.now)) × (is_unit self.now (key_of key.now) ≡ true)) }
+    {
+        let _ = &self.files;
+        match FileKey::of(key.name.as_slice(), key.kind) {
+            Some(file) => { if self.has_unit(key) { Some(file) } else { None } }
+            None => None,
         }
     }
 
@@ -93,12 +123,5 @@ impl Sources {
             names.push(name.as_slice())?;
         }
         Ok(names)
-    }
-
-    /// Whether there is such a file.
-    pub(crate) fn is_there(&self, file: &[u8]) -> bool
-        ensures { result ≡ is_there self.now file.now }
-    {
-        self.source_at(file).is_some()
     }
 }

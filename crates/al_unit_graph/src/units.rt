@@ -1,24 +1,15 @@
-// Which files hold which units.
-ghost use Rattle.std.specs.Prelude.{◌≡◌, IfOk};
+// Which files hold which units. Nothing here takes memory.
+ghost use Rattle.std.specs.Prelude.{◌≡◌, ◌≤◌, length};
 ghost use Rattle.std.specs.Option.{option_map};
-ghost use Rattle.al_base.specs.FileNames.{file_name_of};
+ghost use Rattle.al_base.specs.Batch.{key_of};
 ghost use Rattle.al_unit_graph.specs.Headers.{kind_of};
-ghost use Rattle.al_unit_graph.specs.Library.{is_rightly_named, held, unit_in, unit_at, has_declaration_file, has_body_file, declaration_of, parent_body_of, acts_as_declaration};
+ghost use Rattle.al_unit_graph.specs.Library.{is_rightly_named, held, headed_as, unit_in, unit_at, is_unit, has_declaration_file, has_body_file};
 ghost use Rattle.al_unit_graph.specs.Views.{header_seen, contents_seen};
 
 use crate::header::{Header, UnitForm};
 use crate::names::{is_reserved, is_without_file};
 use crate::source::{Contents, Sources};
-use al_base::{Name, NoMemory, UnitKey, UnitKind, file_name_of};
-use std::alloc::Global;
-
-/// The name of the file that holds this part of the unit of the name.
-pub(crate) fn file_of(alloc: Global, name: &[u8], kind: UnitKind) -> Result<Name, NoMemory>
-    ensures { IfOk result (λ file. file ≡ file_name_of (name.now, kind)) }
-{
-    let name = Name::from_slice(alloc, name)?;
-    file_name_of(alloc, &UnitKey { name, kind })
-}
+use al_base::{FileKey, UnitKey, UnitKind};
 
 /// Which part of a program unit it is.
 pub fn kind_of(form: UnitForm) -> UnitKind
@@ -32,72 +23,98 @@ pub fn kind_of(form: UnitForm) -> UnitKind
 }
 
 /// Whether the unit stands in the file that its name wants, and its name isn't the implementation's.
-fn is_rightly_named(alloc: Global, file: &[u8], header: &Header) -> Result<bool, NoMemory>
-    ensures { IfOk result (λ is. is ≡ is_rightly_named file.now (header_seen header.now)) }
+fn is_rightly_named(file: &[u8], header: &Header) -> bool
+    requires { length file.now ≤ 255 }
+    ensures { result ≡ is_rightly_named file.now (header_seen header.now) }
 {
     let name = header.name.as_slice();
-    let wanted = file_of(alloc, name, kind_of(header.form))?;
-    Ok(file == wanted.as_slice() && !is_reserved(name))
+    match FileKey::of(name, kind_of(header.form)) {
+        Some(wanted) => file == wanted.as_slice() && !is_reserved(name),
+        None => false,
+    }
 }
 
 /// The unit that a file of this name holds, where it is sound.
-pub fn held<'a>(
-    alloc: Global,
-    file: &[u8],
-    contents: &'a Contents,
-) -> Result<Option<&'a Header>, NoMemory>
-    ensures { IfOk result (λ unit. option_map (λ h. header_seen h.now) unit ≡ held file.now (contents_seen contents.now)) }
+fn held<'a>(file: &[u8], contents: &'a Contents) -> Option<&'a Header>
+    requires { length file.now ≤ 255 }
+    ensures { option_map (λ h. header_seen h.now) result ≡ held file.now (contents_seen contents.now) }
 {
     match contents {
         Contents::Headed(header) => {
-            if is_rightly_named(alloc, file, header)? {
-                Ok(Some(header))
+            if is_rightly_named(file, header) {
+                Some(header)
             } else {
-                Ok(None)
+                None
             }
         }
-        Contents::Unread(_, _) => Ok(None),
+        Contents::Unread(_, _) => None,
+    }
+}
+
+/// The unit of this name and kind that its own file holds.
+fn headed_as<'a>(contents: &'a Contents, name: &[u8], kind: UnitKind) -> Option<&'a Header>
+    ensures { option_map (λ h. header_seen h.now) result ≡ headed_as (contents_seen contents.now) (name.now, kind) }
+{
+    match contents {
+        Contents::Headed(header) => {
+            let is_it = header.name.as_slice() == name && kind_of(header.form) == kind;
+            if is_it && !is_reserved(name) {
+                Some(header)
+            } else {
+                None
+            }
+        }
+        Contents::Unread(_, _) => None,
     }
 }
 
 impl Sources {
     /// The unit that the file of this name holds.
-    pub fn unit_in(&self, file: &[u8]) -> Result<Option<&Header>, NoMemory>
-        ensures { IfOk result (λ unit. option_map (λ h. header_seen h.now) unit ≡ unit_in self.now file.now) }
+    pub fn unit_in(&self, file: &[u8]) -> Option<&Header>
+        ensures { option_map (λ h. header_seen h.now) result ≡ unit_in self.now file.now }
     {
         match self.source_at(file) {
-            Some(source) => held(self.alloc, file, &source.contents),
-            None => Ok(None),
+            Some(source) => held(file, &source.contents),
+            None => None,
         }
     }
 
     /// The unit of the library with this name and kind.
-    #[tactic(auto, unfolding(crate::specs::Library::unit_at))]
-    pub fn unit_at(&self, name: &[u8], kind: UnitKind) -> Result<Option<&Header>, NoMemory>
-        ensures { IfOk result (λ unit. option_map (λ h. header_seen h.now) unit ≡ unit_at self.now (name.now, kind)) }
+    #[tactic(auto, using(crate::proofs::UnitLemmas::unit_at_headed))]
+    pub fn unit_at(&self, name: &[u8], kind: UnitKind) -> Option<&Header>
+        ensures { option_map (λ h. header_seen h.now) result ≡ unit_at self.now (name.now, kind) }
     {
-        let file = file_of(self.alloc, name, kind)?;
-        match self.unit_in(file.as_slice())? {
-            Some(header) if header.name.as_slice() == name && kind_of(header.form) == kind => {
-                Ok(Some(header))
-            }
-            _ => Ok(None),
+        match self.source_of(name, kind) {
+            Some(source) => headed_as(&source.contents, name, kind),
+            None => None,
         }
     }
 
-    /// Whether there is a file for the declaration, sound or not.
-    pub fn has_declaration_file(&self, name: &[u8]) -> Result<bool, NoMemory>
-        ensures { IfOk result (λ is. is ≡ has_declaration_file self.now name.now) }
+    /// The unit of the library with this key.
+    pub fn unit(&self, key: &UnitKey) -> Option<&Header>
+        ensures { option_map (λ h. header_seen h.now) result ≡ unit_at self.now (key_of key.now) }
     {
-        let file = file_of(self.alloc, name, UnitKind::Decl)?;
-        Ok(!is_without_file(name) && self.is_there(file.as_slice()))
+        self.unit_at(key.name.as_slice(), key.kind)
+    }
+
+    /// Whether the library has the unit.
+    pub fn has_unit(&self, key: &UnitKey) -> bool
+        ensures { result ≡ is_unit self.now (key_of key.now) }
+    {
+        self.unit(key).is_some()
+    }
+
+    /// Whether there is a file for the declaration, sound or not.
+    pub fn has_declaration_file(&self, name: &[u8]) -> bool
+        ensures { result ≡ has_declaration_file self.now name.now }
+    {
+        !is_without_file(name) && self.source_of(name, UnitKind::Decl).is_some()
     }
 
     /// Whether there is a file for the body, sound or not.
-    pub fn has_body_file(&self, name: &[u8]) -> Result<bool, NoMemory>
-        ensures { IfOk result (λ is. is ≡ has_body_file self.now name.now) }
+    pub fn has_body_file(&self, name: &[u8]) -> bool
+        ensures { result ≡ has_body_file self.now name.now }
     {
-        let file = file_of(self.alloc, name, UnitKind::Body)?;
-        Ok(!is_without_file(name) && self.is_there(file.as_slice()))
+        !is_without_file(name) && self.source_of(name, UnitKind::Body).is_some()
     }
 }

@@ -2,15 +2,31 @@
 ghost use Rattle.std.specs.Prelude.{◌≡◌, ◌++◌, map, IfOk, OnOk};
 ghost use Rattle.std.specs.Option.{option_map};
 ghost use Rattle.std.specs.List.{flat_map};
-ghost use Rattle.al_unit_graph.specs.Traces.{text_at, declaration_files, body_files, own_files, parent_files, mention_files, wanted_files};
+ghost use Rattle.al_base.specs.FileNames.{file_name_of};
+ghost use Rattle.al_unit_graph.specs.Traces.{text_at, has_no_file, declaration_files, body_files, own_files, parent_files, mention_files, wanted_files};
 ghost use Rattle.al_unit_graph.specs.Views.{mention_seen, header_seen};
 
 use crate::dependence::is_library_body;
 use crate::header::{Header, Mention};
 use crate::names::{is_without_file, lineage, parent_of};
 use crate::source::Sources;
-use crate::units::file_of;
-use al_base::{Name, NoMemory, UnitKind};
+use al_base::{Name, NoMemory, UnitKey, UnitKind, file_name_of};
+use std::alloc::Global;
+
+/// The name of the file that holds this part of the unit of the name.
+pub(crate) fn file_of(alloc: Global, name: &[u8], kind: UnitKind) -> Result<Name, NoMemory>
+    ensures { IfOk result (λ file. file ≡ file_name_of (name.now, kind)) }
+{
+    let name = Name::from_slice(alloc, name)?;
+    file_name_of(alloc, &UnitKey { name, kind })
+}
+
+/// Whether no file declares the unit, or its name is longer than that of a file can be.
+fn has_no_file(name: &[u8]) -> bool
+    ensures { result ≡ has_no_file name.now }
+{
+    is_without_file(name) || name.len() > 251
+}
 
 impl Sources {
     /// The text of a file.
@@ -27,11 +43,11 @@ impl Sources {
     fn add_declaration_files(&self, name: &[u8], files: &mut Vec<Name>) -> Result<(), NoMemory>
         ensures { OnOk result (files.new.items ≡ files.old.items ++ declaration_files self.now name.now) }
     {
-        if is_without_file(name) {
+        if has_no_file(name) {
             return Ok(());
         }
         let declaration = file_of(self.alloc, name, UnitKind::Decl)?;
-        let is_there = self.is_there(declaration.as_slice());
+        let is_there = self.source_at(declaration.as_slice()).is_some();
         files.push(declaration)?;
         if !is_there {
             files.push(file_of(self.alloc, name, UnitKind::Body)?)?;
@@ -43,7 +59,7 @@ impl Sources {
     fn add_body_file(&self, name: &[u8], files: &mut Vec<Name>) -> Result<(), NoMemory>
         ensures { OnOk result (files.new.items ≡ files.old.items ++ body_files name.now) }
     {
-        if is_without_file(name) {
+        if has_no_file(name) {
             return Ok(());
         }
         files.push(file_of(self.alloc, name, UnitKind::Body)?)?;

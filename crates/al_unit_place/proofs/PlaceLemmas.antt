@@ -1,5 +1,5 @@
 -- Use clauses one after the other, and questions of some units.
-use Rattle.std.proofs.Common.{◌≡◌, ℕ, ◌+◌, ◌<◌, zero, suc, List, [], ◌∷◌, ◌++◌, Bool, true, false, cond, ◌||◌, map, take, drop, length, get_or, filter, refl, sym, ◌∙◌, ap, subst, arith}
+use Rattle.std.proofs.Common.{◌≡◌, ℕ, ◌+◌, ◌<◌, zero, suc, List, [], ◌∷◌, ◌++◌, Bool, true, false, cond, ◌||◌, inl, inr, map, take, drop, length, get_or, filter, refl, sym, ◌∙◌, ap, subst, arith}
 use Rattle.std.specs.List.{flat_map, list_any}
 use Rattle.std.proofs.lemmas.List.{at_drop_more, take_more}
 use Rattle.al_base.specs.declared.unit_key.UnitKey.{UnitKey}
@@ -9,26 +9,31 @@ use Rattle.al_query.specs.declared.answer.AnswerKind.{AnswerKind}
 use Rattle.al_query.specs.declared.answer.UseClause.{UseClause}
 use Rattle.al_query.specs.declared.answer.UseInPart.{UseInPart}
 use Rattle.al_query.specs.declared.query.Query.TheVariants.{Of}
+use Rattle.al_query.specs.declared.query.Property.{Property}
 use Rattle.al_query.specs.declared.query.Property.TheVariants.{IsPrivate}
 use Rattle.al_query.specs.Answers.{is_private_of}
-use Rattle.al_query.specs.Reads.{has_unit, known_after}
+use Rattle.al_query.specs.Asked.{AsksOf, OfKnown, by_property}
+use Rattle.al_query.specs.Known.{has_unit}
+use Rattle.al_query.specs.Queries.{unit_of}
+use Rattle.al_query.specs.Reads.{Log, Table, logged}
+use Rattle.al_query.proofs.AskLemmas.{asks_none, asks_of-both, asks_of-left, asks_of-one, asks_of-right, asks_of-same, asks_of-units, asks_then}
+use Rattle.al_query.proofs.KnownLemmas.{has_unit-cases, has_unit-left, has_unit-right}
 use Rattle.al_scope.specs.declared.region.Region.{Region}
 use Rattle.al_scope.specs.declared.region.UnitPart.{UnitPart}
-use Rattle.al_scope.specs.Grounds.{AllKnown, StaysGrounded}
-use Rattle.al_scope.specs.Places.{in_last, part_units, with_uses}
-use Rattle.al_unit_place.specs.UnitPlaces.{at_stubs, continued, declaration_parts, inside, inward, part_uses, some_private, stands_in, stub_parts, with_clause, with_clauses}
+use Rattle.al_scope.specs.Places.{part_units}
+use Rattle.al_unit_place.specs.UnitPlaces.{at_stub, at_stubs, continued, declaration_parts, inside, inward, opened, outward_opened, part_uses, some_private, stands_in, symbol_at, view_at, with_clause, with_clauses}
 
 -- use clauses
 
 pub with_clauses-join : (xs ys : List UseClause) (rs : List Region) → with_clauses (xs ++ ys) rs ≡ with_clauses ys (with_clauses xs rs)
 with_clauses-join [] ys rs = refl
-with_clauses-join (x ∷ xs) ys rs = with_clauses-join xs ys (in_last (with_uses (with_clause x)) rs)
+with_clauses-join (x ∷ xs) ys rs = with_clauses-join xs ys (with_clause x rs)
 
 -- one more clause, at its place in the list
-pub with_clauses-more : (cs : List UseClause) (i : ℕ) (c : UseClause) (rs before after : List Region) → i < length cs → c ≡ get_or cs i c → before ≡ with_clauses (take i cs) rs → after ≡ in_last (with_uses (with_clause c)) before → after ≡ with_clauses (take (i + 1) cs) rs
+pub with_clauses-more : (cs : List UseClause) (i : ℕ) (c : UseClause) (rs before after : List Region) → i < length cs → c ≡ get_or cs i c → before ≡ with_clauses (take i cs) rs → after ≡ with_clause c before → after ≡ with_clauses (take (i + 1) cs) rs
 with_clauses-more cs i c rs before after h e b a =
     let more : take (i + 1) cs ≡ take i cs ++ c ∷ [] = take_more cs i c h ∙ ap (λ x. take i cs ++ x ∷ []) (sym e) in
-    a ∙ ap (in_last (with_uses (with_clause c))) b ∙ sym (ap (λ l. with_clauses l rs) more ∙ with_clauses-join (take i cs) (c ∷ []) rs)
+    a ∙ ap (with_clause c) b ∙ sym (ap (λ l. with_clauses l rs) more ∙ with_clauses-join (take i cs) (c ∷ []) rs)
 
 inside-join : (p : Part) (xs ys : List UseInPart) → inside (xs ++ ys) p ≡ inside xs p ++ inside ys p
 inside-join p [] ys = refl
@@ -64,13 +69,13 @@ flat_map-more f xs i x h e =
 
 at_stubs-join : (t : Query → AnswerKind) (xs ys : List UnitPart) (rs : List Region) → at_stubs t (xs ++ ys) rs ≡ at_stubs t ys (at_stubs t xs rs)
 at_stubs-join t [] ys rs = refl
-at_stubs-join t (x ∷ xs) ys rs = at_stubs-join t xs ys (continued t (stub_parts x) rs)
+at_stubs-join t (x ∷ xs) ys rs = at_stubs-join t xs ys (at_stub t x (view_at t x.unit) rs)
 
 -- the region of one more body
-pub at_stubs-more : (t : Query → AnswerKind) (ps : List UnitPart) (i : ℕ) (p : UnitPart) (rs before after : List Region) → i < length ps → p ≡ get_or ps i p → before ≡ at_stubs t (take i ps) rs → after ≡ continued t (stub_parts p) before → after ≡ at_stubs t (take (i + 1) ps) rs
+pub at_stubs-more : (t : Query → AnswerKind) (ps : List UnitPart) (i : ℕ) (p : UnitPart) (rs before after : List Region) → i < length ps → p ≡ get_or ps i p → before ≡ at_stubs t (take i ps) rs → after ≡ at_stub t p (view_at t p.unit) before → after ≡ at_stubs t (take (i + 1) ps) rs
 at_stubs-more t ps i p rs before after h e b a =
     let more : take (i + 1) ps ≡ take i ps ++ p ∷ [] = take_more ps i p h ∙ ap (λ x. take i ps ++ x ∷ []) (sym e) in
-    a ∙ ap (continued t (stub_parts p)) b ∙ sym (ap (λ l. at_stubs t l rs) more ∙ at_stubs-join t (take i ps) (p ∷ []) rs)
+    a ∙ ap (at_stub t p (view_at t p.unit)) b ∙ sym (ap (λ l. at_stubs t l rs) more ∙ at_stubs-join t (take i ps) (p ∷ []) rs)
 
 -- the use clauses of one more part
 pub part_uses-more : (t : Query → AnswerKind) (ps : List UnitPart) (i : ℕ) (p : UnitPart) (rs before after : List Region) → i < length ps → p ≡ get_or ps i p → before ≡ with_clauses (flat_map (part_uses t) (take i ps)) rs → after ≡ with_clauses (part_uses t p) before → after ≡ with_clauses (flat_map (part_uses t) (take (i + 1) ps)) rs
@@ -120,68 +125,80 @@ some-at t (x ∷ us) (suc i) u h e is = at (is_private_of (t (Of x IsPrivate))) 
 
 -- ancestors
 
-pub front-of : (us : List UnitKey) (i : ℕ) (u : UnitKey) → i < length us → u ≡ get_or us i u → drop i us ≡ u ∷ drop (i + 1) us
-front-of us i u h e = at_drop_more (λ l. l) us i u h ∙ ap (λ x. x ∷ drop (i + 1) us) (sym e)
+pub first-of : (us : List UnitKey) (i : ℕ) (u : UnitKey) → i < length us → u ≡ get_or us i u → drop i us ≡ u ∷ drop (i + 1) us
+first-of us i u h e = at_drop_more (λ l. l) us i u h ∙ ap (λ x. x ∷ drop (i + 1) us) (sym e)
 
-pub inward-more : (t : Query → AnswerKind) (sees : Bool) (us : List UnitKey) (i : ℕ) (u : UnitKey) (near : List UnitKey) (rs before after : List Region) → drop i us ≡ u ∷ near → inward t sees (drop i us) before ≡ rs → after ≡ continued t (declaration_parts u (sees || some_private t near)) before → inward t sees near after ≡ rs
+pub inward-more : (t : Query → AnswerKind) (sees : Bool) (us : List UnitKey) (i : ℕ) (u : UnitKey) (near : List UnitKey) (rs before after : List Region) → drop i us ≡ u ∷ near → inward t sees (drop i us) before ≡ rs → after ≡ (let parts = declaration_parts u (sees || some_private t near) in continued t (symbol_at t u) parts parts before) → inward t sees near after ≡ rs
 inward-more t sees us i u near rs before after d b a = ap (inward t sees near) a ∙ ap (λ l. inward t sees l before) (sym d) ∙ b
 
--- questions of units that are known
+pub opened-more : (t : Table) (sees : Bool) (us : List UnitKey) (i : ℕ) (u : UnitKey) (near : List UnitKey) (rs before after : List Region) → drop i us ≡ u ∷ near → outward_opened t sees (drop i us) before ≡ rs → after ≡ cond (sees || some_private t near) before (opened t u before) → outward_opened t sees near after ≡ rs
+opened-more t sees us i u near rs before after d b a = ap (outward_opened t sees near) a ∙ ap (λ l. outward_opened t sees l before) (sym d) ∙ b
 
-known-more : (ks ls us : List UnitKey) → ((u : UnitKey) → has_unit ks u ≡ true → has_unit ls u ≡ true) → AllKnown ks us → AllKnown ls us
-known-more ks ls [] more h = tt
-known-more ks ls (u ∷ us) more h = (more u h.0, known-more ks ls us more h.1)
+-- questions for properties, one call after another
 
--- of units that some know, one after the other
-pub stays-both : (us : List UnitKey) (old mid new : List (Query × AnswerKind)) → StaysGrounded us old mid → StaysGrounded us mid new → StaysGrounded us old new
-stays-both us old mid new one two known grounded h =
-    let first = one known grounded h in
-    let second = two known first.0 (known-more (known_after known old) (known_after known mid) us first.1 h) in
-    (second.0, λ u k. second.1 u (first.1 u k))
+pub asks-none : (us : List UnitKey) (log : Log) → AsksOf us by_property log log
+asks-none us log = asks_none (OfKnown us by_property) log
 
-known-at : (ks us : List UnitKey) (i : ℕ) (u : UnitKey) → i < length us → u ≡ get_or us i u → AllKnown ks us → AllKnown ks (u ∷ [])
-known-at ks [] i u h e all = absurd (omega arith)
-known-at ks (x ∷ us) zero u h e all = (subst (λ (y : UnitKey). has_unit ks y ≡ true) (sym e) all.0, tt)
-known-at ks (x ∷ us) (suc i) u h e all = known-at ks us i u (omega arith) e all.1
+pub asks-both : (us : List UnitKey) (old mid new : Log) → AsksOf us by_property old mid → AsksOf us by_property mid new → AsksOf us by_property old new
+asks-both us old mid new one two = asks_then (OfKnown us by_property) old mid new one two
+
+pub asks-then : (us vs : List UnitKey) (old mid new : Log) → AsksOf us by_property old mid → AsksOf vs by_property mid new → AsksOf (us ++ vs) by_property old new
+asks-then us vs old mid new one two = asks_of-both us vs by_property old mid new one two
+
+pub asks-same : (us vs : List UnitKey) (old new : Log) → us ≡ vs → AsksOf us by_property old new → AsksOf vs by_property old new
+asks-same us vs old new e one = asks_of-same us vs by_property old new e one
+
+among-at : (us : List UnitKey) (i : ℕ) (u v : UnitKey) → i < length us → u ≡ get_or us i u → has_unit (u ∷ []) v ≡ true → has_unit us v ≡ true
+among-at [] i u v h e m = absurd (omega arith)
+among-at (x ∷ us) zero u v h e m = has_unit-left (x ∷ []) us v (subst (λ (y : UnitKey). has_unit (y ∷ []) v ≡ true) e m)
+among-at (x ∷ us) (suc i) u v h e m = has_unit-right (x ∷ []) us v (among-at us i u v (omega arith) e m)
 
 -- of one of them
-pub stays-at : (us : List UnitKey) (i : ℕ) (u : UnitKey) (old new : List (Query × AnswerKind)) → i < length us → u ≡ get_or us i u → StaysGrounded (u ∷ []) old new → StaysGrounded us old new
-stays-at us i u old new h e one known grounded all = one known grounded (known-at (known_after known old) us i u h e all)
+pub asks-at : (us : List UnitKey) (i : ℕ) (u : UnitKey) (old new : Log) → i < length us → u ≡ get_or us i u → AsksOf (u ∷ []) by_property old new → AsksOf us by_property old new
+asks-at us i u old new h e one = asks_of-units (u ∷ []) us by_property old new (λ v m. among-at us i u v h e m) one
 
-known-drop : (ks us : List UnitKey) (i : ℕ) → AllKnown ks us → AllKnown ks (drop i us)
-known-drop ks [] zero all = tt
-known-drop ks [] (suc i) all = tt
-known-drop ks (u ∷ us) zero all = all
-known-drop ks (u ∷ us) (suc i) all = known-drop ks us i all.1
+among-drop : (us : List UnitKey) (i : ℕ) (v : UnitKey) → has_unit (drop i us) v ≡ true → has_unit us v ≡ true
+among-drop [] zero v m = m
+among-drop [] (suc i) v m = m
+among-drop (x ∷ us) zero v m = m
+among-drop (x ∷ us) (suc i) v m = has_unit-right (x ∷ []) us v (among-drop us i v m)
 
 -- of those from a place on
-pub stays-drop : (us : List UnitKey) (i : ℕ) (old new : List (Query × AnswerKind)) → StaysGrounded (drop i us) old new → StaysGrounded us old new
-stays-drop us i old new one known grounded all = one known grounded (known-drop (known_after known old) us i all)
+pub asks-drop : (us : List UnitKey) (i : ℕ) (old new : Log) → AsksOf (drop i us) by_property old new → AsksOf us by_property old new
+asks-drop us i old new one = asks_of-units (drop i us) us by_property old new (among-drop us i) one
 
 -- of the unit of a declaration's parts
-known-parts : (ks : List UnitKey) (u : UnitKey) (b : Bool) → AllKnown ks (u ∷ []) → AllKnown ks (part_units (declaration_parts u b))
-known-parts ks u true h = (h.0, (h.0, tt))
-known-parts ks u false h = (h.0, tt)
+among-parts : (u : UnitKey) (b : Bool) (v : UnitKey) → has_unit (part_units (declaration_parts u b)) v ≡ true → has_unit (u ∷ []) v ≡ true
+among-parts u true v m = elim (has_unit-cases (u ∷ []) (u ∷ []) v m) as (λ _. has_unit (u ∷ []) v ≡ true) [ inl k ↦ k | inr k ↦ k ]
+among-parts u false v m = m
 
-pub stays-parts : (u : UnitKey) (b : Bool) (old new : List (Query × AnswerKind)) → StaysGrounded (part_units (declaration_parts u b)) old new → StaysGrounded (u ∷ []) old new
-stays-parts u b old new one known grounded all = one known grounded (known-parts (known_after known old) u b all)
+pub asks-parts : (u : UnitKey) (b : Bool) (old new : Log) → AsksOf (part_units (declaration_parts u b)) by_property old new → AsksOf (u ∷ []) by_property old new
+asks-parts u b old new one = asks_of-units (part_units (declaration_parts u b)) (u ∷ []) by_property old new (among-parts u b) one
 
 -- of the others first, and of this one then
-pub stays-turned : (u : UnitKey) (us : List UnitKey) (old mid new : List (Query × AnswerKind)) → StaysGrounded us old mid → StaysGrounded (u ∷ []) mid new → StaysGrounded (u ∷ us) old new
-stays-turned u us old mid new one two known grounded all =
-    let first = one known grounded all.1 in
-    let second = two known first.0 (first.1 u all.0, tt) in
-    (second.0, λ v k. second.1 v (first.1 v k))
+pub asks-turned : (u : UnitKey) (us : List UnitKey) (old mid new : Log) → AsksOf us by_property old mid → AsksOf (u ∷ []) by_property mid new → AsksOf (u ∷ us) by_property old new
+asks-turned u us old mid new one two = asks-both (u ∷ us) old mid new (asks_of-right (u ∷ []) us by_property old mid one) (asks_of-left (u ∷ []) us by_property mid new two)
 
 -- of a body's declaration, by its parts
-pub stays-own : (u : UnitKey) (b : Bool) (old new : List (Query × AnswerKind)) → StaysGrounded (part_units (cond b (declaration_parts u true) [])) old new → StaysGrounded (cond b (u ∷ []) []) old new
-stays-own u true old new one = stays-parts u true old new one
-stays-own u false old new one = one
+pub asks-own : (u : UnitKey) (b p : Bool) (old new : Log) → AsksOf (part_units (cond b (declaration_parts u p) [])) by_property old new → AsksOf (cond b (u ∷ []) []) by_property old new
+asks-own u true p old new one = asks-parts u p old new one
+asks-own u false p old new one = one
 
 -- and of the body
-pub stays-stub : (u : UnitKey) (b : Bool) (p : UnitPart) (old new : List (Query × AnswerKind)) → StaysGrounded (part_units (cond b (declaration_parts u true) [] ++ p ∷ [])) old new → StaysGrounded (cond b (u ∷ []) [] ++ p.unit ∷ []) old new
-stays-stub u true p old new one known grounded all = one known grounded (all.0, (all.0, all.1))
-stays-stub u false p old new one known grounded all = one known grounded all
+among-stub : (u : UnitKey) (b p : Bool) (x : UnitPart) (v : UnitKey) → has_unit (part_units (cond b (declaration_parts u p) [] ++ x ∷ [])) v ≡ true → has_unit (cond b (u ∷ []) [] ++ x.unit ∷ []) v ≡ true
+among-stub u true true x v m = elim (has_unit-cases (u ∷ []) (u ∷ x.unit ∷ []) v m) as (λ _. has_unit (u ∷ x.unit ∷ []) v ≡ true) [
+  | inl k ↦ has_unit-left (u ∷ []) (x.unit ∷ []) v k
+  | inr k ↦ k
+]
+among-stub u true false x v m = m
+among-stub u false p x v m = m
+
+pub asks-stub : (u : UnitKey) (b p : Bool) (x : UnitPart) (old new : Log) → AsksOf (part_units (cond b (declaration_parts u p) [] ++ x ∷ [])) by_property old new → AsksOf (cond b (u ∷ []) [] ++ x.unit ∷ []) by_property old new
+asks-stub u b p x old new one = asks_of-units (part_units (cond b (declaration_parts u p) [] ++ x ∷ [])) (cond b (u ∷ []) [] ++ x.unit ∷ []) by_property old new (among-stub u b p x) one
+
+-- one question
+pub asks-one : (old new : Log) (q : Query) (unit : UnitKey) (p : Property) (a : AnswerKind) → by_property old (Of unit p) ≡ true → q ≡ Of unit p → new ≡ logged old q a → AsksOf (unit ∷ []) by_property old new
+asks-one old new q unit p a h is e = asks_of-one by_property old new q unit a (ap unit_of is) (ap (by_property old) is ∙ h) e
 
 pub map-after : {X Y Z : Type 0} (f : Y → Z) (g : X → Y) (xs : List X) → map (λ x. f (g x)) xs ≡ map f (map g xs)
 map-after f g [] = refl

@@ -2,7 +2,6 @@
 ghost use Rattle.std.specs.Prelude.{◌≡◌, ◌<◌, [], ◌∷◌, IfOk, length};
 ghost use Rattle.std.specs.List.{list_any};
 ghost use Rattle.std.specs.Str.{bytes_eq};
-ghost use Rattle.al_scope.specs.Places.{in_last, with_uses};
 ghost use Rattle.al_unit_place.specs.UnitPlaces.{inside, stands_in, uses_with, with_clause, with_clauses};
 
 use al_base::{Name, NoMemory};
@@ -14,12 +13,12 @@ use std::alloc::Global;
 /// A use clause of the innermost region.
 fn use_clause(alloc: Global, scope: &mut Scope, clause: &UseClause) -> Result<(), NoMemory>
     requires { 0 < length scope.old.regions }
-    ensures regions { IfOk result (λ _. scope.new.regions ≡ in_last (with_uses (with_clause clause.now)) scope.old.regions) }
+    ensures regions { IfOk result (λ _. scope.new.regions ≡ with_clause clause.now scope.old.regions) }
     ensures depth { length scope.new.regions ≡ length scope.old.regions }
     ensures mentioned { scope.new.mentioned ≡ scope.old.mentioned }
 {
     match clause {
-        UseClause::Package(unit) => scope.use_package(unit.name.as_slice())?,
+        UseClause::Package(unit) => scope.use_package(unit)?,
         UseClause::Type(symbol) => {
             let symbol = symbol.copy(alloc)?;
             scope.use_type(symbol)?;

@@ -5,10 +5,10 @@ mod clauses;
 mod mentions;
 mod own;
 mod parts;
-#[cfg(test)]
-mod tests;
+mod private_part;
 mod unit_place;
 
 pub use mentions::mentioned;
 pub use own::OwnText;
+pub use private_part::enter_private_part;
 pub use unit_place::enter_unit;

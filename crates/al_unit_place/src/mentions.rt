@@ -2,16 +2,14 @@
 ghost use Rattle.std.specs.Prelude.{◌≡◌, ◌∷◌, [], ◌++◌, IfOk, OnOk};
 ghost use Rattle.std.specs.List.{flat_map};
 ghost use Rattle.al_unit_graph.specs.Names.{lineage};
-ghost use Rattle.al_query.specs.declared.query.Query.{Query};
-ghost use Rattle.al_query.specs.declared.answer.AnswerKind.{AnswerKind};
-ghost use Rattle.al_query.specs.Reads.{Agrees};
-ghost use Rattle.al_scope.specs.Grounds.{StaysGrounded};
-ghost use Rattle.al_unit_place.specs.UnitPlaces.{asked_units, lineages, mentioned_names, own_declaration, stub_units, withs_of};
+ghost use Rattle.al_query.specs.Asked.{AsksOf, by_property};
+ghost use Rattle.al_query.specs.Reads.{Told};
+ghost use Rattle.al_unit_place.specs.UnitPlaces.{asked_units, lineages, mentioned_names, stub_units, withs_of};
 
 use crate::own::OwnText;
 use crate::parts::property_of;
-use crate::unit_place::{ancestors_of, declaration_of, library_name_of};
-use al_base::{Name, NoMemory, UnitKey, UnitKind};
+use crate::unit_place::{add_declaration, ancestors_of, library_name_of};
+use al_base::{Name, NoMemory, UnitKey};
 use al_query::{Answers, Property, Recorder};
 use al_scope::UnitPart;
 use al_unit_graph::lineage;
@@ -56,8 +54,8 @@ fn add_withs<A: Answers>(
     recorder: &mut Recorder<A>,
 ) -> Result<(), NoMemory>
     ensures asked { recorder.new.asked ≡ recorder.old.asked }
-    ensures told { OnOk result ((t : Query → AnswerKind) → Agrees t recorder.new.log → Agrees t recorder.old.log × (names.new.items ≡ names.old.items ++ lineages (withs_of t unit.now))) }
-    ensures grounded { OnOk result (StaysGrounded (unit.now ∷ []) recorder.old.log recorder.new.log) }
+    ensures told { OnOk result (Told recorder.old.log recorder.new.log (λ t. names.new.items ≡ names.old.items ++ lineages (withs_of t unit.now))) }
+    ensures asks { OnOk result (AsksOf (unit.now ∷ []) by_property recorder.old.log recorder.new.log) }
 {
     let query = property_of(alloc, unit, Property::Context)?;
     let answer = recorder.ask(&query)?;
@@ -78,24 +76,12 @@ fn add_each_withs<A: Answers>(
     recorder: &mut Recorder<A>,
 ) -> Result<(), NoMemory>
     ensures asked { recorder.new.asked ≡ recorder.old.asked }
-    ensures told { OnOk result ((t : Query → AnswerKind) → Agrees t recorder.new.log → Agrees t recorder.old.log × (names.new.items ≡ names.old.items ++ flat_map (λ u. lineages (withs_of t u)) units.now)) }
-    ensures grounded { OnOk result (StaysGrounded units.now recorder.old.log recorder.new.log) }
+    ensures told { OnOk result (Told recorder.old.log recorder.new.log (λ t. names.new.items ≡ names.old.items ++ flat_map (λ u. lineages (withs_of t u)) units.now)) }
+    ensures asks { OnOk result (AsksOf units.now by_property recorder.old.log recorder.new.log) }
 {
     for unit in units {
         add_withs(alloc, unit, names, recorder)?;
     }
-    Ok(())
-}
-
-/// Adds the declaration of a library unit's body.
-fn add_declaration(alloc: Global, unit: &UnitKey, units: &mut Vec<UnitKey>) -> Result<(), NoMemory>
-    ensures { OnOk result (units.new.items ≡ units.old.items ++ own_declaration unit.now) }
-{
-    if !matches!(unit.kind, UnitKind::Body) {
-        return Ok(());
-    }
-    let declaration = declaration_of(alloc, unit.name.as_slice())?;
-    units.push(declaration)?;
     Ok(())
 }
 
@@ -137,8 +123,8 @@ pub fn mentioned<A: Answers>(
     recorder: &mut Recorder<A>,
 ) -> Result<Vec<Name>, NoMemory>
     ensures asked { recorder.new.asked ≡ recorder.old.asked }
-    ensures told { IfOk result (λ names. (t : Query → AnswerKind) → Agrees t recorder.new.log → Agrees t recorder.old.log × (names.items ≡ mentioned_names t own.now)) }
-    ensures grounded { IfOk result (λ _. StaysGrounded (asked_units own.now) recorder.old.log recorder.new.log) }
+    ensures told { IfOk result (λ names. Told recorder.old.log recorder.new.log (λ t. names.items ≡ mentioned_names t own.now)) }
+    ensures asks { IfOk result (λ _. AsksOf (asked_units own.now) by_property recorder.old.log recorder.new.log) }
 {
     let library = library_name_of(own);
     let mut names = Vec::new(alloc);

@@ -6,22 +6,24 @@ ghost use Rattle.std.specs.Str.{bytes_eq};
 use al_base::UnitKey;
 use al_query::UseClause;
 use al_scope::UnitPart;
-use al_view::Row;
+use al_view::{Row, Symbol};
 
 /// What a unit's own text says of its place, which no other unit is asked for.
 #[derive(Drop)]
 pub struct OwnText {
     pub unit: UnitKey,
+    /// Its own symbol: of a body that of its declaration, of a subunit that of the subprogram at whose stub it stands.
+    pub symbol: Symbol,
+    /// Whether it is a package or the body of one, and no subprogram.
+    pub is_package: bool,
     /// Whether it is a private unit (ARM 10.1.1(12)).
     pub is_private: bool,
-    /// Whether the place is the start of its private part, and not of its text (ARM 7.1(6)).
-    pub in_private_part: bool,
     /// Of a subunit the stubs round it, outermost first, each by what stands before it in its body (ARM 10.1.3(8)): that of the
     /// library unit's body, and one for each subunit round this one. None of a library unit.
     pub stubs: Row<UnitPart>,
     /// The units that its with clauses name.
     pub withs: Row<UnitKey>,
-    /// The use clauses of its context clause, as resolved; at the start of a private part those of the visible part too.
+    /// The use clauses of its context clause, as resolved.
     pub uses: Row<UseClause>,
 }
 

@@ -1,19 +1,17 @@
 // Regions that continue parts of units.
-ghost use Rattle.std.specs.Prelude.{◌≡◌, ◌+◌, ◌<◌, [], ◌∷◌, IfOk, length};
+ghost use Rattle.std.specs.Prelude.{◌≡◌, ◌+◌, ◌<◌, [], ◌∷◌, ◌++◌, IfOk, length};
 ghost use Rattle.std.specs.List.{flat_map};
-ghost use Rattle.al_query.specs.declared.query.Query.{Query};
+ghost use Rattle.al_query.specs.Asked.{AsksOf, by_property};
+ghost use Rattle.al_query.specs.Reads.{Told};
 ghost use Rattle.al_query.specs.declared.query.Query.TheVariants.{Of};
-ghost use Rattle.al_query.specs.declared.answer.AnswerKind.{AnswerKind};
-ghost use Rattle.al_query.specs.Reads.{Agrees};
-ghost use Rattle.al_scope.specs.Grounds.{StaysGrounded};
 ghost use Rattle.al_scope.specs.Places.{part_units};
-ghost use Rattle.al_unit_place.specs.UnitPlaces.{continued, part_uses, with_clauses};
+ghost use Rattle.al_unit_place.specs.UnitPlaces.{continued, entered_as, part_uses, with_clauses};
 
 use crate::clauses::use_context;
 use al_base::{NoMemory, UnitKey};
 use al_query::{Answers, Property, Query, Recorder};
 use al_scope::{Scope, UnitPart};
-use al_view::{Row, copied_unit};
+use al_view::{Row, Symbol, copied_unit};
 use std::alloc::Global;
 
 /// The same part once more.
@@ -49,7 +47,7 @@ pub fn property_of(alloc: Global, unit: &UnitKey, property: Property) -> Result<
 }
 
 /// The use clauses that the innermost region has by continuing the part.
-fn use_part<A: Answers>(
+pub fn use_part<A: Answers>(
     alloc: Global,
     scope: &mut Scope,
     part: &UnitPart,
@@ -57,8 +55,8 @@ fn use_part<A: Answers>(
 ) -> Result<(), NoMemory>
     requires { 0 < length scope.old.regions }
     ensures asked { recorder.new.asked ≡ recorder.old.asked }
-    ensures told { IfOk result (λ _. (t : Query → AnswerKind) → Agrees t recorder.new.log → Agrees t recorder.old.log × (scope.new.regions ≡ with_clauses (part_uses t part.now) scope.old.regions)) }
-    ensures grounded { IfOk result (λ _. StaysGrounded (part.now.unit ∷ []) recorder.old.log recorder.new.log) }
+    ensures told { IfOk result (λ _. Told recorder.old.log recorder.new.log (λ t. scope.new.regions ≡ with_clauses (part_uses t part.now) scope.old.regions)) }
+    ensures asks { IfOk result (λ _. AsksOf (part.now.unit ∷ []) by_property recorder.old.log recorder.new.log) }
     ensures depth { length scope.new.regions ≡ length scope.old.regions }
     ensures mentioned { scope.new.mentioned ≡ scope.old.mentioned }
 {
@@ -82,8 +80,8 @@ fn use_parts<A: Answers>(
 ) -> Result<(), NoMemory>
     requires { 0 < length scope.old.regions }
     ensures asked { recorder.new.asked ≡ recorder.old.asked }
-    ensures told { IfOk result (λ _. (t : Query → AnswerKind) → Agrees t recorder.new.log → Agrees t recorder.old.log × (scope.new.regions ≡ with_clauses (flat_map (part_uses t) parts.now) scope.old.regions)) }
-    ensures grounded { IfOk result (λ _. StaysGrounded (part_units parts.now) recorder.old.log recorder.new.log) }
+    ensures told { IfOk result (λ _. Told recorder.old.log recorder.new.log (λ t. scope.new.regions ≡ with_clauses (flat_map (part_uses t) parts.now) scope.old.regions)) }
+    ensures asks { IfOk result (λ _. AsksOf (part_units parts.now) by_property recorder.old.log recorder.new.log) }
     ensures depth { length scope.new.regions ≡ length scope.old.regions }
     ensures mentioned { scope.new.mentioned ≡ scope.old.mentioned }
 {
@@ -93,21 +91,40 @@ fn use_parts<A: Answers>(
     Ok(())
 }
 
-/// Enters a region that continues the parts; their use clauses hold in it.
+/// Enters a region that continues the parts, of that construct if there is one.
+pub fn enter_as(
+    scope: &mut Scope,
+    construct: Option<Symbol>,
+    parts: Row<UnitPart>,
+) -> Result<(), NoMemory>
+    ensures regions { IfOk result (λ _. scope.new.regions ≡ scope.old.regions ++ entered_as construct parts scope.old.regions ∷ []) }
+    ensures depth { IfOk result (λ _. length scope.new.regions ≡ length scope.old.regions + 1) }
+    ensures mentioned { scope.new.mentioned ≡ scope.old.mentioned }
+{
+    match construct {
+        Some(symbol) => scope.enter_construct(symbol, parts)?,
+        None => scope.enter(parts)?,
+    }
+    Ok(())
+}
+
+/// Enters a region that continues the parts, of that construct if there is one. The use clauses of the other parts hold in it.
 pub fn continue_parts<A: Answers>(
     alloc: Global,
     scope: &mut Scope,
+    construct: Option<Symbol>,
     parts: &[UnitPart],
+    used: &[UnitPart],
     recorder: &mut Recorder<A>,
 ) -> Result<(), NoMemory>
     ensures asked { recorder.new.asked ≡ recorder.old.asked }
-    ensures told { IfOk result (λ _. (t : Query → AnswerKind) → Agrees t recorder.new.log → Agrees t recorder.old.log × (scope.new.regions ≡ continued t parts.now scope.old.regions)) }
-    ensures grounded { IfOk result (λ _. StaysGrounded (part_units parts.now) recorder.old.log recorder.new.log) }
+    ensures told { IfOk result (λ _. Told recorder.old.log recorder.new.log (λ t. scope.new.regions ≡ continued t construct parts.now used.now scope.old.regions)) }
+    ensures asks { IfOk result (λ _. AsksOf (part_units used.now) by_property recorder.old.log recorder.new.log) }
     ensures depth { IfOk result (λ _. length scope.new.regions ≡ length scope.old.regions + 1) }
     ensures mentioned { scope.new.mentioned ≡ scope.old.mentioned }
 {
     let copy = copied_parts(alloc, parts)?;
-    scope.enter(copy)?;
-    use_parts(alloc, scope, parts, recorder)?;
+    enter_as(scope, construct, copy)?;
+    use_parts(alloc, scope, used, recorder)?;
     Ok(())
 }

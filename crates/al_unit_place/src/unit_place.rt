@@ -1,22 +1,20 @@
 // The place at the start of the text of a unit.
-ghost use Rattle.std.specs.Prelude.{◌≡◌, ◌+◌, ◌<◌, [], ◌∷◌, ◌++◌, ◌||◌, IfOk, drop, length};
+ghost use Rattle.std.specs.Prelude.{◌≡◌, ◌+◌, ◌<◌, [], ◌∷◌, ◌++◌, ◌||◌, IfOk, OnOk, Some, drop, length};
+ghost use Rattle.std.specs.Option.{option_copied};
 ghost use Rattle.std.specs.List.{flat_map};
-ghost use Rattle.al_query.specs.declared.query.Query.{Query};
-ghost use Rattle.al_query.specs.declared.answer.AnswerKind.{AnswerKind};
-ghost use Rattle.al_query.specs.Reads.{Agrees};
-ghost use Rattle.al_scope.specs.Grounds.{StaysGrounded};
-ghost use Rattle.al_scope.specs.Places.{entered};
+ghost use Rattle.al_query.specs.Asked.{AsksOf, by_property};
+ghost use Rattle.al_query.specs.Reads.{Told};
 ghost use Rattle.al_scope.specs.UseClauses.{package_unit};
-ghost use Rattle.al_unit_place.specs.UnitPlaces.{ancestor_units, asked_units, at_stubs, continued, declaration_parts, inward, library_name, outermost, own_parts, sees_all, some_private, standard_parts, stub_parts, stub_units, unit_regions};
+ghost use Rattle.al_unit_place.specs.UnitPlaces.{ancestor_units, asked_units, at_stub, at_stubs, continued, declaration_parts, entered_as, inward, is_package_view, library_name, outermost, own_declaration, own_parts, own_uses, sees_all, sees_at, some_private, standard_parts, standard_symbol, stub_units, symbol_at, unit_regions, view_at, view_symbol};
 
 use crate::clauses::use_each;
 use crate::own::OwnText;
-use crate::parts::{continue_parts, copied_part, property_of};
+use crate::parts::{continue_parts, copied_part, enter_as, property_of};
 use al_base::{Name, NoMemory, UnitKey, UnitKind};
 use al_query::{Answers, Property, Recorder};
 use al_scope::{Scope, UnitPart};
 use al_unit_graph::ancestors;
-use al_view::{Part, Row, copied_unit};
+use al_view::{Part, Row, Symbol, View, ViewKind, copied_unit};
 use std::alloc::Global;
 
 /// The declaration of that name.
@@ -50,8 +48,8 @@ fn some_are_private<A: Answers>(
     recorder: &mut Recorder<A>,
 ) -> Result<bool, NoMemory>
     ensures asked { recorder.new.asked ≡ recorder.old.asked }
-    ensures told { IfOk result (λ are. (t : Query → AnswerKind) → Agrees t recorder.new.log → Agrees t recorder.old.log × (are ≡ some_private t units.now)) }
-    ensures grounded { IfOk result (λ _. StaysGrounded units.now recorder.old.log recorder.new.log) }
+    ensures told { IfOk result (λ are. Told recorder.old.log recorder.new.log (λ t. are ≡ some_private t units.now)) }
+    ensures asks { IfOk result (λ _. AsksOf units.now by_property recorder.old.log recorder.new.log) }
 {
     for unit in units {
         let query = property_of(alloc, unit, Property::IsPrivate)?;
@@ -84,22 +82,62 @@ fn parts_of(alloc: Global, unit: &UnitKey, sees_private: bool) -> Result<Row<Uni
     Ok(parts)
 }
 
-/// Whether an ancestor's private part is seen.
-fn sees_private_part<A: Answers>(
+/// Whether the private part of what encloses these units is seen, where it is anyway or one of them is private.
+pub fn sees_private_part<A: Answers>(
     alloc: Global,
     sees: bool,
     nearer: &[UnitKey],
     recorder: &mut Recorder<A>,
 ) -> Result<bool, NoMemory>
     ensures asked { recorder.new.asked ≡ recorder.old.asked }
-    ensures told { IfOk result (λ does. (t : Query → AnswerKind) → Agrees t recorder.new.log → Agrees t recorder.old.log × (does ≡ (sees || some_private t nearer.now))) }
-    ensures grounded { IfOk result (λ _. StaysGrounded nearer.now recorder.old.log recorder.new.log) }
+    ensures told { IfOk result (λ does. Told recorder.old.log recorder.new.log (λ t. does ≡ (sees || some_private t nearer.now))) }
+    ensures asks { IfOk result (λ _. AsksOf nearer.now by_property recorder.old.log recorder.new.log) }
 {
     if sees {
         return Ok(true);
     }
     let are = some_are_private(alloc, nearer, recorder)?;
     Ok(are)
+}
+
+/// The symbol of the package or subprogram with that view.
+fn symbol_of(alloc: Global, view: Option<&View>) -> Result<Option<Symbol>, NoMemory>
+    ensures { IfOk result (λ symbol. symbol ≡ view_symbol (option_copied view.entry)) }
+{
+    match view {
+        Some(view) => match view.kind() {
+            ViewKind::OfPackage(symbol) => Ok(Some(symbol.copy(alloc)?)),
+            ViewKind::OfSubprogram(subprogram) => Ok(Some(subprogram.symbol.copy(alloc)?)),
+            _ => Ok(None),
+        },
+        None => Ok(None),
+    }
+}
+
+/// Whether it is the view of a package.
+fn is_package(view: Option<&View>) -> bool
+    ensures { result ≡ is_package_view (option_copied view.entry) }
+{
+    match view {
+        Some(view) => matches!(view.kind(), ViewKind::OfPackage(_)),
+        None => false,
+    }
+}
+
+/// The symbol of the unit, by its own view.
+pub fn symbol_from<A: Answers>(
+    alloc: Global,
+    unit: &UnitKey,
+    recorder: &mut Recorder<A>,
+) -> Result<Option<Symbol>, NoMemory>
+    ensures asked { recorder.new.asked ≡ recorder.old.asked }
+    ensures told { IfOk result (λ symbol. Told recorder.old.log recorder.new.log (λ t. symbol ≡ symbol_at t unit.now)) }
+    ensures asks { IfOk result (λ _. AsksOf (unit.now ∷ []) by_property recorder.old.log recorder.new.log) }
+{
+    let query = property_of(alloc, unit, Property::Kind)?;
+    let answer = recorder.ask(&query)?;
+    let symbol = symbol_of(alloc, answer.own_view())?;
+    Ok(symbol)
 }
 
 /// Enters the region of an ancestor, which has these others nearer to the unit.
@@ -112,18 +150,20 @@ fn enter_ancestor<A: Answers>(
     recorder: &mut Recorder<A>,
 ) -> Result<(), NoMemory>
     ensures asked { recorder.new.asked ≡ recorder.old.asked }
-    ensures told { IfOk result (λ _. (t : Query → AnswerKind) → Agrees t recorder.new.log → Agrees t recorder.old.log × (scope.new.regions ≡ continued t (declaration_parts unit.now (sees || some_private t nearer.now)) scope.old.regions)) }
-    ensures grounded { IfOk result (λ _. StaysGrounded (unit.now ∷ nearer.now) recorder.old.log recorder.new.log) }
+    ensures told { IfOk result (λ _. Told recorder.old.log recorder.new.log (λ t. scope.new.regions ≡ continued t (symbol_at t unit.now) (declaration_parts unit.now (sees || some_private t nearer.now)) (declaration_parts unit.now (sees || some_private t nearer.now)) scope.old.regions)) }
+    ensures asks { IfOk result (λ _. AsksOf (unit.now ∷ nearer.now) by_property recorder.old.log recorder.new.log) }
     ensures mentioned { scope.new.mentioned ≡ scope.old.mentioned }
 {
     let sees_private = sees_private_part(alloc, sees, nearer, recorder)?;
+    let symbol = symbol_from(alloc, unit, recorder)?;
     let parts = parts_of(alloc, unit, sees_private)?;
-    continue_parts(alloc, scope, parts.as_slice(), recorder)?;
+    let parts = parts.as_slice();
+    continue_parts(alloc, scope, symbol, parts, parts, recorder)?;
     Ok(())
 }
 
-/// The units behind the i-th.
-fn nearer_than(units: &[UnitKey], i: usize) -> &[UnitKey]
+/// The units after the i-th.
+pub fn nearer_than(units: &[UnitKey], i: usize) -> &[UnitKey]
     requires { i < length units.now }
     ensures { result.now ≡ drop (i + 1) units.now }
 {
@@ -139,8 +179,8 @@ fn enter_ancestors<A: Answers>(
     recorder: &mut Recorder<A>,
 ) -> Result<(), NoMemory>
     ensures asked { recorder.new.asked ≡ recorder.old.asked }
-    ensures told { IfOk result (λ _. (t : Query → AnswerKind) → Agrees t recorder.new.log → Agrees t recorder.old.log × (scope.new.regions ≡ inward t sees units.now scope.old.regions)) }
-    ensures grounded { IfOk result (λ _. StaysGrounded units.now recorder.old.log recorder.new.log) }
+    ensures told { IfOk result (λ _. Told recorder.old.log recorder.new.log (λ t. scope.new.regions ≡ inward t sees units.now scope.old.regions)) }
+    ensures asks { IfOk result (λ _. AsksOf units.now by_property recorder.old.log recorder.new.log) }
     ensures mentioned { scope.new.mentioned ≡ scope.old.mentioned }
 {
     for i in 0..units.len() {
@@ -153,20 +193,26 @@ fn enter_ancestors<A: Answers>(
 
 /// Enters the region of Standard.
 fn enter_standard(alloc: Global, scope: &mut Scope) -> Result<(), NoMemory>
-    ensures regions { IfOk result (λ _. scope.new.regions ≡ scope.old.regions ++ entered standard_parts scope.old.regions ∷ []) }
+    ensures regions { IfOk result (λ _. scope.new.regions ≡ scope.old.regions ++ entered_as (Some standard_symbol) standard_parts scope.old.regions ∷ []) }
     ensures mentioned { scope.new.mentioned ≡ scope.old.mentioned }
 {
     let unit = declaration_of(alloc, b"standard".as_slice())?;
     let parts = parts_of(alloc, &unit, false)?;
-    scope.enter(parts)?;
+    let name = Name::from_slice(alloc, b"standard")?;
+    let symbol = Symbol {
+        unit,
+        name,
+        number: 0,
+    };
+    enter_as(scope, Some(symbol), parts)?;
     Ok(())
 }
 
-/// The parts that the unit's own region continues.
-fn own_parts_of(alloc: Global, unit: &UnitKey) -> Result<Row<UnitPart>, NoMemory>
-    ensures { IfOk result (λ parts. parts ≡ own_parts unit.now) }
+/// The parts that the region of a unit continues.
+fn own_parts_of(alloc: Global, unit: &UnitKey, is_package: bool) -> Result<Row<UnitPart>, NoMemory>
+    ensures { IfOk result (λ parts. parts ≡ own_parts unit.now is_package) }
 {
-    if !matches!(unit.kind, UnitKind::Body) {
+    if !matches!(unit.kind, UnitKind::Body) || !is_package {
         return Ok(Row::empty(alloc));
     }
     let declaration = declaration_of(alloc, unit.name.as_slice())?;
@@ -174,14 +220,48 @@ fn own_parts_of(alloc: Global, unit: &UnitKey) -> Result<Row<UnitPart>, NoMemory
     Ok(parts)
 }
 
-/// The parts of a body's region at a stub.
-fn stub_parts_of(alloc: Global, stub: &UnitPart) -> Result<Row<UnitPart>, NoMemory>
-    ensures { IfOk result (λ parts. parts ≡ stub_parts stub.now) }
+/// The parts whose use clauses hold in the region of a unit.
+fn own_uses_of(alloc: Global, unit: &UnitKey, is_package: bool) -> Result<Row<UnitPart>, NoMemory>
+    ensures { IfOk result (λ parts. parts ≡ own_uses unit.now is_package) }
 {
-    let mut parts = own_parts_of(alloc, &stub.unit)?;
-    let before = copied_part(alloc, stub)?;
-    parts.push(before)?;
+    if !matches!(unit.kind, UnitKind::Body) {
+        return Ok(Row::empty(alloc));
+    }
+    let declaration = declaration_of(alloc, unit.name.as_slice())?;
+    let parts = parts_of(alloc, &declaration, is_package)?;
     Ok(parts)
+}
+
+/// Enters the region of a body at a stub, where its own view is this.
+fn enter_at<A: Answers>(
+    alloc: Global,
+    scope: &mut Scope,
+    stub: &UnitPart,
+    view: Option<&View>,
+    recorder: &mut Recorder<A>,
+) -> Result<(), NoMemory>
+    ensures asked { recorder.new.asked ≡ recorder.old.asked }
+    ensures told { IfOk result (λ _. Told recorder.old.log recorder.new.log (λ t. scope.new.regions ≡ at_stub t stub.now (option_copied view.entry) scope.old.regions)) }
+    ensures asks { IfOk result (λ _. AsksOf (stub_units stub.now) by_property recorder.old.log recorder.new.log) }
+    ensures mentioned { scope.new.mentioned ≡ scope.old.mentioned }
+{
+    let packaged = is_package(view);
+    let symbol = symbol_of(alloc, view)?;
+    let mut parts = own_parts_of(alloc, &stub.unit, packaged)?;
+    let continued = copied_part(alloc, stub)?;
+    parts.push(continued)?;
+    let mut used = own_uses_of(alloc, &stub.unit, packaged)?;
+    let told = copied_part(alloc, stub)?;
+    used.push(told)?;
+    continue_parts(
+        alloc,
+        scope,
+        symbol,
+        parts.as_slice(),
+        used.as_slice(),
+        recorder,
+    )?;
+    Ok(())
 }
 
 /// Enters the region of a body at a stub.
@@ -192,12 +272,13 @@ fn enter_stub<A: Answers>(
     recorder: &mut Recorder<A>,
 ) -> Result<(), NoMemory>
     ensures asked { recorder.new.asked ≡ recorder.old.asked }
-    ensures told { IfOk result (λ _. (t : Query → AnswerKind) → Agrees t recorder.new.log → Agrees t recorder.old.log × (scope.new.regions ≡ continued t (stub_parts stub.now) scope.old.regions)) }
-    ensures grounded { IfOk result (λ _. StaysGrounded (stub_units stub.now) recorder.old.log recorder.new.log) }
+    ensures told { IfOk result (λ _. Told recorder.old.log recorder.new.log (λ t. scope.new.regions ≡ at_stub t stub.now (view_at t stub.now.unit) scope.old.regions)) }
+    ensures asks { IfOk result (λ _. AsksOf (stub_units stub.now) by_property recorder.old.log recorder.new.log) }
     ensures mentioned { scope.new.mentioned ≡ scope.old.mentioned }
 {
-    let parts = stub_parts_of(alloc, stub)?;
-    continue_parts(alloc, scope, parts.as_slice(), recorder)?;
+    let query = property_of(alloc, &stub.unit, Property::Kind)?;
+    let answer = recorder.ask(&query)?;
+    enter_at(alloc, scope, stub, answer.own_view(), recorder)?;
     Ok(())
 }
 
@@ -209,8 +290,8 @@ fn enter_stubs<A: Answers>(
     recorder: &mut Recorder<A>,
 ) -> Result<(), NoMemory>
     ensures asked { recorder.new.asked ≡ recorder.old.asked }
-    ensures told { IfOk result (λ _. (t : Query → AnswerKind) → Agrees t recorder.new.log → Agrees t recorder.old.log × (scope.new.regions ≡ at_stubs t stubs.now scope.old.regions)) }
-    ensures grounded { IfOk result (λ _. StaysGrounded (flat_map stub_units stubs.now) recorder.old.log recorder.new.log) }
+    ensures told { IfOk result (λ _. Told recorder.old.log recorder.new.log (λ t. scope.new.regions ≡ at_stubs t stubs.now scope.old.regions)) }
+    ensures asks { IfOk result (λ _. AsksOf (flat_map stub_units stubs.now) by_property recorder.old.log recorder.new.log) }
     ensures mentioned { scope.new.mentioned ≡ scope.old.mentioned }
 {
     for stub in stubs {
@@ -236,6 +317,74 @@ pub fn library_name_of(own: &OwnText) -> &[u8]
     outermost(own.unit.name.as_slice(), own.stubs.as_slice())
 }
 
+/// Whether the place sees the ancestors' private parts, whatever these are.
+fn sees_all_parts(own: &OwnText) -> bool
+    ensures { result ≡ sees_all own.now }
+{
+    own.is_private
+        || matches!(own.unit.kind, UnitKind::Sub)
+        || (matches!(own.unit.kind, UnitKind::Body) && own.is_package)
+}
+
+/// Adds the declaration of a library unit's body.
+pub fn add_declaration(
+    alloc: Global,
+    unit: &UnitKey,
+    units: &mut Vec<UnitKey>,
+) -> Result<(), NoMemory>
+    ensures { OnOk result (units.new.items ≡ units.old.items ++ own_declaration unit.now) }
+{
+    if !matches!(unit.kind, UnitKind::Body) {
+        return Ok(());
+    }
+    let declaration = declaration_of(alloc, unit.name.as_slice())?;
+    units.push(declaration)?;
+    Ok(())
+}
+
+/// Whether the place at the start of the text sees the ancestors' private parts.
+pub fn sees_private_parts<A: Answers>(
+    alloc: Global,
+    own: &OwnText,
+    recorder: &mut Recorder<A>,
+) -> Result<bool, NoMemory>
+    ensures asked { recorder.new.asked ≡ recorder.old.asked }
+    ensures told { IfOk result (λ sees. Told recorder.old.log recorder.new.log (λ t. sees ≡ sees_at t own.now)) }
+    ensures asks { IfOk result (λ _. AsksOf (own_declaration own.now.unit) by_property recorder.old.log recorder.new.log) }
+{
+    let mut units = Vec::new(alloc);
+    add_declaration(alloc, &own.unit, &mut units)?;
+    let sees = sees_private_part(alloc, sees_all_parts(own), units.as_slice(), recorder)?;
+    Ok(sees)
+}
+
+/// Enters the unit's own region.
+fn enter_own<A: Answers>(
+    alloc: Global,
+    scope: &mut Scope,
+    own: &OwnText,
+    recorder: &mut Recorder<A>,
+) -> Result<(), NoMemory>
+    ensures asked { recorder.new.asked ≡ recorder.old.asked }
+    ensures told { IfOk result (λ _. Told recorder.old.log recorder.new.log (λ t. scope.new.regions ≡ continued t (Some own.now.symbol) (own_parts own.now.unit own.now.is_package) (own_uses own.now.unit own.now.is_package) scope.old.regions)) }
+    ensures asks { IfOk result (λ _. AsksOf (own_declaration own.now.unit) by_property recorder.old.log recorder.new.log) }
+    ensures depth { IfOk result (λ _. length scope.new.regions ≡ length scope.old.regions + 1) }
+    ensures mentioned { scope.new.mentioned ≡ scope.old.mentioned }
+{
+    let symbol = own.symbol.copy(alloc)?;
+    let parts = own_parts_of(alloc, &own.unit, own.is_package)?;
+    let used = own_uses_of(alloc, &own.unit, own.is_package)?;
+    continue_parts(
+        alloc,
+        scope,
+        Some(symbol),
+        parts.as_slice(),
+        used.as_slice(),
+        recorder,
+    )?;
+    Ok(())
+}
+
 /// Enters the regions round the start of a unit's text: Standard's, the ancestors', of a subunit those of the bodies round it at
 /// their stubs, and its own (ARM 8.1, 10.1.1, 10.1.3(8)), with the use clauses that hold there (ARM 8.4(6, 7)). Only other units
 /// are asked: the ancestors, the bodies round a subunit, and the declarations of bodies.
@@ -246,25 +395,16 @@ pub fn enter_unit<A: Answers>(
     recorder: &mut Recorder<A>,
 ) -> Result<(), NoMemory>
     ensures asked { recorder.new.asked ≡ recorder.old.asked }
-    ensures told { IfOk result (λ _. (t : Query → AnswerKind) → Agrees t recorder.new.log → Agrees t recorder.old.log × (scope.new.regions ≡ unit_regions t own.now scope.old.regions)) }
-    ensures grounded { IfOk result (λ _. StaysGrounded (asked_units own.now) recorder.old.log recorder.new.log) }
+    ensures told { IfOk result (λ _. Told recorder.old.log recorder.new.log (λ t. scope.new.regions ≡ unit_regions t own.now scope.old.regions)) }
+    ensures asks { IfOk result (λ _. AsksOf (asked_units own.now) by_property recorder.old.log recorder.new.log) }
     ensures mentioned { scope.new.mentioned ≡ scope.old.mentioned }
 {
     enter_standard(alloc, scope)?;
-    let library = library_name_of(own);
-    let units = ancestors_of(alloc, library)?;
-    let sees = sees_all_parts(own);
+    let units = ancestors_of(alloc, library_name_of(own))?;
+    let sees = sees_private_parts(alloc, own, recorder)?;
     enter_ancestors(alloc, scope, units.as_slice(), sees, recorder)?;
     enter_stubs(alloc, scope, own.stubs.as_slice(), recorder)?;
-    let parts = own_parts_of(alloc, &own.unit)?;
-    continue_parts(alloc, scope, parts.as_slice(), recorder)?;
+    enter_own(alloc, scope, own, recorder)?;
     use_each(alloc, scope, own.uses.as_slice())?;
     Ok(())
-}
-
-/// Whether the place sees the ancestors' private parts, whatever these are.
-fn sees_all_parts(own: &OwnText) -> bool
-    ensures { result ≡ sees_all own.now }
-{
-    own.is_private || own.in_private_part || !matches!(own.unit.kind, UnitKind::Decl)
 }

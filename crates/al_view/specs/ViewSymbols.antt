@@ -14,7 +14,7 @@ use Rattle.al_view.specs.declared.view.ObjectPlace.TheVariants.{Frame, Static}
 use Rattle.al_view.specs.declared.view.Profile.{Profile}
 use Rattle.al_view.specs.declared.view.SubprogramView.{SubprogramView}
 use Rattle.al_view.specs.declared.view.ViewKind.{ViewKind}
-use Rattle.al_view.specs.declared.view.ViewKind.TheVariants.{OfType, OfSubtype, OfObject, OfNumber, OfLiteral, OfSubprogram, OfTask, OfProtected, OfPackage}
+use Rattle.al_view.specs.declared.view.ViewKind.TheVariants.{OfType, OfSubtype, OfObject, OfComponent, OfNumber, OfLiteral, OfSubprogram, OfTask, OfProtected, OfPackage}
 
 abbrev pub component_symbols : List Component → List Symbol
 component_symbols components = map (λ c. c.subtype.base) components
@@ -51,9 +51,10 @@ subprogram_symbols s = s.symbol ∷ profile_symbols s.profile ++ type_symbols s.
 
 -- all symbols that a view holds
 unfoldable pub symbols_of : ViewKind → List Symbol
-symbols_of (OfType types) = type_symbols types
+symbols_of (OfType t) = type_symbols t.types
 symbols_of (OfSubtype s) = s.subtype.base ∷ type_symbols s.types
 symbols_of (OfObject o) = o.subtype.base ∷ type_symbols o.types ++ place_symbols o.place
+symbols_of OfComponent = []
 symbols_of (OfNumber n) = []
 symbols_of (OfLiteral l) = l.base ∷ type_symbols l.types
 symbols_of (OfSubprogram s) = subprogram_symbols s

@@ -3,6 +3,7 @@
 
 mod homographs;
 mod interface;
+mod link;
 mod operators;
 mod part;
 mod priority;
@@ -10,23 +11,24 @@ mod row;
 mod same;
 mod same_views;
 mod symbol;
-#[cfg(test)]
-mod tests;
 mod types;
 mod unit;
 mod view;
 mod views;
 
 pub use interface::Interface;
+pub use link::{LinkKind, LinkSymbol};
 pub use part::Part;
 pub use priority::Priority;
 pub use row::Row;
 pub use same::{Same, are_same};
 pub use symbol::Symbol;
-pub use types::{Bounds, Component, Layout, StaticValue, Subtype, TypeDefinition, TypeView, Types};
+pub use types::{
+    Bounds, Component, Layout, Names, StaticValue, Subtype, TypeDefinition, TypeView, Types,
+};
 pub use unit::{copied_unit, is_unit};
 pub use view::{
-    CallKind, LiteralView, Mode, ObjectPlace, ObjectView, Operation, Parameter, Profile,
-    ProtectedView, SubprogramView, SubtypeView, TaskView, View, ViewKind,
+    CallKind, DeclaredType, LiteralView, Mode, ObjectPlace, ObjectView, Operation, Parameter,
+    Profile, ProtectedView, SubprogramView, SubtypeView, TaskView, View, ViewKind,
 };
 pub use views::Views;

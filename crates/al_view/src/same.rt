@@ -3,7 +3,7 @@ ghost use Rattle.std.specs.Prelude.{◌≡◌, ◌↔◌, IsTrue};
 
 use crate::row::Row;
 use crate::symbol::Symbol;
-use crate::types::{Bounds, Component, Layout, Subtype, TypeDefinition, TypeView};
+use crate::types::{Bounds, Component, Layout, Names, Subtype, TypeDefinition, TypeView};
 use crate::unit::is_unit;
 use al_base::{Name, UnitKey};
 
@@ -92,9 +92,10 @@ impl Same for TypeDefinition {
             (TypeDefinition::Integer(bounds), TypeDefinition::Integer(others)) => {
                 bounds.is_same(others)
             }
-            (TypeDefinition::Enumeration(names), TypeDefinition::Enumeration(others)) => {
-                names.is_same(others)
-            }
+            (
+                TypeDefinition::Enumeration { literals },
+                TypeDefinition::Enumeration { literals: others },
+            ) => *literals == *others,
             (
                 TypeDefinition::Array { index, component },
                 TypeDefinition::Array {
@@ -130,8 +131,15 @@ impl Same for Layout {
                     words: others,
                 },
             ) => offsets.is_same(other) && *words == *others,
+            (Layout::Words(words), Layout::Words(others)) => *words == *others,
             _ => false,
         }
+    }
+}
+
+impl Same for Names {
+    fn is_same(&self, other: &Names) -> bool {
+        are_same(self.as_slice(), other.as_slice())
     }
 }
 

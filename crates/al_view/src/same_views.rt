@@ -6,8 +6,8 @@ use crate::part::Part;
 use crate::same::{Same, are_same};
 use crate::types::{StaticValue, Types};
 use crate::view::{
-    CallKind, LiteralView, Mode, ObjectPlace, ObjectView, Operation, Parameter, Profile,
-    ProtectedView, SubprogramView, SubtypeView, TaskView, View, ViewKind,
+    CallKind, DeclaredType, LiteralView, Mode, ObjectPlace, ObjectView, Operation, Parameter,
+    Profile, ProtectedView, SubprogramView, SubtypeView, TaskView, View, ViewKind,
 };
 use crate::views::Views;
 
@@ -29,9 +29,17 @@ impl Same for Types {
     }
 }
 
+impl Same for DeclaredType {
+    fn is_same(&self, other: &DeclaredType) -> bool {
+        self.types.is_same(&other.types) && self.literals.is_same(&other.literals)
+    }
+}
+
 impl Same for SubtypeView {
     fn is_same(&self, other: &SubtypeView) -> bool {
-        self.subtype.is_same(&other.subtype) && self.types.is_same(&other.types)
+        self.subtype.is_same(&other.subtype)
+            && self.types.is_same(&other.types)
+            && self.literals.is_same(&other.literals)
     }
 }
 
@@ -155,6 +163,7 @@ impl Same for ViewKind {
             (ViewKind::OfType(view), ViewKind::OfType(other)) => view.is_same(other),
             (ViewKind::OfSubtype(view), ViewKind::OfSubtype(other)) => view.is_same(other),
             (ViewKind::OfObject(view), ViewKind::OfObject(other)) => view.is_same(other),
+            (ViewKind::OfComponent, ViewKind::OfComponent) => true,
             (ViewKind::OfNumber(view), ViewKind::OfNumber(other)) => view.is_same(other),
             (ViewKind::OfLiteral(view), ViewKind::OfLiteral(other)) => view.is_same(other),
             (ViewKind::OfSubprogram(view), ViewKind::OfSubprogram(other)) => view.is_same(other),

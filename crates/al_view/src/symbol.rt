@@ -6,14 +6,15 @@ use crate::unit::{copied_unit, is_unit};
 use al_base::{Name, NoMemory, UnitKey};
 use std::alloc::Global;
 
-/// What a declaration of a unit is known by in every unit. A type is the one that has its symbol (ARM 3.2(1)).
-#[derive(Debug, Drop)]
+/// What a declaration of a unit is known by in every unit. A type is the one that has its symbol (ARM 3.2(1)). Symbols are
+/// ordered by unit, name and number.
+#[derive(Drop, PartialEq, Eq, PartialOrd, Ord, Hash)]
 pub struct Symbol {
     /// The unit whose text declares it.
     pub unit: UnitKey,
     /// Its name in lower case; of an operator, its symbol.
     pub name: Name,
-    /// How many declarations of that name stand before it in that unit.
+    /// How many declarations of that name stand before it in that unit, in all its parts and in all bodies there.
     pub number: usize,
 }
 

@@ -1,9 +1,11 @@
 // Types and subtypes as other units see them.
 ghost use Rattle.std.specs.Prelude.{◌≡◌, IfOk};
+ghost use Rattle.std.specs.Option.{option_copied};
+ghost use Rattle.al_view.specs.Types.{definition_bounds, layout_words, type_in};
 
 use crate::row::Row;
 use crate::symbol::Symbol;
-use al_base::Name;
+use al_base::{Name, NoMemory};
 use std::alloc::{AllocError, Global};
 use std::marker::Model;
 use std::rc::Rc;
@@ -40,8 +42,8 @@ pub struct Component {
 pub enum TypeDefinition {
     /// An integer type with these bounds (ARM 3.5.4).
     Integer(Bounds),
-    /// An enumeration type with the names of its literals by position (ARM 3.5.1).
-    Enumeration(Row<Name>),
+    /// An enumeration type of so many literals (ARM 3.5.1). Their names stand where the type or a subtype of it is declared.
+    Enumeration { literals: u32 },
     /// A constrained array type of one dimension (ARM 3.6).
     Array { index: Subtype, component: Subtype },
     /// A record type (ARM 3.8).
@@ -61,6 +63,8 @@ pub enum Layout {
     Array { component: u32, words: u32 },
     /// The components in order, each from its offset on.
     Record { offsets: Row<u32>, words: u32 },
+    /// So many words, of which no more is known (ARM 7.3).
+    Words(u32),
 }
 
 /// A type with what it is and how its values lie.
@@ -69,6 +73,86 @@ pub struct TypeView {
     pub symbol: Symbol,
     pub definition: TypeDefinition,
     pub layout: Layout,
+}
+
+impl Subtype {
+    /// The same subtype once more.
+    pub fn copy(&self, alloc: Global) -> Result<Subtype, NoMemory>
+        ensures { IfOk result (λ copy. copy ≡ self.now) }
+    {
+        let base = self.base.copy(alloc)?;
+        Ok(Subtype {
+            base,
+            bounds: self.bounds,
+        })
+    }
+}
+
+impl TypeDefinition {
+    /// The bounds of a scalar type, positions where it is an enumeration; none of another.
+    pub fn bounds(&self) -> Option<Bounds>
+        ensures { result ≡ definition_bounds self.now }
+    {
+        match self {
+            TypeDefinition::Integer(bounds) => Some(*bounds),
+            TypeDefinition::Enumeration { literals } => Some(Bounds {
+                low: 0,
+                high: i64::from(*literals) - 1,
+            }),
+            _ => None,
+        }
+    }
+}
+
+impl Layout {
+    /// How many words a value takes.
+    pub fn words(&self) -> u32
+        ensures { result ≡ layout_words self.now }
+    {
+        match self {
+            Layout::Scalar => 1,
+            Layout::Array { words, .. } => *words,
+            Layout::Record { words, .. } => *words,
+            Layout::Words(words) => *words,
+        }
+    }
+}
+
+/// Names that are shared: a copy costs no more than a count.
+#[derive(Drop)]
+pub struct Names {
+    names: Rc<Row<Name>>,
+}
+
+impl Model for Names {
+    ghost use Rattle.std.specs.Prelude.{ℕ, List};
+
+    ghost Value = { List (List ℕ) };
+
+    ghost view = { λ n. n.names.value };
+}
+
+impl Names {
+    pub fn new(alloc: Global, names: Row<Name>) -> Result<Self, AllocError>
+        ensures { IfOk result (λ shared. shared ≡ names) }
+    {
+        let names = Rc::new(alloc, names)?;
+        Ok(Names { names })
+    }
+
+    pub fn as_slice(&self) -> &[Name]
+        ensures { result.now ≡ self.now }
+    {
+        self.names.as_slice()
+    }
+
+    /// The same names once more.
+    pub fn share(&self) -> Result<Self, AllocError>
+        ensures { IfOk result (λ names. names ≡ self.now) }
+    {
+        let names = self.names.clone()?;
+        Ok(Names { names })
+    }
 }
 
 /// Types that are shared: a copy costs no more than a count.
@@ -98,6 +182,13 @@ impl Types {
         ensures { result.now ≡ self.now }
     {
         self.types.as_slice()
+    }
+
+    /// The type with this symbol, where it is one of these.
+    pub fn find(&self, symbol: &Symbol) -> Option<&TypeView>
+        ensures { option_copied result ≡ type_in self.now symbol.now }
+    {
+        self.as_slice().iter().find(|of| of.symbol.is(symbol))
     }
 
     /// The same types once more.

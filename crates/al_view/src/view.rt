@@ -4,8 +4,8 @@ ghost use Rattle.std.specs.Prelude.{◌≡◌, IfOk};
 use crate::priority::Priority;
 use crate::row::Row;
 use crate::symbol::Symbol;
-use crate::types::{Component, StaticValue, Subtype, Types};
-use al_base::Name;
+use crate::types::{Component, Names, StaticValue, Subtype, Types};
+use al_base::{Name, NoMemory};
 use std::alloc::{AllocError, Global};
 use std::marker::Model;
 use std::rc::Rc;
@@ -15,12 +15,15 @@ use std::rc::Rc;
 /// of Standard, which every unit has, only where it is one of them.
 #[derive(Drop)]
 pub enum ViewKind {
-    /// A type (ARM 3.2.1). It is the last of these.
-    OfType(Types),
+    /// A type (ARM 3.2.1).
+    OfType(DeclaredType),
     /// A subtype (ARM 3.2.2).
     OfSubtype(SubtypeView),
-    /// A constant or variable, a component of a protected object or a formal parameter too (ARM 3.3.1).
+    /// A constant or variable, a component of a protected object in its bodies and a formal parameter too (ARM 3.3.1).
     OfObject(ObjectView),
+    /// A component of a record or of a protected object inside that one's own declaration: its name is visible there, and
+    /// it has no value (ARM 3.8, 9.4). No part of a unit declares one.
+    OfComponent,
     /// A named number (ARM 3.3.2).
     OfNumber(StaticValue),
     /// An enumeration literal (ARM 3.5.1(3)).
@@ -36,20 +39,53 @@ pub enum ViewKind {
     OfPackage(Symbol),
 }
 
+/// A type where it is declared. Other views don't have the names of its literals, so that n of them aren't compared n times.
+#[derive(Drop)]
+pub struct DeclaredType {
+    /// The types that it is of, itself last.
+    pub types: Types,
+    /// The names of its literals by position, in lower case, of an enumeration type.
+    pub literals: Names,
+}
+
 /// A subtype with the types that it is of.
 #[derive(Drop)]
 pub struct SubtypeView {
     pub subtype: Subtype,
     pub types: Types,
+    /// The names of its type's literals by position, in lower case, of an enumeration type.
+    pub literals: Names,
 }
 
-/// Where an object lies.
+/// Where an object or a flag lies.
 #[derive(Drop)]
 pub enum ObjectPlace {
-    /// In the frame of the body at this depth of nesting, from this word on.
+    /// In the frame of the body at this depth of nesting, 1 of the outermost, from this word on.
     Frame { depth: u32, word: u32 },
-    /// In the words of a unit that the symbol stands for, from this word of them on.
+    /// In the words of a unit that the symbol stands for, from this word of them on. A protected object's symbol stands for
+    /// its components, where an object is meant, and for its flag where a flag is.
     Static { symbol: Symbol, word: u32 },
+}
+
+impl ObjectPlace {
+    /// The same place once more.
+    pub fn copy(&self, alloc: Global) -> Result<ObjectPlace, NoMemory>
+        ensures { IfOk result (λ copy. copy ≡ self.now) }
+    {
+        match self {
+            ObjectPlace::Frame { depth, word } => Ok(ObjectPlace::Frame {
+                depth: *depth,
+                word: *word,
+            }),
+            ObjectPlace::Static { symbol, word } => {
+                let symbol = symbol.copy(alloc)?;
+                Ok(ObjectPlace::Static {
+                    symbol,
+                    word: *word,
+                })
+            }
+        }
+    }
 }
 
 /// An object.
@@ -97,11 +133,12 @@ pub struct Profile {
 }
 
 /// What is called, and how.
-#[derive(Debug, Drop)]
+#[derive(Drop)]
 pub enum CallKind {
     /// A predefined operator (ARM 4.5), with the type that declares it (ARM 3.2.1(9), 3.2.3(6)).
     Operator { of_type: Symbol },
-    /// A subprogram of a body at this depth of nesting.
+    /// A subprogram that the body at this depth of nesting declares, 1 of the outermost; 0 where it is declared at library
+    /// level.
     Subprogram { depth: u32 },
     /// A subprogram of a predefined unit (ARM A).
     Predefined,

@@ -1,7 +1,7 @@
 use Rattle.std.proofs.Common.{ℕ, List, Bor, map, ap, ◌∙◌, arith}
 use Rattle.std.proofs.lemmas.List.{take_all}
 use Rattle.al_obsolete.specs.Units.{unit_of_file, units_of}
-use Rattle.al_obsolete.proofs.Lists.{map_twice}
+use Rattle.al_unit_graph.proofs.Lists.{map_twice}
 use Rattle.al_obsolete.proofs.by_file.units.Goals as goal
 
 pub returns : goal.returns

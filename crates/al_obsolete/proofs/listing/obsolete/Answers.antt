@@ -7,7 +7,7 @@ use Rattle.std.specs.BTreeSet.{insert_key}
 use Rattle.al_base.specs.Batch.{key_of}
 use Rattle.al_unit_graph.specs.Dependence.{listed}
 use Rattle.al_unit_graph.specs.Traces.{IsTouched}
-use Rattle.al_obsolete.specs.Orders.{key_cmp, names_seen}
+use Rattle.al_unit_graph.specs.Orders.{key_cmp, names_seen}
 use Rattle.al_obsolete.specs.Wanted.{AreTouched, obsolete_by, obsolete_in}
 use Rattle.al_obsolete.proofs.ListingLemmas.{obsolete_by_files, obsolete_step}
 use Rattle.std.proofs.lemmas.List.{get_or_default}

@@ -2,7 +2,7 @@ use Rattle.std.proofs.Common.{◌≡◌, [], map, take}
 use Rattle.std.specs.List.{flat_map, fold}
 use Rattle.std.specs.BTreeSet.{insert_key}
 use Rattle.al_unit_graph.specs.Traces.{AreReadAlike}
-use Rattle.al_obsolete.specs.Orders.{key_cmp, names_seen}
+use Rattle.al_unit_graph.specs.Orders.{key_cmp, names_seen}
 use Rattle.al_obsolete.specs.Wanted.{obsolete_in}
 use Rattle.al_obsolete.proofs.listing.obsolete.Given as goal
 

@@ -4,7 +4,7 @@ use Rattle.al_base.specs.Batch.{Key, key_of}
 use Rattle.al_unit_graph.specs.Library.{unit_in}
 use Rattle.al_unit_graph.specs.Views.{header_seen}
 use Rattle.al_unit_graph.specs.declared.header.Header.{Header}
-use Rattle.al_obsolete.specs.Orders.{names_seen}
+use Rattle.al_unit_graph.specs.Orders.{names_seen}
 use Rattle.al_obsolete.proofs.ListingLemmas.{told, among_seen}
 use Rattle.al_obsolete.proofs.listing.obsolete_unit.Goals as goal
 
@@ -16,8 +16,8 @@ returns-then-is_obsolete c =
     let file = c.args.file.now in
     let h = header_seen c.in-Some.header.now in
     let k = key_of c.in_ok-key.key in
-    let there : unit_in new file ≡ Some h = sym c.in_ok-header.ensures ∙ ap (λ o. option_map (λ (u : Bor Header). header_seen u.now) o) c.in-Some.is in
-    let all = told old faulty new file c.args.is_touched h k c.in_ok-was_unit.was_unit c.contains.result c.differs-is_obsolete.result there c.in_ok-key.ensures c.in_ok-was_unit.ensures (c.contains.ensures ∙ among_seen file c.args.faulty.now.keys) c.differs-is_obsolete.ensures in
+    let there : unit_in new file ≡ Some h = sym c.unit_in.ensures ∙ ap (λ o. option_map (λ (u : Bor Header). header_seen u.now) o) c.in-Some.is in
+    let all = told old faulty new file c.args.is_touched h k c.has_unit-was_unit.result c.contains.result c.differs-is_obsolete.result there c.in_ok-key.ensures c.has_unit-was_unit.ensures (c.contains.ensures ∙ among_seen file c.args.faulty.now.keys) c.differs-is_obsolete.ensures in
     let P : Bool → List Key = λ b. cond b (k ∷ []) [] in
     ap P (sym c.if-is_obsolete.true) ∙ all
 
@@ -29,7 +29,7 @@ returns-else-is_obsolete c =
     let file = c.args.file.now in
     let h = header_seen c.in-Some.header.now in
     let k = key_of c.in_ok-key.key in
-    let there : unit_in new file ≡ Some h = sym c.in_ok-header.ensures ∙ ap (λ o. option_map (λ (u : Bor Header). header_seen u.now) o) c.in-Some.is in
-    let all = told old faulty new file c.args.is_touched h k c.in_ok-was_unit.was_unit c.contains.result c.differs-is_obsolete.result there c.in_ok-key.ensures c.in_ok-was_unit.ensures (c.contains.ensures ∙ among_seen file c.args.faulty.now.keys) c.differs-is_obsolete.ensures in
+    let there : unit_in new file ≡ Some h = sym c.unit_in.ensures ∙ ap (λ o. option_map (λ (u : Bor Header). header_seen u.now) o) c.in-Some.is in
+    let all = told old faulty new file c.args.is_touched h k c.has_unit-was_unit.result c.contains.result c.differs-is_obsolete.result there c.in_ok-key.ensures c.has_unit-was_unit.ensures (c.contains.ensures ∙ among_seen file c.args.faulty.now.keys) c.differs-is_obsolete.ensures in
     let P : Bool → List Key = λ b. cond b (k ∷ []) [] in
     ap P (sym c.if-is_obsolete.false) ∙ all

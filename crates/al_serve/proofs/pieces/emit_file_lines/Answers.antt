@@ -7,9 +7,9 @@ use Rattle.al_serve.proofs.pieces.emit_file_lines.Goals as goal
 
 pub loop-file-preserved : goal.loop-file-preserved
 loop-file-preserved g c = record {
-  told = λ start faults before wrote.
+  told = λ start before wrote.
       let more = lines_more file_line file_unit_of c.args.files.now c.loop-file.file-index c.loop-file-item.result (omega arith) c.loop-file-item.is in
-      let so_far = c.emit_file_line-so_far.ensures.told start faults _ (c.loop-file.invariant.told start faults before wrote) in
+      let so_far = c.emit_file_line-so_far.ensures.told start _ (c.loop-file.invariant.told start before wrote) in
       rw more (rw append_assoc at so_far);
   room = λ ok.
       let one = c.emit_file_line-so_far.ensures.faults ok in
@@ -18,5 +18,5 @@ loop-file-preserved g c = record {
 }
 
 pub returns-clause-told : goal.returns-clause-told
-returns-clause-told g c = λ start faults before wrote.
-    rw (take_all c.loop-file.file-index c.args.files.now (omega arith)) at (c.loop-file.invariant.told start faults before wrote)
+returns-clause-told g c = λ start before wrote.
+    rw (take_all c.loop-file.file-index c.args.files.now (omega arith)) at (c.loop-file.invariant.told start before wrote)

@@ -7,7 +7,7 @@ use Rattle.al_serve.proofs.pieces.emit_file_lines.Given as goal
 
 abbrev pub invariant-loop-file : goal.invariant-loop-file
 invariant-loop-file g l = record {
-  told : Adds g.K.Sink.written g.K.Sink.faults l.fn.writer l.writer l.fn.so_far l.so_far
+  told : Adds g.K.Sink.written g.K.Sink.faults g.K.Sink.waits l.fn.writer l.writer l.fn.so_far l.so_far
       (flat_map file_line (map file_unit_of (take l.file-index l.files)));
   room : IsOk l.so_far → IsOk l.fn.so_far × (g.K.Sink.faults l.writer ≡ g.K.Sink.faults l.fn.writer);
 }

@@ -7,9 +7,9 @@ use Rattle.al_serve.proofs.pieces.emit_findings.Goals as goal
 
 pub loop-diagnostic-preserved : goal.loop-diagnostic-preserved
 loop-diagnostic-preserved g c = record {
-  told = λ start faults before wrote.
+  told = λ start before wrote.
       let more = lines_more finding_line finding_of c.args.diagnostics.now c.loop-diagnostic.diagnostic-index c.diagnostic-item.result (omega arith) c.diagnostic-item.is in
-      let so_far = c.emit_finding-so_far.ensures.told start faults _ (c.loop-diagnostic.invariant.told start faults before wrote) in
+      let so_far = c.emit_finding-so_far.ensures.told start _ (c.loop-diagnostic.invariant.told start before wrote) in
       rw more (rw append_assoc at so_far);
   room = λ ok.
       let one = c.emit_finding-so_far.ensures.faults ok in
@@ -18,5 +18,5 @@ loop-diagnostic-preserved g c = record {
 }
 
 pub returns-clause-told : goal.returns-clause-told
-returns-clause-told g c = λ start faults before wrote.
-    rw (take_all c.loop-diagnostic.diagnostic-index c.args.diagnostics.now (omega arith)) at (c.loop-diagnostic.invariant.told start faults before wrote)
+returns-clause-told g c = λ start before wrote.
+    rw (take_all c.loop-diagnostic.diagnostic-index c.args.diagnostics.now (omega arith)) at (c.loop-diagnostic.invariant.told start before wrote)

@@ -7,7 +7,7 @@ use Rattle.al_serve.proofs.pieces.emit_findings.Given as goal
 
 abbrev pub invariant-loop-diagnostic : goal.invariant-loop-diagnostic
 invariant-loop-diagnostic g l = record {
-  told : Adds g.K.Sink.written g.K.Sink.faults l.fn.writer l.writer l.fn.so_far l.so_far
+  told : Adds g.K.Sink.written g.K.Sink.faults g.K.Sink.waits l.fn.writer l.writer l.fn.so_far l.so_far
       (flat_map finding_line (map finding_of (take l.diagnostic-index l.diagnostics)));
   room : IsOk l.so_far → IsOk l.fn.so_far × (g.K.Sink.faults l.writer ≡ g.K.Sink.faults l.fn.writer);
 }

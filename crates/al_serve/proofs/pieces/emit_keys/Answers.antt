@@ -7,9 +7,9 @@ use Rattle.al_serve.proofs.pieces.emit_keys.Goals as goal
 
 pub loop-key-preserved : goal.loop-key-preserved
 loop-key-preserved g c = record {
-  told = λ start faults before wrote.
+  told = λ start before wrote.
       let more = lines_more key_line key_of c.args.keys.now c.loop-key.key-index c.key-item.result (omega arith) c.key-item.is in
-      let so_far = c.emit_key-so_far.ensures.told start faults _ (c.loop-key.invariant.told start faults before wrote) in
+      let so_far = c.emit_key-so_far.ensures.told start _ (c.loop-key.invariant.told start before wrote) in
       rw more (rw append_assoc at so_far);
   room = λ ok.
       let one = c.emit_key-so_far.ensures.faults ok in
@@ -18,5 +18,5 @@ loop-key-preserved g c = record {
 }
 
 pub returns-clause-told : goal.returns-clause-told
-returns-clause-told g c = λ start faults before wrote.
-    rw (take_all c.loop-key.key-index c.args.keys.now (omega arith)) at (c.loop-key.invariant.told start faults before wrote)
+returns-clause-told g c = λ start before wrote.
+    rw (take_all c.loop-key.key-index c.args.keys.now (omega arith)) at (c.loop-key.invariant.told start before wrote)

@@ -7,7 +7,7 @@ use Rattle.al_serve.proofs.pieces.emit_keys.Given as goal
 
 abbrev pub invariant-loop-key : goal.invariant-loop-key
 invariant-loop-key g l = record {
-  told : Adds g.K.Sink.written g.K.Sink.faults l.fn.writer l.writer l.fn.so_far l.so_far
+  told : Adds g.K.Sink.written g.K.Sink.faults g.K.Sink.waits l.fn.writer l.writer l.fn.so_far l.so_far
       (flat_map key_line (map key_of (take l.key-index l.keys)));
   room : IsOk l.so_far → IsOk l.fn.so_far × (g.K.Sink.faults l.writer ≡ g.K.Sink.faults l.fn.writer);
 }

@@ -3,9 +3,9 @@ use Rattle.al_stream.proofs.Emits.{emits, stays, wrote_all}
 use Rattle.al_stream.proofs.emitting.emit.Goals as goal
 
 pub returns-then-is_err-clause-told : goal.returns-then-is_err-clause-told
-returns-then-is_err-clause-told g c = λ start faults before wrote. stays start _ faults _ before c.args.piece.now c.args.so_far (sym c.is_err.ensures.value ∙ c.if-is_err.true) wrote
+returns-then-is_err-clause-told g c = λ start before wrote. stays start _ before c.args.piece.now c.args.so_far (sym c.is_err.ensures.value ∙ c.if-is_err.true) wrote
 
 pub returns-clause-told : goal.returns-clause-told
-returns-clause-told g c = λ start faults before wrote.
-    let all = wrote_all start _ faults _ before c.args.so_far (sym c.is_err.ensures.value ∙ c.if-is_err.false) wrote in
-    emits start _ _ faults _ _ before c.args.piece.now c.write_all.result all.0 all.1 c.write_all.ensures
+returns-clause-told g c = λ start before wrote.
+    let all = wrote_all start _ before c.args.so_far (sym c.is_err.ensures.value ∙ c.if-is_err.false) wrote in
+    emits start _ _ before c.args.piece.now c.write_all.result all c.write_all.ensures

@@ -11,7 +11,7 @@ loop-line-init g c = record {
   whole = search rules;
   size = search rules;
   room = λ ok. (ok, refl);
-  told = λ start faults before wrote. rw append-nil wrote;
+  told = λ start before wrote. rw append-nil wrote;
 }
 
 pub loop-line-preserved : goal.loop-line-preserved
@@ -25,12 +25,12 @@ loop-line-preserved g c =
       whole = append_assoc so_far.done line (hex_lines (chunks_rest c.next.new.self)) ∙ ap (λ (bs : List ℕ). so_far.done ++ bs) (sym more) ∙ so_far.whole;
       size = steps.0 ∙ so_far.size;
       room = λ ok. let now = c.emit_hex_line-so_far.ensures.faults ok in let before = so_far.room now.0 in (before.0, now.1 ∙ before.1);
-      told = λ start faults before wrote. rw (← append_assoc before so_far.done line) (c.emit_hex_line-so_far.ensures.told start faults _ (so_far.told start faults before wrote));
+      told = λ start before wrote. rw (← append_assoc before so_far.done line) (c.emit_hex_line-so_far.ensures.told start _ (so_far.told start before wrote));
     }
 
 pub returns-clause-told : goal.returns-clause-told
-returns-clause-told g c = λ start faults before wrote.
+returns-clause-told g c = λ start before wrote.
     let so_far = c.loop-line.invariant in
     let none = nil_from_length _ c.in-None.ensures.steps.1.0 in
     let all : so_far.done ≡ hex_lines c.args.bytes.now = sym (append-nil so_far.done) ∙ ap (λ (bs : List ℕ). so_far.done ++ bs) (sym hex_lines-none) ∙ ap (λ (bs : List ℕ). so_far.done ++ hex_lines bs) (sym none) ∙ so_far.whole in
-    rw all at (so_far.told start faults before wrote)
+    rw all at (so_far.told start before wrote)

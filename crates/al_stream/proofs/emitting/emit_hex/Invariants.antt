@@ -11,5 +11,5 @@ invariant-loop-line g l = record {
   whole : done ++ hex_lines (chunks_rest l.line-iterator) ≡ hex_lines l.bytes;
   size : chunks_size l.line-iterator ≡ 32;
   room : IsOk l.so_far → IsOk l.fn.so_far × (g.K.Sink.faults l.writer ≡ g.K.Sink.faults l.fn.writer);
-  told : Adds g.K.Sink.written g.K.Sink.faults l.fn.writer l.writer l.fn.so_far l.so_far done;
+  told : Adds g.K.Sink.written g.K.Sink.faults g.K.Sink.waits l.fn.writer l.writer l.fn.so_far l.so_far done;
 }

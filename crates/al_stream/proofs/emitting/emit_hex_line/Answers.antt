@@ -15,11 +15,11 @@ loop-i-preserved g c =
     }
 
 pub returns-clause-told : goal.returns-clause-told
-returns-clause-told g c = λ start faults before wrote.
+returns-clause-told g c = λ start before wrote.
     let so_far = c.loop-i.invariant in
     let all : c.loop-i.i ≡ length c.args.bytes.now = omega arith in
     let front : take (2 * length c.args.bytes.now) c.loop-i.text ≡ flat_map hex_of c.args.bytes.now =
     rw (← all) (so_far.front ∙ ap (flat_map hex_of) (take_all c.loop-i.i c.args.bytes.now (omega arith))) in
     let line : take (2 * length c.args.bytes.now + 1) (set c.loop-i.text (2 * length c.args.bytes.now) 10) ≡ hex_line c.args.bytes.now =
     hex_ends c.loop-i.text c.args.bytes.now (omega (arith, so_far.size)) front in
-    rw line at (c.emit.ensures.told start faults before wrote)
+    rw line at (c.emit.ensures.told start before wrote)

@@ -13,6 +13,6 @@ returns-clause-read g c =
       length-take-le count held within,
       omega arith,
       λ kept. (c.append.ensures.kept kept, c.append.ensures.bytes kept ∙ ap (λ bs. c.args.text.now.bytes.items ++ take count bs) c.held-held.ensures),
-      reads_then more.0 (reads_front g.S.Source.ahead g.S.Source.faults g.S.Source.pulls c.refill.new.source c.refill.new.self c.skip.new.self count c.skip.ensures.rest c.skip.ensures.left),
+      reads_then 1 (omega arith) more.0 (reads_front g.S.Source.ahead g.S.Source.faults g.S.Source.pulls c.refill.new.source c.refill.new.self c.skip.new.self count c.skip.ensures.rest c.skip.ensures.left),
       λ none. rw (c.skip.ensures.rest, none) (more.1 (omega (arith, ap length c.held-held.ensures))),
     )

@@ -9,7 +9,7 @@ invariant-loop-left g l = record {
   count : length bytes + l.left ≡ l.fn.len;
   kept : IsTrue l.text.kept → IsTrue l.fn.text.kept × (l.text.bytes.items ≡ l.fn.text.bytes.items ++ bytes);
   dropped : l.fn.text.kept ≡ false → (l.text.kept ≡ false) × (l.text.bytes.items ≡ l.fn.text.bytes.items);
-  reads : Reads (moment g.S.Source.ahead g.S.Source.faults g.S.Source.pulls l.fn.source l.fn.buffer) (moment g.S.Source.ahead g.S.Source.faults g.S.Source.pulls l.source l.buffer) bytes;
+  reads : Reads (moment g.S.Source.ahead g.S.Source.faults g.S.Source.pulls l.fn.source l.fn.buffer) (moment g.S.Source.ahead g.S.Source.faults g.S.Source.pulls l.source l.buffer) bytes (length bytes);
 }
 
 abbrev pub decreases-loop-left : goal.decreases-loop-left

@@ -4,7 +4,7 @@ use Rattle.std.specs.List.{fold}
 use Rattle.std.specs.BTreeSet.{insert_key}
 use Rattle.al_base.specs.Batch.{finding_of}
 use Rattle.al_base.specs.Files.{name_cmp}
-use Rattle.al_obsolete.specs.Orders.{names_seen}
+use Rattle.al_unit_graph.specs.Orders.{names_seen}
 use Rattle.al_thin.proofs.FindingLemmas.{names_more}
 use Rattle.al_thin.proofs.listing.files_of.Goals as goal
 

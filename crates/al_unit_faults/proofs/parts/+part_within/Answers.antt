@@ -13,9 +13,9 @@ returns fuel c =
     let lib = c.args.sources.now in
     let h = header_seen c.args.header.now in
     let m = mention_seen c.in-Some.parent in
-    let outer = header_seen c.in-Some-2.outer.now in
+    let outer = header_seen c.in-Some-unit_at.outer.now in
     let parent : h.parent_body ≡ Some m = ap (λ o. option_map mention_seen o) c.in-Some.is in
-    let at : unit_at lib (m.name, Sub) ≡ Some outer = grind (arith, c.in_ok-outer.ensures, c.in-Some-2.is, c.in-Some-2.outer-is, c.as_slice-name.ensures) in
+    let at : unit_at lib (m.name, Sub) ≡ Some outer = grind (arith, c.unit_at.ensures, c.in-Some-unit_at.is, c.in-Some-unit_at.outer-is, c.as_slice-name.ensures) in
     let less : c.args.count ≡ suc c.in-Some-checked_sub.rest = grind (arith, common_steps, c.in-Some-checked_sub.ensures, c.checked_sub.ensures, c.in-Some-checked_sub.is) in
     let same : part_within (suc c.args.count) lib h ≡ part_within (suc c.in-Some-checked_sub.rest) lib outer = one_subunit_out lib c.args.count h m outer parent at ∙ ap (λ n. part_within n lib outer) less in
     rw same c.part_within.ensures

@@ -1,14 +1,13 @@
 use Rattle.std.proofs.Common.{◌≡◌, ◌∙◌, ◌++◌, arith, take, ap, refl, sym}
 use Rattle.std.proofs.lemmas.List.{take_all}
 use Rattle.std.specs.List.{flat_map}
-use Rattle.al_scope.proofs.GroundLemmas.{stays-none}
 use Rattle.al_unit_place.specs.UnitPlaces.{lineages, withs_of}
-use Rattle.al_unit_place.proofs.PlaceLemmas.{append-none, names-more, stays-at, stays-both}
+use Rattle.al_unit_place.proofs.PlaceLemmas.{append-none, asks-at, asks-both, asks-none, names-more}
 use Rattle.al_unit_place.proofs.mentions.add_each_withs.Goals as goal
 
 pub loop-unit-init : goal.loop-unit-init
 loop-unit-init g c = record {
-  grounded = stays-none c.args.units.now c.args.recorder.now.log;
+  asks = asks-none c.args.units.now c.args.recorder.now.log;
   asked = refl;
   told = λ t h. (h, sym (append-none c.args.names.now.items));
 }
@@ -19,7 +18,7 @@ loop-unit-preserved g c =
     let unit = c.unit-item.result in
     record {
       asked = c.add_withs.ensures.asked ∙ i.asked;
-      grounded = stays-both c.args.units.now c.args.recorder.now.log c.loop-unit.recorder.log c.add_withs.new.recorder.log i.grounded (stays-at c.args.units.now c.loop-unit.unit-index unit c.loop-unit.recorder.log c.add_withs.new.recorder.log (omega arith) c.unit-item.is c.in_ok-add_withs.ensures.grounded);
+      asks = asks-both c.args.units.now c.args.recorder.now.log c.loop-unit.recorder.log c.add_withs.new.recorder.log i.asks (asks-at c.args.units.now c.loop-unit.unit-index unit c.loop-unit.recorder.log c.add_withs.new.recorder.log (omega arith) c.unit-item.is c.in_ok-add_withs.ensures.asks);
       told = λ t h. let told = c.in_ok-add_withs.ensures.told t h in
           let before = i.told t told.0 in
           (before.0, names-more (λ u. lineages (withs_of t u)) c.args.units.now c.loop-unit.unit-index unit c.args.names.now.items c.loop-unit.names.items c.add_withs.new.names.items (omega arith) c.unit-item.is before.1 told.1);

@@ -2,8 +2,8 @@ use Rattle.std.proofs.Common.{◌++◌, ◌∙◌, List, ℕ, ap}
 use Rattle.std.specs.List.{flat_map}
 use Rattle.al_base.specs.declared.unit_key.UnitKey.{UnitKey}
 use Rattle.al_unit_graph.specs.Names.{lineage}
-use Rattle.al_scope.proofs.GroundLemmas.{stays-of}
 use Rattle.al_unit_place.specs.UnitPlaces.{asked_units, lineages, withs_of}
+use Rattle.al_unit_place.proofs.PlaceLemmas.{asks-same}
 use Rattle.al_unit_place.proofs.mentions.mentioned.Goals as goal
 
 pub returns-clause-told : goal.returns-clause-told
@@ -15,5 +15,5 @@ returns-clause-told g c t h =
     let second = c.in_ok-add_lineages.ensures ∙ ap (λ (us : List UnitKey). c.add_lineage.new.names.items ++ lineages us) c.as_slice.ensures ∙ ap (λ (l : List (List ℕ)). l ++ lineages own.withs) first in
     (told.0, told.1 ∙ ap (λ (us : List UnitKey). c.add_lineages.new.names.items ++ flat_map (λ u. lineages (withs_of t u)) us) units ∙ ap (λ (l : List (List ℕ)). l ++ flat_map (λ u. lineages (withs_of t u)) (asked_units own)) second)
 
-pub returns-clause-grounded : goal.returns-clause-grounded
-returns-clause-grounded g c = stays-of c.as_slice-2.result.now (asked_units c.args.own.now) c.args.recorder.now.log c.add_each_withs.new.recorder.log (c.as_slice-2.ensures.value ∙ c.in_ok-units.ensures) c.in_ok-add_each_withs.ensures.grounded
+pub returns-clause-asks : goal.returns-clause-asks
+returns-clause-asks g c = asks-same c.as_slice-2.result.now (asked_units c.args.own.now) c.args.recorder.now.log c.add_each_withs.new.recorder.log (c.as_slice-2.ensures.value ∙ c.in_ok-units.ensures) c.in_ok-add_each_withs.ensures.asks

@@ -1,19 +1,30 @@
-use Rattle.std.proofs.Common.{◌∙◌, ap}
+use Rattle.std.proofs.Common.{[], ◌∷◌, ◌∙◌, ap}
 use Rattle.al_scope.specs.Places.{part_units}
-use Rattle.al_scope.proofs.GroundLemmas.{stays-of}
-use Rattle.al_unit_place.specs.UnitPlaces.{continued, declaration_parts}
-use Rattle.al_unit_place.proofs.PlaceLemmas.{stays-parts, stays-turned}
+use Rattle.al_unit_place.specs.UnitPlaces.{continued, declaration_parts, symbol_at}
+use Rattle.al_unit_place.proofs.PlaceLemmas.{asks-both, asks-parts, asks-same, asks-turned}
 use Rattle.al_unit_place.proofs.unit_place.enter_ancestor.Goals as goal
 
 pub returns-clause-told : goal.returns-clause-told
 returns-clause-told g c t h =
     let told = c.in_ok-continue_parts.ensures.told t h in
-    let sees = c.in_ok-sees_private.ensures.told t told.0 in
+    let symbol = c.in_ok-symbol.ensures.told t told.0 in
+    let sees = c.in_ok-sees_private.ensures.told t symbol.0 in
     let before = c.args.scope.now.regions in
-    (sees.0, told.1 ∙ ap (λ ps. continued t ps before) (c.as_slice.ensures ∙ c.in_ok-parts.ensures ∙ ap (declaration_parts c.args.unit.now) sees.1))
-
-pub returns-clause-grounded : goal.returns-clause-grounded
-returns-clause-grounded g c =
     let unit = c.args.unit.now in
-    let one = stays-of (part_units c.as_slice.result.now) (part_units (declaration_parts unit c.in_ok-sees_private.sees_private)) c.sees_private_part.new.recorder.log c.continue_parts.new.recorder.log (ap part_units (c.as_slice.ensures ∙ c.in_ok-parts.ensures)) c.in_ok-continue_parts.ensures.grounded in
-    stays-turned unit c.args.nearer.now c.args.recorder.now.log c.sees_private_part.new.recorder.log c.continue_parts.new.recorder.log c.in_ok-sees_private.ensures.grounded (stays-parts unit c.in_ok-sees_private.sees_private c.sees_private_part.new.recorder.log c.continue_parts.new.recorder.log one)
+    let parts = c.as_slice-parts.ensures ∙ c.in_ok-parts.ensures in (
+      sees.0,
+      told.1
+          ∙ ap (λ ps. continued t c.in_ok-symbol.symbol ps ps before) parts
+          ∙ ap (λ o. continued t o (declaration_parts unit c.in_ok-sees_private.sees_private) (declaration_parts unit c.in_ok-sees_private.sees_private) before) symbol.1
+          ∙ ap (λ b. continued t (symbol_at t unit) (declaration_parts unit b) (declaration_parts unit b) before) sees.1,
+    )
+
+pub returns-clause-asks : goal.returns-clause-asks
+returns-clause-asks g c =
+    let unit = c.args.unit.now in
+    let old = c.args.recorder.now.log in
+    let first = c.sees_private_part.new.recorder.log in
+    let second = c.symbol_from.new.recorder.log in
+    let new = c.continue_parts.new.recorder.log in
+    let parts = asks-parts unit c.in_ok-sees_private.sees_private second new (asks-same (part_units c.as_slice-parts.result.now) (part_units (declaration_parts unit c.in_ok-sees_private.sees_private)) second new (ap part_units (c.as_slice-parts.ensures ∙ c.in_ok-parts.ensures)) c.in_ok-continue_parts.ensures.asks) in
+    asks-turned unit c.args.nearer.now old first new c.in_ok-sees_private.ensures.asks (asks-both (unit ∷ []) first second new c.in_ok-symbol.ensures.asks parts)

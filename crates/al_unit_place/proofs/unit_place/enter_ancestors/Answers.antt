@@ -1,14 +1,13 @@
 use Rattle.std.proofs.Common.{◌≡◌, ◌∷◌, ◌∙◌, List, ap, arith, drop, refl, sym}
 use Rattle.std.proofs.lemmas.List.{at_drop_all}
 use Rattle.al_base.specs.declared.unit_key.UnitKey.{UnitKey}
-use Rattle.al_scope.proofs.GroundLemmas.{stays-none, stays-of}
 use Rattle.al_unit_place.specs.UnitPlaces.{inward}
-use Rattle.al_unit_place.proofs.PlaceLemmas.{front-of, inward-more, stays-both, stays-drop}
+use Rattle.al_unit_place.proofs.PlaceLemmas.{asks-both, asks-drop, asks-none, asks-same, first-of, inward-more}
 use Rattle.al_unit_place.proofs.unit_place.enter_ancestors.Goals as goal
 
 pub loop-i-init : goal.loop-i-init
 loop-i-init g c = record {
-  grounded = stays-none c.args.units.now c.args.recorder.now.log;
+  asks = asks-none c.args.units.now c.args.recorder.now.log;
   asked = refl;
   told = λ t h. (h, refl);
   mentioned = refl;
@@ -23,10 +22,10 @@ loop-i-preserved g c =
     let before = c.loop-i.recorder.log in
     let after = c.enter_ancestor.new.recorder.log in
     let rest = c.nearer_than-nearer.result.now in
-    let front : drop n units ≡ unit ∷ rest = front-of units n unit (omega arith) c.index-units-i.is ∙ ap (λ l. unit ∷ l) (sym c.nearer_than-nearer.ensures) in
+    let front : drop n units ≡ unit ∷ rest = first-of units n unit (omega arith) c.index-units-i.is ∙ ap (λ l. unit ∷ l) (sym c.nearer_than-nearer.ensures) in
     record {
       asked = c.enter_ancestor.ensures.asked ∙ i.asked;
-      grounded = stays-both units c.args.recorder.now.log before after i.grounded (stays-drop units n before after (stays-of (unit ∷ rest) (drop n units) before after (sym front) c.in_ok-enter_ancestor.ensures.grounded));
+      asks = asks-both units c.args.recorder.now.log before after i.asks (asks-drop units n before after (asks-same (unit ∷ rest) (drop n units) before after (sym front) c.in_ok-enter_ancestor.ensures.asks));
       told = λ t h. let told = c.in_ok-enter_ancestor.ensures.told t h in
           let so-far = i.told t told.0 in
           (so-far.0, ap (λ (l : List UnitKey). inward t c.args.sees l c.enter_ancestor.new.scope.regions) (sym c.nearer_than-nearer.ensures) ∙ inward-more t c.args.sees units n unit rest (inward t c.args.sees units c.args.scope.now.regions) c.loop-i.scope.regions c.enter_ancestor.new.scope.regions front so-far.1 told.1);

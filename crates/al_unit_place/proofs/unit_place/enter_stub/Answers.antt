@@ -1,19 +1,25 @@
-use Rattle.std.proofs.Common.{◌∙◌, ap}
-use Rattle.al_scope.specs.Places.{part_units}
-use Rattle.al_scope.specs.UseClauses.{package_unit}
-use Rattle.al_scope.proofs.GroundLemmas.{stays-of}
-use Rattle.al_unit_place.specs.UnitPlaces.{continued, is_body, stub_parts}
-use Rattle.al_unit_place.proofs.PlaceLemmas.{stays-stub}
+use Rattle.std.proofs.Common.{◌≡◌, [], ◌∷◌, ◌∙◌, ap, refl, sym}
+use Rattle.al_query.specs.Answers.{own_view_of}
+use Rattle.al_query.specs.Asked.{by_property}
+use Rattle.al_query.specs.declared.query.Query.TheVariants.{Of}
+use Rattle.al_query.specs.declared.query.Property.TheVariants.{Kind}
+use Rattle.al_query.proofs.AskLemmas.{asks_of-right}
+use Rattle.al_unit_place.specs.UnitPlaces.{at_stub, own_declaration, stub_units}
+use Rattle.al_unit_place.proofs.PlaceLemmas.{asks-both, asks-one}
 use Rattle.al_unit_place.proofs.unit_place.enter_stub.Goals as goal
 
 pub returns-clause-told : goal.returns-clause-told
 returns-clause-told g c t h =
-    let told = c.in_ok-continue_parts.ensures.told t h in
-    (told.0, told.1 ∙ ap (λ ps. continued t ps c.args.scope.now.regions) (c.as_slice.ensures ∙ c.in_ok-parts.ensures))
-
-pub returns-clause-grounded : goal.returns-clause-grounded
-returns-clause-grounded g c =
+    let told = c.in_ok-enter_at.ensures.told t h in
+    let first = c.in_ok-answer.ensures.told t told.0 in
     let stub = c.args.stub.now in
-    let before = c.args.recorder.now.log in
-    let after = c.continue_parts.new.recorder.log in
-    stays-stub (package_unit stub.unit.name) (is_body stub.unit) stub before after (stays-of (part_units c.as_slice.result.now) (part_units (stub_parts stub)) before after (ap part_units (c.as_slice.ensures ∙ c.in_ok-parts.ensures)) c.in_ok-continue_parts.ensures.grounded)
+    let asked : t (Of stub.unit Kind) ≡ c.in_ok-answer.answer = ap t (sym c.in_ok-query.ensures) ∙ first.1 in
+    (first.0, told.1 ∙ ap (λ v. at_stub t stub v c.args.scope.now.regions) (c.own_view.ensures ∙ ap own_view_of (sym asked)))
+
+pub returns-clause-asks : goal.returns-clause-asks
+returns-clause-asks g c =
+    let stub = c.args.stub.now in
+    let old = c.args.recorder.now.log in
+    let mid = c.ask.new.self.log in
+    let one = asks-one old mid c.in_ok-query.query stub.unit Kind c.in_ok-answer.answer refl c.in_ok-query.ensures c.in_ok-answer.ensures.log in
+    asks-both (stub_units stub) old mid c.enter_at.new.recorder.log (asks_of-right (own_declaration stub.unit) (stub.unit ∷ []) by_property old mid one) c.in_ok-enter_at.ensures.asks

@@ -1,9 +1,8 @@
 use Rattle.std.proofs.Common.{◌≡◌, ◌∙◌, arith, take, ap, sym}
 use Rattle.std.proofs.lemmas.List.{take_all}
 use Rattle.std.specs.List.{flat_map}
-use Rattle.al_scope.proofs.GroundLemmas.{stays-of, stays-then}
 use Rattle.al_unit_place.specs.UnitPlaces.{at_stubs, stub_units}
-use Rattle.al_unit_place.proofs.PlaceLemmas.{at_stubs-more, flat_map-more}
+use Rattle.al_unit_place.proofs.PlaceLemmas.{asks-same, asks-then, at_stubs-more, flat_map-more}
 use Rattle.al_unit_place.proofs.unit_place.enter_stubs.Goals as goal
 
 pub loop-stub-preserved : goal.loop-stub-preserved
@@ -14,7 +13,7 @@ loop-stub-preserved g c =
     let stub = c.stub-item.result in
     record {
       asked = c.enter_stub.ensures.asked ∙ i.asked;
-      grounded = stays-of _ _ c.args.recorder.now.log c.enter_stub.new.recorder.log (sym (flat_map-more stub_units stubs n stub (omega arith) c.stub-item.is)) (stays-then (flat_map stub_units (take n stubs)) (stub_units stub) c.args.recorder.now.log c.loop-stub.recorder.log c.enter_stub.new.recorder.log i.grounded c.in_ok-enter_stub.ensures.grounded);
+      asks = asks-same _ _ c.args.recorder.now.log c.enter_stub.new.recorder.log (sym (flat_map-more stub_units stubs n stub (omega arith) c.stub-item.is)) (asks-then (flat_map stub_units (take n stubs)) (stub_units stub) c.args.recorder.now.log c.loop-stub.recorder.log c.enter_stub.new.recorder.log i.asks c.in_ok-enter_stub.ensures.asks);
       told = λ t h. let told = c.in_ok-enter_stub.ensures.told t h in
           let before = i.told t told.0 in
           (before.0, at_stubs-more t stubs n stub c.args.scope.now.regions c.loop-stub.scope.regions c.enter_stub.new.scope.regions (omega arith) c.stub-item.is before.1 told.1);
@@ -27,7 +26,7 @@ returns-clause-told g c t h =
     let all : take c.loop-stub.stub-index c.args.stubs.now ≡ c.args.stubs.now = take_all c.loop-stub.stub-index c.args.stubs.now (omega arith) in
     (before.0, before.1 ∙ ap (λ l. at_stubs t l c.args.scope.now.regions) all)
 
-pub returns-clause-grounded : goal.returns-clause-grounded
-returns-clause-grounded g c =
+pub returns-clause-asks : goal.returns-clause-asks
+returns-clause-asks g c =
     let all : take c.loop-stub.stub-index c.args.stubs.now ≡ c.args.stubs.now = take_all c.loop-stub.stub-index c.args.stubs.now (omega arith) in
-    stays-of _ _ c.args.recorder.now.log c.loop-stub.recorder.log (ap (flat_map stub_units) all) c.loop-stub.invariant.grounded
+    asks-same _ _ c.args.recorder.now.log c.loop-stub.recorder.log (ap (flat_map stub_units) all) c.loop-stub.invariant.asks

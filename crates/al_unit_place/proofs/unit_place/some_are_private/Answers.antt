@@ -1,17 +1,15 @@
 use Rattle.std.proofs.Common.{◌≡◌, ◌||◌, true, false, ◌∙◌, [], ◌∷◌, arith, take, ap, refl, sym}
 use Rattle.std.proofs.lemmas.List.{take_all}
 use Rattle.al_query.specs.Answers.{is_private_of}
-use Rattle.al_query.specs.Queries.{unit_of}
 use Rattle.al_query.specs.declared.query.Query.TheVariants.{Of}
 use Rattle.al_query.specs.declared.query.Property.TheVariants.{IsPrivate}
-use Rattle.al_scope.proofs.GroundLemmas.{stays-ask, stays-none}
 use Rattle.al_unit_place.specs.UnitPlaces.{some_private}
-use Rattle.al_unit_place.proofs.PlaceLemmas.{none-more, some-at, stays-at, stays-both}
+use Rattle.al_unit_place.proofs.PlaceLemmas.{asks-at, asks-both, asks-none, asks-one, none-more, some-at}
 use Rattle.al_unit_place.proofs.unit_place.some_are_private.Goals as goal
 
 pub loop-unit-init : goal.loop-unit-init
 loop-unit-init g c = record {
-  grounded = stays-none c.args.units.now c.args.recorder.now.log;
+  asks = asks-none c.args.units.now c.args.recorder.now.log;
   asked = refl;
   told = λ t h. (h, refl);
 }
@@ -22,8 +20,8 @@ loop-unit-preserved g c =
     let unit = c.unit-item.result in
     record {
       asked = c.ask.ensures.asked ∙ i.asked;
-      grounded = let one = stays-ask c.loop-unit.recorder.log c.ask.new.self.log c.in_ok-query.query unit c.in_ok-answer.answer (ap unit_of c.in_ok-query.ensures) c.in_ok-answer.ensures.grounded in
-          stays-both c.args.units.now c.args.recorder.now.log c.loop-unit.recorder.log c.ask.new.self.log i.grounded (stays-at c.args.units.now c.loop-unit.unit-index unit c.loop-unit.recorder.log c.ask.new.self.log (omega arith) c.unit-item.is one);
+      asks = let one = asks-one c.loop-unit.recorder.log c.ask.new.self.log c.in_ok-query.query unit IsPrivate c.in_ok-answer.answer refl c.in_ok-query.ensures c.in_ok-answer.ensures.log in
+          asks-both c.args.units.now c.args.recorder.now.log c.loop-unit.recorder.log c.ask.new.self.log i.asks (asks-at c.args.units.now c.loop-unit.unit-index unit c.loop-unit.recorder.log c.ask.new.self.log (omega arith) c.unit-item.is one);
       told = λ t h. let told = c.in_ok-answer.ensures.told t h in
           let before = i.told t told.0 in
           let asked : t (Of unit IsPrivate) ≡ c.in_ok-answer.answer = ap t (sym c.in_ok-query.ensures) ∙ told.1 in
@@ -46,8 +44,8 @@ returns-clause-told g c t h =
     let all : take c.loop-unit.unit-index c.args.units.now ≡ c.args.units.now = take_all c.loop-unit.unit-index c.args.units.now (omega arith) in
     (before.0, sym (ap (some_private t) (sym all) ∙ before.1))
 
-pub returns-then-is_private-clause-grounded : goal.returns-then-is_private-clause-grounded
-returns-then-is_private-clause-grounded g c =
+pub returns-then-is_private-clause-asks : goal.returns-then-is_private-clause-asks
+returns-then-is_private-clause-asks g c =
     let unit = c.unit-item.result in
-    let one = stays-ask c.loop-unit.recorder.log c.ask.new.self.log c.in_ok-query.query unit c.in_ok-answer.answer (ap unit_of c.in_ok-query.ensures) c.in_ok-answer.ensures.grounded in
-    stays-both c.args.units.now c.args.recorder.now.log c.loop-unit.recorder.log c.ask.new.self.log c.loop-unit.invariant.grounded (stays-at c.args.units.now c.loop-unit.unit-index unit c.loop-unit.recorder.log c.ask.new.self.log (omega arith) c.unit-item.is one)
+    let one = asks-one c.loop-unit.recorder.log c.ask.new.self.log c.in_ok-query.query unit IsPrivate c.in_ok-answer.answer refl c.in_ok-query.ensures c.in_ok-answer.ensures.log in
+    asks-both c.args.units.now c.args.recorder.now.log c.loop-unit.recorder.log c.ask.new.self.log c.loop-unit.invariant.asks (asks-at c.args.units.now c.loop-unit.unit-index unit c.loop-unit.recorder.log c.ask.new.self.log (omega arith) c.unit-item.is one)

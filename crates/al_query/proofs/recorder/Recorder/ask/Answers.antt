@@ -1,6 +1,7 @@
 use Rattle.std.proofs.Common.{◌≡◌, Some, sym, ◌∙◌, is_ok}
 use Rattle.al_query.specs.Reads.{recorded}
-use Rattle.al_query.proofs.LogLemmas.{agrees-recorded, agrees-push_is, agrees-pushed_if, grounded-recorded, grounded-push_is}
+use Rattle.al_query.proofs.LogLemmas.{agrees-recorded, agrees-push_is, agrees-pushed_if}
+use Rattle.al_query.proofs.KnownLemmas.{learns-recorded, learns-push_is}
 use Rattle.al_query.proofs.recorder.Recorder.ask.Goals as goal
 
 pub returns-in-Some-clause-answer : goal.returns-in-Some-clause-answer
@@ -23,12 +24,12 @@ returns-clause-told g c =
     rw (← c.self.view_is)
     (λ t h. agrees-push_is t c.self.inside.log c.push.new.self c.in_ok-query.query c.args.query.now c.in_ok-answer-2.answer c.in_ok-kept.kept c.in_ok-push.ensures c.in_ok-query.ensures c.in_ok-kept.ensures h)
 
-pub returns-in-Some-clause-grounded : goal.returns-in-Some-clause-grounded
-returns-in-Some-clause-grounded g c =
+pub returns-in-Some-clause-learns : goal.returns-in-Some-clause-learns
+returns-in-Some-clause-learns g c =
     let found : recorded c.self.inside.log c.args.query.now ≡ Some c.in-Some.answer.now = sym c.in-Some.ensures in
-    rw (← c.self.view_is) (grounded-recorded c.self.inside.log c.args.query.now c.in_ok-answer.answer c.in-Some.answer.now found c.in_ok-answer.ensures)
+    rw (← c.self.view_is) (learns-recorded c.self.inside.log c.args.query.now c.in_ok-answer.answer c.in-Some.answer.now found c.in_ok-answer.ensures)
 
-pub returns-clause-grounded : goal.returns-clause-grounded
-returns-clause-grounded g c =
+pub returns-clause-learns : goal.returns-clause-learns
+returns-clause-learns g c =
     rw (← c.self.view_is)
-    (grounded-push_is c.self.inside.log c.push.new.self c.in_ok-query.query c.args.query.now c.in_ok-answer-2.answer c.in_ok-kept.kept c.in_ok-push.ensures c.in_ok-query.ensures c.in_ok-kept.ensures)
+    (learns-push_is c.self.inside.log c.push.new.self c.in_ok-query.query c.args.query.now c.in_ok-answer-2.answer c.in_ok-kept.kept c.in_ok-push.ensures c.in_ok-query.ensures c.in_ok-kept.ensures)

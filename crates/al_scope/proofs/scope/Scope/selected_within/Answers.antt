@@ -1,13 +1,13 @@
-use Rattle.std.proofs.Common.{◌≡◌, ◌∙◌, List, Option, Some, None, ap, subst, sym}
-use Rattle.std.specs.Option.{option_map}
+use Rattle.std.proofs.Common.{◌≡◌, ◌∙◌, [], List, Option, Some, None, ap, subst, sym}
+use Rattle.std.specs.Option.{option_map, option_map_or}
 use Rattle.al_view.specs.declared.view.ViewKind.{ViewKind}
 use Rattle.al_scope.specs.declared.hiding.Found.{Found}
 use Rattle.al_scope.specs.declared.region.Region.{Region}
-use Rattle.al_scope.specs.Expanded.{IsSelected, region_of, within}
-use Rattle.al_scope.specs.Places.{Place, region_units}
+use Rattle.al_scope.specs.Expanded.{IsSelected, region_of, within, within_parts}
+use Rattle.al_scope.specs.Places.{Place}
 use Rattle.al_scope.specs.Visible.{found_in}
-use Rattle.al_scope.proofs.ExpandedLemmas.{stays-found, within-selects}
-use Rattle.al_scope.proofs.GroundLemmas.{stays-of}
+use Rattle.al_scope.proofs.ExpandedLemmas.{within-selects}
+use Rattle.al_scope.proofs.PartLemmas.{parts-of, parts-units}
 use Rattle.al_scope.proofs.scope.Scope.selected_within.Goals as goal
 
 pub returns-in_ok-found-in-Some-clause-told : goal.returns-in_ok-found-in-Some-clause-told
@@ -22,11 +22,13 @@ returns-in_ok-found-in-Some-clause-told g c t h =
           ∙ ap (λ (p : Place). within t p.mentioned name s p.regions) c.self.view_is,
     )
 
-pub returns-in_ok-found-in-Some-clause-grounded : goal.returns-in_ok-found-in-Some-clause-grounded
-returns-in_ok-found-in-Some-clause-grounded g c =
-    let there = c.in-Some.ensures ∙ ap (region_of c.args.construct.now) c.as_slice.ensures.value in
-    let asked = stays-found c.args.construct.now c.self.inside.regions.items c.in-Some.region.now c.args.recorder.now.log c.find.new.recorder.log (sym there) c.in_ok-found-in-Some.ensures.grounded in
-    stays-of (region_units c.self.inside.regions.items) (region_units c.args.self.now.regions) c.args.recorder.now.log c.find.new.recorder.log (ap (λ (p : Place). region_units p.regions) c.self.view_is) asked
+pub returns-in_ok-found-in-Some-clause-asks : goal.returns-in_ok-found-in-Some-clause-asks
+returns-in_ok-found-in-Some-clause-asks g c =
+    let s = c.args.construct.now in
+    let there = c.in-Some.ensures ∙ ap (region_of s) c.as_slice.ensures.value in
+    let parts = ap (λ o. option_map_or (λ (r : Region). r.parts) o []) there ∙ ap (within_parts s) c.self.view_is in
+    parts-units (within_parts s c.args.self.now) c.args.name.now c.args.recorder.now.log c.find.new.recorder.log
+    (parts-of c.in-Some.region.now.parts (within_parts s c.args.self.now) c.args.name.now c.args.recorder.now.log c.find.new.recorder.log parts c.in_ok-found-in-Some.ensures.asks)
 
 pub returns-in_ok-found-in-Some-clause-selected : goal.returns-in_ok-found-in-Some-clause-selected
 returns-in_ok-found-in-Some-clause-selected g c t h =

@@ -1,8 +1,8 @@
 use Rattle.std.proofs.Common.{subst}
-use Rattle.al_scope.specs.UseClauses.{EachOnce, Uses, package_units}
+use Rattle.al_scope.specs.UseClauses.{EachOnce, Uses}
 use Rattle.al_scope.proofs.UseLemmas.{sorted_uses}
-use Rattle.al_scope.specs.Places.{visible_part}
-use Rattle.al_scope.proofs.GroundLemmas.{stays-of, stays-then}
+use Rattle.al_scope.specs.Places.{use_parts, visible_part}
+use Rattle.al_scope.proofs.PartLemmas.{parts-of, parts-then}
 use Rattle.std.proofs.Common.{◌≡◌, ℕ, List, [], ◌∷◌, ◌∙◌, ◌++◌, ap, sym}
 use Rattle.al_scope.specs.declared.uses.PackageUse.{PackageUse}
 use Rattle.al_scope.specs.UseClauses.{uses_of}
@@ -19,14 +19,14 @@ loop-package_name-preserved g c =
     let name = c.args.name.now in
     record {
       asked = c.ask_used.ensures.asked ∙ i.asked;
-      grounded = let done = i.grounded.0 in
-          let rest = package_units (uses_of c.next.new.self) in
-          let unit = (visible_part c.in-Some.package_name.now.items).unit in
-          let same : (visible_part c.as_slice.result.now).unit ∷ [] ≡ unit ∷ [] = ap (λ (k : List ℕ). (visible_part k).unit ∷ []) c.as_slice.ensures.value in
-          let one = stays-of ((visible_part c.as_slice.result.now).unit ∷ []) (unit ∷ []) c.loop-package_name.recorder.log c.ask_used.new.recorder.log same c.in_ok-opened.ensures.grounded in (
-            done ++ unit ∷ [],
-            append-assoc done (unit ∷ []) rest ∙ ap (λ es. done ++ package_units (uses_of es)) (sym steps) ∙ i.grounded.1,
-            stays-then done (unit ∷ []) c.args.recorder.now.log c.loop-package_name.recorder.log c.ask_used.new.recorder.log i.grounded.2 one,
+      asks = let done = i.asks.0 in
+          let rest = use_parts (uses_of c.next.new.self) in
+          let part = visible_part c.in-Some.package_name.now.items in
+          let same : visible_part c.as_slice.result.now ∷ [] ≡ part ∷ [] = ap (λ (k : List ℕ). visible_part k ∷ []) c.as_slice.ensures.value in
+          let one = parts-of (visible_part c.as_slice.result.now ∷ []) (part ∷ []) name c.loop-package_name.recorder.log c.ask_used.new.recorder.log same c.in_ok-opened.ensures.asks in (
+            done ++ part ∷ [],
+            append-assoc done (part ∷ []) rest ∙ ap (λ es. done ++ use_parts (uses_of es)) (sym steps) ∙ i.asks.1,
+            parts-then done (part ∷ []) name c.args.recorder.now.log c.loop-package_name.recorder.log c.ask_used.new.recorder.log i.asks.2 one,
           );
       told = λ t h. let told = c.in_ok-opened.ensures.told t h in
           let before = i.told t told.0 in
@@ -45,11 +45,11 @@ returns-clause-told g c t h =
     let views = c.loop-package_name.views in
     (told.0, sym (append-none views) ∙ ap (λ es. views ++ potential t c.args.mentioned.now c.args.name.now (uses_of es)) (sym c.in-None.ensures.steps.0) ∙ told.1)
 
-pub returns-clause-grounded : goal.returns-clause-grounded
-returns-clause-grounded g c =
-    let done = c.loop-package_name.invariant.grounded in
-    let all = sym (append-none done.0) ∙ ap (λ es. done.0 ++ package_units (uses_of es)) (sym c.in-None.ensures.steps.0) ∙ done.1 in
-    stays-of done.0 (package_units c.args.self.now) c.args.recorder.now.log c.loop-package_name.recorder.log all done.2
+pub returns-clause-asks : goal.returns-clause-asks
+returns-clause-asks g c =
+    let done = c.loop-package_name.invariant.asks in
+    let all = sym (append-none done.0) ∙ ap (λ es. done.0 ++ use_parts (uses_of es)) (sym c.in-None.ensures.steps.0) ∙ done.1 in
+    parts-of done.0 (use_parts c.args.self.now) c.args.name.now c.args.recorder.now.log c.loop-package_name.recorder.log all done.2
 
 pub returns-clause-each : goal.returns-clause-each
 returns-clause-each g c = subst (λ (us : Uses). EachOnce us) c.self.view_is (sorted_uses c.self.inside.by_package.entries c.iter-package_name-items.ensures.ordered)

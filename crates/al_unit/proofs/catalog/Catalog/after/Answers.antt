@@ -2,7 +2,9 @@ use Rattle.std.proofs.Common.{map, sym, ap, ◌∙◌, add-one}
 use Rattle.std.proofs.lemmas.List.{take_all}
 use Rattle.std.specs.BTreeMap.{insert_entry}
 use Rattle.al_base.specs.FileLaws.{Ascend}
-use Rattle.al_base.specs.Files.{name_cmp}
+use Rattle.std.specs.List.{AllByRecursion}
+use Rattle.al_base.specs.Files.{IsFile, name_cmp}
+use Rattle.al_base.proofs.HeldFiles.{short_name, held_at}
 use Rattle.al_unit.specs.Catalogs.{source_of, texts_of}
 use Rattle.al_unit.specs.Readings.{reading_of}
 use Rattle.al_unit.specs.ReadingSeen.{readings_seen}
@@ -31,3 +33,8 @@ returns c =
     ∙ texts_of-library_of _
     ∙ ap (map (λ f. (f.0.now, f.1.now.value.items))) (take_all c.loop-name.name-index c.deref-name-items.result.now c.loop-name-test.false ∙ c.deref-name-items.ensures.value)
     ∙ c.in_ok-list.ensures.list
+
+pub add_file-requires : goal.add_file-requires
+add_file-requires c =
+    let files : AllByRecursion IsFile (map (λ f. (f.0.now, f.1.now.value.items)) c.deref-name-items.result.now) = rw (c.deref-name-items.ensures.value, c.in_ok-list.ensures.list) c.in_ok-list.ensures.files.each in
+    short_name c.loop-name-item.result.0.now (held_at (λ f. (f.0.now, f.1.now.value.items)) c.deref-name-items.result.now c.loop-name.name-index c.loop-name-item.result files c.loop-name-test.true c.loop-name-item.is).0

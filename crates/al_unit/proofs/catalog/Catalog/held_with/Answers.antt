@@ -16,8 +16,8 @@ returns c =
     record {
       source =
           subst (λ t. source ≡ source_of t) same
-          (source_of_its_text c.self.inside.sources c.args.file.now c.self.invariant.is_library source c.in_ok-source.ensures);
+          (source_of_its_text c.self.inside.sources c.args.file.now c.self.invariant.is_library source c.in_ok-source.ensures.source);
       reading =
           subst (λ t. reading_seen c.in_ok-reading.reading.now.value ≡ reading_of t) same
-          (reading_of_source (λ r. reading_seen r.now.value) c.self.inside.sources (readings_seen c.self.inside.readings.entries) c.args.file.now c.self.invariant.is_library c.self.invariant.are_readings source c.in_ok-source.ensures (Some c.in_ok-reading.reading) c.in_ok-reading.ensures);
+          (reading_of_source (λ r. reading_seen r.now.value) c.self.inside.sources (readings_seen c.self.inside.readings.entries) c.args.file.now c.self.invariant.is_library c.self.invariant.are_readings source c.in_ok-source.ensures.source (Some c.in_ok-reading.reading) c.in_ok-reading.ensures);
     }

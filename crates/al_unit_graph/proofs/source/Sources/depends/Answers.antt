@@ -1,5 +1,8 @@
 use Rattle.std.proofs.Common.{◌≡◌, map, subst, ◌∙◌, ap, ◌↔◌}
-use Rattle.std.specs.List.{Contains}
+use Rattle.std.specs.List.{Contains, filter}
+use Rattle.al_unit_graph.specs.Library.{is_unit}
+use Rattle.al_unit_graph.specs.Orders.{in_order}
+use Rattle.al_unit_graph.proofs.ListedLemmas.{listed_units}
 use Rattle.al_base.specs.Batch.{Key, key_of}
 use Rattle.al_unit_graph.specs.Dependence.{direct}
 use Rattle.al_graph.specs.Closing.{Reached}
@@ -15,4 +18,4 @@ returns c =
     let keys = map key_of c.in_ok-keys.keys.items in
     let first : map key_of c.as_slice.result.now ≡ direct lib key = ap (λ ks. map key_of ks) c.as_slice.ensures.value ∙ c.in_ok-first.ensures in
     let reached = subst (λ ks. (y : Key) → Contains keys y ↔ Reached (next lib Dependence) ks y) first c.in_ok-keys.ensures in
-    λ y. ((λ m. (depends_reached lib key y).0 ((reached y).0 m)), (λ d. (reached y).1 ((depends_reached lib key y).1 d)))
+    listed_units lib (map key_of c.in_ok-units.units.items) keys _ (λ y. ((λ m. (depends_reached lib key y).0 ((reached y).0 m)), (λ d. (reached y).1 ((depends_reached lib key y).1 d)))) (c.in_ok-units.ensures ∙ ap (λ ks. in_order (filter (is_unit lib) (map key_of ks))) c.as_slice-2.ensures.value)

@@ -1,5 +1,8 @@
 use Rattle.std.proofs.Common.{◌≡◌, ◌++◌, map, subst, ◌∙◌, ap, ◌↔◌}
-use Rattle.std.specs.List.{Contains}
+use Rattle.std.specs.List.{Contains, filter}
+use Rattle.al_unit_graph.specs.Library.{is_unit}
+use Rattle.al_unit_graph.specs.Orders.{in_order}
+use Rattle.al_unit_graph.proofs.ListedLemmas.{listed_units}
 use Rattle.al_base.specs.Batch.{Key, key_of}
 use Rattle.al_unit_graph.specs.Dependence.{listed}
 use Rattle.al_unit_graph.specs.Library.{declaration_of}
@@ -17,4 +20,4 @@ returns c =
     let first : map key_of c.as_slice.result.now ≡ listed (declaration_of lib main) =
     ap (λ ks. map key_of ks) c.as_slice.ensures.value ∙ c.in_ok-add_declaration.ensures ∙ ap (λ ks. map key_of ks ++ listed (declaration_of lib main)) c.new-first.ensures.items in
     let reached = subst (λ ks. (y : Key) → Contains keys y ↔ Reached (next lib Need) ks y) first c.in_ok-keys.ensures in
-    λ y. ((λ m. (needed_reached lib main y).0 ((reached y).0 m)), (λ d. (reached y).1 ((needed_reached lib main y).1 d)))
+    listed_units lib (map key_of c.in_ok-units.units.items) keys _ (λ y. ((λ m. (needed_reached lib main y).0 ((reached y).0 m)), (λ d. (reached y).1 ((needed_reached lib main y).1 d)))) (c.in_ok-units.ensures ∙ ap (λ ks. in_order (filter (is_unit lib) (map key_of ks))) c.as_slice-2.ensures.value)

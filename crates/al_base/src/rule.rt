@@ -1,0 +1,217 @@
+// The rules that a diagnostic can say are broken.
+ghost use Rattle.std.specs.Prelude.{◌≡◌, ◌≢◌, IfNone, IfSome};
+ghost use Rattle.al_base.specs.Rules.{message_of, number_of, rule_of};
+ghost use Rattle.al_base.specs.declared.rule.Rule.{Rule};
+
+/// The rules that a diagnostic can say are broken, by their numbers.
+#[derive(Clone, Copy, PartialEq, Eq)]
+pub enum Rule {
+    /// No lexeme begins there.
+    IllegalCharacter,
+    /// Two underscores together, or one at the end.
+    BadIdentifier,
+    /// A malformed number.
+    BadNumber,
+    /// A number above 2**63 - 1.
+    NumberTooLarge,
+    /// A string that isn't ended on its line, or has a byte that isn't printable.
+    BadString,
+    /// An identifier of more than 200 bytes.
+    IdentifierTooLong,
+    /// The text is no compilation unit.
+    Syntax,
+    /// The unit belongs in another file.
+    FileName,
+    /// A unit that is named, a parent body or a declaration that a package body completes is not there.
+    MissingUnit,
+    /// The unit depends on itself (ARM 10.1.1(26)).
+    DependenceCycle,
+    /// A private child is mentioned where it may not be (ARM 10.1.2(8)).
+    PrivateChild,
+    /// The parent has no declaration, or is no package (ARM 10.1.1(10)).
+    MissingParent,
+    /// The parent body has no stub for the subunit (ARM 10.1.3(8)).
+    NoStub,
+    /// The unit's name is the implementation's (ARM A.2(4)).
+    ReservedUnit,
+    /// The unit depends on one that isn't sound or has a diagnostic.
+    DependsOnFaults,
+    /// The declaration needs no body, or is of another kind (ARM 7.2(4)).
+    BodyDoesNotFit,
+    /// A homograph in the same region (ARM 8.3(26)).
+    Duplicate,
+    /// A declaration is not completed (ARM 3.11.1(6)).
+    MissingCompletion,
+    /// A completion does not conform (ARM 6.3.1).
+    NotConformant,
+    /// A static expression is wanted (ARM 4.9).
+    NotStatic,
+    /// A priority, a bound or a size is beyond its limits.
+    OutOfLimits,
+    /// A stub, a dotted name or a mode that may not stand there.
+    NotAllowedHere,
+    /// A pragma that is unknown, misplaced or has a wrong argument.
+    BadPragma,
+    /// A name at an end differs from the name that it ends.
+    EndName,
+    /// A constant without a value.
+    NoValue,
+    /// No declaration of an identifier is visible (ARM 8.3).
+    NotVisible,
+    /// No interpretation is acceptable (ARM 8.6).
+    NoInterpretation,
+    /// More than one interpretation is acceptable (ARM 8.6(30)).
+    Ambiguous,
+    /// The name denotes another kind of thing than is wanted.
+    WrongKind,
+    /// A static expression has no value (ARM 4.9(34)).
+    StaticFailure,
+    /// The name is no variable (ARM 5.2, 6.4.1(5)).
+    NotAVariable,
+    /// A return statement with a value missing or not wanted, or outside a body (ARM 6.5).
+    BadReturn,
+    /// An exit statement with no such loop around it (ARM 5.7).
+    BadExit,
+    /// The choices of a case statement do not fit (ARM 5.4).
+    BadChoices,
+    /// A function without a return statement (ARM 6.5(4)).
+    NoReturn,
+    /// A task or a protected object below library level.
+    NotLibraryLevel,
+    /// A protected object with two entries.
+    SecondEntry,
+    /// A barrier that is no Boolean component.
+    BadBarrier,
+    /// An operation that is called from its own object's bodies.
+    OwnOperation,
+    /// A unit that isn't compiled yet.
+    NotYet,
+}
+
+/// Each of them, by their numbers.
+const RULES: [Rule; 40] = [
+    Rule::IllegalCharacter,
+    Rule::BadIdentifier,
+    Rule::BadNumber,
+    Rule::NumberTooLarge,
+    Rule::BadString,
+    Rule::IdentifierTooLong,
+    Rule::Syntax,
+    Rule::FileName,
+    Rule::MissingUnit,
+    Rule::DependenceCycle,
+    Rule::PrivateChild,
+    Rule::MissingParent,
+    Rule::NoStub,
+    Rule::ReservedUnit,
+    Rule::DependsOnFaults,
+    Rule::BodyDoesNotFit,
+    Rule::Duplicate,
+    Rule::MissingCompletion,
+    Rule::NotConformant,
+    Rule::NotStatic,
+    Rule::OutOfLimits,
+    Rule::NotAllowedHere,
+    Rule::BadPragma,
+    Rule::EndName,
+    Rule::NoValue,
+    Rule::NotVisible,
+    Rule::NoInterpretation,
+    Rule::Ambiguous,
+    Rule::WrongKind,
+    Rule::StaticFailure,
+    Rule::NotAVariable,
+    Rule::BadReturn,
+    Rule::BadExit,
+    Rule::BadChoices,
+    Rule::NoReturn,
+    Rule::NotLibraryLevel,
+    Rule::SecondEntry,
+    Rule::BadBarrier,
+    Rule::OwnOperation,
+    Rule::NotYet,
+];
+
+const NUMBERS: [u16; 40] = [
+    1, 2, 3, 4, 5, 6, 101, 201, 202, 203, 204, 205, 206, 207, 208, 209, 301, 302, 303, 304, 305,
+    306, 307, 308, 309, 401, 402, 403, 404, 405, 406, 501, 502, 503, 504, 601, 602, 603, 604, 700,
+];
+
+const MESSAGES: [&[u8]; 40] = [
+    b"E001 illegal character",
+    b"E002 bad identifier",
+    b"E003 bad number",
+    b"E004 number too large",
+    b"E005 bad string",
+    b"E006 identifier too long",
+    b"E101 syntax",
+    b"E201 file name",
+    b"E202 missing unit",
+    b"E203 dependence cycle",
+    b"E204 private child",
+    b"E205 missing parent",
+    b"E206 no stub",
+    b"E207 reserved unit",
+    b"E208 depends on faults",
+    b"E209 body does not fit",
+    b"E301 duplicate",
+    b"E302 missing completion",
+    b"E303 not conformant",
+    b"E304 not static",
+    b"E305 out of limits",
+    b"E306 not allowed here",
+    b"E307 bad pragma",
+    b"E308 end name",
+    b"E309 no value",
+    b"E401 not visible",
+    b"E402 no interpretation",
+    b"E403 ambiguous",
+    b"E404 wrong kind",
+    b"E405 static failure",
+    b"E406 not a variable",
+    b"E501 bad return",
+    b"E502 bad exit",
+    b"E503 bad choices",
+    b"E504 no return",
+    b"E601 not library level",
+    b"E602 second entry",
+    b"E603 bad barrier",
+    b"E604 own operation",
+    b"E700 not yet",
+];
+
+impl Rule {
+    /// The number by which a diagnostic tells it.
+    #[tactic(auto, unfolding(crate::specs::Rules::number_of))]
+    pub fn number(self) -> u16
+        ensures { result ≡ number_of self }
+    {
+        NUMBERS[self as usize]
+    }
+
+    /// The letter E, the number in three digits, and what is wrong in a few words.
+    #[tactic(auto, unfolding(crate::specs::Rules::message_of))]
+    pub fn message(self) -> &'static [u8]
+        ensures { result.now ≡ message_of self }
+    {
+        MESSAGES[self as usize]
+    }
+
+    /// The rule of a number.
+    pub fn of(number: u16) -> Option<Rule>
+        ensures value { result ≡ rule_of number }
+        ensures found { IfSome result (λ rule. number_of rule ≡ number) }
+        ensures none { IfNone result ((rule : Rule) → number_of rule ≢ number) }
+    {
+        found(number)
+    }
+}
+
+/// The first rule of this number.
+#[tactic(auto, unfolding(crate::specs::Rules::all_rules, crate::specs::Rules::rule_of))]
+fn found(number: u16) -> Option<Rule>
+    ensures value { result ≡ rule_of number }
+    ensures found { IfSome result (λ rule. number_of rule ≡ number) }
+{
+    RULES.iter().copied().find(|rule| rule.number() == number)
+}

@@ -1,0 +1,3 @@
+pub mod Elaboration
+pub mod Missing
+pub mod Faults

@@ -1,0 +1,22 @@
+// Laws of the elaboration graph, as contracts of functions without code.
+ghost use Rattle.std.specs.Prelude.{◌≡◌, ◌≢◌, ℕ, IsTrue, List, Some};
+ghost use Rattle.std.specs.List.{Contains};
+ghost use Rattle.al_base.specs.Batch.{Key};
+ghost use Rattle.al_base.specs.declared.unit_key.UnitKind.TheVariants.{Decl, Body};
+ghost use Rattle.al_order.specs.declared.tie.Reason.{Reason};
+ghost use Rattle.al_order.specs.declared.tie.Reason.TheVariants.{ElaborateAll};
+ghost use Rattle.al_unit_graph.specs.Headers.{Header, Library};
+ghost use Rattle.al_unit_graph.specs.Library.{unit_at};
+ghost use Rattle.al_unit_graph.specs.Needed.{Needed};
+ghost use Rattle.al_bind.specs.Elaboration.{Carries, IsItem, is_pair, node_of};
+
+/// The two parts of a pair under Elaborate_Body are one node, and no edge is between them: so nothing is elaborated between them.
+pub fn pair_is_one_node()
+    ensures one { (lib : Library) (name : List ℕ) → IsTrue (is_pair lib name) → node_of lib (name, Body) ≡ node_of lib (name, Decl) }
+    ensures no_edge { (lib : Library) (main name : List ℕ) (reason : Reason) → IsTrue (is_pair lib name) → Carries lib main reason (name, Body) (name, Decl) → ⊥ }
+{}
+
+/// An item whose unit names Q in Elaborate_All comes after every needed item that Q's declaration needs, of another node.
+pub fn all_needed_come_before()
+    ensures { (lib : Library) (main q : List ℕ) (x y : Key) (h : Header) → IsItem lib main x → IsItem lib main y → unit_at lib x ≡ Some h → Contains h.elaborate_all q → Needed lib q y → node_of lib x ≢ node_of lib y → Carries lib main ElaborateAll x y }
+{}

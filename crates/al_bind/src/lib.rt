@@ -1,0 +1,8 @@
+//! The binder: what a partition lacks, and which library item is elaborated after which.
+#![tactic(auto)]
+
+mod lacking;
+pub mod laws;
+mod missing;
+
+pub use lacking::{Lack, first_lack};

@@ -1,0 +1,178 @@
+// Bodies and subunits that aren't there.
+ghost use Rattle.std.specs.Prelude.{◌≡◌, ℕ, List, map, None, IfOk, MatchOption};
+ghost use Rattle.std.specs.Option.{option_map};
+ghost use Rattle.std.specs.List.{flat_map};
+ghost use Rattle.al_base.specs.Batch.{key_of};
+ghost use Rattle.al_bind.specs.Missing.{is_main, lacks_body, least_of, lesser, missing_bodies, missing_stub, missing_stubs, IsLeastName, LacksBody, LacksSubunit};
+
+use al_base::{Name, NoMemory, UnitKey, UnitKind};
+use al_unit_graph::Sources;
+use std::alloc::Global;
+use std::cmp::Ordering;
+
+// Whether the unit of this name is a procedure without parameters.
+pub(crate) fn is_main(sources: &Sources, main: &[u8]) -> bool
+    ensures { result ≡ is_main sources.now main.now }
+{
+    match sources.declaration_of(main) {
+        None => false,
+        Some(kind) => match sources.unit_at(main, kind) {
+            None => false,
+            Some(header) => header.is_parameterless_procedure,
+        },
+    }
+}
+
+// Whether it is a declaration that a body completes, and whose body isn't there.
+fn lacks_body(sources: &Sources, key: &UnitKey) -> bool
+    ensures { result ≡ lacks_body sources.now (key_of key.now) }
+{
+    if !matches!(key.kind, UnitKind::Decl) {
+        return false;
+    }
+    match sources.unit(key) {
+        None => false,
+        Some(header) => {
+            header.needs_body
+                && sources
+                    .unit_at(key.name.as_slice(), UnitKind::Body)
+                    .is_none()
+        }
+    }
+}
+
+// The lesser of two names.
+fn lesser(found: Option<Name>, name: Name) -> Option<Name>
+    ensures { result ≡ lesser found name }
+{
+    match found {
+        None => Some(name),
+        Some(found) => match found.cmp(&name) {
+            Ordering::Greater => Some(name),
+            Ordering::Less | Ordering::Equal => Some(found),
+        },
+    }
+}
+
+// The lesser of the name that was found and of that of a declaration that lacks its body.
+fn with_body(
+    alloc: Global,
+    sources: &Sources,
+    key: &UnitKey,
+    found: Option<Name>,
+) -> Result<Option<Name>, NoMemory>
+    ensures { IfOk result (λ least. least ≡ least_of found (missing_bodies sources.now (key_of key.now))) }
+{
+    if lacks_body(sources, key) {
+        let name = Name::from_slice(alloc, key.name.as_slice())?;
+        Ok(lesser(found, name))
+    } else {
+        Ok(found)
+    }
+}
+
+// The least name of a declaration that lacks its body.
+fn least_body(alloc: Global, sources: &Sources, keys: &[UnitKey]) -> Result<Option<Name>, NoMemory>
+    ensures { IfOk result (λ least. least ≡ least_of None (flat_map (missing_bodies sources.now) (map key_of keys.now))) }
+{
+    let mut found = None;
+    for key in keys {
+        found = with_body(alloc, sources, key, found)?;
+    }
+    Ok(found)
+}
+
+// The lesser of the name that was found and of that of a stub's subunit, where it isn't there.
+fn with_stub(
+    alloc: Global,
+    sources: &Sources,
+    name: &[u8],
+    stub: &Name,
+    found: Option<Name>,
+) -> Result<Option<Name>, NoMemory>
+    ensures { IfOk result (λ least. least ≡ least_of found (missing_stub sources.now name.now stub.now)) }
+{
+    let mut full = Vec::from_slice(alloc, name)?;
+    full.push(b'.')?;
+    full.extend_from_slice(stub.as_slice())?;
+    if sources.unit_at(full.as_slice(), UnitKind::Sub).is_some() {
+        Ok(found)
+    } else {
+        Ok(lesser(found, Name::new(full)))
+    }
+}
+
+// The least of the name that was found and of those of a body's subunits that aren't there.
+fn with_stubs(
+    alloc: Global,
+    sources: &Sources,
+    name: &[u8],
+    stubs: &[Name],
+    found: Option<Name>,
+) -> Result<Option<Name>, NoMemory>
+    ensures { IfOk result (λ least. least ≡ least_of found (flat_map (missing_stub sources.now name.now) stubs.now)) }
+{
+    let mut least = found;
+    for stub in stubs {
+        least = with_stub(alloc, sources, name, stub, least)?;
+    }
+    Ok(least)
+}
+
+// The same of a unit.
+fn with_subunits(
+    alloc: Global,
+    sources: &Sources,
+    key: &UnitKey,
+    found: Option<Name>,
+) -> Result<Option<Name>, NoMemory>
+    ensures { IfOk result (λ least. least ≡ least_of found (missing_stubs sources.now (key_of key.now))) }
+{
+    match sources.unit(key) {
+        None => Ok(found),
+        Some(header) => with_stubs(
+            alloc,
+            sources,
+            key.name.as_slice(),
+            header.stubs.as_slice(),
+            found,
+        ),
+    }
+}
+
+// The least name of a subunit that isn't there.
+fn least_subunit(
+    alloc: Global,
+    sources: &Sources,
+    keys: &[UnitKey],
+) -> Result<Option<Name>, NoMemory>
+    ensures { IfOk result (λ least. least ≡ least_of None (flat_map (missing_stubs sources.now) (map key_of keys.now))) }
+{
+    let mut found = None;
+    for key in keys {
+        found = with_subunits(alloc, sources, key, found)?;
+    }
+    Ok(found)
+}
+
+/// The least name of a needed declaration that lacks its body.
+pub fn missing_body(alloc: Global, sources: &Sources, main: &[u8]) -> Result<Option<Name>, NoMemory>
+    ensures { IfOk result (λ found. MatchOption found ((name : List ℕ) → LacksBody sources.now main.now name → ⊥) (IsLeastName (LacksBody sources.now main.now))) }
+{
+    let keys = sources.needed(main)?;
+    let least = least_body(alloc, sources, &keys)?;
+    Ok(least)
+}
+
+/// The least name of a subunit of a needed unit's stub that isn't there.
+pub fn missing_subunit(
+    alloc: Global,
+    sources: &Sources,
+    main: &[u8],
+) -> Result<Option<Name>, NoMemory>
+    ensures { IfOk result (λ found. MatchOption found ((name : List ℕ) → LacksSubunit sources.now main.now name → ⊥) (IsLeastName (LacksSubunit sources.now main.now))) }
+{
+    let keys = sources.needed(main)?;
+    let least = least_subunit(alloc, sources, &keys)?;
+    Ok(least)
+}

@@ -1,0 +1,5 @@
+pub mod Fitting
+pub mod Labelling
+pub mod Counts
+pub mod Resolution
+pub mod Ranges

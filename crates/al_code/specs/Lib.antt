@@ -1,0 +1,6 @@
+pub mod Declarations
+pub mod Images
+pub mod Loops
+pub mod ObjectOf
+pub mod Routines
+pub mod Statements

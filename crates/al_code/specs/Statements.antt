@@ -1,0 +1,94 @@
+-- The code of statements (ARM 5, 6.5, 9.6).
+use Rattle.std.specs.Prelude.{ℕ, Bool, true, false, List, [], ◌∷◌, ◌++◌, Option, Some, None}
+use Rattle.std.specs.List.{flat_map}
+use Rattle.al_view.specs.declared.types.Bounds.{Bounds}
+use Rattle.al_instr.specs.declared.numbers.Plain.TheVariants as plain
+use Rattle.al_instr.specs.declared.numbers.Sized.TheVariants as sized
+use Rattle.al_typed.specs.ExpressionTrees.{NameTree, ValueTree}
+use Rattle.al_typed.specs.StatementTrees.{StatementTree, StatementsTree, StatementFormTree, BranchTree, BranchesTree, AlternativeTree, AlternativesTree}
+use Rattle.al_typed.specs.StatementTrees.StatementTree.{Numbered}
+use Rattle.al_typed.specs.StatementTrees.StatementsTree.{NoStatement, MoreStatements}
+use Rattle.al_typed.specs.StatementTrees.StatementFormTree.{NullStatement, AssignmentStatement, CallStatement, PutStatement, ReturnStatement, ExitStatement, DelayStatement, IfStatement, CaseStatement, LoopStatement, BlockStatement}
+use Rattle.al_typed.specs.StatementTrees.BranchTree.{Branch}
+use Rattle.al_typed.specs.StatementTrees.BranchesTree.{NoBranch, MoreBranches}
+use Rattle.al_typed.specs.StatementTrees.AlternativeTree.{Alternative}
+use Rattle.al_typed.specs.StatementTrees.AlternativesTree.{NoAlternative, MoreAlternatives}
+use Rattle.al_output.specs.declared.piece.When.TheVariants as when
+use Rattle.al_output.specs.declared.piece.Target.TheVariants as target
+use Rattle.al_output.specs.declared.piece.Construct.TheVariants as construct
+use Rattle.al_output.specs.Pieces.{Piece, closed}
+use Rattle.al_output.specs.Pieces.Piece.{Leaving}
+use Rattle.al_code_expr.specs.Pieces.{guarded, join, load_slot, number, of_size, one, store_slot}
+use Rattle.al_code_expr.specs.Templates.{address_of, call_code, checked_code, value_of}
+use Rattle.al_code.specs.declared.routine.Routine.{Routine}
+use Rattle.al_code.specs.Declarations.{declarations_code}
+use Rattle.al_code.specs.Images.{put_code}
+use Rattle.al_code.specs.Loops.{leave_code, round_code}
+
+abbrev pub assignment_code : ℕ → NameTree → ℕ → ValueTree → List Piece
+assignment_code depth target words value = checked_code depth value ++ address_of depth target ++ of_size sized.Store words
+
+-- a function of a protected object leaves that before it returns
+abbrev pub unlocked_code : Bool → List Piece
+unlocked_code true = one plain.Leave
+unlocked_code false = []
+
+-- to the end of the statements, or with the value of a function
+abbrev pub return_code : Routine → Option ValueTree → ℕ → List Piece
+return_code r None words = Leaving when.Always target.Routine ∷ []
+return_code r (Some value) words = checked_code r.depth value ++ unlocked_code r.unlocks ++ of_size sized.Return words
+
+-- whether the value that is kept lies within a choice's bounds
+unfoldable pub choice_code : ℕ → Bounds → List Piece
+choice_code word b = load_slot word ++ number b.low ++ one plain.AtLeast ++ load_slot word ++ number b.high ++ one plain.AtMost ++ one plain.And
+
+-- or within those of one more
+unfoldable pub other_choice_code : ℕ → Bounds → List Piece
+other_choice_code word b = choice_code word b ++ one plain.Or
+
+abbrev pub choices_code : ℕ → List Bounds → List Piece
+choices_code word [] = []
+choices_code word (b ∷ bs) = choice_code word b ++ flat_map (other_choice_code word) bs
+
+-- the statements of `others`, where there are any
+abbrev pub others_code : StatementsTree → List Piece → List Piece
+others_code NoStatement p = []
+others_code (MoreStatements s ss) p = p ++ join
+
+abbrev mutual
+  pub statement_code : Routine → StatementTree → List Piece
+  statement_code r (Numbered line form) = statement_form_code r form
+
+  pub statements_code : Routine → StatementsTree → List Piece
+  statements_code r NoStatement = []
+  statements_code r (MoreStatements s ss) = statement_code r s ++ statements_code r ss
+
+  pub statement_form_code : Routine → StatementFormTree → List Piece
+  statement_form_code r NullStatement = []
+  statement_form_code r (AssignmentStatement target words value) = assignment_code r.depth target words value
+  statement_form_code r (CallStatement call) = call_code r.depth call
+  statement_form_code r (PutStatement pieces ends_line) = put_code r.depth pieces ends_line
+  statement_form_code r (ReturnStatement value words) = return_code r value words
+  statement_form_code r (ExitStatement loops condition) = leave_code r.depth loops condition
+  statement_form_code r (DelayStatement moment) = value_of r.depth moment ++ one plain.Sleep
+  statement_form_code r (IfStatement branches otherwise) = closed construct.Choice (branches_code r branches ++ statements_code r otherwise)
+  statement_form_code r (CaseStatement selector word alternatives otherwise) =
+      value_of r.depth selector ++ store_slot word
+      ++ closed construct.Choice (alternatives_code r word alternatives ++ others_code otherwise (statements_code r otherwise) ++ of_size sized.Raise 1)
+  statement_form_code r (LoopStatement scheme statements) = closed construct.Loop (round_code r.depth scheme (statements_code r statements))
+  statement_form_code r (BlockStatement declarations statements) = declarations_code r.depth declarations ++ statements_code r statements
+
+  -- V JumpZ N S Jump E N:
+  pub branch_code : Routine → BranchTree → List Piece
+  branch_code r (Branch line condition statements) = value_of r.depth condition ++ guarded (statements_code r statements ++ join)
+
+  pub branches_code : Routine → BranchesTree → List Piece
+  branches_code r NoBranch = []
+  branches_code r (MoreBranches b bs) = branch_code r b ++ branches_code r bs
+
+  pub alternative_code : Routine → ℕ → AlternativeTree → List Piece
+  alternative_code r word (Alternative choices statements) = choices_code word choices ++ guarded (statements_code r statements ++ join)
+
+  pub alternatives_code : Routine → ℕ → AlternativesTree → List Piece
+  alternatives_code r word NoAlternative = []
+  alternatives_code r word (MoreAlternatives a as_) = alternative_code r word a ++ alternatives_code r word as_

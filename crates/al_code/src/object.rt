@@ -1,0 +1,173 @@
+// The object of a labelled unit.
+ghost use Rattle.std.specs.Prelude.{◌≡◌, ◌≤◌, [], ◌++◌, IfOk, OnOk, map, option_map};
+ghost use Rattle.std.specs.List.{flat_map};
+ghost use Rattle.std.specs.Option.{option_map_or};
+ghost use Rattle.al_view.specs.ViewUses.{link};
+ghost use Rattle.al_typed.specs.DeclarationTrees.{declaration_seen, form_seen};
+ghost use Rattle.al_typed.specs.UnitTrees.{body_seen, elaboration_seen, unit_seen};
+ghost use Rattle.al_typed.specs.WellFormed.{IsWellFormed};
+ghost use Rattle.al_output.specs.Written.{written};
+ghost use Rattle.al_code.specs.ObjectOf.{data_addresses, is_task, object_of, place_address, protected_addresses, region_of, tasks_in, tasks_of};
+ghost use Rattle.al_code.specs.Routines.{body_code, elaboration_code, unit_code};
+
+use crate::bodies::{put_body, put_elaboration};
+use crate::images::word_of;
+use al_base::NoMemory;
+use al_object::{Address, Compiled, Object, Region};
+use al_output::Output;
+use al_typed::{
+    DataPlace, DeclarationForm, Elaboration, ProtectedWords, TypedBody, TypedDeclaration, TypedUnit,
+};
+use al_view::{LinkKind, LinkSymbol, Symbol};
+use std::alloc::Global;
+
+/// The object of a unit that is free of faults: its code, where symbols are used and stand in it, its words, its tasks and its
+/// protected objects; large where its code is longer than that of any image.
+pub fn emit(alloc: Global, unit: &TypedUnit) -> Result<Object, NoMemory>
+    requires { IsWellFormed (unit_seen unit.now) }
+    ensures { IfOk result (λ object. object ≡ object_of (unit_seen unit.now)) }
+{
+    let mut out = Output::new(alloc);
+    put_unit(&mut out, unit)?;
+    let Some(written) = out.finish() else {
+        return Ok(Object::Large);
+    };
+    let mut defines = written.defines;
+    add_data(alloc, &mut defines, unit)?;
+    let regions = regions_of(alloc, unit.protected_objects.as_slice())?;
+    let tasks = word_of(task_count(&unit.elaboration));
+    Ok(Object::Compiled(Compiled::new(
+        written.code,
+        written.uses,
+        defines,
+        unit.words,
+        tasks,
+        regions,
+    )))
+}
+
+/// The elaboration of a unit, and its bodies.
+#[tactic(auto, using(al_output::proofs::Writing::written_append), unfolding(al_typed::specs::UnitTrees::unit_seen, crate::specs::Routines::unit_code))]
+fn put_unit(out: &mut Output, unit: &TypedUnit) -> Result<(), NoMemory>
+    ensures { OnOk result (out.new ≡ written out.old (unit_code (unit_seen unit.now))) }
+{
+    put_first(out, &unit.elaboration)?;
+    put_bodies(out, &unit.bodies)
+}
+
+#[tactic(auto, using(al_output::proofs::Writing::written_nothing))]
+fn put_first(out: &mut Output, elaboration: &Option<Elaboration>) -> Result<(), NoMemory>
+    ensures { OnOk result (out.new ≡ written out.old (option_map_or elaboration_code (option_map elaboration_seen elaboration.now) [])) }
+{
+    match elaboration {
+        None => Ok(()),
+        Some(elaboration) => put_elaboration(out, elaboration),
+    }
+}
+
+fn put_bodies(out: &mut Output, bodies: &[TypedBody]) -> Result<(), NoMemory>
+    ensures { OnOk result (out.new ≡ written out.old (flat_map body_code (map body_seen bodies.now))) }
+{
+    for body in bodies {
+        put_body(out, body)?;
+    }
+    Ok(())
+}
+
+/// Where a symbol stands.
+fn address(alloc: Global, kind: LinkKind, symbol: &Symbol, offset: u32) -> Result<Address, NoMemory>
+    ensures { IfOk result (λ address. address ≡ record { symbol = link kind symbol.now; offset = offset }) }
+{
+    let symbol = symbol.copy(alloc)?;
+    let symbol = LinkSymbol { symbol, kind };
+    Ok(Address { symbol, offset })
+}
+
+/// What stands among the unit's words too.
+#[tactic(auto, unfolding(al_typed::specs::UnitTrees::unit_seen))]
+fn add_data(alloc: Global, defines: &mut Vec<Address>, unit: &TypedUnit) -> Result<(), NoMemory>
+    ensures { OnOk result (defines.new.items ≡ defines.old.items ++ data_addresses (unit_seen unit.now)) }
+{
+    add_places(alloc, defines, LinkKind::Data, unit.objects.as_slice())?;
+    add_places(alloc, defines, LinkKind::Flag, unit.flags.as_slice())?;
+    add_protected(alloc, defines, unit.protected_objects.as_slice())
+}
+
+/// Objects, or flags.
+fn add_places(
+    alloc: Global,
+    defines: &mut Vec<Address>,
+    kind: LinkKind,
+    places: &[DataPlace],
+) -> Result<(), NoMemory>
+    ensures { OnOk result (defines.new.items ≡ defines.old.items ++ map (place_address kind) places.now) }
+{
+    for place in places {
+        defines.push(address(alloc, kind, &place.symbol, place.word)?)?;
+    }
+    Ok(())
+}
+
+/// Protected objects, by their words and by their numbers.
+fn add_protected(
+    alloc: Global,
+    defines: &mut Vec<Address>,
+    objects: &[ProtectedWords],
+) -> Result<(), NoMemory>
+    ensures { OnOk result (defines.new.items ≡ defines.old.items ++ protected_addresses 0 objects.now) }
+{
+    let mut number = 0;
+    for object in objects {
+        defines.push(address(alloc, LinkKind::Data, &object.symbol, object.word)?)?;
+        let place = word_of(number);
+        defines.push(address(alloc, LinkKind::Protected, &object.symbol, place)?)?;
+        number += 1;
+    }
+    Ok(())
+}
+
+/// The words of the unit's protected objects.
+fn regions_of(alloc: Global, objects: &[ProtectedWords]) -> Result<Vec<Region>, NoMemory>
+    ensures { IfOk result (λ regions. regions.items ≡ map region_of objects.now) }
+{
+    let mut regions = Vec::new(alloc);
+    for object in objects {
+        regions.push(Region {
+            word: object.word,
+            words: object.words,
+            ceiling: object.ceiling,
+        })?;
+    }
+    Ok(regions)
+}
+
+/// How many tasks an elaboration creates.
+#[tactic(auto, unfolding(al_typed::specs::UnitTrees::elaboration_seen))]
+fn task_count(elaboration: &Option<Elaboration>) -> usize
+    ensures { result ≡ tasks_of (option_map elaboration_seen elaboration.now) }
+{
+    match elaboration {
+        None => 0,
+        Some(elaboration) => tasks_in(&elaboration.declarations),
+    }
+}
+
+fn tasks_in(declarations: &[TypedDeclaration]) -> usize
+    ensures { result ≡ tasks_in (map declaration_seen declarations.now) }
+{
+    let mut count = 0;
+    for declaration in declarations {
+        count += of_task(&declaration.form);
+    }
+    count
+}
+
+fn of_task(form: &DeclarationForm) -> usize
+    ensures value { result ≡ is_task (form_seen form.now) }
+    ensures few { result ≤ 1 }
+{
+    match form {
+        DeclarationForm::Task { .. } => 1,
+        _ => 0,
+    }
+}

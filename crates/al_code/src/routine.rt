@@ -1,0 +1,32 @@
+// What statements must know of their body.
+ghost use Rattle.std.specs.Prelude.{◌≡◌};
+ghost use Rattle.al_code.specs.Routines.{unlocking, within};
+
+/// The body that statements stand in: its depth of nesting, and whether a return of it leaves a protected object.
+#[derive(Clone, Copy, Debug, PartialEq, Eq)]
+pub struct Routine {
+    pub depth: u32,
+    pub unlocks: bool,
+}
+
+impl Routine {
+    /// A body of this depth whose returns leave no protected object.
+    pub fn within(depth: u32) -> Routine
+        ensures { result ≡ within depth }
+    {
+        Routine {
+            depth,
+            unlocks: false,
+        }
+    }
+
+    /// A function of a protected object, of this depth.
+    pub fn unlocking(depth: u32) -> Routine
+        ensures { result ≡ unlocking depth }
+    {
+        Routine {
+            depth,
+            unlocks: true,
+        }
+    }
+}

@@ -1,0 +1,5 @@
+pub mod NumberLemmas
+pub mod Fields
+pub mod NameFields
+pub mod RoundTrip
+pub mod Fitting

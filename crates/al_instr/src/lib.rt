@@ -1,0 +1,16 @@
+//! The machine's instructions and their bytes.
+#![tactic(auto)]
+
+mod fault;
+mod instruction;
+mod numbers;
+mod reading;
+#[cfg(test)]
+mod tests;
+mod text;
+
+pub use fault::DecodeFault;
+pub use instruction::Instr;
+pub use numbers::{Plain, Protected, Sized};
+pub use reading::decode;
+pub use text::{Text, Word, Words};

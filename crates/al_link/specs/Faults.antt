@@ -1,0 +1,11 @@
+-- Why there is no image.
+use Rattle.al_link.specs.declared.bases.Bases.{Bases}
+use Rattle.al_partition.specs.declared.fault.LinkFault.{LinkFault}
+use Rattle.al_partition.specs.declared.fault.LinkFault.TheVariants as faults
+use Rattle.al_link.specs.Bases.{AreSmall}
+
+-- a sum passes a limit, or memory was wanted
+abbrev pub IsPassing : Bases → LinkFault → Type 0
+IsPassing sums faults.TooLarge = AreSmall sums → ⊥
+IsPassing sums faults.Damaged = ⊥
+IsPassing sums faults.NoMemory = Unit {0}

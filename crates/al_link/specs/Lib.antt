@@ -1,0 +1,7 @@
+pub mod Symbols
+pub mod Bases
+pub mod Units
+pub mod Linking
+pub mod Images
+pub mod LinkedParts
+pub mod Faults

@@ -1,0 +1,124 @@
+// The image of units.
+ghost use Rattle.std.specs.Prelude.{◌≡◌, ◌+◌, ◌≤◌, ◌++◌, length, map, sum_by, IfOk, IfErr, OnOk};
+ghost use Rattle.std.specs.List.{All, flat_map};
+ghost use Rattle.al_partition.specs.Images.{IsObject, IsRegion, IsUnitName};
+ghost use Rattle.al_link.specs.Bases.{AreSmall, next_bases};
+ghost use Rattle.al_link.specs.Images.{IsLinkFault, image_of, object_of, region_at, regions_of};
+ghost use Rattle.al_link.specs.Units.{AreWithin, located_seen, unit_seen};
+
+use crate::patch::link_code;
+use crate::places::Places;
+use crate::start::start_bytes;
+use crate::units::{LinkUnit, Located, first_bases, locate};
+use al_base::{Name, NoMemory};
+use al_object::Region as CompiledRegion;
+use al_partition::{Image, ImageObject, ImageParts, LinkFault, MAX_OBJECTS, Region};
+use al_view::LinkSymbol;
+use std::alloc::Global;
+
+// Where the code of a unit begins.
+fn object_of(alloc: Global, unit: &Located<'_>) -> Result<ImageObject, NoMemory>
+    requires name { IsUnitName unit.now.key.now.name }
+    requires place { AreSmall (next_bases unit.now.before unit.now.object.now) }
+    ensures value { IfOk result (λ object. object ≡ object_of (located_seen unit.now)) }
+    ensures fit { IfOk result (λ object. IsObject object) }
+{
+    let name = Name::from_slice(alloc, unit.key.name.as_slice())?;
+    Ok(ImageObject {
+        kind: unit.key.kind,
+        name,
+        place: unit.before.code,
+    })
+}
+
+// Where the code of each unit begins.
+fn objects_of(alloc: Global, units: &[Located<'_>]) -> Result<Vec<ImageObject>, NoMemory>
+    requires names { All (λ l. IsUnitName l.key.now.name) units.now }
+    requires places { All (λ l. AreSmall (next_bases l.before l.object.now)) units.now }
+    ensures value { IfOk result (λ objects. objects.items ≡ map object_of (map located_seen units.now)) }
+    ensures fit { IfOk result (λ objects. All IsObject objects.items) }
+{
+    let mut objects = Vec::new(alloc);
+    for unit in units {
+        let object = object_of(alloc, unit)?;
+        objects.push(object)?;
+    }
+    Ok(objects)
+}
+
+// The words of a protected object, which are among so many.
+fn region_at(base: u32, region: CompiledRegion, total: u32) -> Region
+    requires { base + region.word + region.words ≤ total }
+    ensures value { result ≡ region_at base region }
+    ensures fit { IsRegion total result }
+{
+    Region {
+        address: base + region.word,
+        words: region.words,
+        ceiling: region.ceiling.level() as u32,
+    }
+}
+
+// The words of a unit's protected objects, which are among so many.
+fn push_regions(regions: &mut Vec<Region>, unit: &Located<'_>, total: u32) -> Result<(), NoMemory>
+    requires words { unit.now.before.words + unit.now.object.now.data_words ≤ total }
+    requires fit { All (IsRegion total) regions.old.items }
+    ensures value { OnOk result (regions.new.items ≡ regions.old.items ++ regions_of (located_seen unit.now)) }
+    ensures fit { OnOk result (All (IsRegion total) regions.new.items) }
+{
+    unit.object.keeps();
+    for one in unit.object.protected() {
+        let region = region_at(unit.before.words, *one, total);
+        regions.push(region)?;
+    }
+    Ok(())
+}
+
+// The words of all protected objects, which are among so many.
+fn regions_of(alloc: Global, units: &[Located<'_>], total: u32) -> Result<Vec<Region>, NoMemory>
+    requires { All (λ l. l.before.words + l.object.now.data_words ≤ total) units.now }
+    ensures value { IfOk result (λ regions. regions.items ≡ flat_map regions_of (map located_seen units.now)) }
+    ensures fit { IfOk result (λ regions. All (IsRegion total) regions.items) }
+    ensures count { IfOk result (λ regions. length regions.items ≡ sum_by (λ l. length l.object.now.protected) units.now) }
+{
+    let mut regions = Vec::new(alloc);
+    for unit in units {
+        push_regions(&mut regions, unit, total)?;
+    }
+    Ok(regions)
+}
+
+/// The image of units with their objects, in their order: the starting code, which elaborates the items and calls the main
+/// subprogram, and the objects' code, in which each symbol is the sum of what stands before its object and its own offset.
+///
+/// # Errors
+///
+/// `TooLarge` where a limit of images is passed, and only there.
+pub fn image_of(
+    alloc: Global,
+    main: &LinkSymbol,
+    units: &[LinkUnit<'_>],
+) -> Result<Image, LinkFault>
+    requires { All (λ u. IsUnitName u.key.now.name) units.now }
+    ensures image { IfOk result (λ image. image ≡ image_of main.now (map unit_seen units.now)) }
+    ensures within { OnOk result (AreWithin (map unit_seen units.now)) }
+    ensures fault { IfErr result (λ fault. IsLinkFault (map unit_seen units.now) fault) }
+{
+    if units.len() > MAX_OBJECTS as usize {
+        return Err(LinkFault::TooLarge);
+    }
+    let first = first_bases(units);
+    let (located, totals) = locate(alloc, first, units)?;
+    let places = Places::of(alloc, &located)?;
+    let start = start_bytes(alloc, &located, places.place_of(main))?;
+    let code = link_code(start, &located, &places)?;
+    let protected = regions_of(alloc, &located, totals.words)?;
+    let objects = objects_of(alloc, &located)?;
+    Ok(Image::new(ImageParts {
+        tasks: totals.tasks,
+        data_words: totals.words,
+        protected,
+        objects,
+        code,
+    }))
+}

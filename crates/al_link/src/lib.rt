@@ -1,0 +1,16 @@
+//! The linker: the image of a partition, with the objects of its units one after the other and the places of their symbols filled
+//! in.
+#![tactic(auto)]
+
+mod bases;
+mod image;
+mod laws;
+mod patch;
+mod places;
+mod start;
+mod units;
+
+pub use al_partition::{Image, LinkFault};
+pub use image::image_of;
+pub use laws::links_parts;
+pub use units::LinkUnit;

@@ -1,0 +1,94 @@
+// What the linker takes.
+ghost use Rattle.std.specs.Prelude.{◌≡◌, ◌+◌, ◌≤◌, length, map, sum_by, IfOk, IfErr};
+ghost use Rattle.std.specs.List.{All};
+ghost use Rattle.al_link.specs.Bases.{AreSmall, next_bases};
+ghost use Rattle.al_link.specs.Units.{bases_after, located, located_seen, unit_seen};
+ghost use Rattle.al_partition.specs.Images.{IsUnitName};
+ghost use Rattle.al_link.specs.Units as sums;
+ghost use Rattle.al_link.specs.Faults.{IsPassing};
+
+use crate::bases::{Bases, next_bases};
+use al_base::{UnitKey, UnitKind};
+use al_object::Compiled;
+use al_partition::LinkFault;
+use std::alloc::Global;
+
+/// A unit with its object.
+#[derive(Clone, Copy)]
+pub struct LinkUnit<'a> {
+    pub key: &'a UnitKey,
+    pub object: &'a Compiled,
+}
+
+// A unit, and what stands before its object.
+#[derive(Clone, Copy)]
+pub(crate) struct Located<'a> {
+    pub(crate) key: &'a UnitKey,
+    pub(crate) object: &'a Compiled,
+    pub(crate) before: Bases,
+}
+
+// Whether the starting code elaborates it.
+pub(crate) fn is_item(kind: UnitKind) -> bool
+    ensures { result ≡ sums.is_item kind }
+{
+    match kind {
+        UnitKind::Decl | UnitKind::Body => true,
+        UnitKind::Sub => false,
+    }
+}
+
+// What stands before the first object: the starting code.
+pub(crate) fn first_bases(units: &[LinkUnit<'_>]) -> Bases
+    requires { length units.now ≤ 65535 }
+    ensures value { result ≡ sums.first_bases (map unit_seen units.now) }
+    ensures small { AreSmall result }
+{
+    let mut size = 12;
+    for unit in units {
+        if is_item(unit.key.kind) {
+            size += 10;
+        }
+    }
+    Bases {
+        code: size,
+        words: 0,
+        objects: 0,
+        tasks: 0,
+    }
+}
+
+// The units with what stands before each of them, and what stands after all.
+pub(crate) fn locate<'a>(
+    alloc: Global,
+    first: Bases,
+    units: &[LinkUnit<'a>],
+) -> Result<(Vec<Located<'a>>, Bases), LinkFault>
+    requires small { AreSmall first }
+    requires names { All (λ u. IsUnitName u.key.now.name) units.now }
+    ensures located { IfOk result (λ x. map located_seen x.0.items ≡ located first (map unit_seen units.now)) }
+    ensures after { IfOk result (λ x. x.1 ≡ bases_after first (map unit_seen units.now)) }
+    ensures small { IfOk result (λ x. AreSmall x.1) }
+    ensures each { IfOk result (λ x. All (λ l. AreSmall (next_bases l.before l.object.now)) x.0.items) }
+    ensures names { IfOk result (λ x. All (λ l. IsUnitName l.key.now.name) x.0.items) }
+    ensures words { IfOk result (λ x. All (λ l. l.before.words + l.object.now.data_words ≤ x.1.words) x.0.items) }
+    ensures code { IfOk result (λ x. first.code + sum_by (λ l. length l.object.now.code) x.0.items ≡ x.1.code) }
+    ensures objects { IfOk result (λ x. first.objects + sum_by (λ l. length l.object.now.protected) x.0.items ≡ x.1.objects) }
+    ensures count { IfOk result (λ x. length x.0.items ≡ length units.now) }
+    ensures fault { IfErr result (λ fault. IsPassing (bases_after first (map unit_seen units.now)) fault) }
+{
+    let mut list = Vec::new(alloc);
+    let mut before = first;
+    for unit in units {
+        let Some(next) = next_bases(before, unit.object) else {
+            return Err(LinkFault::TooLarge);
+        };
+        list.push(Located {
+            key: unit.key,
+            object: unit.object,
+            before,
+        })?;
+        before = next;
+    }
+    Ok((list, before))
+}

@@ -1,0 +1,6 @@
+pub mod WordLemmas
+pub mod FrameLemmas
+pub mod MemoryLemmas
+pub mod MoveLemmas
+pub mod PowerLemmas
+pub mod CodeLemmas

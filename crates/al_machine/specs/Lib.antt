@@ -1,0 +1,10 @@
+pub mod Words
+pub mod Arithmetic
+pub mod Machine
+pub mod Stack
+pub mod Memory
+pub mod Frames
+pub mod Table
+pub mod Operations
+pub mod Output
+pub mod Code

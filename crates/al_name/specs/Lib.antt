@@ -1,0 +1,3 @@
+pub mod Types
+pub mod Candidates
+pub mod Heads

@@ -1,0 +1,6 @@
+pub mod Defines
+pub mod Equations
+pub mod Excluded
+pub mod ReadsLaw
+pub mod Results
+pub mod Tables

@@ -1,0 +1,9 @@
+//! What the check of a unit gives, what the unit answers to others then, and the laws of whoever checks units one by one.
+#![tactic(auto)]
+
+mod checked;
+mod interface;
+pub mod laws;
+
+pub use checked::Checked;
+pub use interface::{Parts, Properties, StubDeclarations, UnitInterface, no_answer};

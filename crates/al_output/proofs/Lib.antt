@@ -1,0 +1,5 @@
+pub mod Beyond
+pub mod Closing
+pub mod Jumps
+pub mod Keeping
+pub mod Writing

@@ -1,0 +1,51 @@
+// The one interpretation of a complete context, or what is wrong with it (ARM 8.6(29 to 31)).
+ghost use Rattle.std.specs.Prelude.{◌≡◌, IfOk};
+ghost use Rattle.al_choice.specs.Counts.{label_of, plain};
+ghost use Rattle.al_judged.specs.Judging.{seen_by};
+ghost use Rattle.al_overload.specs.Meanings.{nothing_fits, resolved, several_fit};
+
+use al_base::{NoMemory, Place, Rule};
+use al_choice::{Expression, Interpretation, Labelled, Wanted, interpret};
+use al_judged::{Fault, Judged};
+use std::alloc::Global;
+
+fn nothing_fits(place: Place) -> Fault
+    ensures { result ≡ nothing_fits place }
+{
+    Fault {
+        place,
+        code: Rule::NoInterpretation.number(),
+    }
+}
+
+fn several_fit(place: Place) -> Fault
+    ensures { result ≡ several_fit place }
+{
+    Fault {
+        place,
+        code: Rule::Ambiguous.number(),
+    }
+}
+
+/// What the expression of a complete context means, whose first token stands here, where this is wanted. It has E401 or E404
+/// where a name of its text denotes nothing, or no thing of the right kind, which is told as `missing`; E402 where no
+/// interpretation is acceptable; E403 where several are.
+#[tactic(auto, using(crate::proofs::MeaningLemmas::meaning_none, crate::proofs::MeaningLemmas::meaning_one, crate::proofs::MeaningLemmas::meaning_several))]
+pub fn resolve(
+    alloc: Global,
+    place: Place,
+    missing: Option<Fault>,
+    expression: &Expression,
+    wanted: &Wanted,
+) -> Result<Judged<Labelled>, NoMemory>
+    ensures { IfOk result (λ judged. seen_by label_of judged ≡ resolved place missing (plain expression.now) wanted.now) }
+{
+    if let Some(fault) = missing {
+        return Ok(Err(fault));
+    }
+    match interpret(alloc, expression, wanted)? {
+        Interpretation::Nothing => Ok(Err(nothing_fits(place))),
+        Interpretation::One(labelled) => Ok(Ok(labelled)),
+        Interpretation::Several => Ok(Err(several_fit(place))),
+    }
+}

@@ -1,0 +1,4 @@
+pub mod CodeLemmas
+pub mod Readers
+pub mod ObjectReaders
+pub mod ReadLemmas

@@ -1,0 +1,5 @@
+pub mod Images
+pub mod Parts
+pub mod Reading
+pub mod Views
+pub mod Faults

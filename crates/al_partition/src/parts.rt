@@ -1,0 +1,28 @@
+// What an image is made of.
+use al_base::{Name, UnitKind};
+
+/// The words of a protected object among the data words, and its ceiling.
+#[derive(Clone, Copy)]
+pub struct Region {
+    pub address: u32,
+    pub words: u32,
+    pub ceiling: u32,
+}
+
+/// The unit of an object, and where its code begins, in bytes from the front of the code.
+#[derive(Drop)]
+pub struct ImageObject {
+    pub kind: UnitKind,
+    pub name: Name,
+    pub place: u32,
+}
+
+/// The parts of an image, which may not yet be within its limits; the code by its bytes.
+#[derive(Drop)]
+pub struct ImageParts {
+    pub tasks: u32,
+    pub data_words: u32,
+    pub protected: Vec<Region>,
+    pub objects: Vec<ImageObject>,
+    pub code: Vec<u8>,
+}

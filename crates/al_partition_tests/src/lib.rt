@@ -1,0 +1,5 @@
+//! Tests of images, and nothing else.
+#![tactic(auto)]
+
+#[cfg(test)]
+mod tests;

@@ -1,0 +1,27 @@
+use Rattle.std.proofs.Common.{◌≡◌, ◌<◌, ◌+◌, ◌-◌, length, arith, sym, ◌∙◌, ap}
+use Rattle.al_scope.specs.declared.hiding.Found.{Found}
+use Rattle.al_scope.specs.declared.region.Region.{Region}
+use Rattle.al_scope.specs.Places.{Place, inner_parts}
+use Rattle.al_scope.specs.Visible.{found_in, here}
+use Rattle.al_scope.proofs.PartLemmas.{parts-of, parts-units}
+use Rattle.al_scope.proofs.PlaceLemmas.{here-is, inner_parts-is}
+use Rattle.al_scope.proofs.scope.Scope.declared_here.Goals as goal
+
+pub returns-clause-told : goal.returns-clause-told
+returns-clause-told g c t h =
+    let told = c.in_ok-found.ensures.told t h in
+    let regions = ap (λ (p : Place). p.regions) c.self.view_is in
+    let some : 0 < length c.self.inside.regions.items = rw regions c.requires in
+    let last : c.len-last.result - 1 + 1 ≡ length c.self.inside.regions.items = omega (arith, some, c.len-last.ensures, c.self.inside.regions.ok.0) in
+    let is = here-is t c.self.inside.mentioned c.args.name.now c.self.inside.regions.items (c.len-last.result - 1) c.index.result.now last in
+    let found = told.1 ∙ ap (found_in t c.self.inside.mentioned c.args.name.now) c.index.ensures in
+    (told.0, ap (λ (f : Found). f.views) found ∙ sym is ∙ ap (λ (p : Place). here t p.mentioned c.args.name.now p.regions) c.self.view_is)
+
+pub returns-clause-asks : goal.returns-clause-asks
+returns-clause-asks g c =
+    let regions = ap (λ (p : Place). p.regions) c.self.view_is in
+    let some : 0 < length c.self.inside.regions.items = rw regions c.requires in
+    let last : c.len-last.result - 1 + 1 ≡ length c.self.inside.regions.items = omega (arith, some, c.len-last.ensures, c.self.inside.regions.ok.0) in
+    let parts = ap (λ (r : Region). r.parts) c.index.ensures ∙ sym (inner_parts-is c.self.inside.regions.items (c.len-last.result - 1) c.index.result.now last) ∙ ap inner_parts regions in
+    parts-units (inner_parts c.args.self.now.regions) c.args.name.now c.args.recorder.now.log c.find.new.recorder.log
+    (parts-of c.index.result.now.parts (inner_parts c.args.self.now.regions) c.args.name.now c.args.recorder.now.log c.find.new.recorder.log parts c.in_ok-found.ensures.asks)

@@ -1,0 +1,108 @@
+// What regions and use clauses have of a name.
+ghost use Rattle.std.specs.Prelude.{◌≡◌, List, [], ◌++◌, IfOk, map, if◌then◌else◌};
+ghost use Rattle.al_query.specs.Reads.{HoldsBy, Told};
+ghost use Rattle.al_scope.specs.declared.hiding.Found.{Found};
+ghost use Rattle.al_scope.specs.Asked.{AsksParts};
+ghost use Rattle.al_scope.specs.Places.{region_parts, use_parts, uses_at};
+ghost use Rattle.al_scope.specs.Searches.{IsSearch, searched};
+ghost use Rattle.al_scope.specs.UseClauses.{EachOnce};
+ghost use Rattle.al_scope.specs.Visible.{found_in, potential, use_visible};
+ghost use Rattle.al_scope.specs.VisibleSet.{AreApart, DeclareOnce, Once};
+
+use crate::hiding::{Found, Search, use_visible_of};
+use crate::questions::ask_each;
+use crate::region::Region;
+use al_base::NoMemory;
+use al_query::{Answers, Recorder};
+use al_view::{Interface, Views};
+use std::alloc::Global;
+
+/// What a region has of a name.
+pub fn find<A: Answers>(
+    alloc: Global,
+    mentioned: &Interface,
+    region: &Region,
+    name: &[u8],
+    recorder: &mut Recorder<A>,
+) -> Result<Found, NoMemory>
+    ensures asked { recorder.new.asked ≡ recorder.old.asked }
+    ensures told { IfOk result (λ found. Told recorder.old.log recorder.new.log (λ t. found ≡ found_in t mentioned.now name.now region.now)) }
+    ensures asks { IfOk result (λ _. AsksParts region.now.parts name.now recorder.old.log recorder.new.log) }
+{
+    let mut views = ask_each(alloc, mentioned, region.parts.as_slice(), name, recorder)?;
+    views.append(region.declared.views(name))?;
+    let begun = region.begun.contains(name);
+    Ok(Found { begun, views })
+}
+
+/// What the regions have of a name, from the innermost outward up to the first that decides. No region further out is asked.
+pub fn search_outward<A: Answers>(
+    alloc: Global,
+    mentioned: &Interface,
+    regions: &[Region],
+    name: &[u8],
+    recorder: &mut Recorder<A>,
+) -> Result<Search, NoMemory>
+    ensures asked { recorder.new.asked ≡ recorder.old.asked }
+    ensures told { IfOk result (λ search. Told recorder.old.log recorder.new.log (λ t. IsSearch (map (found_in t mentioned.now name.now) regions.now) search)) }
+    ensures asks { IfOk result (λ _. AsksParts (region_parts regions.now) name.now recorder.old.log recorder.new.log) }
+    ensures stops { IfOk result (λ _. HoldsBy recorder.new.log (λ t. AsksParts (region_parts (searched t mentioned.now name.now regions.now)) name.now recorder.old.log recorder.new.log)) }
+{
+    match regions {
+        [] => Ok(Search::new(alloc)),
+        [region, inner @ ..] => {
+            let mut search = search_outward(alloc, mentioned, inner, name, recorder)?;
+            if search.is_decided {
+                return Ok(search);
+            }
+            let found = find(alloc, mentioned, region, name, recorder)?;
+            search.go_outward(alloc, found)?;
+            Ok(search)
+        }
+    }
+}
+
+/// What is potentially use-visible of a name, by the use clauses that hold in the innermost region.
+fn potential_of<A: Answers>(
+    alloc: Global,
+    mentioned: &Interface,
+    regions: &[Region],
+    name: &[u8],
+    recorder: &mut Recorder<A>,
+) -> Result<Views, NoMemory>
+    ensures asked { recorder.new.asked ≡ recorder.old.asked }
+    ensures told { IfOk result (λ views. Told recorder.old.log recorder.new.log (λ t. views ≡ potential t mentioned.now name.now (uses_at regions.now))) }
+    ensures asks { IfOk result (λ _. AsksParts (use_parts (uses_at regions.now)) name.now recorder.old.log recorder.new.log) }
+    ensures each { IfOk result (λ _. EachOnce (uses_at regions.now)) }
+{
+    match regions.last() {
+        Some(region) => {
+            let views = region.uses.potential(mentioned, name, recorder)?;
+            Ok(views)
+        }
+        None => Ok(Views::new(alloc)),
+    }
+}
+
+/// What is use-visible of a name, of which the regions have this. No package is asked where a region has what shuts out
+/// every other declaration.
+pub fn used_of<A: Answers>(
+    alloc: Global,
+    mentioned: &Interface,
+    regions: &[Region],
+    search: &Search,
+    name: &[u8],
+    recorder: &mut Recorder<A>,
+) -> Result<Views, NoMemory>
+    ensures asked { recorder.new.asked ≡ recorder.old.asked }
+    ensures told { IfOk result (λ used. Told recorder.old.log recorder.new.log (λ t. (founds : List Found) → IsSearch founds search.now → used ≡ use_visible founds (potential t mentioned.now name.now (uses_at regions.now)))) }
+    ensures asks { IfOk result (λ _. AsksParts (if search.now.is_decided then [] else use_parts (uses_at regions.now)) name.now recorder.old.log recorder.new.log) }
+    ensures once { IfOk result (λ used. HoldsBy recorder.new.log (λ t. DeclareOnce t mentioned.now name.now (uses_at regions.now) → AreApart t mentioned.now name.now → Once used)) }
+{
+    if search.is_decided {
+        return Ok(Views::new(alloc));
+    }
+    let views = potential_of(alloc, mentioned, regions, name, recorder)?;
+    let used = use_visible_of(alloc, search.founds.as_slice(), &views)?;
+    Ok(used)
+}

@@ -1,0 +1,5 @@
+pub mod WordLemmas
+pub mod PowerLemmas
+pub mod Layers
+pub mod Folded
+pub mod DivisionLemmas

@@ -1,0 +1,3 @@
+pub mod QueueLemmas
+pub mod ActLemmas
+pub mod RunLemmas

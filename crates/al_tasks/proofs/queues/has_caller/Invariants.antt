@@ -1,0 +1,7 @@
+use Rattle.std.proofs.Common.{◌≡◌, drop}
+use Rattle.std.specs.List.{list_any}
+use Rattle.al_world.specs.Task.{is_waiting}
+use Rattle.al_tasks.proofs.queues.has_caller.Given as goal
+
+abbrev pub invariant-loop-task : goal.invariant-loop-task
+invariant-loop-task l = list_any (λ u. is_waiting l.object u.pause) (drop l.task-index l.paused) ≡ list_any (λ u. is_waiting l.object u.pause) l.paused

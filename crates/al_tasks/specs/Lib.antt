@@ -1,0 +1,6 @@
+pub mod Queues
+pub mod Seen
+pub mod Turns
+pub mod Programs
+pub mod Acts
+pub mod Partitions

@@ -1,0 +1,20 @@
+// A running program.
+use crate::tasks::Task;
+use al_world::Ending;
+use std::alloc::Global;
+
+/// A running program: memory; the ready tasks in the order of their dispatch, and the others by number; how many tasks are created,
+/// whether they were made ready, and how many activations go on; the clock, in milliseconds; what was put out; how it ended, if it did.
+#[derive(Drop)]
+pub(crate) struct State {
+    pub(crate) memory: Vec<i64>,
+    pub(crate) ready: Vec<Task>,
+    pub(crate) paused: Vec<Task>,
+    pub(crate) created: u32,
+    pub(crate) gone: bool,
+    pub(crate) activations: u32,
+    pub(crate) clock: i64,
+    pub(crate) output: Vec<u8>,
+    pub(crate) ended: Option<Ending>,
+    pub(crate) alloc: Global,
+}

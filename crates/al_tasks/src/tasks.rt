@@ -1,0 +1,158 @@
+// Tasks.
+ghost use Rattle.std.specs.Prelude.{◌≡◌, ◌<◌, ◌^◌, length, OnOk, OnErr, IsTrue, ◌↔◌};
+ghost use Rattle.al_machine.specs.Machine.{machine, IsWithin};
+ghost use Rattle.al_machine.specs.Table.{exec as executed};
+ghost use Rattle.al_world.specs.World.{inside, is_inside_nothing};
+ghost use Rattle.al_tasks.specs.Queues.{left_by, sole_of};
+ghost use Rattle.al_tasks.specs.Partitions.{new_task};
+ghost use Rattle.al_tasks.specs.Turns.{turn_of};
+
+use al_base::NoMemory;
+use al_machine::{Code, Entered, Flow, Instruction, Registers, Trap, exec};
+use al_partition::Region;
+use al_world::Pause;
+use std::alloc::Global;
+use std::marker::Model;
+
+/// A task: its number, its own priority and its priority now; the objects that it is inside, the last entered first; where it stands in the
+/// code and in memory; whether its activation has ended; and why it isn't ready.
+#[derive(Drop)]
+pub(crate) struct Task {
+    pub(crate) number: u32,
+    pub(crate) base: u32,
+    pub(crate) active: u32,
+    pub(crate) held: Vec<Entered>,
+    pub(crate) place: usize,
+    pub(crate) registers: Registers,
+    pub(crate) begun: bool,
+    pub(crate) pause: Pause,
+}
+
+impl Model for Task {
+    ghost use Rattle.al_world.specs.Task.{Task as Seen};
+
+    ghost Value = { Seen };
+
+    ghost view = { λ t. record { number = t.number; base = t.base; active = t.active; held = t.held.items; place = t.place; registers = t.registers; begun = t.begun; pause = t.pause } };
+}
+
+impl Task {
+    /// A new task, with a frame of three words at the beginning of its own.
+    pub(crate) fn new(alloc: Global, number: u32, priority: u32, place: usize, first: usize) -> Task
+        requires { first < 2 ^ 63 }
+        ensures { result ≡ new_task number priority place first }
+    {
+        Task {
+            number,
+            base: priority,
+            active: priority,
+            held: Vec::new(alloc),
+            place,
+            registers: Registers {
+                first,
+                frame: first,
+                top: first + 3,
+            },
+            begun: false,
+            pause: Pause::Created,
+        }
+    }
+
+    pub(crate) fn number(&self) -> u32
+        ensures { result ≡ self.now.number }
+    {
+        self.number
+    }
+
+    /// Its priority now.
+    pub(crate) fn level(&self) -> u32
+        ensures { result ≡ self.now.active }
+    {
+        self.active
+    }
+
+    pub(crate) fn place(&self) -> usize
+        ensures { result ≡ self.now.place }
+    {
+        self.place
+    }
+
+    /// The number of the object that it is inside, where that is the only one.
+    pub(crate) fn sole(&self) -> Option<u32>
+        ensures { result ≡ sole_of self.now.held }
+    {
+        if self.held.len() == 1 {
+            Some(self.held[0].object)
+        } else {
+            None
+        }
+    }
+
+    pub(crate) fn is_inside_nothing(&self) -> bool
+        ensures { result ≡ is_inside_nothing self.now.held }
+    {
+        self.held.is_empty()
+    }
+
+    /// Enters one more object, and has its ceiling as its priority.
+    pub(crate) fn enter(&mut self, object: u32, ceiling: u32) -> Result<(), NoMemory>
+        ensures ok { OnOk result (self.new ≡ inside self.old object ceiling) }
+        ensures err { OnErr result (self.new ≡ self.old) }
+    {
+        let entered = Entered {
+            object,
+            before: self.active,
+        };
+        self.held.insert(0, entered)?;
+        self.active = ceiling;
+        Ok(())
+    }
+
+    /// Leaves the object that it entered last, if it is inside one.
+    pub(crate) fn leave(&mut self)
+        ensures { self.new ≡ left_by self.old self.old.held }
+    {
+        if self.held.is_empty() {
+            return;
+        }
+        let entered = self.held.remove(0);
+        self.active = entered.before;
+    }
+
+    /// Carries out an instruction on words, and says what stops the run, if anything does.
+    #[inline(always)]
+    pub(crate) fn run(
+        &mut self,
+        memory: &mut [i64],
+        code: &Code,
+        objects: &[Region],
+        instruction: &Instruction,
+        next: usize,
+    ) -> Option<Trap>
+        requires within { IsWithin (machine memory.old self.old.registers) }
+        requires next { next < 2 ^ 32 }
+        ensures { record { task = self.new; memory = memory.new; trap = result } ≡ turn_of code.now next self.old memory.old (executed objects.now self.old.held next instruction.now (machine memory.old self.old.registers)) }
+    {
+        match exec(
+            memory,
+            &mut self.registers,
+            objects,
+            &self.held,
+            instruction,
+            next,
+        ) {
+            Ok(Flow::On) => {
+                self.place = next;
+                None
+            }
+            Ok(Flow::To(place)) => {
+                self.place = place;
+                if code.at(place).is_none() {
+                    return Some(Trap::Stuck);
+                }
+                None
+            }
+            Err(trap) => Some(trap),
+        }
+    }
+}

@@ -1,0 +1,121 @@
+// A running program, for its users.
+ghost use Rattle.std.specs.Prelude.{◌≡◌, ◌∷◌, OnOk, OnErr, IfOk, [], ℕ, ◌<◌, ◌^◌, pos, replicate};
+ghost use Rattle.al_world.specs.World.{load};
+ghost use Rattle.al_world.specs.Runs.{status_of};
+ghost use Rattle.al_tasks.specs.Partitions.{loaded, stepped, ran_on, environment};
+ghost use Rattle.al_tasks.specs.Seen.{seen};
+
+use crate::events::step;
+use crate::program::Program;
+use crate::runs::{run_events, status_of};
+use crate::state::State;
+use crate::tasks::Task;
+use al_base::NoMemory;
+use al_partition::Image;
+use al_world::{Event, Status};
+use std::alloc::Global;
+use std::marker::Model;
+
+/// A running program.
+#[derive(Drop)]
+pub struct World {
+    program: Program,
+    state: State,
+}
+
+impl Model for World {
+    ghost use Rattle.al_tasks.specs.Partitions.{Partition};
+
+    ghost Value = { Partition };
+
+    ghost use Rattle.al_tasks.specs.Seen.{seen};
+    ghost use Rattle.al_world.specs.Fits.{Fits};
+
+    ghost view = { λ w. record { program = w.program; world = seen w.state } };
+
+    ghost invariant = { λ w. Fits w.program (seen w.state) };
+}
+
+/// All words 0.
+fn empty_memory(alloc: Global, size: usize) -> Result<Vec<i64>, NoMemory>
+    ensures { IfOk result (λ memory. memory.items ≡ replicate size (pos 0)) }
+{
+    let mut memory = Vec::new(alloc);
+    memory.resize(size, 0)?;
+    Ok(memory)
+}
+
+/// The environment task alone, and room for all the others.
+fn first_tasks(alloc: Global, first: usize, tasks: usize) -> Result<Vec<Task>, NoMemory>
+    requires first { first < 2 ^ 63 }
+    requires tasks { tasks < 2 ^ 32 }
+    ensures { IfOk result (λ ready. ready.items ≡ environment first ∷ []) }
+{
+    let mut ready = Vec::with_capacity(alloc, tasks + 1)?;
+    ready.push(Task::new(alloc, 0, 15, 0, first))?;
+    Ok(ready)
+}
+
+/// The start of a program: the environment task alone is ready.
+fn start(alloc: Global, program: &Program) -> Result<State, NoMemory>
+    ensures { IfOk result (λ state. seen state ≡ load program.now) }
+{
+    let tasks = program.tasks() as usize;
+    let memory = empty_memory(alloc, program.size())?;
+    let ready = first_tasks(alloc, program.first_word(0), tasks)?;
+    let paused = Vec::with_capacity(alloc, tasks + 1)?;
+    Ok(State {
+        memory,
+        ready,
+        paused,
+        created: 0,
+        gone: false,
+        activations: 0,
+        clock: 0,
+        output: Vec::new(alloc),
+        ended: None,
+        alloc,
+    })
+}
+
+impl World {
+    /// A program at its start: the environment task alone is ready.
+    pub fn load(alloc: Global, image: &Image) -> Result<World, NoMemory>
+        ensures { IfOk result (λ world. world ≡ loaded image.now) }
+    {
+        let program = Program::new(alloc, image)?;
+        let state = start(alloc, &program)?;
+        Ok(World { program, state })
+    }
+
+    /// One event. Where memory was wanted and not given, the world is as it was.
+    pub fn step(&mut self, event: Event) -> Result<(), NoMemory>
+        ensures ok { OnOk result (self.new ≡ stepped self.old event) }
+        ensures err { OnErr result (self.new ≡ self.old) }
+    {
+        step(&self.program, &mut self.state, event)
+    }
+
+    /// Runs at most so many events, with a tick where no task is ready and after every n instructions, until the program ends or is idle; where it is
+    /// still going then, its steps are spent. Where memory was wanted and not given, the world is as after the events before that one.
+    pub fn tick_run(&mut self, steps: u64, n: u64) -> Result<(), NoMemory>
+        ensures ok { OnOk result (self.new ≡ ran_on steps n self.old) }
+        ensures err { OnErr result ((done : ℕ) × (done < steps) × (self.new ≡ ran_on done n self.old)) }
+    {
+        run_events(&self.program, &mut self.state, steps, n)
+    }
+
+    /// What becomes of the program.
+    pub fn status(&self) -> Status
+        ensures { result ≡ status_of self.now.world }
+    {
+        status_of(&self.state)
+    }
+
+    /// What was put out.
+    pub fn output(&self) -> &[u8]
+        ensures { result.now ≡ self.now.world.output }
+    {
+        self.state.output.as_slice()
+    }
+}

@@ -1,4 +1,0 @@
-pub mod OneQuestion
-pub mod ReadsLaw
-pub mod Results
-pub mod Tables

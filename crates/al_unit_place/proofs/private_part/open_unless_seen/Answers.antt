@@ -1,0 +1,27 @@
+use Rattle.std.proofs.Common.{[], ◌∷◌, ◌∙◌, ap, cond, sym}
+use Rattle.al_query.specs.Asked.{by_property}
+use Rattle.al_query.proofs.AskLemmas.{asks_of-right}
+use Rattle.al_unit_place.specs.UnitPlaces.{opened}
+use Rattle.al_unit_place.proofs.PlaceLemmas.{asks-turned}
+use Rattle.al_unit_place.proofs.private_part.open_unless_seen.Goals as goal
+
+pub returns-then-branch-clause-told : goal.returns-then-branch-clause-told
+returns-then-branch-clause-told g c t h =
+    let before = c.args.scope.now.regions in
+    let told = c.in_ok-sees_private_part.ensures.told t h in
+    (told.0, sym (ap (λ b. cond b before (opened t c.args.unit.now before)) (sym told.1 ∙ c.if-branch.true)))
+
+pub returns-clause-told : goal.returns-clause-told
+returns-clause-told g c t h =
+    let before = c.args.scope.now.regions in
+    let more = c.in_ok-open.ensures.told t h in
+    let told = c.in_ok-sees_private_part.ensures.told t more.0 in
+    (told.0, more.1 ∙ sym (ap (λ b. cond b before (opened t c.args.unit.now before)) (sym told.1 ∙ c.if-branch.false)))
+
+pub returns-then-branch-clause-asks : goal.returns-then-branch-clause-asks
+returns-then-branch-clause-asks g c =
+    asks_of-right (c.args.unit.now ∷ []) c.args.nearer.now by_property c.args.recorder.now.log c.sees_private_part.new.recorder.log c.in_ok-sees_private_part.ensures.asks
+
+pub returns-clause-asks : goal.returns-clause-asks
+returns-clause-asks g c =
+    asks-turned c.args.unit.now c.args.nearer.now c.args.recorder.now.log c.sees_private_part.new.recorder.log c.open.new.recorder.log c.in_ok-sees_private_part.ensures.asks c.in_ok-open.ensures.asks

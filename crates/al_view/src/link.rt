@@ -1,0 +1,26 @@
+// What the linker places.
+use crate::symbol::Symbol;
+
+/// What of a declaration the linker places.
+#[derive(Clone, Copy, PartialEq, Eq, PartialOrd, Ord, Hash)]
+pub enum LinkKind {
+    /// Where the code of a subprogram's or a task's body begins.
+    Code,
+    /// Where the gate of an entry begins, which is what its callers call (ARM 9.5.2, 9.5.3).
+    Gate,
+    /// Where the body of an entry begins.
+    EntryBody,
+    /// The word that tells whether the body of a subprogram or of a protected object is elaborated (ARM 3.11(10)).
+    Flag,
+    /// The first word of an object, of a protected one the first word of its components.
+    Data,
+    /// The number of a protected object.
+    Protected,
+}
+
+/// A symbol for the linker: a subprogram has code and may have a flag beside it, and both go by the one symbol.
+#[derive(Drop, PartialEq, Eq, PartialOrd, Ord, Hash)]
+pub struct LinkSymbol {
+    pub symbol: Symbol,
+    pub kind: LinkKind,
+}
