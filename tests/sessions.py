@@ -104,7 +104,7 @@ def run_command_lines(program, count):
             error = (line["error"] + "\n").encode() if "error" in line else b""
             given = b"" if any(word in places for word in line["words"]) else hello
             got = run(program, words, given)
-            count.check(f"adalib {' '.join(line['words'])}", got, (line["exit"], output, error))
+            count.check(f"adalib {' '.join(line['words'])!a}", got, (line["exit"], output, error))
 
 
 def run_faults(program, count):

@@ -1,11 +1,14 @@
--- The exit status of the program after a session.
-use Rattle.std.specs.Prelude.{ℕ, Result, Ok, Err}
-use Rattle.al_serve.specs.declared.serving.Ended.{Ended}
+-- The exit status of the program.
+use Rattle.std.specs.Prelude.{ℕ, Ok, Err}
+use Rattle.adalib.specs.declared.status.Outcome.{Outcome}
+use Rattle.adalib.specs.declared.status.Outcome.TheVariants.{Served, Usage, Failed}
 use Rattle.al_serve.specs.declared.serving.Ended.TheVariants.{Quit, BadLength}
-use Rattle.al_stream.specs.declared.device.Device.{Device}
 
--- 0 at the end, 2 after a text that isn't there as announced, 1 after a failed device
-abbrev pub status_of : Result Ended Device → ℕ
-status_of (Ok Quit) = 0
-status_of (Ok BadLength) = 2
-status_of (Err fault) = 1
+-- 0 at the end of the session; 2 after a text that isn't there as announced, and for words of another form; 1 after a failed device,
+-- and where no session could begin
+abbrev pub status_of : Outcome → ℕ
+status_of (Served (Ok Quit)) = 0
+status_of (Served (Ok BadLength)) = 2
+status_of (Served (Err fault)) = 1
+status_of Usage = 2
+status_of Failed = 1

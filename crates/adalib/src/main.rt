@@ -3,7 +3,7 @@
 //!
 //! Exit status: 0 at the end of the session; 1 where a device fails, the file can't be opened or memory is refused
 //! outside the session, with nothing more written; 2 where the session ends by a text that isn't there as announced,
-//! and where the words are of another form, which the usage line on the error output says.
+//! and where the words are of another form or aren't UTF-8, which the usage line on the error output says.
 #![tactic(auto)]
 
 ghost use Rattle.std.specs.Prelude.{◌≤◌};
@@ -15,7 +15,7 @@ mod tests;
 
 use al_session::{Counted, Library, serve};
 use options::{MAX_TICK, Options, UsageError};
-use status::status_of;
+use status::{Outcome, exit_code};
 use std::alloc::Global;
 use std::io;
 use std::io::BufWriter;
@@ -23,15 +23,19 @@ use std::process::ExitCode;
 use std::rt::{Env, Files};
 
 fn main(rt: HostRuntime) -> ExitCode {
-    match run(&rt) {
-        Ok(code) => code,
-        Err(_) => ExitCode::FAILURE,
+    let outcome = outcome_of(&rt).unwrap_or(Outcome::Failed);
+    if matches!(outcome, Outcome::Usage) {
+        let _ = eprintln!(rt; "usage: adalib [--tick N] [FILE]");
     }
+    exit_code(outcome)
 }
 
-fn run<R: Env + Files + Input + Print + Eprint + AllocGlobal>(rt: &R) -> io::Result<ExitCode> {
+// Serves the session that the words of the command line ask for.
+fn outcome_of<R: Env + Files + Input + Print + AllocGlobal>(rt: &R) -> io::Result<Outcome> {
     let alloc = rt.alloc();
-    let words: Vec<String> = std::env::args(rt)?.collect(alloc)?;
+    let Some(words) = words_of(rt)? else {
+        return Ok(Outcome::Usage);
+    };
     match Options::of(alloc, words.as_slice()) {
         Ok(options) => match options.file {
             Some(path) => {
@@ -40,11 +44,17 @@ fn run<R: Env + Files + Input + Print + Eprint + AllocGlobal>(rt: &R) -> io::Res
             }
             None => session(alloc, rt, rt.reader(), options.tick),
         },
-        Err(UsageError::OutOfMemory) => Ok(ExitCode::FAILURE),
-        Err(UsageError::Usage) => {
-            let _ = eprintln!(rt; "usage: adalib [--tick N] [FILE]");
-            Ok(ExitCode::from(2))
-        }
+        Err(UsageError::OutOfMemory) => Ok(Outcome::Failed),
+        Err(UsageError::Usage) => Ok(Outcome::Usage),
+    }
+}
+
+// The words of the command line, the program's own in front; none where one of them isn't UTF-8.
+fn words_of<R: Env + AllocGlobal>(rt: &R) -> io::Result<Option<Vec<String>>> {
+    match std::env::args(rt) {
+        Ok(words) => Ok(Some(words.collect(rt.alloc())?)),
+        Err(e) if e.kind() == io::ErrorKind::InvalidData => Ok(None),
+        Err(e) => Err(e),
     }
 }
 
@@ -54,7 +64,7 @@ fn session<D: io::Read + Drop, R: Print>(
     rt: &R,
     input: D,
     tick: u32,
-) -> io::Result<ExitCode>
+) -> io::Result<Outcome>
     requires some { 1 ≤ tick }
     requires few { tick ≤ MAX_TICK }
 {
@@ -65,5 +75,5 @@ fn session<D: io::Read + Drop, R: Print>(
     // The system takes the memory back at the end of the process; to let go of each tree would take a tenth of a session's time.
     std::mem::forget(library);
     let _ = writer.into_inner().into_parts();
-    Ok(ExitCode::from(status_of(ended)))
+    Ok(Outcome::Served(ended))
 }

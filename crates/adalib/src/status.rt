@@ -1,16 +1,30 @@
-// The exit status.
+// How the program ended, and its exit status.
 ghost use Rattle.adalib.specs.Status.{status_of};
 ghost use Rattle.std.specs.Prelude.{◌≡◌};
+ghost use Rattle.std.specs.Process.{exit_status};
 
 use al_session::{Device, Ended};
+use std::process::ExitCode;
 
-/// The program's exit status after a session.
-pub fn status_of(ended: Result<Ended, Device>) -> u8
-    ensures { result ≡ status_of ended }
+/// How the program ended.
+pub enum Outcome {
+    /// A session was served: to its end, to a text that isn't there as announced, or to the failure of a device.
+    Served(Result<Ended, Device>),
+    /// The words of the command line are of another form.
+    Usage,
+    /// The file can't be opened, or memory is refused outside the session.
+    Failed,
+}
+
+/// The program's exit status.
+pub fn exit_code(outcome: Outcome) -> ExitCode
+    ensures { exit_status result ≡ status_of outcome }
 {
-    match ended {
-        Ok(Ended::Quit) => 0,
-        Ok(Ended::BadLength) => 2,
-        Err(_) => 1,
+    match outcome {
+        Outcome::Served(Ok(Ended::Quit)) => ExitCode::from(0),
+        Outcome::Served(Ok(Ended::BadLength)) => ExitCode::from(2),
+        Outcome::Served(Err(_)) => ExitCode::from(1),
+        Outcome::Usage => ExitCode::from(2),
+        Outcome::Failed => ExitCode::from(1),
     }
 }

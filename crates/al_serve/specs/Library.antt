@@ -29,8 +29,8 @@ pub record LibraryMeaning : Type 0 where
   pub run_of : Texts → List ℕ → ℕ → ℕ → Run
   -- each file by its name, and the unit that it holds, where it holds a sound one
   pub units_of : Texts → List (List ℕ × Option Key)
-  -- the files of a build, and the files as they are: the units that are obsolete since that build (ARM 10.1.4)
-  pub obsolete_of : Texts → Texts → List Key
+  -- the files of a build, what it gave, and the files as they are: the units that are obsolete since that build (ARM 10.1.4)
+  pub obsolete_of : Texts → Batch → Texts → List Key
 
 -- What the files mean, and how many instructions stand between two ticks of the clock.
 pub record Meaning : Type 0 where
@@ -59,7 +59,7 @@ obsolete_refusal (Some last) = None
 
 -- the units that are obsolete since the last build, if there was one
 abbrev pub obsolete_now : LibraryMeaning → State → Option (List Key)
-obsolete_now m state = option_map (λ last. m.obsolete_of last.files state.now) state.built
+obsolete_now m state = option_map (λ last. m.obsolete_of last.files (m.batch last.files last.main) state.now) state.built
 
 -- a file's name and its unit, as the code has them
 abbrev pub file_unit_of : List ℕ × Option UnitKey → List ℕ × Option Key

@@ -123,7 +123,7 @@ impl UnitLibrary for Library {
     fn obsolete(&self) -> Result<Vec<UnitKey>, Refusal> {
         let built = self.last.as_ref().ok_or(Refusal::NotBuilt)?;
         let now = self.catalog()?;
-        let units = obsolete(self.alloc, &built.catalog, &now)?;
+        let units = obsolete(self.alloc, &built.catalog, &built.compiled, &now)?;
         Ok(units)
     }
 }

@@ -15,3 +15,4 @@ pub mod Picks
 pub mod Sorting
 pub mod Ascending
 pub mod MainLaws
+pub mod RunLaws

@@ -7,5 +7,6 @@ pub mod Units
 pub mod Batches
 pub mod MainUnits
 pub mod Compiling
+pub mod Running
 pub mod Laws
 pub mod Orders

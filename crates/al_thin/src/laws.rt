@@ -1,7 +1,8 @@
-// What the findings of files are. The functions do nothing: their contracts are the laws.
+// What the findings of files are, and what runs. The functions do nothing: their contracts are the laws.
 ghost use Rattle.al_thin.specs.Laws.{FindingsAreBroken, UnfinishedAreTold};
 ghost use Rattle.al_thin.specs.MainUnits.{MainIsFound};
 ghost use Rattle.al_thin.specs.Orders.{FindingsAscend};
+ghost use Rattle.al_thin.specs.Running.{RunsAreOfImages};
 
 use al_syntax::{faults_are_found, sentences_are_trees, trees_are_found};
 
@@ -29,3 +30,8 @@ pub fn findings_ascend()
     sentences_are_trees();
     faults_are_found();
 }
+
+/// The bytes that a build gives are those of an image, and a run is the run of that image.
+pub fn runs_are_of_images()
+    ensures { RunsAreOfImages }
+{}

@@ -18,5 +18,7 @@ mod unfinished;
 mod unit;
 
 pub use compiling::{Compiled, Program, compile};
-pub use laws::{findings_are_broken, findings_ascend, main_is_found, unfinished_are_told};
+pub use laws::{
+    findings_are_broken, findings_ascend, main_is_found, runs_are_of_images, unfinished_are_told,
+};
 pub use listing::{obsolete, units};

@@ -6,10 +6,10 @@ ghost use Rattle.al_base.specs.Batch.{finding_of, key_of};
 ghost use Rattle.al_base.specs.Files.{name_cmp};
 ghost use Rattle.al_unit_graph.specs.Orders.{names_seen};
 ghost use Rattle.al_obsolete.specs.Units.{unit_seen};
-ghost use Rattle.al_thin.specs.Units.{faulty_files, obsolete_of, units_of};
+ghost use Rattle.al_thin.specs.Compiling.{compiled_seen};
+ghost use Rattle.al_thin.specs.Units.{files_told, obsolete_of, units_of};
 
-use crate::findings::findings_of;
-use crate::unfinished::add_unfinished;
+use crate::compiling::Compiled;
 use al_base::{Diagnostic, Name, NoMemory, UnitKey};
 use al_unit::{BuiltFiles, Catalog};
 use std::alloc::Global;
@@ -27,16 +27,22 @@ pub fn units(catalog: &Catalog) -> Result<Vec<(Name, Option<UnitKey>)>, NoMemory
     catalog.units()
 }
 
-/// The units of the files that are obsolete since these were built, in the order of their keys (ARM 10.1.4(5, 7)).
+/// The units of the files as they are now that are obsolete since these were built and gave this, in the order of their keys
+/// (ARM 10.1.4(5, 7)).
 ///
 /// # Errors
 ///
 /// `NoMemory` where memory was wanted and not given.
 #[tactic(auto, unfolding(crate::specs::Units::obsolete_of))]
-pub fn obsolete(alloc: Global, built: &Catalog, now: &Catalog) -> Result<Vec<UnitKey>, NoMemory>
-    ensures { IfOk result (λ keys. map key_of keys.items ≡ obsolete_of built.now now.now) }
+pub fn obsolete(
+    alloc: Global,
+    built: &Catalog,
+    gave: &Compiled,
+    now: &Catalog,
+) -> Result<Vec<UnitKey>, NoMemory>
+    ensures { IfOk result (λ keys. map key_of keys.items ≡ obsolete_of built.now (compiled_seen gave.now) now.now) }
 {
-    let faulty = faulty_files(alloc, built)?;
+    let faulty = files_told(alloc, gave)?;
     let built = BuiltFiles {
         catalog: built,
         faulty,
@@ -44,14 +50,14 @@ pub fn obsolete(alloc: Global, built: &Catalog, now: &Catalog) -> Result<Vec<Uni
     now.obsolete(&built)
 }
 
-/// The files in which something is wrong, or whose unit isn't compiled yet.
-#[tactic(auto, unfolding(crate::specs::Units::faulty_files))]
-fn faulty_files(alloc: Global, catalog: &Catalog) -> Result<BTreeSet<Vec<u8>>, NoMemory>
-    ensures { IfOk result (λ files. names_seen files.keys ≡ faulty_files catalog.now) }
+/// The files of which a build told something.
+fn files_told(alloc: Global, gave: &Compiled) -> Result<BTreeSet<Vec<u8>>, NoMemory>
+    ensures { IfOk result (λ files. names_seen files.keys ≡ files_told (compiled_seen gave.now)) }
 {
-    let mut found = findings_of(alloc, catalog)?;
-    add_unfinished(alloc, catalog, &mut found)?;
-    files_of(alloc, found.as_slice())
+    match gave {
+        Compiled::Faulty(diagnostics) => files_of(alloc, diagnostics.as_slice()),
+        Compiled::NoMain | Compiled::TooLarge(_) | Compiled::Made(_) => Ok(BTreeSet::new(alloc)),
+    }
 }
 
 /// The files of what was found.
