@@ -4,6 +4,7 @@
     stage FOLDER     copies the repository to the new folder FOLDER, without those wrong bodies that were refused before
     record FOLDER    reads on standard input what `rt ci` printed in that copy, and keeps what it refused
     try NAME ..      tries the wrong bodies of these crates that weren't refused before (`rt must-fail`), and keeps what is refused
+    beside NAME ..   the same for those beside the gate (crates/NAME/edits/*.edit)
 
 What a wrong body's verdict stands on is its own text, the files of its crate and of all crates that this one stands on but their
 tests, their lines of crates.txt, and the kit's line (`rt version`). These together are hashed: a file named by the hash says that exactly
@@ -65,15 +66,15 @@ def digest_of_crate(crate):
     return whole.hexdigest()
 
 
-def keys(root):
-    """For each wrong body, by its crate and file name, the hash of all that its verdict stands on."""
+def keys(root, folder="must-fail"):
+    """For each wrong body in these folders, by its crate and file name, the hash of all that its verdict stands on."""
     lines = libraries(root)
     kit = subprocess.run(["rt", "version"], stdout=subprocess.PIPE, check=True, text=True).stdout.strip()
     digests = {name: digest_of_crate(root / "crates" / name) for name in lines}
     found = {}
     for name in lines:
         under = [[lines[it], digests[it]] for it in sorted(below(name, lines, set()))]
-        for edit in sorted((root / "crates" / name / "must-fail").glob("*.edit")):
+        for edit in sorted((root / "crates" / name / folder).glob("*.edit")):
             whole = json.dumps([kit, name, under, edit.read_text(errors="replace")])
             found[name, edit.name] = hashlib.sha256(whole.encode()).hexdigest()
     return found
@@ -124,34 +125,35 @@ def record(copy):
     print(f"wrong bodies: {keep(found, text)} refused now, {earlier} earlier on this machine, {len(found)} in all")
 
 
-def tried(names):
-    """Tries the wrong bodies in a copy of the crates' must-fail folders, which holds those alone that weren't refused before."""
-    found = {it: key for it, key in keys(ROOT).items() if it[0] in names}
+def tried(names, folder):
+    """Tries the wrong bodies of these folders: each crate's must-fail holds meanwhile those alone that weren't refused before."""
+    found = {it: key for it, key in keys(ROOT, folder).items() if it[0] in names}
     left = [it for it, key in found.items() if not is_kept(key)]
     print(f"wrong bodies: {len(left)} to be tried, {len(found) - len(left)} refused earlier on this machine", flush=True)
     status = 0
     for name in names:
         own = [edit for crate, edit in left if crate == name]
         if own:
-            status |= one_crate(name, own, found)
+            status |= one_crate(name, folder, own, found)
     return status
 
 
-def one_crate(name, edits, found):
-    """`rt must-fail` over these edits of one crate: the others stand aside meanwhile."""
-    folder = ROOT / "crates" / name / "must-fail"
-    aside = ROOT / "crates" / name / "out" / "refused-earlier"
+def one_crate(name, folder, edits, found):
+    """`rt must-fail` over these edits of one crate's folder, which stand meanwhile in place of those in must-fail."""
+    crate = ROOT / "crates" / name
+    tried, aside = crate / "must-fail", crate / "out" / "must-fail-aside"
     shutil.rmtree(aside, ignore_errors=True)
-    aside.mkdir(parents=True)
-    others = [it for it in folder.glob("*.edit") if it.name not in edits]
+    tried.mkdir(exist_ok=True)
+    aside.parent.mkdir(exist_ok=True)
+    shutil.move(tried, aside)
     try:
-        for it in others:
-            shutil.move(it, aside / it.name)
+        tried.mkdir()
+        for it in edits:
+            shutil.copy((aside if folder == "must-fail" else crate / folder) / it, tried / it)
         done = subprocess.run(["rt", "must-fail", name], cwd=ROOT, stdout=subprocess.PIPE, stderr=subprocess.STDOUT, text=True)
     finally:
-        for it in others:
-            shutil.move(aside / it.name, it)
-        aside.rmdir()
+        shutil.rmtree(tried, ignore_errors=True)
+        shutil.move(aside, tried)
     print(done.stdout, end="", flush=True)
     print(f"{name}: {keep(found, done.stdout)} of {len(edits)} refused", flush=True)
     return done.returncode
@@ -162,8 +164,8 @@ def main(words):
         stage(pathlib.Path(words[1]))
     elif len(words) == 2 and words[0] == "record":
         record(pathlib.Path(words[1]))
-    elif len(words) > 1 and words[0] == "try":
-        return tried(words[1:])
+    elif len(words) > 1 and words[0] in ("try", "beside"):
+        return tried(words[1:], "must-fail" if words[0] == "try" else "edits")
     else:
         print(__doc__, end="", file=sys.stderr)
         return 2
