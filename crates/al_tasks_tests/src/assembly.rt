@@ -4,72 +4,75 @@ use std::test::Fail;
 
 // The names of the instructions, their first bytes, and their operands by a letter each: a long word of eight bytes, a number of four, a
 // place, the distance of a jump, a text, or names. A place or a jump may be given by a label.
-const INSTRUCTIONS: [(&str, u8, &str); 56] = [
-    ("const", 0x00, "l"),
-    ("frame", 0x01, "ww"),
-    ("global", 0x02, "w"),
-    ("load", 0x03, "w"),
-    ("store", 0x04, "w"),
-    ("zero", 0x05, "w"),
-    ("same", 0x06, "w"),
-    ("drop", 0x07, "w"),
-    ("check", 0x08, "ll"),
-    ("index", 0x09, "llw"),
-    ("field", 0x0a, "w"),
-    ("jump", 0x0b, "j"),
-    ("jump_zero", 0x0c, "j"),
-    ("add", 0x10, ""),
-    ("subtract", 0x11, ""),
-    ("multiply", 0x12, ""),
-    ("divide", 0x13, ""),
-    ("modulo", 0x14, ""),
-    ("remainder", 0x15, ""),
-    ("power", 0x16, ""),
-    ("negate", 0x17, ""),
-    ("absolute", 0x18, ""),
-    ("not", 0x19, ""),
-    ("and", 0x1a, ""),
-    ("or", 0x1b, ""),
-    ("xor", 0x1c, ""),
-    ("equal", 0x1d, ""),
-    ("not_equal", 0x1e, ""),
-    ("less", 0x1f, ""),
-    ("at_most", 0x20, ""),
-    ("greater", 0x21, ""),
-    ("at_least", 0x22, ""),
-    ("mark", 0x30, "w"),
-    ("root", 0x31, ""),
-    ("call", 0x32, "pw"),
-    ("enter", 0x33, "w"),
-    ("return", 0x34, "w"),
-    ("access", 0x35, ""),
-    ("raise", 0x36, "w"),
-    ("put_text", 0x40, "t"),
-    ("put_integer", 0x41, "w"),
-    ("put_name", 0x42, "wn"),
-    ("new_line", 0x43, ""),
-    ("task", 0x50, "pw"),
-    ("go", 0x51, ""),
-    ("begun", 0x52, ""),
-    ("done", 0x53, ""),
-    ("now", 0x54, ""),
-    ("sleep", 0x55, ""),
-    ("enter_object", 0x56, "w"),
-    ("enter_entry", 0x57, "w"),
-    ("leave", 0x58, ""),
-    ("waiting", 0x59, "w"),
-    ("wake", 0x5a, "w"),
-    ("block", 0x5b, "w"),
-    ("seed", 0x5c, "ww"),
-];
+const INSTRUCTIONS: &str = "\
+const 0 l\n\
+frame 1 ww\n\
+global 2 w\n\
+load 3 w\n\
+store 4 w\n\
+zero 5 w\n\
+same 6 w\n\
+drop 7 w\n\
+check 8 ll\n\
+index 9 llw\n\
+field 10 w\n\
+jump 11 j\n\
+jump_zero 12 j\n\
+add 16\n\
+subtract 17\n\
+multiply 18\n\
+divide 19\n\
+modulo 20\n\
+remainder 21\n\
+power 22\n\
+negate 23\n\
+absolute 24\n\
+not 25\n\
+and 26\n\
+or 27\n\
+xor 28\n\
+equal 29\n\
+not_equal 30\n\
+less 31\n\
+at_most 32\n\
+greater 33\n\
+at_least 34\n\
+mark 48 w\n\
+root 49\n\
+call 50 pw\n\
+enter 51 w\n\
+return 52 w\n\
+access 53\n\
+raise 54 w\n\
+put_text 64 t\n\
+put_integer 65 w\n\
+put_name 66 wn\n\
+new_line 67\n\
+task 80 pw\n\
+go 81\n\
+begun 82\n\
+done 83\n\
+now 84\n\
+sleep 85\n\
+enter_object 86 w\n\
+enter_entry 87 w\n\
+leave 88\n\
+waiting 89 w\n\
+wake 90 w\n\
+block 91 w\n\
+seed 92 ww\n\
+";
 
 // A label with its place.
 type Label = (&'static str, i64);
 
+// The first byte of an instruction, and its operands.
 fn found(name: &str) -> Option<(u8, &'static str)> {
-    for (known, byte, operands) in INSTRUCTIONS {
-        if known == name {
-            return Some((byte, operands));
+    for line in INSTRUCTIONS.lines() {
+        let mut words = line.split_whitespace();
+        if words.next() == Some(name) {
+            let byte = words.next().unwrap_or("").parse::<u8>().ok()?;
+            return Some((byte, words.next().unwrap_or("")));
         }
     }
     None
@@ -84,7 +87,8 @@ fn place_of(labels: &[Label], name: &str) -> Option<i64> {
     None
 }
 
-fn number_of(text: &str) -> i64 {
+/// The number that a text gives, or 0.
+pub(crate) fn number_of(text: &str) -> i64 {
     text.parse::<i64>().unwrap_or(0)
 }
 
@@ -101,8 +105,9 @@ pub(crate) fn append_word(out: &mut Vec<u8>, number: i64) -> Result<(), Fail> {
 
 // Where a jump goes that begins behind these bytes, from the end of its own four.
 fn distance_of(before: usize, labels: &[Label], word: &str) -> i64 {
+    let before = i64::try_from(before).unwrap_or(0);
     match place_of(labels, word) {
-        Some(place) => place.saturating_sub(before as i64).saturating_sub(4),
+        Some(place) => place.saturating_sub(before).saturating_sub(4),
         None => number_of(word),
     }
 }
@@ -137,7 +142,7 @@ fn append_operand(
             append_word(out, distance)
         }
         b't' => {
-            append_word(out, word.len() as i64)?;
+            append_word(out, i64::try_from(word.len()).unwrap_or(0))?;
             out.extend_from_slice(word.as_bytes())?;
             Ok(())
         }
@@ -175,7 +180,7 @@ fn pass(
     for part in code.split(';') {
         let part = part.trim();
         match part.strip_suffix(':') {
-            Some(label) => places.push((label, out.len() as i64))?,
+            Some(label) => places.push((label, i64::try_from(out.len()).unwrap_or(0)))?,
             None => append_instruction(alloc, &mut out, labels, part)?,
         }
     }

@@ -12,10 +12,10 @@ const EVENTS: u32 = 6_000;
 // Two tasks and the environment count to ten each in a protected object; the tasks then wait at an entry that the environment opens, or is
 // open by then. Each kind of instruction on tasks and words comes up.
 const COUNTERS: Source = Source {
-    tasks: 2,
-    words: 3,
-    objects: &[(0, 2, 25), (2, 1, 22)],
-    units: &[0, 60],
+    tasks: "2",
+    words: "3",
+    objects: "0 2 25 2 1 22",
+    units: "0 60",
     code: "task a 20; task b 18; const 0; seed 0 1; go; \
            root; call count 0; l:; enter_object 0; global 0; load 1; leave; const 30; equal; jump_zero m; jump n; \
            m:; now; const 3; add; sleep; jump l; \
@@ -80,7 +80,7 @@ fn no_count_is_lost(rt: HostRuntime) -> Result<(), Fail> {
         let reply = reply_of(alloc, &world)?;
         let reply = reply.as_str();
         assert!(rt;
-            reply == "yesaend\n/finished" || reply == "yesend\na/finished",
+            reply == "yesaend%/finished" || reply == "yesend%a/finished",
             "{reply}"
         );
     }
@@ -93,7 +93,7 @@ fn damaged(alloc: Global, bytes: &[u8], numbers: &mut Numbers) -> Result<Vec<u8>
     let count = numbers.below(4);
     for _ in 0..=count {
         let place = numbers.below(other.len());
-        let flipped = 1u8 << (numbers.below(8) as u32 % 8);
+        let flipped = numbers.next().to_be_bytes()[3];
         if place < other.len() {
             other[place] ^= flipped;
         }

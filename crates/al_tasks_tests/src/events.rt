@@ -7,10 +7,10 @@ use std::test::Fail;
 
 // A higher task waits for the first millisecond, and the environment for the clock to move.
 const WAITS: Source = Source {
-    tasks: 1,
-    words: 0,
-    objects: &[],
-    units: &[0],
+    tasks: "1",
+    words: "0",
+    objects: "",
+    units: "0",
     code: "task h 16; go; l:; now; jump_zero l; put_text e; done; h:; begun; const 1; sleep; put_text h; done",
 };
 
@@ -82,10 +82,10 @@ fn events_that_change_nothing(rt: HostRuntime) -> Result<(), Fail> {
 #[test]
 fn idle(rt: HostRuntime) -> Result<(), Fail> {
     let source = Source {
-        tasks: 1,
-        words: 0,
-        objects: &[],
-        units: &[0],
+        tasks: "1",
+        words: "0",
+        objects: "",
+        units: "0",
         code: "task 3 20; done",
     };
     let mut world = world_of(rt.alloc(), &source)?;
