@@ -6,7 +6,7 @@ use al_world::{Event, Status};
 use std::alloc::Global;
 use std::test::Fail;
 
-// How many events damaged images see in all. A million of them were tried by this number.
+// How many events damaged images see in all; a longer trial by hand takes a larger number.
 const EVENTS: u32 = 6_000;
 
 // Two tasks and the environment count to ten each in a protected object; the tasks then wait at an entry that the environment opens, or is
