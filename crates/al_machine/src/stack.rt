@@ -81,6 +81,7 @@ pub fn check(memory: &mut [i64], registers: &mut Registers, low: i64, high: i64)
 }
 
 #[tactic(auto, unfolding(crate::specs::Stack::binary))]
+#[inline(always)]
 pub fn binary(
     memory: &mut [i64],
     registers: &mut Registers,

@@ -54,26 +54,26 @@ fn carry_out(
     requires next { next < 2 ^ 32 }
     ensures { HasFlow result (machine memory.old registers.old) (machine memory.new registers.new) (exec objects.now inside.now next instruction.now (machine memory.old registers.old)) }
 {
-    match instruction {
-        Instruction::Const(word) => push(memory, registers, *word)?,
-        Instruction::Frame { links, offset } => frame(memory, registers, *links, *offset)?,
-        Instruction::Global(address) => push(memory, registers, *address as i64)?,
-        Instruction::Load(words) => load(memory, registers, objects, inside, *words as usize)?,
-        Instruction::Store(words) => store(memory, registers, objects, inside, *words as usize)?,
-        Instruction::Zero(words) => zero(memory, registers, objects, inside, *words as usize)?,
-        Instruction::Same(words) => same(memory, registers, *words as usize)?,
-        Instruction::Drop(words) => drop_words(memory, registers, *words as usize)?,
-        Instruction::Check { low, high } => check(memory, registers, *low, *high)?,
-        Instruction::Index { low, high, words } => index(memory, registers, *low, *high, *words)?,
-        Instruction::Field(words) => field(memory, registers, *words)?,
+    let effect = match instruction {
+        Instruction::Const(word) => push(memory, registers, *word),
+        Instruction::Frame { links, offset } => frame(memory, registers, *links, *offset),
+        Instruction::Global(address) => push(memory, registers, *address as i64),
+        Instruction::Load(words) => load(memory, registers, objects, inside, *words as usize),
+        Instruction::Store(words) => store(memory, registers, objects, inside, *words as usize),
+        Instruction::Zero(words) => zero(memory, registers, objects, inside, *words as usize),
+        Instruction::Same(words) => same(memory, registers, *words as usize),
+        Instruction::Drop(words) => drop_words(memory, registers, *words as usize),
+        Instruction::Check { low, high } => check(memory, registers, *low, *high),
+        Instruction::Index { low, high, words } => index(memory, registers, *low, *high, *words),
+        Instruction::Field(words) => field(memory, registers, *words),
         Instruction::Jump(distance) => return jump(memory, registers, next, *distance),
         Instruction::JumpIfZero(distance) => return jump_if_zero(
             memory, registers, next, *distance,
         ),
-        Instruction::Binary(operator) => binary(memory, registers, *operator)?,
-        Instruction::Unary(operator) => unary(memory, registers, *operator)?,
-        Instruction::Mark(links) => mark(memory, registers, *links)?,
-        Instruction::Root => root(memory, registers)?,
+        Instruction::Binary(operator) => binary(memory, registers, *operator),
+        Instruction::Unary(operator) => unary(memory, registers, *operator),
+        Instruction::Mark(links) => mark(memory, registers, *links),
+        Instruction::Root => root(memory, registers),
         Instruction::Call { place, words } => return call(
             memory,
             registers,
@@ -81,10 +81,13 @@ fn carry_out(
             *words as usize,
             next,
         ),
-        Instruction::Enter(words) => enter(memory, registers, *words as usize)?,
+        Instruction::Enter(words) => enter(memory, registers, *words as usize),
         Instruction::Return(words) => return leave(memory, registers, *words as usize),
-        Instruction::Access => access(memory, registers)?,
-        Instruction::Raise(code) => return Err(trap_of(*code)),
+        Instruction::Access => access(memory, registers),
+        Instruction::Raise(code) => Err(trap_of(*code)),
+    };
+    match effect {
+        Ok(()) => Ok(Flow::On),
+        Err(trap) => Err(trap),
     }
-    Ok(Flow::On)
 }

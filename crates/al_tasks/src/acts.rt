@@ -178,7 +178,8 @@ pub(crate) fn sleep(program: &Program, state: &mut State, mut task: Task, next: 
     requires within { IsWithin (machine state.old.memory.items task.registers) }
     ensures { seen state.new ≡ acted program.now kind.Sleep next task state.old }
 {
-    if !task.is_inside_nothing() {
+    let may_sleep = task.is_inside_nothing();
+    if !may_sleep {
         return raise(program, state, task, Exception::Program);
     }
     let top = task.registers.top;
