@@ -1,5 +1,5 @@
 -- What agreeing with a log says of a question in it, by its place.
-use Rattle.std.proofs.Common.{◌≡◌, ℕ, zero, suc, ◌+◌, add-one, List, [], ◌∷◌, Option, Some, None, refl, sym, ◌∙◌, ap, subst, drop}
+use Rattle.std.proofs.Common.{◌≡◌, ℕ, zero, suc, ◌+◌, add-one, List, [], ◌∷◌, Some, None, refl, sym, ap, subst, drop}
 use Rattle.std.specs.Prelude.{slice_get}
 use Rattle.al_query.specs.Reads.{Agrees, Log, Table}
 use Rattle.al_query.specs.declared.query.Query.{Query}

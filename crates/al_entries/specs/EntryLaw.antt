@@ -1,5 +1,5 @@
 -- The law that every entry keeps, and when an entry may be used again.
-use Rattle.std.specs.Prelude.{◌≡◌, ℕ, List, [], ◌∷◌, Option, Some, None}
+use Rattle.std.specs.Prelude.{◌≡◌, ℕ, List, ◌∷◌, Option, Some, None}
 use Rattle.al_base.specs.declared.unit_key.UnitKey.{UnitKey}
 use Rattle.al_query.specs.Known.{Grounded, known_after}
 use Rattle.al_query.specs.Reads.{Agrees}
