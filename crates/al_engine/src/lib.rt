@@ -1,8 +1,9 @@
 //! Checks the units of a library again that an edit reaches, and uses what was kept of the others.
 #![tactic(auto)]
 
+pub mod laws;
 mod present;
-mod refresh;
+mod refreshed;
 mod unit;
 
-pub use refresh::{Refreshed, refresh};
+pub use refreshed::{Refreshed, refresh};

@@ -47,17 +47,17 @@ fn is_predefined(unit: &UnitKey) -> bool
     let is_declaration = unit.kind == al_base::UnitKind::Decl;
     let name = unit.name.as_slice();
     is_declaration
-        && (name == b"standard"
-            || name == b"ada"
-            || name == b"ada.text_io"
-            || name == b"ada.real_time")
+        && (name == b"standard".as_slice()
+            || name == b"ada".as_slice()
+            || name == b"ada.text_io".as_slice()
+            || name == b"ada.real_time".as_slice())
 }
 
 /// Whether a unit has an entry without faults.
-fn is_sound(entry: Option<&Entry>) -> bool
-    ensures { result ≡ is_sound (option_map outcome_of (option_copied entry)) }
+fn is_sound(held: Option<&Entry>) -> bool
+    ensures { result ≡ is_sound (option_map outcome_of (option_copied held.entry)) }
 {
-    match entry {
+    match held {
         Some(entry) => match entry.checked() {
             Checked::Faulty(_) => false,
             Checked::Sound(_, _) => true,
