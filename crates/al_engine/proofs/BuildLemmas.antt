@@ -32,7 +32,7 @@ picked-left P us vs u (left k p) h = left k (picked-left P _ _ u p h)
 
 -- a unit is the last one or one before it
 last-or-before : (us : List UnitKey) (u v : UnitKey) → has_unit (us ++ u ∷ []) v ≡ true → (has_unit us v ≡ true) ⊎ (v ≡ u)
-last-or-before us u v h = elim (has_unit-cases us (u ∷ []) v h) as (λ _. (has_unit us v ≡ true) ⊎ (v ≡ u)) [ | inl m ↦ inl m | inr m ↦ inr (one (same_unit v u) refl m) ]
+last-or-before us u v h = elim (has_unit-cases us (u ∷ []) v h) as (λ _. (has_unit us v ≡ true) ⊎ (v ≡ u)) [ inl m ↦ inl m | inr m ↦ inr (one (same_unit v u) refl m) ]
   where
     one : (b : Bool) → same_unit v u ≡ b → (b || false) ≡ true → v ≡ u
     one true is k = same_unit-one v u is
@@ -92,10 +92,10 @@ module _ (meaning : TextMeaning) (header : List ℕ → Header) (lib : Library) 
 
     -- a unit that is done, or breaks a rule, is another
     apart-done : (v : UnitKey) → has_unit done v ≡ true → same_unit u v ≡ false
-    apart-done v m = elim (tested (same_unit u v)) as (λ _. same_unit u v ≡ false) [ | inl k ↦ let n : has_unit done v ≡ false = subst (λ (x : UnitKey). has_unit done x ≡ false) (same_unit-one u v k) p.ordered.0 in absurd (cc) | inr k ↦ k ]
+    apart-done v m = elim (tested (same_unit u v)) as (λ _. same_unit u v ≡ false) [ inl k ↦ let n : has_unit done v ≡ false = subst (λ (x : UnitKey). has_unit done x ≡ false) (same_unit-one u v k) p.ordered.0 in absurd (cc) | inr k ↦ k ]
 
     apart-faulty : (v : UnitKey) → fl v ≡ false → same_unit u v ≡ false
-    apart-faulty v m = elim (tested (same_unit u v)) as (λ _. same_unit u v ≡ false) [ | inl k ↦ let n : fl v ≡ true = subst (λ (x : UnitKey). fl x ≡ true) (same_unit-one u v k) p.ordered.1 in absurd (cc) | inr k ↦ k ]
+    apart-faulty v m = elim (tested (same_unit u v)) as (λ _. same_unit u v ≡ false) [ inl k ↦ let n : fl v ≡ true = subst (λ (x : UnitKey). fl x ≡ true) (same_unit-one u v k) p.ordered.1 in absurd (cc) | inr k ↦ k ]
 
     fits-f : Fits at done f
     unfolding f
@@ -132,7 +132,7 @@ module _ (meaning : TextMeaning) (header : List ℕ → Header) (lib : Library) 
       progress here law picks = record {
         law = law;
         ordered = p.ordered.3;
-        there = λ v m. elim (last-or-before done u v m) as (λ _. fl v ≡ true) [ | inl k ↦ p.there v k | inr k ↦ subst (λ (x : UnitKey). fl x ≡ true) (sym k) p.ordered.1 ];
+        there = λ v m. elim (last-or-before done u v m) as (λ _. fl v ≡ true) [ inl k ↦ p.there v k | inr k ↦ subst (λ (x : UnitKey). fl x ≡ true) (sym k) p.ordered.1 ];
         undone = λ v m. not_yet v m (tested (has_unit done v)) (tested (same_unit u v));
         valid = λ g fits v m. elim (last-or-before done u v m) as (λ _. Valid meaning header lib fl pre is new g v) [
           | inl k ↦ valid-same g (fits-old g fits) v (others v (apart-done v k)) (p.valid g (fits-old g fits) v k)

@@ -1,7 +1,6 @@
 //! Checks the units of a library again that an edit reaches, and uses what was kept of the others.
 #![tactic(auto)]
 
-pub mod laws;
 mod present;
 mod refreshed;
 mod unit;

@@ -1,5 +1,6 @@
 // The answers of a build so far.
 ghost use Rattle.std.specs.Prelude.{◌≡◌, IfOk, map};
+ghost use Rattle.std.specs.List.{list_all};
 ghost use Rattle.std.specs.Option.{option_copied, option_map};
 ghost use Rattle.al_base.specs.Batch.{key_of};
 ghost use Rattle.al_query.specs.Known.{has_unit, predefined_units};
@@ -53,7 +54,7 @@ fn is_predefined(unit: &UnitKey) -> bool
             || name == b"ada.real_time".as_slice())
 }
 
-/// Whether a unit has an entry without faults.
+/// Whether what is held is there and without faults.
 fn is_sound(held: Option<&Entry>) -> bool
     ensures { result ≡ is_sound (option_map outcome_of (option_copied held.entry)) }
 {
@@ -66,6 +67,20 @@ fn is_sound(held: Option<&Entry>) -> bool
     }
 }
 
+/// Whether a unit has an entry without faults.
+fn has_sound(entries: &UnitMap<Entry>, unit: &UnitKey) -> bool
+    ensures { result ≡ is_sound (results_of (at_unit entries.now) unit.now) }
+{
+    is_sound(entries.get(unit))
+}
+
+/// Whether each of these units has an entry without faults.
+fn all_sound(entries: &UnitMap<Entry>, units: &[UnitKey]) -> bool
+    ensures { result ≡ list_all (λ u. is_sound (results_of (at_unit entries.now) u)) units.now }
+{
+    units.iter().all(|unit| has_sound(entries, unit))
+}
+
 /// Whether all on which a unit depends by itself has an entry without faults.
 pub(crate) fn rests_on_sound(
     sources: &Sources,
@@ -74,13 +89,8 @@ pub(crate) fn rests_on_sound(
 ) -> Result<bool, NoMemory>
     ensures { IfOk result (λ rests. rests ≡ has_sound_dependences sources.now (results_of (at_unit entries.now)) unit.now) }
 {
-    let keys = sources.direct(unit)?;
-    for key in &keys {
-        if !is_sound(entries.get(key)) {
-            return Ok(false);
-        }
-    }
-    Ok(true)
+    let units = sources.direct(unit)?;
+    Ok(all_sound(entries, units.as_slice()))
 }
 
 /// The text of a unit's file, shared; no bytes where it has none.

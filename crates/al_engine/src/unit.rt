@@ -22,15 +22,15 @@ use std::rc::Rc;
 fn current_entry<A: Answers>(
     old: &UnitMap<Entry>,
     unit: &UnitKey,
-    text: &[u8],
+    text: &Rc<Vec<u8>>,
     asked: &A,
 ) -> Result<Option<Entry>, NoMemory>
-    ensures { IfOk result (λ found. MatchOption found (HasCurrent (at_unit old.now unit.now) text.now (A.table asked.now) → ⊥) (λ e. (at_unit old.now unit.now ≡ Some e) × IsCurrent e text.now (A.table asked.now))) }
+    ensures { IfOk result (λ found. MatchOption found (HasCurrent (at_unit old.now unit.now) text.now.value.items (A.table asked.now) → ⊥) (λ e. (at_unit old.now unit.now ≡ Some e) × IsCurrent e text.now.value.items (A.table asked.now))) }
 {
     let Some(entry) = old.get(unit) else {
         return Ok(None);
     };
-    if entry.is_current(text, asked)? {
+    if entry.is_current(text.as_slice(), asked)? {
         Ok(Some(entry.share()?))
     } else {
         Ok(None)
@@ -83,7 +83,7 @@ pub(crate) fn refresh_unit<C: UnitCheck, P: Answers>(
         predefined,
         entries: &done.entries,
     };
-    if let Some(entry) = current_entry(old, unit, text.as_slice(), &present)? {
+    if let Some(entry) = current_entry(old, unit, &text, &present)? {
         done.entries.insert(copied_unit(alloc, unit)?, entry)?;
         return Ok(());
     }

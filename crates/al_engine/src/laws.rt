@@ -1,5 +1,0 @@
-//! Probe.
-ghost use Rattle.std.specs.Prelude.{◌≡◌, ℕ};
-pub fn probe()
-    ensures { (n : ℕ) → n ≡ n }
-{}
