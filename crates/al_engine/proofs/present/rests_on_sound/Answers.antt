@@ -11,4 +11,4 @@ use Rattle.al_engine.proofs.present.rests_on_sound.Goals as goal
 pub returns : goal.returns
 returns c =
     let sound : UnitKey → Bool = λ u. is_sound (results_of (at_unit c.args.entries.now) u) in
-    c.all_sound.ensures ∙ all-keys sound c.in_ok-units.units.items ∙ ap (list_all (λ (k : Key). sound (unit_named k))) c.in_ok-units.ensures
+    c.all_sound.ensures ∙ ap (list_all sound) c.as_slice.ensures.value ∙ all-keys sound c.in_ok-units.units.items ∙ ap (list_all (λ (k : Key). sound (unit_named k))) c.in_ok-units.ensures
