@@ -1,0 +1,2 @@
+pub mod EntryLaw
+pub mod Stored

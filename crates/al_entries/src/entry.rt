@@ -1,0 +1,119 @@
+// What is kept of a unit.
+ghost use Rattle.std.specs.Prelude.{◌≡◌, ◌↔◌, IfOk, IsTrue};
+ghost use Rattle.al_query.specs.Reads.{Agrees};
+ghost use Rattle.al_outcome.specs.Results.{table_entry};
+ghost use Rattle.al_entries.specs.EntryLaw.{IsCurrent};
+ghost use Rattle.al_entries.specs.Stored.{outcome_of};
+
+use al_base::NoMemory;
+use al_outcome::Checked;
+use al_query::{Answer, Answers, Query, ReadLog};
+use al_view::Same;
+use std::alloc::Global;
+use std::marker::Model;
+use std::rc::Rc;
+
+/// What an entry is made of.
+#[derive(Drop)]
+struct Kept {
+    text: Rc<Vec<u8>>,
+    log: ReadLog,
+    checked: Checked,
+}
+
+/// The text of a unit as it was checked, each question that the check asked with its answer, and the result. An entry is
+/// shared: a copy costs no more than a count.
+#[derive(Drop)]
+pub struct Entry {
+    kept: Rc<Kept>,
+}
+
+impl Model for Entry {
+    ghost use Rattle.std.specs.Coded.{codes};
+    ghost use Rattle.al_typed.specs.contracts.expression.Typed as expression;
+    ghost use Rattle.al_typed.specs.contracts.statement.TypedStatement as statement;
+    ghost use Rattle.al_entries.specs.Stored.{Stored};
+
+    ghost Value = { Stored };
+
+    ghost coded = { Prim.hlevel (codes, expression.the_row.coded, statement.the_row.coded) };
+
+    ghost view = { λ e. record { text = e.kept.value.text.value.items; log = e.kept.value.log; checked = e.kept.value.checked } };
+}
+
+impl Entry {
+    /// The entry of a text that was checked, with what was asked and the result. The text is shared.
+    pub fn new(
+        alloc: Global,
+        text: Rc<Vec<u8>>,
+        log: ReadLog,
+        checked: Checked,
+    ) -> Result<Entry, NoMemory>
+        ensures { IfOk result (λ entry. entry ≡ record { text = text.value.items; log = log; checked = checked }) }
+    {
+        let kept = Rc::new(alloc, Kept { text, log, checked })?;
+        Ok(Entry { kept })
+    }
+
+    /// The same entry once more.
+    pub fn share(&self) -> Result<Entry, NoMemory>
+        ensures { IfOk result (λ entry. entry ≡ self.now) }
+    {
+        let kept = self.kept.clone()?;
+        Ok(Entry { kept })
+    }
+
+    /// The text that was checked.
+    pub fn text(&self) -> &[u8]
+        ensures { result.now ≡ self.now.text }
+    {
+        self.kept.text.as_slice()
+    }
+
+    /// The questions that the check asked, with their answers.
+    pub fn log(&self) -> &ReadLog
+        ensures { result.now ≡ self.now.log }
+    {
+        &self.kept.log
+    }
+
+    /// What the check gave.
+    pub fn checked(&self) -> &Checked
+        ensures { result.now ≡ self.now.checked }
+    {
+        &self.kept.checked
+    }
+
+    /// The answer to a question of the unit.
+    pub fn answer(&self, alloc: Global, query: &Query) -> Result<Answer, NoMemory>
+        ensures { IfOk result (λ answer. answer ≡ table_entry (outcome_of self.now) query.now) }
+    {
+        self.checked().answer(alloc, query)
+    }
+
+    /// Whether the entry may be used again: it is for this text, and each question that its check asked has the answer that it had.
+    /// The answers are compared only where the text is the same.
+    pub fn is_current<A: Answers>(&self, text: &[u8], asked: &A) -> Result<bool, NoMemory>
+        ensures { IfOk result (λ is. IsTrue is ↔ IsCurrent self.now text.now (A.table asked.now)) }
+    {
+        if self.text() != text {
+            return Ok(false);
+        }
+        log_agrees(self.log(), asked)
+    }
+}
+
+/// Whether each recorded question has its recorded answer now.
+fn log_agrees<A: Answers>(log: &ReadLog, asked: &A) -> Result<bool, NoMemory>
+    ensures { IfOk result (λ agrees. IsTrue agrees ↔ Agrees (A.table asked.now) log.now) }
+{
+    for i in 0..log.len() {
+        if let Some((query, answer)) = log.at(i) {
+            let now = asked.ask(query)?;
+            if !now.is_same(answer) {
+                return Ok(false);
+            }
+        }
+    }
+    Ok(true)
+}
