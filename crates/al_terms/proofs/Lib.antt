@@ -1,0 +1,5 @@
+pub mod Fields
+pub mod FirstPlaces
+pub mod NameKeys
+pub mod Others
+pub mod Readings

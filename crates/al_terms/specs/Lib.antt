@@ -1,0 +1,6 @@
+pub mod Places
+pub mod Keys
+pub mod Signs
+pub mod Reads
+pub mod Actuals
+pub mod Tests
