@@ -35,21 +35,21 @@ pub enum Attribute {
 pub fn attribute_named(name: &[u8]) -> Attribute
     ensures { result ≡ attribute_named name.now }
 {
-    if name == b"first" {
+    if name == b"first".as_slice() {
         Attribute::First
-    } else if name == b"last" {
+    } else if name == b"last".as_slice() {
         Attribute::Last
-    } else if name == b"length" {
+    } else if name == b"length".as_slice() {
         Attribute::Length
-    } else if name == b"pos" {
+    } else if name == b"pos".as_slice() {
         Attribute::Pos
-    } else if name == b"val" {
+    } else if name == b"val".as_slice() {
         Attribute::Val
-    } else if name == b"succ" {
+    } else if name == b"succ".as_slice() {
         Attribute::Succ
-    } else if name == b"pred" {
+    } else if name == b"pred".as_slice() {
         Attribute::Pred
-    } else if name == b"image" {
+    } else if name == b"image".as_slice() {
         Attribute::Image
     } else {
         Attribute::Unknown

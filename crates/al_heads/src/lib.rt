@@ -12,7 +12,7 @@ mod predefined;
 mod read;
 
 pub use attribute::{Attribute, attribute_named, attribute_of_one, attribute_value, no_function, wrong_prefix};
-pub use head::{Argument, Head};
+pub use head::Head;
 pub use inner::{converted, given, qualified};
 pub use marks::{Prefix, mark_of, prefix_of};
 pub use named::{named, named_with, no_value, wrong_kind};

@@ -11,9 +11,9 @@ use Rattle.al_tree.specs.declared.expression.Infix.{Infix}
 use Rattle.al_tree.specs.declared.expression.Longer.{Longer, out-Longer}
 use Rattle.al_tree.specs.declared.expression.Member.{Member, out-Member}
 use Rattle.al_tree.specs.declared.expression.Prefixed.{Prefixed}
-use Rattle.al_terms.proofs.Fields.{infix_fields, longer_fields, member_fields, prefixed_fields}
-use Rattle.al_terms.specs.Keys.{Denotations}
-use Rattle.al_terms.specs.Places.{first_place}
+use Rattle.al_keys.proofs.Fields.{infix_fields, longer_fields, member_fields, prefixed_fields}
+use Rattle.al_keys.specs.Keys.{Denotations}
+use Rattle.al_keys.specs.Places.{first_place}
 use Rattle.al_terms.specs.Reads.{ActualsTree, MarkTree, all_actuals, mark_with, no_mark, not_yet, other_mark, other_with, part_with}
 
 pub longer_with : (d : Denotations) (n : Longer) (a : ActualsTree) → other_with d (longer_seen n) a ≡ part_with d (expression_seen (out-Longer n).prefix) (part_seen (out-Longer n).part) a

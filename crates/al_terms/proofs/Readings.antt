@@ -10,8 +10,8 @@ use Rattle.al_tree.specs.declared.expression.Infix.{Infix, out-Infix}
 use Rattle.al_tree.specs.declared.expression.Longer.{Longer, out-Longer}
 use Rattle.al_tree.specs.declared.expression.Member.{Member, out-Member}
 use Rattle.al_tree.specs.declared.expression.Prefixed.{Prefixed, out-Prefixed}
-use Rattle.al_terms.proofs.Fields.{infix_fields, longer_fields, member_fields, prefixed_fields}
-use Rattle.al_terms.specs.Keys.{Denotations}
+use Rattle.al_keys.proofs.Fields.{infix_fields, longer_fields, member_fields, prefixed_fields}
+use Rattle.al_keys.specs.Keys.{Denotations}
 use Rattle.al_terms.specs.Reads.{between, read}
 use Rattle.al_terms.specs.Signs.{prefix_sign, sign_of}
 

@@ -1,5 +1,3 @@
-pub mod Places
-pub mod Keys
 pub mod Signs
 pub mod Reads
 pub mod Actuals

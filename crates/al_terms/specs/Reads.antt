@@ -23,8 +23,8 @@ use Rattle.al_name.specs.Candidates.{giving}
 use Rattle.al_predefined.specs.Operators.{spelling}
 use Rattle.al_syntax.specs.ExpressionTrees.{ExpressionTree, ExpressionTree as e, ExpressionsTree, ExpressionsTree as es, GroupTree, GroupTree as g, PartTree, PartTree as part}
 use Rattle.al_view.specs.declared.view.ViewKind.{ViewKind}
-use Rattle.al_terms.specs.Keys.{Denotations, is_none, key_of, missing_name}
-use Rattle.al_terms.specs.Places.{first_place, group_place, place_of}
+use Rattle.al_keys.specs.Keys.{Denotations, is_none, key_of, missing_name}
+use Rattle.al_keys.specs.Places.{first_place, group_place, place_of}
 use Rattle.al_terms.specs.Signs.{prefix_sign, sign_of}
 use Rattle.al_terms.specs.declared.signs.Sign.{Sign}
 use Rattle.al_terms.specs.declared.signs.Sign.TheVariants as signs

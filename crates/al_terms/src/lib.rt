@@ -2,15 +2,10 @@
 //! names and with the contexts inside (ARM 4.1 to 4.7, 8.6). It asks no questions.
 #![tactic(auto)]
 
-mod keys;
 mod marks;
-mod names;
-mod places;
 mod reading;
 mod signs;
 mod wholes;
 
-pub use names::Names;
-pub use places::first_place;
 pub use reading::read;
 pub use signs::Sign;

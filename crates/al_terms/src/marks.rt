@@ -1,14 +1,12 @@
 // What stands behind `in` where no range does (ARM 4.4(3), 3.5(3)).
 ghost use Rattle.std.specs.Prelude.{◌≡◌, IfOk};
 ghost use Rattle.al_heads.specs.Reading.{read_seen};
-ghost use Rattle.al_terms.specs.Keys.{denoted};
+ghost use Rattle.al_keys.specs.Keys.{denoted};
 ghost use Rattle.al_terms.specs.Reads.{mark_read, mark_visible, mark_with, no_mark, other_mark, range_of, range_type, range_visible, within_mark};
 ghost use Rattle.al_terms.specs.Tests.{test_seen};
 ghost use Rattle.al_tree.specs.ExpressionViews.{expression_seen, part_seen};
 
-use crate::keys::{key_of, missing_name};
-use crate::names::Names;
-use crate::places::first_place;
+use al_keys::{Names, first_place, key_of, missing_name};
 use crate::wholes::{mark_fault, prefix_fault};
 use al_base::{NoMemory, Place, Rule};
 use al_choice::ValueType;

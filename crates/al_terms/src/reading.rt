@@ -5,14 +5,13 @@ ghost use Rattle.al_choice.specs.Labelling.{NoTree};
 ghost use Rattle.al_heads.specs.Reading.{operands_seen, read_seen, simply, sole};
 ghost use Rattle.al_name.specs.Candidates.{giving};
 ghost use Rattle.al_terms.specs.Actuals.{actuals_seen};
-ghost use Rattle.al_terms.specs.Keys.{denoted};
-ghost use Rattle.al_terms.specs.Places.{first_place};
+ghost use Rattle.al_keys.specs.Keys.{denoted};
+ghost use Rattle.al_keys.specs.Places.{first_place};
 ghost use Rattle.al_terms.specs.Reads.{between, is_last, not_yet, read, read_all, read_group};
 ghost use Rattle.al_tree.specs.ExpressionViews.{expression_seen, expressions_of, group_seen, infix_seen, longer_seen, member_seen, prefixed_seen};
 
 use crate::marks::within_mark;
-use crate::names::Names;
-use crate::places::{first_place, group_place};
+use al_keys::{Names, first_place, group_place};
 use crate::signs::{Sign, prefix_sign, sign_of};
 use crate::wholes::{
     Actuals, applied, attribute_alone, name_alone, not_yet, qualified_with,

@@ -2,13 +2,11 @@
 ghost use Rattle.std.specs.Prelude.{◌≡◌, IfOk};
 ghost use Rattle.al_heads.specs.Reading.{operands_seen, read_seen};
 ghost use Rattle.al_terms.specs.Actuals.{actuals_seen};
-ghost use Rattle.al_terms.specs.Keys.{denoted};
+ghost use Rattle.al_keys.specs.Keys.{denoted};
 ghost use Rattle.al_terms.specs.Reads.{all_actuals, applied, attribute_alone, attribute_with, called, conversion, function_of, mark_fault, name_alone, not_yet, other_with, part_with, prefix_fault, qualified_by, qualified_with, without_head};
 ghost use Rattle.al_tree.specs.ExpressionViews.{expression_seen, part_seen};
 
-use crate::keys::{is_none, key_of, missing_name};
-use crate::names::Names;
-use crate::places::first_place;
+use al_keys::{Names, first_place, is_none, key_of, missing_name};
 use al_base::{NoMemory, Place, Rule};
 use al_choice::ValueType;
 use al_heads::{

@@ -9,8 +9,8 @@ use Rattle.al_tree.specs.declared.expression.Infix.{Infix}
 use Rattle.al_tree.specs.declared.expression.Longer.{Longer, out-Longer}
 use Rattle.al_tree.specs.declared.expression.Member.{Member, out-Member}
 use Rattle.al_tree.specs.declared.expression.Prefixed.{Prefixed}
-use Rattle.al_terms.proofs.Fields.{infix_fields, longer_fields, member_fields, prefixed_fields}
-use Rattle.al_terms.specs.Keys.{Denotations, key_of, key_with, missing_name, missing_with}
+use Rattle.al_keys.proofs.Fields.{infix_fields, longer_fields, member_fields, prefixed_fields}
+use Rattle.al_keys.specs.Keys.{Denotations, key_of, key_with, missing_name, missing_with}
 
 pub longer_key : (n : Longer) → key_of (longer_seen n) ≡ key_with (key_of (expression_seen (out-Longer n).prefix)) (part_seen (out-Longer n).part)
 longer_key n = ap key_of (longer_fields n)

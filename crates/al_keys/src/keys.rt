@@ -1,7 +1,7 @@
 // Names of a text (ARM 4.1.3).
 ghost use Rattle.std.specs.Prelude.{◌≡◌, IfOk, option_map};
-ghost use Rattle.al_syntax.specs.ExpressionTrees.{PartTree as parts};
-ghost use Rattle.al_terms.specs.Keys.{denoted, dotted, is_none, key_of, key_with, missing_name, missing_with, not_visible, unless_selected, unless_visible};
+ghost use Rattle.std.specs.List.{list_any};
+ghost use Rattle.al_keys.specs.Keys.{denoted, dotted, is_awaited, is_none, key_of, key_with, missing_name, missing_with, not_visible, unless_awaited, unless_selected, unless_visible};
 ghost use Rattle.al_tree.specs.ExpressionViews.{expression_seen, part_seen};
 ghost use Rattle.al_tree.specs.Lexemes.{identifier_label};
 
@@ -9,11 +9,11 @@ use crate::names::Names;
 use al_base::{NoMemory, Rule};
 use al_judged::Fault;
 use al_tree::{Expression, Identifier, NamePart};
-use al_view::View;
+use al_view::{View, ViewKind};
 use std::alloc::Global;
 
 /// A name that is selected in another one.
-pub(crate) fn dotted(alloc: Global, prefix: &[u8], name: &[u8]) -> Result<Vec<u8>, NoMemory>
+pub fn dotted(alloc: Global, prefix: &[u8], name: &[u8]) -> Result<Vec<u8>, NoMemory>
     ensures { IfOk result (λ key. key.items ≡ dotted prefix.now name.now) }
 {
     let mut key = Vec::from_slice(alloc, prefix)?;
@@ -55,7 +55,7 @@ fn key_with(
 
 /// The name that an expression is, where it is one.
 #[tactic(auto, using(crate::proofs::NameKeys::longer_key, crate::proofs::NameKeys::prefixed_key, crate::proofs::NameKeys::infix_key, crate::proofs::NameKeys::member_key, al_tree::proofs::ExpressionsMade::expression_numeric_seen, al_tree::proofs::ExpressionsMade::expression_text_seen, al_tree::proofs::ExpressionsMade::expression_name_seen, al_tree::proofs::ExpressionsMade::expression_longer_seen, al_tree::proofs::ExpressionsMade::expression_prefixed_seen, al_tree::proofs::ExpressionsMade::expression_infix_seen, al_tree::proofs::ExpressionsMade::expression_member_seen, al_tree::proofs::ExpressionsMade::expression_group_seen))]
-pub(crate) fn key_of(alloc: Global, expression: &Expression) -> Result<Option<Vec<u8>>, NoMemory>
+pub fn key_of(alloc: Global, expression: &Expression) -> Result<Option<Vec<u8>>, NoMemory>
     ensures { IfOk result (λ key. option_map (λ k. k.items) key ≡ key_of (expression_seen expression.now)) }
 {
     match expression {
@@ -82,7 +82,7 @@ fn not_visible(identifier: &Identifier) -> Fault
     }
 }
 
-pub(crate) fn is_none(views: &[View]) -> bool
+pub fn is_none(views: &[View]) -> bool
     ensures { result ≡ is_none views.now }
 {
     match views {
@@ -101,7 +101,44 @@ fn unless_visible(names: &Names, key: &[u8], identifier: &Identifier) -> Option<
     }
 }
 
-/// E401 at a selector that isn't found where names can be selected.
+/// Whether its components or operations aren't looked for yet.
+fn is_awaited(view: &View) -> bool
+    ensures { result ≡ is_awaited view.now }
+{
+    match view.kind() {
+        ViewKind::OfObject(_) => true,
+        ViewKind::OfProtected(_) => true,
+        ViewKind::OfNumber(_) => false,
+        ViewKind::OfLiteral(_) => false,
+        ViewKind::OfSubprogram(_) => false,
+        ViewKind::OfComponent => false,
+        ViewKind::OfType(_) => false,
+        ViewKind::OfSubtype(_) => false,
+        ViewKind::OfTask(_) => false,
+        ViewKind::OfPackage(_) => false,
+    }
+}
+
+fn is_any_awaited(views: &[View]) -> bool
+    ensures { result ≡ list_any is_awaited views.now }
+{
+    views.iter().any(|view| is_awaited(view))
+}
+
+fn unless_awaited(prefix: &[View], identifier: &Identifier) -> Option<Fault>
+    ensures { result ≡ unless_awaited prefix.now (identifier_label identifier.now) }
+{
+    if is_any_awaited(prefix) {
+        Some(Fault {
+            place: identifier.place,
+            code: Rule::NotYet.number(),
+        })
+    } else {
+        None
+    }
+}
+
+/// E401 at a selector that isn't found where it was looked for.
 fn unless_selected(
     alloc: Global,
     names: &Names,
@@ -110,10 +147,11 @@ fn unless_selected(
 ) -> Result<Option<Fault>, NoMemory>
     ensures { IfOk result (λ fault. fault ≡ unless_selected (denoted names.now) prefix.now (identifier_label identifier.now)) }
 {
-    if is_none(names.prefixes.views(prefix)) {
-        return Ok(None);
-    }
     let key = dotted(alloc, prefix, identifier.name.as_slice())?;
+    if is_none(names.prefixes.views(key.as_slice())) {
+        let views = names.visible.views(prefix);
+        return Ok(unless_awaited(views, identifier));
+    }
     Ok(unless_visible(names, key.as_slice(), identifier))
 }
 
@@ -142,7 +180,7 @@ fn missing_with(
 
 /// E401 at the first identifier of a name that denotes nothing.
 #[tactic(auto, using(crate::proofs::NameKeys::longer_missing, crate::proofs::NameKeys::prefixed_missing, crate::proofs::NameKeys::infix_missing, crate::proofs::NameKeys::member_missing, al_tree::proofs::ExpressionsMade::expression_numeric_seen, al_tree::proofs::ExpressionsMade::expression_text_seen, al_tree::proofs::ExpressionsMade::expression_name_seen, al_tree::proofs::ExpressionsMade::expression_longer_seen, al_tree::proofs::ExpressionsMade::expression_prefixed_seen, al_tree::proofs::ExpressionsMade::expression_infix_seen, al_tree::proofs::ExpressionsMade::expression_member_seen, al_tree::proofs::ExpressionsMade::expression_group_seen))]
-pub(crate) fn missing_name(
+pub fn missing_name(
     alloc: Global,
     names: &Names,
     expression: &Expression,

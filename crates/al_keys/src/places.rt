@@ -1,6 +1,6 @@
 // Where an expression begins.
 ghost use Rattle.std.specs.Prelude.{◌≡◌};
-ghost use Rattle.al_terms.specs.Places.{first_place, group_place, place_of, prefix_place};
+ghost use Rattle.al_keys.specs.Places.{first_place, group_place, place_of, prefix_place};
 ghost use Rattle.al_tree.specs.ExpressionViews.{expression_seen, group_seen, prefix_seen};
 
 use al_base::Place;
@@ -20,7 +20,7 @@ fn prefix_place(operator: &PrefixOperator) -> Place
 }
 
 #[tactic(auto, using(al_tree::proofs::ExpressionsMade::group_positional_seen, al_tree::proofs::ExpressionsMade::group_others_aggregate_seen))]
-pub(crate) fn group_place(group: &Group) -> Place
+pub fn group_place(group: &Group) -> Place
     ensures { result ≡ group_place (group_seen group.now) }
 {
     match group {

@@ -7,6 +7,6 @@ use al_view::Interface;
 pub struct Names {
     /// The declarations that are visible under each name.
     pub visible: Interface,
-    /// Those of them in which names can be selected there: packages, protected objects, and constructs round the place (ARM 4.1.3(4, 13)).
+    /// Of each selected name, the declarations in which it was looked for: packages, and constructs round the place (ARM 4.1.3(4, 13)).
     pub prefixes: Interface,
 }

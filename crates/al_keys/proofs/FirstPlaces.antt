@@ -9,8 +9,8 @@ use Rattle.al_tree.specs.declared.expression.Infix.{Infix, out-Infix}
 use Rattle.al_tree.specs.declared.expression.Longer.{Longer, out-Longer}
 use Rattle.al_tree.specs.declared.expression.Member.{Member, out-Member}
 use Rattle.al_tree.specs.declared.expression.Prefixed.{Prefixed, out-Prefixed}
-use Rattle.al_terms.proofs.Fields.{infix_fields, longer_fields, member_fields, prefixed_fields}
-use Rattle.al_terms.specs.Places.{first_place, prefix_place}
+use Rattle.al_keys.proofs.Fields.{infix_fields, longer_fields, member_fields, prefixed_fields}
+use Rattle.al_keys.specs.Places.{first_place, prefix_place}
 
 pub longer_place : (n : Longer) → first_place (longer_seen n) ≡ first_place (expression_seen (out-Longer n).prefix)
 longer_place n = ap first_place (longer_fields n)

@@ -1,7 +1,8 @@
 -- Names of a text: an identifier, or one that is selected in what a name before it denotes (ARM 4.1.3).
-use Rattle.std.specs.Prelude.{ℕ, List, [], ◌∷◌, ◌++◌, Bool, true, false, ◌&&◌, not, Option, Some, None, option_map, if◌then◌else◌}
+use Rattle.std.specs.Prelude.{ℕ, List, [], ◌∷◌, ◌++◌, Bool, true, false, Option, Some, None, option_map, if◌then◌else◌}
+use Rattle.std.specs.List.{list_any}
 use Rattle.std.specs.Option.{option_or, option_map_or}
-use Rattle.al_base.specs.declared.rule.Rule.TheVariants.{NotVisible}
+use Rattle.al_base.specs.declared.rule.Rule.TheVariants.{NotVisible, NotYet}
 use Rattle.al_base.specs.Rules.{number_of}
 use Rattle.al_grammar.specs.Grammar.{Label}
 use Rattle.al_judged.specs.Faults.{fault_at}
@@ -9,10 +10,11 @@ use Rattle.al_judged.specs.declared.fault.Fault.{Fault}
 use Rattle.al_syntax.specs.ExpressionTrees.{ExpressionTree, ExpressionTree as e, PartTree, PartTree as part}
 use Rattle.al_view.specs.Interfaces.{views_of}
 use Rattle.al_view.specs.declared.view.ViewKind.{ViewKind}
-use Rattle.al_terms.specs.declared.names.Names.{Names}
-use Rattle.al_terms.specs.Places.{place_of}
+use Rattle.al_view.specs.declared.view.ViewKind.TheVariants as views
+use Rattle.al_keys.specs.declared.names.Names.{Names}
+use Rattle.al_keys.specs.Places.{place_of}
 
--- what names denote at a place: the declarations that are visible under a name, and those of them in which names can be selected there
+-- what names denote at a place: the declarations that are visible under a name; and where it was selected, those in which it was looked for
 pub record Denotations : Type 0 where
   pub visible : List ℕ → List ViewKind
   pub prefixes : List ℕ → List ViewKind
@@ -54,9 +56,26 @@ is_none (v ∷ vs) = false
 abbrev pub unless_visible : Denotations → List ℕ → Label → Option Fault
 unless_visible d key l = if is_none (d.visible key) then Some (not_visible l) else None
 
--- E401 at a selector that isn't found where names can be selected
+-- a component of an object and an operation of a protected object aren't looked for yet
+abbrev pub is_awaited : ViewKind → Bool
+is_awaited (views.OfObject o) = true
+is_awaited (views.OfProtected p) = true
+is_awaited (views.OfNumber value) = false
+is_awaited (views.OfLiteral l) = false
+is_awaited (views.OfSubprogram s) = false
+is_awaited views.OfComponent = false
+is_awaited (views.OfType t) = false
+is_awaited (views.OfSubtype s) = false
+is_awaited (views.OfTask t) = false
+is_awaited (views.OfPackage symbol) = false
+
+abbrev pub unless_awaited : List ViewKind → Label → Option Fault
+unless_awaited prefix l = if list_any is_awaited prefix then Some (fault_at (place_of l) (number_of NotYet)) else None
+
+-- E401 at a selector that isn't found where it was looked for
 abbrev pub unless_selected : Denotations → List ℕ → Label → Option Fault
-unless_selected d prefix l = if is_none (d.prefixes prefix) then None else unless_visible d (dotted prefix l.text) l
+unless_selected d prefix l =
+    if is_none (d.prefixes (dotted prefix l.text)) then unless_awaited (d.visible prefix) l else unless_visible d (dotted prefix l.text) l
 
 abbrev pub missing_with : Denotations → Option Fault → Option (List ℕ) → PartTree → Option Fault
 missing_with d before key (part.Selector l) = option_or before (option_map_or (λ k. unless_selected d k l) key None)
