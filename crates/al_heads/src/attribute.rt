@@ -180,12 +180,7 @@ pub fn attribute_value(
 }
 
 /// A function of one operand.
-fn taking(
-    alloc: Global,
-    wanted: Wanted,
-    of: ValueType,
-    operand: Read,
-) -> Result<Read, NoMemory>
+fn taking(alloc: Global, wanted: Wanted, of: ValueType, operand: Read) -> Result<Read, NoMemory>
     ensures { IfOk result (λ read. read_seen read ≡ taking wanted of (read_seen operand)) }
 {
     let operands = ReadOperands::one(alloc, operand)?;

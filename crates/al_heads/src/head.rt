@@ -20,6 +20,7 @@ pub enum Head {
 }
 
 /// These operands before others.
+#[tactic(auto, using(crate::proofs::HeadLemmas::one_more, crate::proofs::HeadLemmas::none_left))]
 fn before(
     alloc: Global,
     mut expressions: Vec<Expression>,
@@ -28,7 +29,7 @@ fn before(
     ensures { IfOk result (λ operands. plain_all operands ≡ trees_before (map plain expressions.items) (plain_all others)) }
 {
     let mut operands = others;
-    while let Some(expression) = expressions.pop() {
+    'operands: while let Some(expression) = expressions.pop() {
         operands = Operands::before(alloc, expression, operands)?;
     }
     Ok(operands)

@@ -11,11 +11,15 @@ mod operated;
 mod predefined;
 mod read;
 
-pub use attribute::{Attribute, attribute_named, attribute_of_one, attribute_value, no_function, wrong_prefix};
+pub use attribute::{
+    Attribute, attribute_named, attribute_of_one, attribute_value, no_function, wrong_prefix,
+};
 pub use head::Head;
 pub use inner::{converted, given, qualified};
 pub use marks::{Prefix, mark_of, prefix_of};
 pub use named::{named, named_with, no_value, wrong_kind};
-pub use operated::{binary, bounds, concatenation, short_circuit, unary, within_bounds, within_type};
+pub use operated::{
+    binary, bounds, concatenation, short_circuit, unary, within_bounds, within_type,
+};
 pub use predefined::Predefined;
 pub use read::{Read, ReadOperands};

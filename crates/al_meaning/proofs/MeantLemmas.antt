@@ -28,6 +28,7 @@ head_back t l (Err f) e = absurd cc
 pub one_meant : OneIsMeant
 one_meant place wanted r l m i =
     let t = tree_of r.head in
-    let law = one_acceptable place t wanted l in
-    ((λ e. law.0 (head_back t l (resolved place None t wanted) (sym (same_meaning place wanted r m i) ∙ e))),
-     (λ e. same_meaning place wanted r m i ∙ ap (with_head t) (law.1 e)))
+    let law = one_acceptable place t wanted l in (
+      (λ e. law.0 (head_back t l (resolved place None t wanted) (sym (same_meaning place wanted r m i) ∙ e))),
+      (λ e. same_meaning place wanted r m i ∙ ap (with_head t) (law.1 e)),
+    )

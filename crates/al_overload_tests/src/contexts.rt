@@ -8,11 +8,26 @@ fn bounds_are_of_one_type(rt: HostRuntime) -> Result<(), Fail> {
     let (own, integer) = (table.own_type()?, table.integer()?);
     table.declare_object(b"c", &own)?;
     table.declare_object(b"n", &integer)?;
-    assert_eq!(rt; table.fault_of_bounds(Context::PairOfBounds, b"1", b"10")?, None);
-    assert_eq!(rt; table.fault_of_bounds(Context::PairOfBounds, b" 1", b"True")?, Some((402, 2)));
-    assert_eq!(rt; table.fault_of_bounds(Context::PairOfBounds, b"C", b"N")?, Some((402, 1)));
-    assert_eq!(rt; table.fault_of_bounds(Context::PairOfBounds, b"False", b"True")?, None);
-    assert_eq!(rt; table.fault_of_bounds(Context::PairOfBounds, b"2 ** N", b"10")?, None);
+    assert_eq!(rt;
+        table.fault_of_bounds(Context::PairOfBounds, b"1", b"10")?,
+        None
+    );
+    assert_eq!(rt;
+        table.fault_of_bounds(Context::PairOfBounds, b" 1", b"True")?,
+        Some((402, 2))
+    );
+    assert_eq!(rt;
+        table.fault_of_bounds(Context::PairOfBounds, b"C", b"N")?,
+        Some((402, 1))
+    );
+    assert_eq!(rt;
+        table.fault_of_bounds(Context::PairOfBounds, b"False", b"True")?,
+        None
+    );
+    assert_eq!(rt;
+        table.fault_of_bounds(Context::PairOfBounds, b"2 ** N", b"10")?,
+        None
+    );
     let of_own = Context::BoundOf(table.own_type()?);
     assert_eq!(rt; table.fault_of_bounds(of_own, b"1", b"C")?, None);
     let of_own = Context::BoundOf(table.own_type()?);

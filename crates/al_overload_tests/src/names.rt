@@ -7,7 +7,10 @@ use std::test::Fail;
 fn a_missing_name_silences_its_context(rt: HostRuntime) -> Result<(), Fail> {
     let table = Table::new(rt.alloc())?;
     let source = Context::Source(table.integer()?);
-    assert_eq!(rt; table.fault(source, b"True + Integer (Y)")?, Some((401, 17)));
+    assert_eq!(rt;
+        table.fault(source, b"True + Integer (Y)")?,
+        Some((401, 17))
+    );
     let initial = Context::InitialValue(table.integer()?);
     assert_eq!(rt; table.fault(initial, b"Integer + Foo")?, Some((404, 1)));
     let initial = Context::InitialValue(table.integer()?);
@@ -24,7 +27,10 @@ fn what_is_no_value_is_of_a_wrong_kind(rt: HostRuntime) -> Result<(), Fail> {
     let initial = Context::InitialValue(table.integer()?);
     assert_eq!(rt; table.fault(initial, b"Q")?, Some((402, 1)));
     assert_eq!(rt; table.fault(Context::ProcedureCall, b"Q")?, None);
-    assert_eq!(rt; table.fault(Context::ProcedureCall, b"Q (1)")?, Some((402, 1)));
+    assert_eq!(rt;
+        table.fault(Context::ProcedureCall, b"Q (1)")?,
+        Some((402, 1))
+    );
     Ok(())
 }
 
@@ -65,8 +71,14 @@ fn attributes_want_their_prefixes(rt: HostRuntime) -> Result<(), Fail> {
     assert_eq!(rt; table.of_integer(b"Integer'Foo")?, Some((402, 1)));
     assert_eq!(rt; table.of_integer(b"Integer'Range")?, Some((402, 1)));
     assert_eq!(rt; table.of_integer(b"Foo'First")?, Some((401, 1)));
-    assert_eq!(rt; table.of_integer(b"Integer'Succ (R) + Boolean'Pos (R = 1)")?, None);
-    assert_eq!(rt; table.of_integer(b"Integer'Val (Boolean'Pos (Boolean'Val (Integer'Pos (R))))")?, None);
+    assert_eq!(rt;
+        table.of_integer(b"Integer'Succ (R) + Boolean'Pos (R = 1)")?,
+        None
+    );
+    assert_eq!(rt;
+        table.of_integer(b"Integer'Val (Boolean'Pos (Boolean'Val (Integer'Pos (R))))")?,
+        None
+    );
     assert_eq!(rt; table.of_integer(b"Boolean'Val (1)")?, Some((402, 1)));
     assert_eq!(rt; table.of_integer(b"Integer'Succ (True)")?, Some((402, 1)));
     assert_eq!(rt; table.of_integer(b"Integer'Succ (1, 2)")?, Some((402, 1)));
@@ -86,7 +98,10 @@ fn contexts_inside_are_told_at_their_own_places(rt: HostRuntime) -> Result<(), F
     assert_eq!(rt; table.of_integer(b"Integer (T'(1))")?, None);
     assert_eq!(rt; table.of_integer(b"Boolean (1 = 1)")?, Some((402, 1)));
     assert_eq!(rt; table.of_integer(b"Integer (1, 2)")?, Some((402, 1)));
-    assert_eq!(rt; table.of_integer(b"True + Integer (False)")?, Some((402, 1)));
+    assert_eq!(rt;
+        table.of_integer(b"True + Integer (False)")?,
+        Some((402, 1))
+    );
     Ok(())
 }
 
@@ -96,8 +111,14 @@ fn calls_are_contexts_with_their_arguments(rt: HostRuntime) -> Result<(), Fail> 
     let (integer, boolean) = (table.integer()?, table.boolean()?);
     table.declare_subprogram(b"q", &[integer], None)?;
     table.declare_subprogram(b"g", &[boolean], Some(table.integer()?))?;
-    assert_eq!(rt; table.fault(Context::ProcedureCall, b"Q (True)")?, Some((402, 1)));
-    assert_eq!(rt; table.fault(Context::ProcedureCall, b"Q (G (1 = 2) + 1)")?, None);
+    assert_eq!(rt;
+        table.fault(Context::ProcedureCall, b"Q (True)")?,
+        Some((402, 1))
+    );
+    assert_eq!(rt;
+        table.fault(Context::ProcedureCall, b"Q (G (1 = 2) + 1)")?,
+        None
+    );
     assert_eq!(rt; table.fault(Context::ProcedureCall, b"Q")?, Some((402, 1)));
     Ok(())
 }
@@ -106,10 +127,25 @@ fn calls_are_contexts_with_their_arguments(rt: HostRuntime) -> Result<(), Fail> 
 fn text_stands_where_it_is_put_out(rt: HostRuntime) -> Result<(), Fail> {
     let mut table = Table::new(rt.alloc())?;
     table.use_text_io()?;
-    assert_eq!(rt; table.fault(Context::ProcedureCall, b"Put_Line ((\"a\" & \"b\"))")?, None);
-    assert_eq!(rt; table.fault(Context::ProcedureCall, b"Put_Line (\"a\" & Integer'Image (1 + 2))")?, None);
-    assert_eq!(rt; table.fault(Context::ProcedureCall, b"Put_Line (Integer'Image (True))")?, Some((402, 26)));
-    assert_eq!(rt; table.fault(Context::ProcedureCall, b"Put_Line (1)")?, Some((402, 1)));
+    assert_eq!(rt;
+        table.fault(Context::ProcedureCall, b"Put_Line ((\"a\" & \"b\"))")?,
+        None
+    );
+    assert_eq!(rt;
+        table.fault(
+            Context::ProcedureCall,
+            b"Put_Line (\"a\" & Integer'Image (1 + 2))"
+        )?,
+        None
+    );
+    assert_eq!(rt;
+        table.fault(Context::ProcedureCall, b"Put_Line (Integer'Image (True))")?,
+        Some((402, 26))
+    );
+    assert_eq!(rt;
+        table.fault(Context::ProcedureCall, b"Put_Line (1)")?,
+        Some((402, 1))
+    );
     assert_eq!(rt; table.fault(Context::ProcedureCall, b"New_Line")?, None);
     assert_eq!(rt; table.of_integer(b"\"a\"")?, Some((402, 1)));
     Ok(())

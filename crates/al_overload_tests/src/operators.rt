@@ -9,7 +9,10 @@ fn powers_prefer_the_root_type(rt: HostRuntime) -> Result<(), Fail> {
     table.declare_object(b"n", &integer)?;
     table.use_own_type()?;
     assert_eq!(rt; table.fault(Context::Condition, b"2 ** N = 4")?, None);
-    assert_eq!(rt; table.fault(Context::Condition, b"2 ** N + 1 < 4 * 2 ** N")?, None);
+    assert_eq!(rt;
+        table.fault(Context::Condition, b"2 ** N + 1 < 4 * 2 ** N")?,
+        None
+    );
     Ok(())
 }
 
@@ -36,7 +39,10 @@ fn operators_of_a_type_want_to_be_visible(rt: HostRuntime) -> Result<(), Fail> {
     assert_eq!(rt; table.fault(Context::Condition, b"1 = 1")?, None);
     table.use_own_type()?;
     assert_eq!(rt; table.fault(Context::Condition, b"A = B")?, None);
-    assert_eq!(rt; table.fault(Context::Condition, b"A + 1 = 2 * B - 1")?, None);
+    assert_eq!(rt;
+        table.fault(Context::Condition, b"A + 1 = 2 * B - 1")?,
+        None
+    );
     Ok(())
 }
 
@@ -52,7 +58,10 @@ fn numbers_need_no_operator(rt: HostRuntime) -> Result<(), Fail> {
     let initial = Context::InitialValue(table.own_type()?);
     assert_eq!(rt; table.fault(initial, b"2 + Boolean'Pos (True)")?, None);
     let initial = Context::InitialValue(own);
-    assert_eq!(rt; table.fault(initial, b"2 + Boolean'Pos (5)")?, Some((402, 1)));
+    assert_eq!(rt;
+        table.fault(initial, b"2 + Boolean'Pos (5)")?,
+        Some((402, 1))
+    );
     Ok(())
 }
 
@@ -64,20 +73,38 @@ fn memberships_are_of_one_scalar_type(rt: HostRuntime) -> Result<(), Fail> {
     table.declare_own_type(b"t")?;
     assert_eq!(rt; table.fault(Context::Condition, b"1 in 0 .. 2")?, None);
     assert_eq!(rt; table.fault(Context::Condition, b"X in 1 .. 5")?, None);
-    assert_eq!(rt; table.fault(Context::Condition, b"X not in True .. 5")?, Some((402, 1)));
+    assert_eq!(rt;
+        table.fault(Context::Condition, b"X not in True .. 5")?,
+        Some((402, 1))
+    );
     assert_eq!(rt; table.fault(Context::Condition, b"X in T")?, None);
-    assert_eq!(rt; table.fault(Context::Condition, b"X in Integer")?, Some((402, 1)));
+    assert_eq!(rt;
+        table.fault(Context::Condition, b"X in Integer")?,
+        Some((402, 1))
+    );
     assert_eq!(rt; table.fault(Context::Condition, b"X in T'Range")?, None);
     assert_eq!(rt; table.fault(Context::Condition, b"X in 5")?, Some((404, 6)));
-    assert_eq!(rt; table.fault(Context::Condition, b"X in Foo")?, Some((401, 6)));
+    assert_eq!(rt;
+        table.fault(Context::Condition, b"X in Foo")?,
+        Some((401, 6))
+    );
     Ok(())
 }
 
 #[test]
 fn short_circuits_are_boolean(rt: HostRuntime) -> Result<(), Fail> {
     let table = Table::new(rt.alloc())?;
-    assert_eq!(rt; table.fault(Context::Condition, b"True and then 1 = 2")?, None);
-    assert_eq!(rt; table.fault(Context::Condition, b"True or else 1")?, Some((402, 1)));
-    assert_eq!(rt; table.fault(Context::Condition, b"not True and False")?, None);
+    assert_eq!(rt;
+        table.fault(Context::Condition, b"True and then 1 = 2")?,
+        None
+    );
+    assert_eq!(rt;
+        table.fault(Context::Condition, b"True or else 1")?,
+        Some((402, 1))
+    );
+    assert_eq!(rt;
+        table.fault(Context::Condition, b"not True and False")?,
+        None
+    );
     Ok(())
 }

@@ -195,14 +195,7 @@ impl Table {
     pub fn fault(&self, context: Context, text: &[u8]) -> Result<Option<(u16, u32)>, Fail> {
         let tree = parsed(self.alloc, text)?;
         let (predefined, types) = (&self.predefined, &self.types);
-        let judged = resolve(
-            self.alloc,
-            predefined,
-            types,
-            &self.names,
-            &context,
-            &tree,
-        )?;
+        let judged = resolve(self.alloc, predefined, types, &self.names, &context, &tree)?;
         Ok(told(judged))
     }
 

@@ -6,12 +6,12 @@ ghost use Rattle.al_terms.specs.Reads.{mark_read, mark_visible, mark_with, no_ma
 ghost use Rattle.al_terms.specs.Tests.{test_seen};
 ghost use Rattle.al_tree.specs.ExpressionViews.{expression_seen, part_seen};
 
-use al_keys::{Names, first_place, key_of, missing_name};
 use crate::wholes::{mark_fault, prefix_fault};
 use al_base::{NoMemory, Place, Rule};
 use al_choice::ValueType;
 use al_heads::{Attribute, Predefined, Prefix, Read, mark_of, prefix_of, within_type, wrong_kind};
 use al_judged::{Fault, earlier};
+use al_keys::{Names, first_place, key_of, missing_name};
 use al_tree::{Expression, NamePart};
 use al_view::View;
 use std::alloc::Global;

@@ -11,17 +11,15 @@ ghost use Rattle.al_terms.specs.Reads.{between, is_last, not_yet, read, read_all
 ghost use Rattle.al_tree.specs.ExpressionViews.{expression_seen, expressions_of, group_seen, infix_seen, longer_seen, member_seen, prefixed_seen};
 
 use crate::marks::within_mark;
-use al_keys::{Names, first_place, group_place};
 use crate::signs::{Sign, prefix_sign, sign_of};
-use crate::wholes::{
-    Actuals, applied, attribute_alone, name_alone, not_yet, qualified_with,
-};
+use crate::wholes::{Actuals, applied, attribute_alone, name_alone, not_yet, qualified_with};
 use al_base::NoMemory;
 use al_choice::Given;
 use al_heads::{
     Attribute, Head, Predefined, Read, ReadOperands, attribute_named, binary, concatenation, given,
     short_circuit, unary, within_bounds,
 };
+use al_keys::{Names, first_place, group_place};
 use al_tree::{Expression, Group, Infix, Longer, Member, NamePart, Prefixed};
 use std::alloc::Global;
 
@@ -142,7 +140,14 @@ fn read_infix(
 {
     let left = read(alloc, predefined, names, &infix.left)?;
     let right = read(alloc, predefined, names, &infix.right)?;
-    between(alloc, predefined, names, sign_of(infix.operator), left, right)
+    between(
+        alloc,
+        predefined,
+        names,
+        sign_of(infix.operator),
+        left,
+        right,
+    )
 }
 
 #[cycle(read)]

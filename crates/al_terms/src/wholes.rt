@@ -6,7 +6,6 @@ ghost use Rattle.al_keys.specs.Keys.{denoted};
 ghost use Rattle.al_terms.specs.Reads.{all_actuals, applied, attribute_alone, attribute_with, called, conversion, function_of, mark_fault, name_alone, not_yet, other_with, part_with, prefix_fault, qualified_by, qualified_with, without_head};
 ghost use Rattle.al_tree.specs.ExpressionViews.{expression_seen, part_seen};
 
-use al_keys::{Names, first_place, is_none, key_of, missing_name};
 use al_base::{NoMemory, Place, Rule};
 use al_choice::ValueType;
 use al_heads::{
@@ -15,6 +14,7 @@ use al_heads::{
     wrong_kind, wrong_prefix,
 };
 use al_judged::Fault;
+use al_keys::{Names, first_place, is_none, key_of, missing_name};
 use al_tree::{Expression, NamePart};
 use al_view::View;
 use std::alloc::Global;
@@ -60,7 +60,12 @@ pub(crate) fn name_alone(
     match key_of(alloc, name)? {
         Some(key) => {
             let missing = missing_name(alloc, names, name)?;
-            let read = named(alloc, predefined, place, names.visible.views(key.as_slice()))?;
+            let read = named(
+                alloc,
+                predefined,
+                place,
+                names.visible.views(key.as_slice()),
+            )?;
             Ok(read.with_missing(missing))
         }
         None => Ok(not_yet(alloc, place, ReadOperands::none())),
