@@ -236,18 +236,22 @@ fn tested(
     ensures { IfOk result (λ head. head_seen head ≡ tested of (plain_all operands)) }
 {
     match of {
-        Some(of) if of.class.is_discrete() => {
-            let mut wanted = Row::empty(alloc);
-            wanted.push(Wanted::Value(of))?;
-            let given = Given::Value(predefined.boolean().copy(alloc)?);
-            let candidate = Candidate {
-                operands: wanted,
-                given,
-                is_root: false,
-            };
-            Head::sole(alloc, candidate, operands)
+        Some(of) => {
+            if of.class.is_discrete() {
+                let mut wanted = Row::empty(alloc);
+                wanted.push(Wanted::Value(of))?;
+                let given = Given::Value(predefined.boolean().copy(alloc)?);
+                let candidate = Candidate {
+                    operands: wanted,
+                    given,
+                    is_root: false,
+                };
+                Head::sole(alloc, candidate, operands)
+            } else {
+                Ok(Head::nothing_with(alloc, operands))
+            }
         }
-        _ => Ok(Head::nothing_with(alloc, operands)),
+        None => Ok(Head::nothing_with(alloc, operands)),
     }
 }
 

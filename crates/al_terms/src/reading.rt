@@ -30,6 +30,16 @@ fn text(alloc: Global) -> Result<Read, NoMemory>
     Ok(Read::simply(head))
 }
 
+/// Whether nothing stands behind.
+fn is_last(others: &[Expression]) -> bool
+    ensures { result ≡ is_last (expressions_of (map expression_seen others.now)) }
+{
+    match others {
+        [] => true,
+        [_, ..] => false,
+    }
+}
+
 /// What stands between its operands.
 fn between(
     alloc: Global,
@@ -92,7 +102,7 @@ fn read_longer(
             let actuals = Actuals {
                 place: first_place(first),
                 first: read(alloc, predefined, names, first)?,
-                is_alone: others.is_empty(),
+                is_alone: is_last(others.as_slice()),
                 others: read_all(alloc, predefined, names, others.as_slice())?,
             };
             applied(alloc, predefined, names, &longer.prefix, actuals)
@@ -187,7 +197,7 @@ fn read_group(
     match group {
         Group::Positional(opening, first, others) => {
             let first = read(alloc, predefined, names, first)?;
-            if others.is_empty() {
+            if is_last(others.as_slice()) {
                 return Ok(first);
             }
             let others = read_all(alloc, predefined, names, others.as_slice())?;
