@@ -4,10 +4,10 @@ ghost use Rattle.al_choice.specs.declared.types.Given.TheVariants as g;
 ghost use Rattle.al_heads.specs.Attributes.{array_value, attribute_named, attribute_of_one, attribute_value, is_known, is_of_arrays, is_of_scalars, is_prefix, no_function, position, scalar_function, scalar_value, taking, wrong_prefix};
 ghost use Rattle.al_heads.specs.Reading.{head_seen, one_operand, operands_seen, read_seen};
 
+use crate::by_name::wrong_kind;
 use crate::head::Head;
 use crate::inner::{a_value, given, round};
 use crate::marks::Prefix;
-use crate::named::wrong_kind;
 use crate::read::{Read, ReadOperands};
 use al_base::{NoMemory, Place};
 use al_choice::{Candidate, Given, Operands, ValueType, Wanted};

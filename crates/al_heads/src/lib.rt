@@ -3,10 +3,10 @@
 #![tactic(auto)]
 
 mod attribute;
+mod by_name;
 mod head;
 mod inner;
 mod marks;
-mod named;
 mod operated;
 mod predefined;
 mod read;
@@ -14,10 +14,10 @@ mod read;
 pub use attribute::{
     Attribute, attribute_named, attribute_of_one, attribute_value, no_function, wrong_prefix,
 };
+pub use by_name::{named, named_with, no_value, wrong_kind};
 pub use head::Head;
 pub use inner::{converted, given, qualified};
 pub use marks::{Prefix, mark_of, prefix_of};
-pub use named::{named, named_with, no_value, wrong_kind};
 pub use operated::{
     binary, bounds, concatenation, short_circuit, unary, within_bounds, within_type,
 };
