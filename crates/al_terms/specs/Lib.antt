@@ -1,4 +1,0 @@
-pub mod Signs
-pub mod Reads
-pub mod Actuals
-pub mod Tests
