@@ -1,5 +1,5 @@
 -- What a declaration may be where its name stands in an expression (ARM 8.6).
-use Rattle.std.specs.Prelude.{Bool, true, false, List, [], ◌∷◌, map, fold, Option, Some, None}
+use Rattle.std.specs.Prelude.{Bool, true, false, List, [], ◌∷◌, map, fold, codes, Option, Some, None, if◌then◌else◌}
 use Rattle.std.specs.Option.{option_map_or}
 use Rattle.al_choice.specs.Labelling.{Tree, with_candidate}
 use Rattle.al_choice.specs.declared.term.Candidate.{Candidate}
@@ -7,6 +7,7 @@ use Rattle.al_choice.specs.declared.types.Given.{Given}
 use Rattle.al_choice.specs.declared.types.Given.TheVariants as g
 use Rattle.al_choice.specs.declared.types.Wanted.{Wanted}
 use Rattle.al_choice.specs.declared.types.Wanted.TheVariants as w
+use Rattle.al_predefined.specs.Operators.{standard_symbol}
 use Rattle.al_predefined.specs.StandardTypes.{type_of}
 use Rattle.al_view.specs.Symbols.{same_symbol}
 use Rattle.al_view.specs.declared.symbol.Symbol.{Symbol}
@@ -27,8 +28,13 @@ use Rattle.al_name.specs.Types.{value_type}
 abbrev pub giving : Given → Candidate
 giving given = record { operands = []; given = given; is_root = false }
 
+-- the type of what is put out (ARM A.10.7), which no declaration names
+abbrev pub string : Symbol
+string = standard_symbol (codes "string")
+
+-- what a formal parameter wants: text, where it is of that type
 abbrev pub wanted_of : List TypeView → Parameter → Wanted
-wanted_of types p = w.Value (value_type types p.subtype.base)
+wanted_of types p = if same_symbol string p.subtype.base then w.Text else w.Value (value_type types p.subtype.base)
 
 abbrev pub given_by : List TypeView → Option Subtype → Given
 given_by types None = g.Nothing

@@ -1,14 +1,15 @@
 // What a declaration may be where its name stands in an expression (ARM 8.6).
 ghost use Rattle.std.specs.Prelude.{◌≡◌, [], map, IfOk, OnOk};
 ghost use Rattle.al_choice.specs.Counts.{plain};
-ghost use Rattle.al_name.specs.Candidates.{called, candidates_of, component_in, given_by, giving, indexed, is_no_value, is_root, object_candidates, wanted_of};
+ghost use Rattle.al_name.specs.Candidates.{called, candidates_of, component_in, given_by, giving, indexed, is_no_value, is_root, object_candidates, string, wanted_of};
+ghost use Rattle.al_view.specs.Symbols.{same_symbol};
 ghost use Rattle.al_choice.specs.Labelling.{with_candidate};
 ghost use Rattle.al_choice.specs.declared.types.Given.TheVariants as g;
 ghost use Rattle.al_name.specs.Candidates.{with_candidates};
 ghost use Rattle.al_name.specs.Types.{value_type};
 
 use crate::class::value_type;
-use al_base::NoMemory;
+use al_base::{NoMemory, UnitKind};
 use al_choice::{Candidate, Expression, Given, Wanted};
 use al_predefined::StandardTypes;
 use al_view::{
@@ -28,8 +29,34 @@ pub(crate) fn giving(alloc: Global, given: Given) -> Candidate
     }
 }
 
-/// What the formal parameters want of the actual ones, in their order.
+/// Whether this is the type of what is put out, which no declaration names.
+fn is_string(symbol: &Symbol) -> bool
+    ensures { result ≡ same_symbol string symbol.now }
+{
+    matches!(symbol.unit.kind, UnitKind::Decl)
+        && b"standard".as_slice() == symbol.unit.name.as_slice()
+        && b"string".as_slice() == symbol.name.as_slice()
+        && 0 == symbol.number
+}
+
+/// What a formal parameter wants of the actual one.
 fn wanted_of(
+    alloc: Global,
+    standard: &StandardTypes,
+    types: &Types,
+    parameter: &Parameter,
+) -> Result<Wanted, NoMemory>
+    ensures { IfOk result (λ wanted. wanted ≡ wanted_of types.now parameter.now) }
+{
+    if is_string(&parameter.subtype.base) {
+        return Ok(Wanted::Text);
+    }
+    let of = value_type(alloc, standard, types, &parameter.subtype.base)?;
+    Ok(Wanted::Value(of))
+}
+
+/// What the formal parameters want of the actual ones, in their order.
+fn wanted_all(
     alloc: Global,
     standard: &StandardTypes,
     types: &Types,
@@ -39,8 +66,7 @@ fn wanted_of(
 {
     let mut wanted = Row::empty(alloc);
     for parameter in parameters {
-        let of = value_type(alloc, standard, types, &parameter.subtype.base)?;
-        wanted.push(Wanted::Value(of))?;
+        wanted.push(wanted_of(alloc, standard, types, parameter)?)?;
     }
     Ok(wanted)
 }
@@ -86,7 +112,7 @@ fn called(
 {
     let types = &subprogram.types;
     let parameters = subprogram.profile.parameters.as_slice();
-    let operands = wanted_of(alloc, standard, types, parameters)?;
+    let operands = wanted_all(alloc, standard, types, parameters)?;
     let given = given_by(alloc, standard, types, &subprogram.profile.result)?;
     Ok(Candidate {
         operands,

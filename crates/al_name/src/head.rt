@@ -5,7 +5,7 @@ ghost use Rattle.al_choice.specs.Counts.{plain, plain_all};
 ghost use Rattle.al_choice.specs.Labelling.{Node};
 ghost use Rattle.al_judged.specs.Judging.{seen_by};
 ghost use Rattle.al_name.specs.Candidates.{is_no_value, with_all};
-ghost use Rattle.al_name.specs.Heads.{named, operated};
+ghost use Rattle.al_name.specs.Heads.{all_candidates, named, operated};
 
 use crate::candidate::{add_candidates, is_no_value};
 use al_base::{NoMemory, Place, Rule};
@@ -32,15 +32,31 @@ fn add_all(
     Ok(())
 }
 
-fn is_any_no_value(views: &[View]) -> bool
+/// Whether one of these is no value and no call.
+pub fn is_any_no_value(views: &[View]) -> bool
     ensures { result ≡ list_any is_no_value views.now }
 {
     views.iter().any(|view| is_no_value(view))
 }
 
+/// A head with all that these declarations may be.
+#[tactic(auto, using(crate::proofs::Added::all_added))]
+pub fn all_of(
+    alloc: Global,
+    standard: &StandardTypes,
+    root: &Symbol,
+    visible: &[View],
+    operands: Operands,
+) -> Result<Expression, NoMemory>
+    ensures { IfOk result (λ head. plain head ≡ all_candidates root.now visible.now (plain_all operands)) }
+{
+    let mut head = Expression::new(alloc, operands);
+    add_all(alloc, standard, root, &mut head, visible)?;
+    Ok(head)
+}
+
 /// A name where a value or a call is wanted, with the actual parameters or the index behind it: by what is visible under it.
 /// E401 where nothing is; E404 where that is no value and no call.
-#[tactic(auto, using(crate::proofs::Added::all_added))]
 pub fn name(
     alloc: Global,
     standard: &StandardTypes,
@@ -59,8 +75,7 @@ pub fn name(
         let code = Rule::WrongKind.number();
         return Ok(Err(Fault { place, code }));
     }
-    let mut head = Expression::new(alloc, operands);
-    add_all(alloc, standard, root, &mut head, visible)?;
+    let head = all_of(alloc, standard, root, visible, operands)?;
     Ok(Ok(head))
 }
 

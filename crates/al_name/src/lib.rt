@@ -6,4 +6,4 @@ mod class;
 mod head;
 
 pub use class::value_type;
-pub use head::{name, operator, sole};
+pub use head::{all_of, is_any_no_value, name, operator, sole};

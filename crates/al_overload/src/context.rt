@@ -64,7 +64,7 @@ fn value(alloc: Global, of: &ValueType) -> Result<Wanted, NoMemory>
 }
 
 /// The operand of a conversion: where the target is an integer type, of any one.
-fn converted_to(alloc: Global, target: &ValueType) -> Result<Wanted, NoMemory>
+pub fn converted_to(alloc: Global, target: &ValueType) -> Result<Wanted, NoMemory>
     ensures { IfOk result (λ wanted. wanted ≡ converted_to target.now) }
 {
     if target.class.is_integer() {

@@ -6,6 +6,6 @@ mod context;
 mod laws;
 mod meaning;
 
-pub use context::{Context, PredefinedTypes, wanted_in};
+pub use context::{Context, PredefinedTypes, converted_to, wanted_in};
 pub use laws::{faults_tell_why, one_is_acceptable};
 pub use meaning::resolve;

@@ -1,0 +1,50 @@
+// Where an expression begins.
+ghost use Rattle.std.specs.Prelude.{◌≡◌};
+ghost use Rattle.al_keys.specs.Places.{first_place, group_place, place_of, prefix_place};
+ghost use Rattle.al_tree.specs.ExpressionViews.{expression_seen, group_seen, prefix_seen};
+
+use al_base::Place;
+use al_tree::{Expression, Group, PrefixOperator, Sign};
+
+fn prefix_place(operator: &PrefixOperator) -> Place
+    ensures { result ≡ prefix_place (prefix_seen operator.now) }
+{
+    match operator {
+        PrefixOperator::Sign(sign) => match sign {
+            Sign::Plus(place) => *place,
+            Sign::Minus(place) => *place,
+        },
+        PrefixOperator::Absolute(place) => *place,
+        PrefixOperator::Negation(place) => *place,
+    }
+}
+
+#[tactic(auto, using(al_tree::proofs::ExpressionsMade::group_positional_seen, al_tree::proofs::ExpressionsMade::group_others_aggregate_seen))]
+pub fn group_place(group: &Group) -> Place
+    ensures { result ≡ group_place (group_seen group.now) }
+{
+    match group {
+        Group::Positional(opening, _, _) => *opening,
+        Group::OthersAggregate(opening, _) => *opening,
+    }
+}
+
+/// The first token of an expression.
+#[tactic(auto, using(crate::proofs::FirstPlaces::longer_place, crate::proofs::FirstPlaces::prefixed_place, crate::proofs::FirstPlaces::infix_place, crate::proofs::FirstPlaces::member_place, al_tree::proofs::ExpressionsMade::expression_numeric_seen, al_tree::proofs::ExpressionsMade::expression_text_seen, al_tree::proofs::ExpressionsMade::expression_name_seen, al_tree::proofs::ExpressionsMade::expression_longer_seen, al_tree::proofs::ExpressionsMade::expression_prefixed_seen, al_tree::proofs::ExpressionsMade::expression_infix_seen, al_tree::proofs::ExpressionsMade::expression_member_seen, al_tree::proofs::ExpressionsMade::expression_group_seen))]
+pub fn first_place(expression: &Expression) -> Place
+    ensures { result ≡ first_place (expression_seen expression.now) }
+{
+    let mut rest = expression;
+    loop {
+        rest = match rest {
+            Expression::Longer(longer) => &longer.prefix,
+            Expression::Infix(infix) => &infix.left,
+            Expression::Member(member) => &member.left,
+            Expression::Numeric(literal) => return literal.place,
+            Expression::Text(literal) => return literal.place,
+            Expression::Name(identifier) => return identifier.place,
+            Expression::Prefixed(prefixed) => return prefix_place(&prefixed.operator),
+            Expression::Group(group) => return group_place(group),
+        };
+    }
+}
