@@ -1,3 +1,4 @@
 pub mod Elaboration
 pub mod Missing
 pub mod Faults
+pub mod Numbers

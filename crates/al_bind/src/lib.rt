@@ -4,5 +4,6 @@
 mod lacking;
 pub mod laws;
 mod missing;
+mod places;
 
 pub use lacking::{Lack, first_lack};
