@@ -2,3 +2,4 @@ pub mod Elaboration
 pub mod Missing
 pub mod Faults
 pub mod Numbers
+pub mod Parts

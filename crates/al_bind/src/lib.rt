@@ -4,6 +4,7 @@
 mod lacking;
 pub mod laws;
 mod missing;
+mod parts;
 mod places;
 
 pub use lacking::{Lack, first_lack};
