@@ -1,3 +1,4 @@
 pub mod Least
 pub mod PlaceLemmas
 pub mod PartLemmas
+pub mod TieLemmas

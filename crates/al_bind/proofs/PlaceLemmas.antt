@@ -64,7 +64,7 @@ narrowed_high ks k low high m sorted n l h is =
     let w = n.within in
     record { fits = l; within = omega arith; below = n.below; above = λ j a b. above_too ks k j m sorted b is (cases_lt m j) a }
 
-key_itself : (k : Key) → key_cmp k k ≡ Equal
+pub key_itself : (k : Key) → key_cmp k k ≡ Equal
 key_itself k = tied_itself key_total k
 
 pub narrowed_none : (ks : List Key) (k : Key) (low high : ℕ) → IsNarrowed ks k low high → high ≤ low → Contains ks k → ⊥

@@ -5,7 +5,9 @@ use Rattle.al_base.specs.Batch.{Key, key_of}
 use Rattle.al_base.specs.declared.unit_key.UnitKind.TheVariants.{Decl, Body, Sub}
 use Rattle.al_order.specs.declared.tie.Tie.{Tie}
 use Rattle.al_order.specs.declared.tie.Reason.{Reason}
+use Rattle.al_order.specs.declared.tie.Reason.TheVariants.{ElaborateAll}
 use Rattle.al_unit_graph.specs.Headers.{Library}
+use Rattle.al_unit_graph.specs.Library.{is_unit}
 use Rattle.al_unit_graph.specs.Needed.{Needed, ListsUnits}
 use Rattle.al_unit_graph.specs.Orders.{key_cmp}
 use Rattle.std.specs.List.Sorted.{IsStrictlySortedBy}
@@ -42,9 +44,10 @@ pub record AreNumbered (lib : Library) (main : List ℕ) (keys : List Key) (ties
   pub lists : ListsUnits lib keys (Needed lib main)
   pub tells : (t : Tie) → Contains ties t ↔ TellsEdge lib main keys t
 
--- the code's places: keys in their order, and the nodes among them
+-- the code's places: units of the library in the order of their keys, and the nodes among them
 pub record ArePlaces (lib : Library) (places : Places) : Type 0 where
   pub ascend : IsStrictlySortedBy key_cmp (map key_of places.keys.items)
+  pub units : (k : Key) → Contains (map key_of places.keys.items) k → is_unit lib k ≡ true
   pub nodes : map key_of places.nodes.items ≡ nodes_among lib (map key_of places.keys.items)
 
 -- where an item and its node stand
@@ -66,12 +69,24 @@ pub record TiesTo (lib : Library) (keys : List Key) (x : End) (y : Key) (tie : T
 abbrev pub TiesBy : Library → List Key → End → (Reason → Key → Type 0) → Tie → Type 0
 TiesBy lib keys x R tie = (y : Key) × R tie.reason y × TiesTo lib keys x y tie
 
+-- this item alone, for this reason
+abbrev pub IsFor : Reason → Key → Reason → Key → Type 0
+IsFor reason key r k = (r ≡ reason) × (key ≡ k)
+
+-- what the pragma Elaborate_All wants of a unit of this name: its body, and all that its declaration needs
+abbrev pub IsForAll : Library → List ℕ → Reason → Key → Type 0
+IsForAll lib q r k = IsFor ElaborateAll (q, Body) r k ⊎ ((r ≡ ElaborateAll) × Needed lib q k)
+
 -- a tie of an edge that this item carries
 pub record TiesFrom (lib : Library) (keys : List Key) (x : Key) (tie : Tie) : Type 0 where
   pub end : End
   pub is_end : IsEnd lib keys x end
   pub ties : TiesBy lib keys end (λ reason y. Follows lib reason x y) tie
 
+-- one that is so by some member of a list
+abbrev pub OneOf : {X : Type 0} → List X → (X → Tie → Type 0) → Tie → Type 0
+OneOf {X} zs P t = (z : X) × Contains zs z × P z t
+
 -- with the ties that are so, and no others
-abbrev pub Adds : List Tie → List Tie → (Tie → Type 0) → Type 0
-Adds old new P = (t : Tie) → Contains new t ↔ (Contains old t ⊎ P t)
+pub record Adds (old new : List Tie) (P : Tie → Type 0) : Type 0 where
+  pub each : (t : Tie) → Contains new t ↔ (Contains old t ⊎ P t)

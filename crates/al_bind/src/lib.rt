@@ -6,5 +6,6 @@ pub mod laws;
 mod missing;
 mod parts;
 mod places;
+mod ties;
 
 pub use lacking::{Lack, first_lack};
