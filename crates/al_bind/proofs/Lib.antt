@@ -2,3 +2,4 @@ pub mod Least
 pub mod PlaceLemmas
 pub mod PartLemmas
 pub mod TieLemmas
+pub mod EdgeLemmas
