@@ -3,3 +3,4 @@ pub mod Missing
 pub mod Faults
 pub mod Numbers
 pub mod Parts
+pub mod Binding
