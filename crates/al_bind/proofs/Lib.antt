@@ -3,3 +3,4 @@ pub mod PlaceLemmas
 pub mod PartLemmas
 pub mod TieLemmas
 pub mod EdgeLemmas
+pub mod BindLemmas
