@@ -76,14 +76,18 @@ module _ (lib : Library) (main : List ℕ) (items : List UnitKey) (sorted : IsSt
       let from : TiesFrom lib keys edge.x t = record {
         end = record { item = t.x; node = t.after };
         is_end = record { item_kind = edge.carries.after.2; item_at = edge.x_at; node_at = edge.after_at };
-        ties = (edge.y, edge.carries.follows, record {
-          y_kind = edge.carries.before.2;
-          x_is = refl;
-          after_is = refl;
-          y_at = edge.y_at;
-          before_at = edge.before_at;
-          apart = λ e. edge.carries.apart (same_at (nodes_among lib keys) (node_of lib edge.x) (node_of lib edge.y) t.after edge.after_at (subst (λ (i : ℕ). IsAt (nodes_among lib keys) (node_of lib edge.y) i) (sym e) edge.before_at));
-        });
+        ties = (
+          edge.y,
+          edge.carries.follows,
+          record {
+            y_kind = edge.carries.before.2;
+            x_is = refl;
+            after_is = refl;
+            y_at = edge.y_at;
+            before_at = edge.before_at;
+            apart = λ e. edge.carries.apart (same_at (nodes_among lib keys) (node_of lib edge.x) (node_of lib edge.y) t.after edge.after_at (subst (λ (i : ℕ). IsAt (nodes_among lib keys) (node_of lib edge.y) i) (sym e) edge.before_at));
+          },
+        );
       } in
       (f.0, f.1, subst (λ (k : Key). TiesFrom lib keys k t) (sym f.2) from)
 

@@ -42,12 +42,12 @@ parts_further lib x keys i key so_far within is =
       begun = Contains-append_left keys (subunits_at lib key) x so_far.begun;
       closed = λ k d q l m c. elim (cases_lt k i) [
         | inl before ↦
-          let w : k < length keys = omega (arith, before, within) in
-          Contains-append_left keys (subunits_at lib key) q (so_far.closed k d q before w (subst (λ (j : Key). Contains (subunits_at lib j) q) (get_or_append_left keys (subunits_at lib key) d k w) c))
+            let w : k < length keys = omega (arith, before, within) in
+            Contains-append_left keys (subunits_at lib key) q (so_far.closed k d q before w (subst (λ (j : Key). Contains (subunits_at lib j) q) (get_or_append_left keys (subunits_at lib key) d k w) c))
         | inr behind ↦
-          let e : k ≡ i = omega (arith, behind, l) in
-          let same : get_or (keys ++ subunits_at lib key) k d ≡ key = ap (λ (n : ℕ). get_or (keys ++ subunits_at lib key) n d) e ∙ get_or_append_left keys (subunits_at lib key) d i within ∙ get_or_default keys i d key within ∙ is in
-          Contains-append_right keys (subunits_at lib key) q (subst (λ (j : Key). Contains (subunits_at lib j) q) same c)
+            let e : k ≡ i = omega (arith, behind, l) in
+            let same : get_or (keys ++ subunits_at lib key) k d ≡ key = ap (λ (n : ℕ). get_or (keys ++ subunits_at lib key) n d) e ∙ get_or_append_left keys (subunits_at lib key) d i within ∙ get_or_default keys i d key within ∙ is in
+            Contains-append_right keys (subunits_at lib key) q (subst (λ (j : Key). Contains (subunits_at lib j) q) same c)
       ];
     }
 

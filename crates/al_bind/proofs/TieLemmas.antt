@@ -32,30 +32,33 @@ pub adds_none : (old : List Tie) (P : Tie → Type 0) → ((t : Tie) → P t →
 adds_none old P none = record { each = λ t. ((λ c. inl c), (λ h. elim h [ inl c ↦ c | inr p ↦ absurd (none t p) ])) }
 
 pub adds_both : (old mid new : List Tie) (P Q : Tie → Type 0) → Adds old mid P → Adds mid new Q → Adds old new (λ t. P t ⊎ Q t)
-adds_both old mid new P Q first second = record { each = λ t. (
-  (λ c. elim ((second.each t).0 c) [
-    | inl m ↦ elim ((first.each t).0 m) [ inl o ↦ inl o | inr p ↦ inr (inl p) ]
-    | inr q ↦ inr (inr q)
-  ]),
-  (λ h. elim h [
-    | inl o ↦ (second.each t).1 (inl ((first.each t).1 (inl o)))
-    | inr pq ↦ elim pq [ inl p ↦ (second.each t).1 (inl ((first.each t).1 (inr p))) | inr q ↦ (second.each t).1 (inr q) ]
-  ]),
-) }
+adds_both old mid new P Q first second = record {
+  each = λ t. (
+    (λ c. elim ((second.each t).0 c) [
+      | inl m ↦ elim ((first.each t).0 m) [ inl o ↦ inl o | inr p ↦ inr (inl p) ]
+      | inr q ↦ inr (inr q)
+    ]),
+    (λ h. elim h [
+      | inl o ↦ (second.each t).1 (inl ((first.each t).1 (inl o)))
+      | inr pq ↦ elim pq [ inl p ↦ (second.each t).1 (inl ((first.each t).1 (inr p))) | inr q ↦ (second.each t).1 (inr q) ]
+    ]),
+  );
+}
 
 pub adds_same : (old new : List Tie) (P Q : Tie → Type 0) → Adds old new P → ((t : Tie) → P t ↔ Q t) → Adds old new Q
-adds_same old new P Q adds same = record { each = λ t. (
-  (λ c. elim ((adds.each t).0 c) [ inl o ↦ inl o | inr p ↦ inr ((same t).0 p) ]),
-  (λ h. elim h [ inl o ↦ (adds.each t).1 (inl o) | inr q ↦ (adds.each t).1 (inr ((same t).1 q)) ]),
-) }
+adds_same old new P Q adds same = record {
+  each = λ t. (
+    (λ c. elim ((adds.each t).0 c) [ inl o ↦ inl o | inr p ↦ inr ((same t).0 p) ]),
+    (λ h. elim h [ inl o ↦ (adds.each t).1 (inl o) | inr q ↦ (adds.each t).1 (inr ((same t).1 q)) ]),
+  );
+}
 
 pub adds_start : {X : Type 0} (old : List Tie) (P : X → Tie → Type 0) → Adds old old (OneOf [] P)
 adds_start old P = adds_none old (OneOf [] P) (λ t h. nowhere h.0 h.1)
 
 more_of : {X : Type 0} (zs : List X) (i : ℕ) (z : X) (P : X → Tie → Type 0) (t : Tie) → i < length zs → z ≡ get_or zs i z → (OneOf (take i zs) P t ⊎ P z t) ↔ OneOf (take (i + 1) zs) P t
 more_of {X} zs i z P t within is =
-    let same : take (i + 1) zs ≡ take i zs ++ z ∷ [] = take_more zs i z within ∙ ap (λ (y : X). take i zs ++ y ∷ []) (sym is) in
-    (
+    let same : take (i + 1) zs ≡ take i zs ++ z ∷ [] = take_more zs i z within ∙ ap (λ (y : X). take i zs ++ y ∷ []) (sym is) in (
       (λ h. elim h [
         | inl o ↦ (o.0, subst (λ (xs : List X). Contains xs o.0) (sym same) (Contains-append_left (take i zs) (z ∷ []) o.0 o.1), o.2)
         | inr p ↦ (z, subst (λ (xs : List X). Contains xs z) (sym same) (Contains-push (take i zs) z), p)
@@ -123,16 +126,18 @@ module _ (lib : Library) (keys : List Key) (sorted : IsStrictlySortedBy key_cmp 
         rw (sym before, sym item, sym after, sym from, sym why) refl
 
     pub one_edge : (old : List Tie) → (end.node ≡ x.node → ⊥) → Adds old (old ++ one_tie ∷ []) (TiesBy lib keys x (IsFor reason y))
-    one_edge old other = record { each = λ t. (
-      (λ c. elim (Contains-push_cases old one_tie t c) [
-        | inl o ↦ inl o
-        | inr is ↦ inr (subst (λ (s : Tie). TiesBy lib keys x (IsFor reason y) s) is (y, (refl, refl), record { y_kind = is_end.item_kind; x_is = refl; after_is = refl; y_at = is_end.item_at; before_at = is_end.node_at; apart = λ e. other (sym e) }))
-      ]),
-      (λ h. elim h [
-        | inl o ↦ Contains-append_left old (one_tie ∷ []) t o
-        | inr p ↦ subst (λ (s : Tie). Contains (old ++ one_tie ∷ []) s) (the_tie t p) (Contains-push old one_tie)
-      ]),
-    ) }
+    one_edge old other = record {
+      each = λ t. (
+        (λ c. elim (Contains-push_cases old one_tie t c) [
+          | inl o ↦ inl o
+          | inr is ↦ inr (subst (λ (s : Tie). TiesBy lib keys x (IsFor reason y) s) is (y, (refl, refl), record { y_kind = is_end.item_kind; x_is = refl; after_is = refl; y_at = is_end.item_at; before_at = is_end.node_at; apart = λ e. other (sym e) }))
+        ]),
+        (λ h. elim h [
+          | inl o ↦ Contains-append_left old (one_tie ∷ []) t o
+          | inr p ↦ subst (λ (s : Tie). Contains (old ++ one_tie ∷ []) s) (the_tie t p) (Contains-push old one_tie)
+        ]),
+      );
+    }
 
 -- ties by what is the same of all keys
 pub ties_same : (lib : Library) (keys : List Key) (x : End) (R S : Reason → Key → Type 0) → ((r : Reason) (k : Key) → Contains keys k → R r k ↔ S r k) → (t : Tie) → TiesBy lib keys x R t ↔ TiesBy lib keys x S t

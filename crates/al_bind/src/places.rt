@@ -111,11 +111,7 @@ fn node_kind(sources: &Sources, key: &UnitKey) -> UnitKind
 }
 
 // The nodes among these units.
-fn nodes_among(
-    alloc: Global,
-    sources: &Sources,
-    keys: &[UnitKey],
-) -> Result<Vec<UnitKey>, NoMemory>
+fn nodes_among(alloc: Global, sources: &Sources, keys: &[UnitKey]) -> Result<Vec<UnitKey>, NoMemory>
     ensures { IfOk result (λ nodes. map key_of nodes.items ≡ nodes_among sources.now (map key_of keys.now)) }
 {
     let mut nodes = Vec::new(alloc);

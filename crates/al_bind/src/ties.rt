@@ -145,15 +145,7 @@ fn add_all_of(
     requires { ArePlaces sources.now places.now }
     ensures { OnOk result (Adds ties.old.items ties.new.items (TiesBy sources.now (map key_of places.now.keys.items) x (IsForAll sources.now name.now))) }
 {
-    add_body(
-        alloc,
-        sources,
-        places,
-        Reason::ElaborateAll,
-        x,
-        name,
-        ties,
-    )?;
+    add_body(alloc, sources, places, Reason::ElaborateAll, x, name, ties)?;
     add_needed(sources, places, x, name, ties)?;
     Ok(())
 }
@@ -192,14 +184,7 @@ fn add_part(
     let Some(header) = sources.unit(part) else {
         return Ok(());
     };
-    add_bodies(
-        alloc,
-        sources,
-        places,
-        x,
-        header.elaborate.as_slice(),
-        ties,
-    )?;
+    add_bodies(alloc, sources, places, x, header.elaborate.as_slice(), ties)?;
     add_all(
         alloc,
         sources,

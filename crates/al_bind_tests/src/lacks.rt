@@ -46,12 +46,7 @@ fn the_least_body_is_named(rt: HostRuntime) -> Result<(), Fail> {
     )?;
     says(&rt, alloc, &sources, b"m", b"body m".as_slice())?;
     let main = with(alloc, procedure_declaration(alloc, b"m")?, b"q")?;
-    put(
-        alloc,
-        &mut sources,
-        b"m.ads",
-        with(alloc, main, b"p")?,
-    )?;
+    put(alloc, &mut sources, b"m.ads", with(alloc, main, b"p")?)?;
     put(
         alloc,
         &mut sources,
@@ -98,12 +93,7 @@ fn bodies_come_before_subunits(rt: HostRuntime) -> Result<(), Fail> {
     )?;
     let body = with(alloc, package_body(alloc, b"a")?, b"b")?;
     let body = stub(alloc, body, b"x")?;
-    put(
-        alloc,
-        &mut sources,
-        b"a.adb",
-        stub(alloc, body, b"w")?,
-    )?;
+    put(alloc, &mut sources, b"a.adb", stub(alloc, body, b"w")?)?;
     put(
         alloc,
         &mut sources,

@@ -52,12 +52,7 @@ fn least_names_come_first(rt: HostRuntime) -> Result<(), Fail> {
     let mut sources = Sources::new(alloc);
     let main = with(alloc, procedure(alloc, b"m")?, b"y")?;
     let main = with(alloc, main, b"b")?;
-    put(
-        alloc,
-        &mut sources,
-        b"m.adb",
-        with(alloc, main, b"c")?,
-    )?;
+    put(alloc, &mut sources, b"m.adb", with(alloc, main, b"c")?)?;
     put(alloc, &mut sources, b"y.ads", package(alloc, b"y")?)?;
     put(alloc, &mut sources, b"c.ads", package(alloc, b"c")?)?;
     // B comes after Y, so C comes before both
@@ -146,12 +141,7 @@ fn pairs_stay_together(rt: HostRuntime) -> Result<(), Fail> {
         with(alloc, package(alloc, b"a")?, b"z")?,
     )?;
     let main = with(alloc, procedure(alloc, b"main")?, b"a")?;
-    put(
-        alloc,
-        &mut sources,
-        b"main.adb",
-        with(alloc, main, b"z")?,
-    )?;
+    put(alloc, &mut sources, b"main.adb", with(alloc, main, b"z")?)?;
     says(
         &rt,
         alloc,
@@ -234,12 +224,7 @@ fn elaborate_all_reaches_through_bodies(rt: HostRuntime) -> Result<(), Fail> {
         b"q decl; y decl; q body; y body; m body; ".as_slice(),
     )?;
     let main = with(alloc, procedure(alloc, b"m")?, b"q")?;
-    put(
-        alloc,
-        &mut sources,
-        b"m.adb",
-        elaborate(alloc, main, b"q")?,
-    )?;
+    put(alloc, &mut sources, b"m.adb", elaborate(alloc, main, b"q")?)?;
     says(
         &rt,
         alloc,

@@ -67,10 +67,10 @@ returns-in-Ok c =
     let count : c.len.result ≡ length nodes = grind (arith, common_steps, c.len.ensures, ok, size) in
     let is : Bound ties (length nodes) (Ok c.in-Ok.order) = at_bound ties c.deref.result.now (length nodes) c.len.result c.in_ok-order.field-0 (Ok c.in-Ok.order) c.deref.ensures.value count c.in-Ok.is c.in_ok-order.ensures in
     let items : map key_of c.in_ok-items-in-Ok.items.items ≡ items_at lib nodes c.in-Ok.order.items =
-        c.in_ok-items-in-Ok.ensures
-        ∙ ap (λ (ns : List UnitKey). items_at lib (map key_of ns) c.deref-in-Ok-2.result.now) c.deref-in-Ok.ensures.value
-        ∙ ap (λ (os : List ℕ). items_at lib (map key_of places.nodes.items) os) c.deref-in-Ok-2.ensures.value
-        ∙ ap (λ (ns : List Key). items_at lib ns c.in-Ok.order.items) c.in_ok-places.ensures.places.nodes in
+    c.in_ok-items-in-Ok.ensures
+    ∙ ap (λ (ns : List UnitKey). items_at lib (map key_of ns) c.deref-in-Ok-2.result.now) c.deref-in-Ok.ensures.value
+    ∙ ap (λ (os : List ℕ). items_at lib (map key_of places.nodes.items) os) c.deref-in-Ok-2.ensures.value
+    ∙ ap (λ (ns : List Key). items_at lib ns c.in-Ok.order.items) c.in_ok-places.ensures.places.nodes in
     record {
       complete = none_lacks lib main c.in_ok-lack.field-0 c.in_default.is c.in_ok-lack.ensures;
       keys = keys;
@@ -106,9 +106,9 @@ returns c =
     let count : c.len.result ≡ length nodes = grind (arith, common_steps, c.len.ensures, ok, size) in
     let is : Bound ties (length nodes) (Err c.in-Err.shown) = at_bound ties c.deref.result.now (length nodes) c.len.result c.in_ok-order.field-0 (Err c.in-Err.shown) c.deref.ensures.value count c.in-Err.is c.in_ok-order.ensures in
     let lines : map line_seen c.in_ok-lines-in-Err.lines.items ≡ map (line_of keys) c.in-Err.shown.items =
-        c.in_ok-lines-in-Err.ensures
-        ∙ ap (λ (ks : List UnitKey). map (line_of (map key_of ks)) c.deref-in-Err-2.result.now) c.deref-in-Err.ensures.value
-        ∙ ap (λ (ts : List Tie). map (line_of keys) ts) c.deref-in-Err-2.ensures.value in
+    c.in_ok-lines-in-Err.ensures
+    ∙ ap (λ (ks : List UnitKey). map (line_of (map key_of ks)) c.deref-in-Err-2.result.now) c.deref-in-Err.ensures.value
+    ∙ ap (λ (ts : List Tie). map (line_of keys) ts) c.deref-in-Err-2.ensures.value in
     record {
       complete = none_lacks lib main c.in_ok-lack.field-0 c.in_default.is c.in_ok-lack.ensures;
       keys = keys;

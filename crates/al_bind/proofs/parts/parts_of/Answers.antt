@@ -24,9 +24,9 @@ loop-i-preserved c =
     let within : c.loop-i.i < length keys = grind (arith, common_steps, c.if-i-len.false, c.len.ensures) in
     let here : get_or keys c.loop-i.i key ≡ key = grind (arith, common_steps, c.index.ensures, within) in
     let is : map key_of c.add_keys.new.keys.items ≡ keys ++ subunits_at lib key =
-        c.in_ok-add_keys.ensures
-        ∙ ap (λ (ks : List UnitKey). keys ++ map key_of ks) c.deref.ensures.value
-        ∙ ap (λ (ks : List Key). keys ++ ks) c.in_ok-more.ensures in
+    c.in_ok-add_keys.ensures
+    ∙ ap (λ (ks : List UnitKey). keys ++ map key_of ks) c.deref.ensures.value
+    ∙ ap (λ (ks : List Key). keys ++ ks) c.in_ok-more.ensures in
     subst (λ (ks : List Key). ArePartsUpto lib x ks (c.loop-i.i + 1)) (sym is) (parts_further lib x keys c.loop-i.i key c.loop-i.invariant within here)
 
 pub returns-then-i-len : goal.returns-then-i-len
