@@ -4,3 +4,4 @@ pub mod PartLemmas
 pub mod TieLemmas
 pub mod EdgeLemmas
 pub mod BindLemmas
+pub mod LawLemmas

@@ -4,3 +4,4 @@ pub mod Faults
 pub mod Numbers
 pub mod Parts
 pub mod Binding
+pub mod Laws

@@ -1,9 +1,7 @@
-// Libraries by hand, and what binding them says.
-ghost use Rattle.std.specs.Prelude.{◌≤◌, length};
-
-use al_base::{Name, NoMemory, Place, UnitKey, UnitKind};
-use al_bind::{BindFault, Lack, Line, bind};
-use al_unit_graph::{Contents, Header, Mention, Source, Sources, UnitForm};
+// Libraries as tables, and what binding them says.
+use al_base::{FileKey, Name, NoMemory, Place, UnitKey, UnitKind};
+use al_bind::{BindFault, Lack, Line, Reason, bind};
+use al_unit_graph::{Contents, Header, Mention, Source, Sources, UnitForm, kind_of};
 use std::alloc::Global;
 use std::process::Abort;
 use std::rc::Rc;
@@ -11,16 +9,41 @@ use std::test::Fail;
 
 const HERE: Place = Place { line: 1, col: 6 };
 
-/// A unit that says nothing but its name and its form.
-fn unit(alloc: Global, name: &[u8], form: UnitForm) -> Result<Header, NoMemory> {
+/// What a unit says.
+#[derive(Clone, Copy)]
+pub(crate) enum Says {
+    /// A with clause.
+    With(&'static [u8]),
+    /// The pragma Elaborate.
+    Elaborate(&'static [u8]),
+    /// The pragma Elaborate_All.
+    ElaborateAll(&'static [u8]),
+    /// A stub.
+    Stub(&'static [u8]),
+    /// It is the subunit of this parent body.
+    Separate(&'static [u8]),
+    /// It is a declaration that a body completes.
+    NeedsBody,
+    /// The pragma Elaborate_Body.
+    ElaborateBody,
+    /// It is a procedure without parameters.
+    Procedure,
+}
+
+/// A unit by its name and its form, and what it says.
+pub(crate) type Row<'a> = (&'a [u8], UnitForm, &'a [Says]);
+
+fn empty(alloc: Global, name: &[u8], form: UnitForm) -> Result<Header, NoMemory> {
+    let designator = Name::from_slice(alloc, name)?;
+    let name = Name::from_slice(alloc, name)?;
     Ok(Header {
-        name: Name::from_slice(alloc, name)?,
+        name,
         place: HERE,
         form,
         is_private: false,
         needs_body: false,
         parent_body: None,
-        designator: Name::from_slice(alloc, name)?,
+        designator,
         mentions: Vec::new(alloc),
         stubs: Vec::new(alloc),
         elaborate: Vec::new(alloc),
@@ -30,167 +53,171 @@ fn unit(alloc: Global, name: &[u8], form: UnitForm) -> Result<Header, NoMemory> 
     })
 }
 
-/// A package's declaration.
-pub(crate) fn package(alloc: Global, name: &[u8]) -> Result<Header, NoMemory> {
-    unit(alloc, name, UnitForm::PackageDeclaration)
-}
-
-/// A package's declaration that wants a body.
-pub(crate) fn package_with_body(alloc: Global, name: &[u8]) -> Result<Header, NoMemory> {
-    let mut header = package(alloc, name)?;
-    header.needs_body = true;
-    Ok(header)
-}
-
-/// A package's body.
-pub(crate) fn package_body(alloc: Global, name: &[u8]) -> Result<Header, NoMemory> {
-    unit(alloc, name, UnitForm::PackageBody)
-}
-
-/// The body of a procedure without parameters, which has no declaration of its own.
-pub(crate) fn procedure(alloc: Global, name: &[u8]) -> Result<Header, NoMemory> {
-    let mut header = unit(alloc, name, UnitForm::SubprogramBody)?;
-    header.is_parameterless_procedure = true;
-    Ok(header)
-}
-
-/// The declaration of a procedure without parameters.
-pub(crate) fn procedure_declaration(alloc: Global, name: &[u8]) -> Result<Header, NoMemory> {
-    let mut header = unit(alloc, name, UnitForm::SubprogramDeclaration)?;
-    header.needs_body = true;
-    header.is_parameterless_procedure = true;
-    Ok(header)
-}
-
-/// The subunit of this full name.
-pub(crate) fn subunit(alloc: Global, name: &[u8], parent: &[u8]) -> Result<Header, NoMemory> {
-    let mut header = unit(alloc, name, UnitForm::SubunitBody)?;
-    header.parent_body = Some(mention(alloc, parent)?);
-    Ok(header)
-}
-
 fn mention(alloc: Global, name: &[u8]) -> Result<Mention, NoMemory> {
     let name = Name::from_slice(alloc, name)?;
     Ok(Mention { name, place: HERE })
 }
 
-/// `with` of this unit.
-pub(crate) fn with(alloc: Global, mut header: Header, name: &[u8]) -> Result<Header, NoMemory> {
-    header.mentions.push(mention(alloc, name)?)?;
-    Ok(header)
+fn add_name(alloc: Global, names: &mut Vec<Name>, name: &[u8]) -> Result<(), NoMemory> {
+    let name = Name::from_slice(alloc, name)?;
+    names.push(name)?;
+    Ok(())
 }
 
-/// `pragma Elaborate` of this unit.
-pub(crate) fn elaborate(
-    alloc: Global,
-    mut header: Header,
-    name: &[u8],
-) -> Result<Header, NoMemory> {
-    header.elaborate.push(Name::from_slice(alloc, name)?)?;
-    Ok(header)
+fn add_mention(alloc: Global, mentions: &mut Vec<Mention>, name: &[u8]) -> Result<(), NoMemory> {
+    let mention = mention(alloc, name)?;
+    mentions.push(mention)?;
+    Ok(())
 }
 
-/// `pragma Elaborate_All` of this unit.
-pub(crate) fn elaborate_all(
-    alloc: Global,
-    mut header: Header,
-    name: &[u8],
-) -> Result<Header, NoMemory> {
-    header.elaborate_all.push(Name::from_slice(alloc, name)?)?;
-    Ok(header)
+fn say(alloc: Global, header: &mut Header, says: Says) -> Result<(), NoMemory> {
+    match says {
+        Says::With(name) => add_mention(alloc, &mut header.mentions, name)?,
+        Says::Elaborate(name) => add_name(alloc, &mut header.elaborate, name)?,
+        Says::ElaborateAll(name) => add_name(alloc, &mut header.elaborate_all, name)?,
+        Says::Stub(name) => add_name(alloc, &mut header.stubs, name)?,
+        Says::Separate(name) => header.parent_body = Some(mention(alloc, name)?),
+        Says::NeedsBody => header.needs_body = true,
+        Says::ElaborateBody => header.has_elaborate_body = true,
+        Says::Procedure => header.is_parameterless_procedure = true,
+    }
+    Ok(())
 }
 
-/// A stub of this name.
-pub(crate) fn stub(alloc: Global, mut header: Header, name: &[u8]) -> Result<Header, NoMemory> {
-    header.stubs.push(Name::from_slice(alloc, name)?)?;
-    Ok(header)
+fn say_all(alloc: Global, header: &mut Header, all: &[Says]) -> Result<(), NoMemory> {
+    for one in all {
+        say(alloc, header, *one)?;
+    }
+    Ok(())
+}
+
+fn source(alloc: Global, header: Header) -> Result<Rc<Source>, NoMemory> {
+    let text = Rc::new(alloc, Vec::new(alloc))?;
+    let contents = Contents::Headed(header);
+    let source = Rc::new(alloc, Source { text, contents })?;
+    Ok(source)
+}
+
+fn unit(alloc: Global, row: Row<'_>) -> Result<Rc<Source>, NoMemory> {
+    let (name, form, all) = row;
+    let mut header = empty(alloc, name, form)?;
+    say_all(alloc, &mut header, all)?;
+    source(alloc, header)
 }
 
 /// Puts a unit into its file.
-pub(crate) fn put(
-    alloc: Global,
-    sources: &mut Sources,
-    file: &[u8],
-    header: Header,
-) -> Result<(), NoMemory>
-    requires { length file.now ≤ 255 }
-{
-    let text = Rc::new(alloc, Vec::new(alloc))?;
-    let contents = Contents::Headed(header);
-    let file = Name::from_slice(alloc, file)?;
-    sources.insert(file, Rc::new(alloc, Source { text, contents })?)
+fn put(alloc: Global, sources: &mut Sources, row: Row<'_>) -> Result<(), NoMemory> {
+    let source = unit(alloc, row)?;
+    if let Some(file) = FileKey::of(row.0, kind_of(row.1)) {
+        let bytes = file.as_slice();
+        if bytes.len() <= 255 {
+            let name = Name::from_slice(alloc, bytes)?;
+            sources.insert(name, source)?;
+        }
+    }
+    Ok(())
 }
 
-/// As reports show it.
-fn push_key(text: &mut Vec<u8>, key: &UnitKey) -> Result<(), Fail> {
+fn put_all(alloc: Global, sources: &mut Sources, rows: &[Row<'_>]) -> Result<(), NoMemory> {
+    for row in rows {
+        put(alloc, sources, *row)?;
+    }
+    Ok(())
+}
+
+fn kind_text(kind: UnitKind) -> &'static [u8] {
+    match kind {
+        UnitKind::Decl => b" decl",
+        UnitKind::Body => b" body",
+        UnitKind::Sub => b" sub",
+    }
+}
+
+fn reason_text(reason: Reason) -> &'static [u8] {
+    match reason {
+        Reason::Depends => b" by depends",
+        Reason::Elaborate => b" by elaborate",
+        Reason::ElaborateAll => b" by elaborate_all",
+    }
+}
+
+fn push_key(text: &mut Vec<u8>, key: &UnitKey) -> Result<(), NoMemory> {
     text.extend_from_slice(key.name.as_slice())?;
-    let kind = match key.kind {
-        UnitKind::Decl => b" decl".as_slice(),
-        UnitKind::Body => b" body".as_slice(),
-        UnitKind::Sub => b" sub".as_slice(),
-    };
-    text.extend_from_slice(kind)?;
+    text.extend_from_slice(kind_text(key.kind))?;
     Ok(())
 }
 
-fn push_line(text: &mut Vec<u8>, line: &Line) -> Result<(), Fail> {
+fn push_line(text: &mut Vec<u8>, line: &Line) -> Result<(), NoMemory> {
     push_key(text, &line.after)?;
-    text.extend_from_slice(b" after ".as_slice())?;
+    text.extend_from_slice(b" after ")?;
     push_key(text, &line.before)?;
-    let reason = match line.reason {
-        al_bind::Reason::Depends => b" by depends".as_slice(),
-        al_bind::Reason::Elaborate => b" by elaborate".as_slice(),
-        al_bind::Reason::ElaborateAll => b" by elaborate_all".as_slice(),
-    };
-    text.extend_from_slice(reason)?;
+    text.extend_from_slice(reason_text(line.reason))?;
+    text.extend_from_slice(b"; ")?;
     Ok(())
 }
 
-fn push_lack(text: &mut Vec<u8>, lack: &Lack) -> Result<(), Fail> {
+fn push_lines(text: &mut Vec<u8>, lines: &[Line]) -> Result<(), NoMemory> {
+    for line in lines {
+        push_line(text, line)?;
+    }
+    Ok(())
+}
+
+fn push_items(text: &mut Vec<u8>, items: &[UnitKey]) -> Result<(), NoMemory> {
+    for key in items {
+        push_key(text, key)?;
+        text.extend_from_slice(b"; ")?;
+    }
+    Ok(())
+}
+
+fn push_lack(text: &mut Vec<u8>, lack: &Lack) -> Result<(), NoMemory> {
     match lack {
-        Lack::Main => text.extend_from_slice(b"main".as_slice())?,
+        Lack::Main => text.extend_from_slice(b"main")?,
         Lack::Body(name) => {
-            text.extend_from_slice(b"body ".as_slice())?;
+            text.extend_from_slice(b"body ")?;
             text.extend_from_slice(name.as_slice())?;
         }
         Lack::Subunit(name) => {
-            text.extend_from_slice(b"subunit ".as_slice())?;
+            text.extend_from_slice(b"subunit ")?;
             text.extend_from_slice(name.as_slice())?;
         }
     }
     Ok(())
 }
 
-fn push_lines(text: &mut Vec<u8>, lines: &[Line]) -> Result<(), Fail> {
-    for line in lines {
-        push_line(text, line)?;
-        text.extend_from_slice(b"; ".as_slice())?;
+fn push_fault(text: &mut Vec<u8>, fault: &BindFault) -> Result<(), NoMemory> {
+    match fault {
+        BindFault::Cycle(lines) => push_lines(text, lines),
+        BindFault::Lacks(lack) => push_lack(text, lack),
     }
-    Ok(())
 }
 
-fn push_items(text: &mut Vec<u8>, items: &[UnitKey]) -> Result<(), Fail> {
-    for key in items {
-        push_key(text, key)?;
-        text.extend_from_slice(b"; ".as_slice())?;
-    }
-    Ok(())
-}
-
-/// Asks for what binding says: the items with a semicolon behind each, or the lines of the cycle so, or what is missing.
-pub(crate) fn says(
-    rt: &impl Abort,
-    alloc: Global,
-    sources: &Sources,
-    main: &[u8],
-    expected: &[u8],
-) -> Result<(), Fail> {
+/// What binding says: the items with a semicolon behind each, or the lines of the cycle so, or what is missing.
+fn bound(alloc: Global, sources: &Sources, main: &[u8]) -> Result<Vec<u8>, NoMemory> {
     let mut text = Vec::new(alloc);
     match bind(alloc, sources, main)? {
         Ok(items) => push_items(&mut text, &items)?,
-        Err(BindFault::Cycle(lines)) => push_lines(&mut text, &lines)?,
-        Err(BindFault::Lacks(lack)) => push_lack(&mut text, &lack)?,
+        Err(fault) => push_fault(&mut text, &fault)?,
     }
+    Ok(text)
+}
+
+fn binding(alloc: Global, rows: &[Row<'_>], main: &[u8]) -> Result<Vec<u8>, NoMemory> {
+    let mut sources = Sources::new(alloc);
+    put_all(alloc, &mut sources, rows)?;
+    bound(alloc, &sources, main)
+}
+
+/// Asks for what binding the library of these units says.
+pub(crate) fn says(
+    rt: &impl Abort,
+    alloc: Global,
+    rows: &[Row<'_>],
+    main: &[u8],
+    expected: &[u8],
+) -> Result<(), Fail> {
+    let text = binding(alloc, rows, main)?;
     assert_eq!(rt; text.as_slice(), expected);
     Ok(())
 }
