@@ -6,7 +6,6 @@ mod bases;
 mod image;
 mod laws;
 mod linking;
-
 mod patch;
 mod places;
 mod start;
