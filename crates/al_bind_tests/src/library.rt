@@ -210,7 +210,7 @@ fn binding(alloc: Global, rows: &[Row<'_>], main: &[u8]) -> Result<Vec<u8>, NoMe
 }
 
 /// Asks for what binding the library of these units says.
-pub(crate) fn says(
+pub(crate) fn told(
     rt: &impl Abort,
     alloc: Global,
     rows: &[Row<'_>],

@@ -48,11 +48,7 @@ fn compiled<'a>(alloc: Global, units: &[LeftUnit<'a>]) -> Result<Vec<LinkUnit<'a
 /// # Errors
 ///
 /// `TooLarge` where the code of a unit is longer than that of any image or a limit of images is passed, and only there.
-pub fn link(
-    alloc: Global,
-    main: &LinkSymbol,
-    units: &[LeftUnit<'_>],
-) -> Result<Image, LinkFault>
+pub fn link(alloc: Global, main: &LinkSymbol, units: &[LeftUnit<'_>]) -> Result<Image, LinkFault>
     requires { All (λ u. IsUnitName u.key.now.name) units.now }
     ensures image { IfOk result (λ image. image ≡ image_of main.now (compiled_units units.now)) }
     ensures within { OnOk result (AreLinkable units.now) }
