@@ -1,0 +1,192 @@
+ghost use Rattle.std.specs.Prelude.{◌≡◌, ◌≤◌, ◌<◌, true, length, IsTrue};
+ghost use Rattle.std.specs.List.{All, list_all};
+ghost use Rattle.al_partition.specs.Images.{IsUnitName, is_name_byte};
+
+use crate::objects::{
+    key, package, package_with_value, package_without_value, procedure, procedure_that_sets, symbol,
+};
+use al_base::UnitKind;
+use al_link::{LeftUnit, LinkFault, link, links_parts};
+use al_object::Object;
+use al_view::{LinkKind, LinkSymbol, Symbol};
+use std::alloc::Global;
+use std::test::Fail;
+
+// The image of a procedure that does nothing, by hand.
+const NOTHING: [u8; 75] = [
+    0x41, 0x44, 0x4c, 0x49, 0, 1, 0, 0, 0, 0, 0, 0, 0, 0, 0, 0, 0, 0, 0, 0, 0, 1, 1, 1, 0x6e, 0, 0,
+    0, 22, 0, 0, 0, 42, 0x31, 0x32, 0, 0, 0, 22, 0, 0, 0, 0, 0x51, 0x31, 0x32, 0, 0, 0, 32, 0, 0,
+    0, 0, 0x53, 0x33, 0, 0, 0, 0, 0x34, 0, 0, 0, 0, 0x33, 0, 0, 0, 0, 0x34, 0, 0, 0, 0,
+];
+
+/// A unit by its name and kind, and its object.
+type Row<'a> = (&'a [u8], UnitKind, &'a Object);
+
+fn is_name_byte(byte: u8) -> bool
+    ensures { result ≡ is_name_byte byte }
+{
+    byte.is_ascii_lowercase() || byte.is_ascii_digit() || byte == b'_' || byte == b'.'
+}
+
+fn is_named(name: &[u8]) -> bool
+    ensures { result ≡ true → IsUnitName name.now }
+{
+    !name.is_empty() && name.len() <= 255 && name.iter().all(|byte| is_name_byte(*byte))
+}
+
+fn are_named(units: &[LeftUnit<'_>]) -> bool
+    ensures { result ≡ true → All (λ u. IsUnitName u.key.now.name) units.now }
+{
+    for unit in units {
+        if !is_named(unit.key.name.as_slice()) {
+            return false;
+        }
+    }
+    true
+}
+
+/// The bytes of the image of units, where they are named as units are and no limit is passed.
+fn image_bytes(
+    alloc: Global,
+    main: &LinkSymbol,
+    units: &[LeftUnit<'_>],
+) -> Result<Option<Vec<u8>>, LinkFault> {
+    if !are_named(units) {
+        return Ok(None);
+    }
+    match link(alloc, main, units) {
+        Ok(image) => {
+            let bytes = image.bytes(alloc)?;
+            Ok(Some(bytes))
+        }
+        Err(LinkFault::TooLarge) => Ok(None),
+        Err(fault) => Err(fault),
+    }
+}
+
+/// The bytes of the image of three units, the last of which is the main one.
+fn linked(alloc: Global, main: Symbol, rows: &[Row<'_>; 3]) -> Result<Option<Vec<u8>>, LinkFault> {
+    let kind = LinkKind::Code;
+    let main = LinkSymbol { symbol: main, kind };
+    let [one, two, three] = rows;
+    let first = key(alloc, one.0, one.1)?;
+    let second = key(alloc, two.0, two.1)?;
+    let third = key(alloc, three.0, three.1)?;
+    let units = [
+        LeftUnit {
+            key: &first,
+            object: one.2,
+        },
+        LeftUnit {
+            key: &second,
+            object: two.2,
+        },
+        LeftUnit {
+            key: &third,
+            object: three.2,
+        },
+    ];
+    image_bytes(alloc, &main, &units)
+}
+
+fn main_of(alloc: Global, name: &[u8]) -> Result<Symbol, LinkFault> {
+    let main = symbol(alloc, name, UnitKind::Body, name)?;
+    Ok(main)
+}
+
+/// The bytes of a library procedure that does nothing, or whose object is longer than any code.
+fn alone(alloc: Global, large: bool) -> Result<Option<Vec<u8>>, LinkFault> {
+    let symbol = main_of(alloc, b"n")?;
+    let object = if large {
+        Object::Large
+    } else {
+        procedure(alloc, &symbol)?
+    };
+    let kind = LinkKind::Code;
+    let main = LinkSymbol { symbol, kind };
+    let key = key(alloc, b"n", UnitKind::Body)?;
+    let units = [LeftUnit {
+        key: &key,
+        object: &object,
+    }];
+    image_bytes(alloc, &main, &units)
+}
+
+#[test]
+fn a_procedure_alone(rt: HostRuntime) -> Result<(), Fail> {
+    links_parts();
+    let bytes = alone(rt.alloc(), false)?;
+    assert_eq!(rt; bytes.as_deref(), Some(NOTHING.as_slice()));
+    let none = alone(rt.alloc(), true)?;
+    assert!(rt; none.is_none());
+    Ok(())
+}
+
+/// How long the image is of two packages without declarations and a procedure that does nothing.
+fn empty_packages(alloc: Global, second: &[u8], kind: UnitKind) -> Result<usize, LinkFault> {
+    let symbol = main_of(alloc, b"m")?;
+    let package = package(alloc)?;
+    let main = procedure(alloc, &symbol)?;
+    let rows = [
+        (b"a".as_slice(), UnitKind::Decl, &package),
+        (second, kind, &package),
+        (b"m".as_slice(), UnitKind::Body, &main),
+    ];
+    let bytes = linked(alloc, symbol, &rows)?;
+    Ok(bytes.map_or(0, |bytes| bytes.len()))
+}
+
+#[test]
+fn packages_without_declarations(rt: HostRuntime) -> Result<(), Fail> {
+    assert_eq!(rt; empty_packages(rt.alloc(), b"a.b", UnitKind::Decl)?, 131);
+    assert_eq!(rt; empty_packages(rt.alloc(), b"a", UnitKind::Body)?, 129);
+    Ok(())
+}
+
+/// The image of P and Q, which may have an object, and of a client that sets an object of P or of Q.
+fn client(alloc: Global, q_has_one: bool, sets_q: bool) -> Result<Option<Vec<u8>>, LinkFault> {
+    let main = main_of(alloc, b"client")?;
+    let p = package_with_value(alloc, symbol(alloc, b"p", UnitKind::Decl, b"x")?)?;
+    let q = if q_has_one {
+        package_without_value(alloc, symbol(alloc, b"q", UnitKind::Decl, b"y")?)?
+    } else {
+        package(alloc)?
+    };
+    let data = if sets_q {
+        symbol(alloc, b"q", UnitKind::Decl, b"y")?
+    } else {
+        symbol(alloc, b"p", UnitKind::Decl, b"x")?
+    };
+    let body = procedure_that_sets(alloc, &main, &data)?;
+    let rows = [
+        (b"p".as_slice(), UnitKind::Decl, &p),
+        (b"q".as_slice(), UnitKind::Decl, &q),
+        (b"client".as_slice(), UnitKind::Body, &body),
+    ];
+    linked(alloc, main, &rows)
+}
+
+/// How long an image is, and the last byte of the operand of the client's assignment, which is in the last 14 bytes.
+fn length_and_operand(bytes: Option<Vec<u8>>) -> (usize, u8) {
+    match bytes {
+        None => (0, 0),
+        Some(bytes) => {
+            let len = bytes.len();
+            if len < 11 {
+                (len, 0)
+            } else {
+                (len, bytes[len - 11])
+            }
+        }
+    }
+}
+
+#[test]
+fn symbols_are_sums(rt: HostRuntime) -> Result<(), Fail> {
+    let alloc = rt.alloc();
+    assert_eq!(rt; length_and_operand(client(alloc, false, false)?), (206, 0));
+    assert_eq!(rt; length_and_operand(client(alloc, true, false)?), (216, 0));
+    // the object of Q stands behind that of P
+    assert_eq!(rt; length_and_operand(client(alloc, true, true)?), (216, 1));
+    Ok(())
+}
