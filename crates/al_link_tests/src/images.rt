@@ -1,4 +1,4 @@
-ghost use Rattle.std.specs.Prelude.{◌≡◌, ◌≤◌, ◌<◌, true, length, IsTrue};
+ghost use Rattle.std.specs.Prelude.{◌≡◌, true};
 ghost use Rattle.std.specs.List.{All, list_all};
 ghost use Rattle.al_partition.specs.Images.{IsUnitName, is_name_byte};
 
@@ -25,13 +25,19 @@ type Row<'a> = (&'a [u8], UnitKind, &'a Object);
 fn is_name_byte(byte: u8) -> bool
     ensures { result ≡ is_name_byte byte }
 {
-    byte.is_ascii_lowercase() || byte.is_ascii_digit() || byte == b'_' || byte == b'.'
+    (byte >= b'a' && byte <= b'z') || (byte >= b'0' && byte <= b'9') || byte == b'_' || byte == b'.'
+}
+
+fn is_of_name_bytes(name: &[u8]) -> bool
+    ensures { result ≡ list_all is_name_byte name.now }
+{
+    name.iter().all(|byte| is_name_byte(*byte))
 }
 
 fn is_named(name: &[u8]) -> bool
     ensures { result ≡ true → IsUnitName name.now }
 {
-    !name.is_empty() && name.len() <= 255 && name.iter().all(|byte| is_name_byte(*byte))
+    !name.is_empty() && name.len() <= 255 && is_of_name_bytes(name)
 }
 
 fn are_named(units: &[LeftUnit<'_>]) -> bool

@@ -1,6 +1,4 @@
 // Objects by hand.
-ghost use Rattle.std.specs.Prelude.{◌≡◌, ◌≤◌};
-
 use al_base::{Name, NoMemory, UnitKey, UnitKind};
 use al_instr::{Instr, Sized};
 use al_object::{Address, Compiled, Object};
@@ -32,6 +30,7 @@ pub(crate) fn symbol(
 
 /// The object of code without data words.
 fn object_of(alloc: Global, out: Output) -> Object {
+    let protected = Vec::new(alloc);
     match out.finish() {
         None => Object::Large,
         Some(written) => Object::Compiled(Compiled::new(
@@ -40,7 +39,7 @@ fn object_of(alloc: Global, out: Output) -> Object {
             written.defines,
             0,
             0,
-            Vec::new(alloc),
+            protected,
         )),
     }
 }
@@ -56,6 +55,7 @@ fn object_with(alloc: Global, out: Output, data: Symbol) -> Result<Object, NoMem
         kind: LinkKind::Data,
     };
     defines.push(Address { symbol, offset: 0 })?;
+    let protected = Vec::new(alloc);
     Ok(Object::Compiled(Compiled::new(written.code, written.uses, defines, 1, 0, Vec::new(alloc))))
 }
 
