@@ -36,11 +36,11 @@ plain_keeps code uses defines regions is within standing none = record {
   regions = no_regions 0 regions none;
 }
 
-pub word_keeps : (code : List ℕ) (uses : List Use) (defines all : List Address) (data : Symbol) (regions : List Region) → IsCode code uses → length code ≤ 16777216 → All (StandsWithin (length code)) defines → regions ≡ []
-    → all ≡ defines ++ record { symbol = record { symbol = data; kind = links.Data }; offset = 0 } ∷ []
+pub word_keeps : (code : List ℕ) (uses : List Use) (defines all : List Address) (place : Symbol) (regions : List Region) → IsCode code uses → length code ≤ 16777216 → All (StandsWithin (length code)) defines → regions ≡ []
+    → all ≡ defines ++ record { symbol = record { symbol = place; kind = links.Data }; offset = 0 } ∷ []
     → Keeps (record { code = code; uses = uses; defines = all; data_words = 1; tasks = 0; protected = regions })
-word_keeps code uses defines all data regions is within standing none same =
-    let a : Address = record { symbol = record { symbol = data; kind = links.Data }; offset = 0 } in
+word_keeps code uses defines all place regions is within standing none same =
+    let a : Address = record { symbol = record { symbol = place; kind = links.Data }; offset = 0 } in
     let more = All-push (StandsIn (object code uses all 1 regions)) defines a (all_stand code uses defines all 1 regions standing) (omega arith) in
     record {
       code = is;

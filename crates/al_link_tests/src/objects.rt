@@ -1,7 +1,7 @@
 // Objects by hand.
 use al_base::{Name, NoMemory, UnitKey, UnitKind};
 use al_instr::{Instr, Sized};
-use al_object::{Address, Compiled, Object};
+use al_object::{Address, Compiled, Object, Region};
 use al_output::Output;
 use al_view::{LinkKind, LinkSymbol, Symbol};
 use std::alloc::Global;
@@ -30,7 +30,7 @@ pub(crate) fn symbol(
 
 /// The object of code without data words.
 fn object_of(alloc: Global, out: Output) -> Object {
-    let protected = Vec::new(alloc);
+    let protected: Vec<Region> = Vec::new(alloc);
     match out.finish() {
         None => Object::Large,
         Some(written) => Object::Compiled(Compiled::new(
@@ -55,7 +55,7 @@ fn object_with(alloc: Global, out: Output, data: Symbol) -> Result<Object, NoMem
         kind: LinkKind::Data,
     };
     defines.push(Address { symbol, offset: 0 })?;
-    let protected = Vec::new(alloc);
+    let protected: Vec<Region> = Vec::new(alloc);
     Ok(Object::Compiled(Compiled::new(written.code, written.uses, defines, 1, 0, Vec::new(alloc))))
 }
 
