@@ -19,9 +19,6 @@ const NOTHING: [u8; 75] = [
     0, 0, 0x53, 0x33, 0, 0, 0, 0, 0x34, 0, 0, 0, 0, 0x33, 0, 0, 0, 0, 0x34, 0, 0, 0, 0,
 ];
 
-/// A unit by its name and kind, and its object.
-type Row<'a> = (&'a [u8], UnitKind, &'a Object);
-
 fn is_name_byte(byte: u8) -> bool
     ensures { result ≡ is_name_byte byte }
 {
@@ -70,31 +67,6 @@ fn image_bytes(
     }
 }
 
-/// The bytes of the image of three units, the last of which is the main one.
-fn linked(alloc: Global, main: Symbol, rows: &[Row<'_>; 3]) -> Result<Option<Vec<u8>>, LinkFault> {
-    let kind = LinkKind::Code;
-    let main = LinkSymbol { symbol: main, kind };
-    let [one, two, three] = rows;
-    let first = key(alloc, one.0, one.1)?;
-    let second = key(alloc, two.0, two.1)?;
-    let third = key(alloc, three.0, three.1)?;
-    let units = [
-        LeftUnit {
-            key: &first,
-            object: one.2,
-        },
-        LeftUnit {
-            key: &second,
-            object: two.2,
-        },
-        LeftUnit {
-            key: &third,
-            object: three.2,
-        },
-    ];
-    image_bytes(alloc, &main, &units)
-}
-
 fn main_of(alloc: Global, name: &[u8]) -> Result<Symbol, LinkFault> {
     let main = symbol(alloc, name, UnitKind::Body, name)?;
     Ok(main)
@@ -128,18 +100,43 @@ fn a_procedure_alone(rt: HostRuntime) -> Result<(), Fail> {
     Ok(())
 }
 
+fn code_of(symbol: Symbol) -> LinkSymbol {
+    let kind = LinkKind::Code;
+    LinkSymbol { symbol, kind }
+}
+
+fn size(bytes: Option<Vec<u8>>) -> usize {
+    match bytes {
+        None => 0,
+        Some(bytes) => bytes.len(),
+    }
+}
+
 /// How long the image is of two packages without declarations and a procedure that does nothing.
 fn empty_packages(alloc: Global, second: &[u8], kind: UnitKind) -> Result<usize, LinkFault> {
     let symbol = main_of(alloc, b"m")?;
     let package = package(alloc)?;
-    let main = procedure(alloc, &symbol)?;
-    let rows = [
-        (b"a".as_slice(), UnitKind::Decl, &package),
-        (second, kind, &package),
-        (b"m".as_slice(), UnitKind::Body, &main),
+    let body = procedure(alloc, &symbol)?;
+    let one = key(alloc, b"a", UnitKind::Decl)?;
+    let two = key(alloc, second, kind)?;
+    let three = key(alloc, b"m", UnitKind::Body)?;
+    let units = [
+        LeftUnit {
+            key: &one,
+            object: &package,
+        },
+        LeftUnit {
+            key: &two,
+            object: &package,
+        },
+        LeftUnit {
+            key: &three,
+            object: &body,
+        },
     ];
-    let bytes = linked(alloc, symbol, &rows)?;
-    Ok(bytes.map_or(0, |bytes| bytes.len()))
+    let main = code_of(symbol);
+    let bytes = image_bytes(alloc, &main, &units)?;
+    Ok(size(bytes))
 }
 
 #[test]
@@ -149,27 +146,51 @@ fn packages_without_declarations(rt: HostRuntime) -> Result<(), Fail> {
     Ok(())
 }
 
+/// The object of Q, which may declare an object.
+fn q_of(alloc: Global, has_one: bool) -> Result<Object, LinkFault> {
+    if has_one {
+        let data = symbol(alloc, b"q", UnitKind::Decl, b"y")?;
+        let object = package_without_value(alloc, data)?;
+        Ok(object)
+    } else {
+        let object = package(alloc)?;
+        Ok(object)
+    }
+}
+
+/// The object that the client sets, of P or of Q.
+fn set_by(alloc: Global, sets_q: bool) -> Result<Symbol, LinkFault> {
+    let (unit, name) = if sets_q { (b"q", b"y") } else { (b"p", b"x") };
+    let data = symbol(alloc, unit, UnitKind::Decl, name)?;
+    Ok(data)
+}
+
 /// The image of P and Q, which may have an object, and of a client that sets an object of P or of Q.
 fn client(alloc: Global, q_has_one: bool, sets_q: bool) -> Result<Option<Vec<u8>>, LinkFault> {
-    let main = main_of(alloc, b"client")?;
-    let p = package_with_value(alloc, symbol(alloc, b"p", UnitKind::Decl, b"x")?)?;
-    let q = if q_has_one {
-        package_without_value(alloc, symbol(alloc, b"q", UnitKind::Decl, b"y")?)?
-    } else {
-        package(alloc)?
-    };
-    let data = if sets_q {
-        symbol(alloc, b"q", UnitKind::Decl, b"y")?
-    } else {
-        symbol(alloc, b"p", UnitKind::Decl, b"x")?
-    };
-    let body = procedure_that_sets(alloc, &main, &data)?;
-    let rows = [
-        (b"p".as_slice(), UnitKind::Decl, &p),
-        (b"q".as_slice(), UnitKind::Decl, &q),
-        (b"client".as_slice(), UnitKind::Body, &body),
+    let symbol = main_of(alloc, b"client")?;
+    let p = package_with_value(alloc, set_by(alloc, false)?)?;
+    let q = q_of(alloc, q_has_one)?;
+    let data = set_by(alloc, sets_q)?;
+    let body = procedure_that_sets(alloc, &symbol, &data)?;
+    let one = key(alloc, b"p", UnitKind::Decl)?;
+    let two = key(alloc, b"q", UnitKind::Decl)?;
+    let three = key(alloc, b"client", UnitKind::Body)?;
+    let units = [
+        LeftUnit {
+            key: &one,
+            object: &p,
+        },
+        LeftUnit {
+            key: &two,
+            object: &q,
+        },
+        LeftUnit {
+            key: &three,
+            object: &body,
+        },
     ];
-    linked(alloc, main, &rows)
+    let main = code_of(symbol);
+    image_bytes(alloc, &main, &units)
 }
 
 /// How long an image is, and the last byte of the operand of the client's assignment, which is in the last 14 bytes.
