@@ -1,5 +1,5 @@
 -- Which library item is elaborated after which (ARM 10.2(9), 10.2.1).
-use Rattle.std.specs.Prelude.{◌≡◌, ◌≢◌, ℕ, Bool, false, ◌&&◌, List, Some, if◌then◌else◌}
+use Rattle.std.specs.Prelude.{◌≡◌, ◌≢◌, ℕ, Bool, true, false, ◌&&◌, List, Some, if◌then◌else◌}
 use Rattle.std.specs.Option.{is_some, option_map_or}
 use Rattle.std.specs.List.{Contains}
 use Rattle.al_base.specs.Batch.{Key}
@@ -7,26 +7,30 @@ use Rattle.al_base.specs.declared.unit_key.UnitKind.TheVariants.{Decl, Body, Sub
 use Rattle.al_order.specs.declared.tie.Reason.{Reason}
 use Rattle.al_order.specs.declared.tie.Reason.TheVariants.{Depends, Elaborate, ElaborateAll}
 use Rattle.al_unit_graph.specs.Headers.{Header, Library}
-use Rattle.al_unit_graph.specs.Library.{unit_at}
+use Rattle.al_unit_graph.specs.Library.{unit_at, is_unit}
 use Rattle.al_unit_graph.specs.Dependence.{DependsOn}
 use Rattle.al_unit_graph.specs.Needed.{Needed, subunits_of}
 
--- a declaration or a body that the partition needs; a subunit is part of its body
+-- a declaration or a body of the library that the partition needs; a subunit is part of its body
 abbrev pub IsItem : Library → List ℕ → Key → Type 0
-IsItem lib main x = Needed lib main x × (x.1 ≢ Sub)
+IsItem lib main x = Needed lib main x × (is_unit lib x ≡ true) × (x.1 ≢ Sub)
 
 -- the item itself, and its subunits: those of its stubs, and of theirs
 pub data IsPartOf (lib : Library) (x : Key) : Key → Type 0 where
   itself : IsPartOf lib x x
   subunit : {p q : Key} {h : Header} → IsPartOf lib x p → unit_at lib p ≡ Some h → Contains (subunits_of lib p.0 h) q → IsPartOf lib x q
 
--- x is elaborated after y, for this reason: a part of x depends on y, names y's unit in Elaborate, or names a unit in
+-- a unit wants y elaborated before it, for this reason: it depends on y, names y's unit in Elaborate, or names a unit in
 -- Elaborate_All whose body y is, or whose declaration needs y
-pub data Follows (lib : Library) : Reason → Key → Key → Type 0 where
-  depends : {x y p : Key} → IsPartOf lib x p → DependsOn lib p y → Follows lib Depends x y
-  elaborate : {x p : Key} {q : List ℕ} {h : Header} → IsPartOf lib x p → unit_at lib p ≡ Some h → Contains h.elaborate q → Follows lib Elaborate x (q, Body)
-  elaborate_all_body : {x p : Key} {q : List ℕ} {h : Header} → IsPartOf lib x p → unit_at lib p ≡ Some h → Contains h.elaborate_all q → Follows lib ElaborateAll x (q, Body)
-  elaborate_all : {x y p : Key} {q : List ℕ} {h : Header} → IsPartOf lib x p → unit_at lib p ≡ Some h → Contains h.elaborate_all q → Needed lib q y → Follows lib ElaborateAll x y
+pub data Wants (lib : Library) (p : Key) : Reason → Key → Type 0 where
+  depends : {y : Key} → DependsOn lib p y → Wants lib p Depends y
+  elaborate : {q : List ℕ} {h : Header} → unit_at lib p ≡ Some h → Contains h.elaborate q → Wants lib p Elaborate (q, Body)
+  elaborate_all_body : {q : List ℕ} {h : Header} → unit_at lib p ≡ Some h → Contains h.elaborate_all q → Wants lib p ElaborateAll (q, Body)
+  elaborate_all : {y : Key} {q : List ℕ} {h : Header} → unit_at lib p ≡ Some h → Contains h.elaborate_all q → Needed lib q y → Wants lib p ElaborateAll y
+
+-- x is elaborated after y, for this reason: a part of x wants it
+abbrev pub Follows : Library → Reason → Key → Key → Type 0
+Follows lib reason x y = (p : Key) × IsPartOf lib x p × Wants lib p reason y
 
 -- a declaration with Elaborate_Body, and its body (ARM 10.2.1(26))
 abbrev pub is_pair : Library → List ℕ → Bool

@@ -1,8 +1,14 @@
-//! The binder: what a partition lacks, and which library item is elaborated after which.
+//! The binder: what a partition lacks, and the order in which its library items are elaborated.
 #![tactic(auto)]
 
+mod binding;
 mod lacking;
 pub mod laws;
 mod missing;
+mod parts;
+mod places;
+mod ties;
 
+pub use al_order::Reason;
+pub use binding::{BindFault, Line, bind};
 pub use lacking::{Lack, first_lack};

@@ -5,3 +5,4 @@ pub mod Linking
 pub mod Images
 pub mod LinkedParts
 pub mod Faults
+pub mod Partitions

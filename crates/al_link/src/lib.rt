@@ -5,6 +5,7 @@
 mod bases;
 mod image;
 mod laws;
+mod linking;
 mod patch;
 mod places;
 mod start;
@@ -13,4 +14,5 @@ mod units;
 pub use al_partition::{Image, LinkFault};
 pub use image::image_of;
 pub use laws::links_parts;
+pub use linking::{LeftUnit, link};
 pub use units::LinkUnit;

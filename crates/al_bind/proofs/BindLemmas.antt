@@ -1,0 +1,42 @@
+-- The order of the nodes, and the lines of a cycle, as they are told in items.
+use Rattle.std.proofs.Common.{◌≡◌, ◌↔◌, ℕ, ◌<◌, List, [], ◌∷◌, length, map, get_or, replicate, refl, sym, ap, subst, ◌∙◌, arith}
+use Rattle.std.specs.List.{All, Contains, fold}
+use Rattle.std.proofs.lemmas.List.{get_or_default, length-map, length-replicate}
+use Rattle.std.proofs.lemmas.List.Elements.{Contains-get_or}
+use Rattle.al_base.specs.Batch.{Key, key_of}
+use Rattle.al_base.specs.declared.unit_key.UnitKey.{UnitKey}
+use Rattle.al_graph.specs.Graphs.{with_step}
+use Rattle.al_graph.proofs.StepLemmas.{length-with_step}
+use Rattle.al_order.specs.Orders.{IsOrder}
+use Rattle.al_order.specs.Ties.{IsFault, graph_from}
+use Rattle.al_order.specs.declared.tie.Tie.{Tie}
+use Rattle.al_unit_graph.specs.Headers.{Library}
+use Rattle.al_bind.specs.Numbers.{TellsEdge, nodes_among}
+
+pub all_of : {X : Type 0} (P : X → Type 0) (xs : List X) → ((x : X) → Contains xs x → P x) → All P xs
+all_of P xs each = λ k d l. each (get_or xs k d) (Contains-get_or xs k d l)
+
+length_folded : (ties : List Tie) (g : List (List ℕ)) → length (fold (λ h t. with_step h t.after t.before) g ties) ≡ length g
+length_folded [] g = refl
+length_folded (t ∷ ts) g = length_folded ts (with_step g t.after t.before) ∙ length-with_step g t.after t.before
+
+pub graph_count : (count : ℕ) (ties : List Tie) → length (graph_from count ties) ≡ count
+graph_count count ties = length_folded ties (replicate count []) ∙ length-replicate {A = List ℕ} count []
+
+pub order_within : (count : ℕ) (ties : List Tie) (order : List ℕ) → IsOrder (graph_from count ties) order → All (λ i. i < count) order
+order_within count ties order is = λ k d l.
+    let below : get_or order k 0 < length (graph_from count ties) = (is.takes_least k l).0.0 in
+    let same = get_or_default order k d 0 l in
+    let size = graph_count count ties in
+    omega (arith, below, same, size)
+
+module _ (lib : Library) (main : List ℕ) (keys : List Key) (ties : List Tie) (tells : (t : Tie) → Contains ties t ↔ TellsEdge lib main keys t) where
+  pub ties_within : All (λ t. (t.after < length (nodes_among lib keys)) × (t.before < length (nodes_among lib keys))) ties
+  ties_within = all_of (λ (t : Tie). (t.after < length (nodes_among lib keys)) × (t.before < length (nodes_among lib keys))) ties (λ t c. let edge = (tells t).0 c in (edge.after_at.0, edge.before_at.0))
+
+  pub shown_within : (count : ℕ) (shown : List Tie) → IsFault count ties shown → All (λ t. (t.x < length keys) × (t.y < length keys)) shown
+  shown_within count shown fault = λ k d l.
+      let lines = fault.2 in
+      let within : k < length fault.0 = omega (arith, l, lines.count) in
+      let edge = (tells (get_or shown k d)).0 (lines.each k within d).0 in
+      (edge.x_at.0, edge.y_at.0)

@@ -1,0 +1,230 @@
+-- The ties of edges, as they are listed one after another.
+use Rattle.std.proofs.Common.{◌≡◌, ◌≢◌, ◌↔◌, ◌⊎◌, inl, inr, ℕ, true, Option, Some, None, ◌+◌, ◌<◌, ◌≤◌, List, [], ◌∷◌, ◌++◌, length, map, take, get_or, refl, sym, ap, subst, ◌∙◌, arith}
+use Rattle.std.specs.List.{Contains}
+use Rattle.std.specs.List.Sorted.{IsStrictlySortedBy}
+use Rattle.std.specs.declared.cmp.Ordering.TheVariants.{Less, Equal}
+use Rattle.std.proofs.lemmas.Bool.{cases_lt}
+use Rattle.std.proofs.lemmas.Map.Keys.{Less-from_sorted}
+use Rattle.std.proofs.lemmas.List.{take_all, take_more}
+use Rattle.std.proofs.lemmas.List.Kept.{IsStrictlySortedBy-filter}
+use Rattle.std.proofs.lemmas.List.Elements.{Contains-push, Contains-push_cases, Contains-append_left}
+use Rattle.al_base.specs.Batch.{Key, key_of}
+use Rattle.al_base.specs.declared.unit_key.UnitKey.{UnitKey}
+use Rattle.al_base.specs.declared.unit_key.UnitKind.TheVariants.{Body}
+use Rattle.al_order.specs.declared.tie.Tie.{Tie}
+use Rattle.al_order.specs.declared.tie.Reason.{Reason}
+use Rattle.al_order.specs.declared.tie.Reason.TheVariants.{Depends, Elaborate, ElaborateAll}
+use Rattle.al_graph.proofs.Members.{nowhere}
+use Rattle.al_unit_graph.specs.Headers.{Header, Library}
+use Rattle.al_unit_graph.specs.Library.{is_unit, unit_at}
+use Rattle.al_unit_graph.specs.Dependence.{DependsOn}
+use Rattle.al_unit_graph.specs.Needed.{ListsUnits, Needed}
+use Rattle.al_unit_graph.proofs.Lists.{from_map, into_map}
+use Rattle.al_unit_graph.specs.Orders.{key_cmp}
+use Rattle.al_bind.specs.Elaboration.{Wants, node_of}
+use Rattle.al_bind.specs.Elaboration.Wants.{depends, elaborate, elaborate_all_body, elaborate_all}
+use Rattle.al_bind.specs.Numbers.{Adds, IsAt, IsEnd, IsFor, IsForAll, OneOf, TiesBy, TiesTo, is_node, nodes_among}
+use Rattle.al_bind.specs.declared.places.End.{End}
+use Rattle.al_bind.proofs.PlaceLemmas.{key_itself}
+
+-- adding
+pub adds_none : (old : List Tie) (P : Tie → Type 0) → ((t : Tie) → P t → ⊥) → Adds old old P
+adds_none old P none = record { each = λ t. ((λ c. inl c), (λ h. elim h [ inl c ↦ c | inr p ↦ absurd (none t p) ])) }
+
+pub adds_both : (old mid new : List Tie) (P Q : Tie → Type 0) → Adds old mid P → Adds mid new Q → Adds old new (λ t. P t ⊎ Q t)
+adds_both old mid new P Q first second = record {
+  each = λ t. (
+    (λ c. elim ((second.each t).0 c) [
+      | inl m ↦ elim ((first.each t).0 m) [ inl o ↦ inl o | inr p ↦ inr (inl p) ]
+      | inr q ↦ inr (inr q)
+    ]),
+    (λ h. elim h [
+      | inl o ↦ (second.each t).1 (inl ((first.each t).1 (inl o)))
+      | inr pq ↦ elim pq [ inl p ↦ (second.each t).1 (inl ((first.each t).1 (inr p))) | inr q ↦ (second.each t).1 (inr q) ]
+    ]),
+  );
+}
+
+pub adds_same : (old new : List Tie) (P Q : Tie → Type 0) → Adds old new P → ((t : Tie) → P t ↔ Q t) → Adds old new Q
+adds_same old new P Q adds same = record {
+  each = λ t. (
+    (λ c. elim ((adds.each t).0 c) [ inl o ↦ inl o | inr p ↦ inr ((same t).0 p) ]),
+    (λ h. elim h [ inl o ↦ (adds.each t).1 (inl o) | inr q ↦ (adds.each t).1 (inr ((same t).1 q)) ]),
+  );
+}
+
+pub adds_start : {X : Type 0} (old : List Tie) (P : X → Tie → Type 0) → Adds old old (OneOf [] P)
+adds_start old P = adds_none old (OneOf [] P) (λ t h. nowhere h.0 h.1)
+
+more_of : {X : Type 0} (zs : List X) (i : ℕ) (z : X) (P : X → Tie → Type 0) (t : Tie) → i < length zs → z ≡ get_or zs i z → (OneOf (take i zs) P t ⊎ P z t) ↔ OneOf (take (i + 1) zs) P t
+more_of {X} zs i z P t within is =
+    let same : take (i + 1) zs ≡ take i zs ++ z ∷ [] = take_more zs i z within ∙ ap (λ (y : X). take i zs ++ y ∷ []) (sym is) in (
+      (λ h. elim h [
+        | inl o ↦ (o.0, subst (λ (xs : List X). Contains xs o.0) (sym same) (Contains-append_left (take i zs) (z ∷ []) o.0 o.1), o.2)
+        | inr p ↦ (z, subst (λ (xs : List X). Contains xs z) (sym same) (Contains-push (take i zs) z), p)
+      ]),
+      (λ o. elim (Contains-push_cases (take i zs) z o.0 (subst (λ (xs : List X). Contains xs o.0) same o.1)) [
+        | inl c ↦ inl (o.0, c, o.2)
+        | inr e ↦ inr (subst (λ (y : X). P y t) (sym e) o.2)
+      ]),
+    )
+
+pub adds_step : {X : Type 0} (old mid new : List Tie) (zs : List X) (i : ℕ) (z : X) (P : X → Tie → Type 0) → Adds old mid (OneOf (take i zs) P) → i < length zs → z ≡ get_or zs i z → Adds mid new (P z) → Adds old new (OneOf (take (i + 1) zs) P)
+adds_step old mid new zs i z P first within is second =
+    adds_same old new (λ t. OneOf (take i zs) P t ⊎ P z t) (OneOf (take (i + 1) zs) P) (adds_both old mid new (OneOf (take i zs) P) (P z) first second) (λ t. more_of zs i z P t within is)
+
+pub adds_end : {X : Type 0} (old new : List Tie) (zs : List X) (i : ℕ) (P : X → Tie → Type 0) → Adds old new (OneOf (take i zs) P) → length zs ≤ i → Adds old new (OneOf zs P)
+adds_end {X} old new zs i P adds ended = subst (λ (xs : List X). Adds old new (OneOf xs P)) (take_all i zs ended) adds
+
+-- places
+one_place_by : (ks : List Key) (k : Key) (i j : ℕ) → IsStrictlySortedBy key_cmp ks → IsAt ks k i → IsAt ks k j → i < j → ⊥
+one_place_by ks k i j sorted at too l =
+    let less : key_cmp (get_or ks i k) (get_or ks j k) ≡ Less = Less-from_sorted key_cmp ks i j k sorted l too.0 in
+    let same : key_cmp (get_or ks i k) (get_or ks j k) ≡ key_cmp k k = ap (λ (a : Key). key_cmp a (get_or ks j k)) at.1 ∙ ap (λ (b : Key). key_cmp k b) too.1 in
+    let equal = same ∙ key_itself k in
+    absurd (cc)
+
+pub one_place : (ks : List Key) (k : Key) (i j : ℕ) → IsStrictlySortedBy key_cmp ks → IsAt ks k i → IsAt ks k j → i ≡ j
+one_place ks k i j sorted at too =
+    elim (cases_lt i j) [
+      | inl before ↦ absurd (one_place_by ks k i j sorted at too before)
+      | inr upto ↦ elim (cases_lt j i) [
+        | inl behind ↦ absurd (one_place_by ks k j i sorted too at behind)
+        | inr down ↦ omega (arith, upto, down)
+      ]
+    ]
+
+-- one tie
+module _ (lib : Library) (keys : List Key) (sorted : IsStrictlySortedBy key_cmp keys) (x : End) (reason : Reason) (y : Key) where
+  nodes_sorted : IsStrictlySortedBy key_cmp (nodes_among lib keys)
+  nodes_sorted = IsStrictlySortedBy-filter key_cmp (is_node lib) keys sorted
+
+  end_by : (t : Tie) (k : Key) → y ≡ k → TiesTo lib keys x k t → TiesTo lib keys x y t
+  end_by t k is ties = subst (λ (j : Key). TiesTo lib keys x j t) (sym is) ties
+
+  pub no_end : (old : List Tie) → ((end : End) → IsEnd lib keys y end → ⊥) → Adds old old (TiesBy lib keys x (IsFor reason y))
+  no_end old none = adds_none old (TiesBy lib keys x (IsFor reason y)) (λ t h. let ties = end_by t h.0 h.1.1 h.2 in none (record { item = t.y; node = t.before }) (record { item_kind = ties.y_kind; item_at = ties.y_at; node_at = ties.before_at }))
+
+  module _ (end : End) (is_end : IsEnd lib keys y end) where
+    same_node : (t : Tie) (k : Key) → y ≡ k → TiesTo lib keys x k t → t.before ≡ end.node
+    same_node t k is h = let ties = end_by t k is h in one_place (nodes_among lib keys) (node_of lib y) t.before end.node nodes_sorted ties.before_at is_end.node_at
+
+    pub no_edge : (old : List Tie) → end.node ≡ x.node → Adds old old (TiesBy lib keys x (IsFor reason y))
+    no_edge old same = adds_none old (TiesBy lib keys x (IsFor reason y)) (λ t h. h.2.apart (h.2.after_is ∙ sym same ∙ sym (same_node t h.0 h.1.1 h.2)))
+
+    abbrev pub one_tie : Tie
+    one_tie = record { after = x.node; before = end.node; reason = reason; x = x.item; y = end.item }
+
+    the_tie : (t : Tie) → TiesBy lib keys x (IsFor reason y) t → one_tie ≡ t
+    the_tie t h =
+        let ties = end_by t h.0 h.1.1 h.2 in
+        let before = same_node t h.0 h.1.1 h.2 in
+        let item : t.y ≡ end.item = one_place keys y t.y end.item sorted ties.y_at is_end.item_at in
+        let after : t.after ≡ x.node = ties.after_is in
+        let from : t.x ≡ x.item = ties.x_is in
+        let why : t.reason ≡ reason = h.1.0 in
+        rw (sym before, sym item, sym after, sym from, sym why) refl
+
+    pub one_edge : (old : List Tie) → (end.node ≡ x.node → ⊥) → Adds old (old ++ one_tie ∷ []) (TiesBy lib keys x (IsFor reason y))
+    one_edge old other = record {
+      each = λ t. (
+        (λ c. elim (Contains-push_cases old one_tie t c) [
+          | inl o ↦ inl o
+          | inr is ↦ inr (subst (λ (s : Tie). TiesBy lib keys x (IsFor reason y) s) is (y, (refl, refl), record { y_kind = is_end.item_kind; x_is = refl; after_is = refl; y_at = is_end.item_at; before_at = is_end.node_at; apart = λ e. other (sym e) }))
+        ]),
+        (λ h. elim h [
+          | inl o ↦ Contains-append_left old (one_tie ∷ []) t o
+          | inr p ↦ subst (λ (s : Tie). Contains (old ++ one_tie ∷ []) s) (the_tie t p) (Contains-push old one_tie)
+        ]),
+      );
+    }
+
+-- ties by what is the same of all keys
+pub ties_same : (lib : Library) (keys : List Key) (x : End) (R S : Reason → Key → Type 0) → ((r : Reason) (k : Key) → Contains keys k → R r k ↔ S r k) → (t : Tie) → TiesBy lib keys x R t ↔ TiesBy lib keys x S t
+ties_same lib keys x R S same t = (
+  (λ h. (h.0, (same t.reason h.0 (t.y, h.2.y_at.0, h.2.y_at.1)).0 h.1, h.2)),
+  (λ h. (h.0, (same t.reason h.0 (t.y, h.2.y_at.0, h.2.y_at.1)).1 h.1, h.2)),
+)
+
+-- for some member of a list
+abbrev ForSome : {X : Type 0} → List X → (X → Reason → Key → Type 0) → Reason → Key → Type 0
+ForSome {X} zs Q r k = (z : X) × Contains zs z × Q z r k
+
+one_of_ties : {X : Type 0} (lib : Library) (keys : List Key) (x : End) (zs : List X) (Q : X → Reason → Key → Type 0) (t : Tie) → OneOf zs (λ z. TiesBy lib keys x (Q z)) t ↔ TiesBy lib keys x (ForSome zs Q) t
+one_of_ties lib keys x zs Q t = (
+  (λ h. (h.2.0, (h.0, h.1, h.2.1), h.2.2)),
+  (λ h. (h.1.0, h.1.1, (h.0, h.1.2, h.2))),
+)
+
+pub adds_by : {X : Type 0} (lib : Library) (keys : List Key) (x : End) (zs : List X) (Q : X → Reason → Key → Type 0) (R : Reason → Key → Type 0) (old new : List Tie) → Adds old new (OneOf zs (λ z. TiesBy lib keys x (Q z))) → ((r : Reason) (k : Key) → Contains keys k → ForSome zs Q r k ↔ R r k) → Adds old new (TiesBy lib keys x R)
+adds_by lib keys x zs Q R old new adds same =
+    adds_same old new (TiesBy lib keys x (ForSome zs Q)) (TiesBy lib keys x R) (adds_same old new (OneOf zs (λ z. TiesBy lib keys x (Q z))) (TiesBy lib keys x (ForSome zs Q)) adds (λ t. one_of_ties lib keys x zs Q t)) (λ t. ties_same lib keys x (ForSome zs Q) R same t)
+
+pub adds_either : (lib : Library) (keys : List Key) (x : End) (R S T : Reason → Key → Type 0) (old mid new : List Tie) → Adds old mid (TiesBy lib keys x R) → Adds mid new (TiesBy lib keys x S) → ((r : Reason) (k : Key) → (R r k ⊎ S r k) ↔ T r k) → Adds old new (TiesBy lib keys x T)
+adds_either lib keys x R S T old mid new first second same =
+    adds_same old new (λ t. TiesBy lib keys x R t ⊎ TiesBy lib keys x S t) (TiesBy lib keys x T) (adds_both old mid new (TiesBy lib keys x R) (TiesBy lib keys x S) first second) (λ t. (
+      (λ h. elim h [
+        | inl a ↦ (a.0, (same t.reason a.0).0 (inl a.1), a.2)
+        | inr b ↦ (b.0, (same t.reason b.0).0 (inr b.1), b.2)
+      ]),
+      (λ h. elim ((same t.reason h.0).1 h.1) [ inl a ↦ inl (h.0, a, h.2) | inr b ↦ inr (h.0, b, h.2) ]),
+    ))
+
+-- to the units that a call lists
+pub listed_ties : (lib : Library) (keys : List Key) (x : End) (reason : Reason) (ys : List UnitKey) (P : Key → Type 0) (old new : List Tie) → ListsUnits lib (map key_of ys) P → ((k : Key) → Contains keys k → is_unit lib k ≡ true) → Adds old new (OneOf ys (λ y. TiesBy lib keys x (IsFor reason (key_of y)))) → Adds old new (TiesBy lib keys x (λ r k. (r ≡ reason) × P k))
+listed_ties lib keys x reason ys P old new lists units adds =
+    adds_by lib keys x ys (λ y. IsFor reason (key_of y)) (λ r k. (r ≡ reason) × P k) old new adds (λ r k c. (
+      (λ h. (h.2.0, ((lists.all k).0 (subst (λ (j : Key). Contains (map key_of ys) j) h.2.1 (into_map key_of ys h.0 h.1))).0)),
+      (λ h. let f = from_map key_of ys k ((lists.all k).1 (h.1, units k c)) in (f.0, f.1, (h.0, f.2))),
+    ))
+
+-- what a part wants
+abbrev Depending : Library → Key → Reason → Key → Type 0
+Depending lib p r k = (r ≡ Depends) × DependsOn lib p k
+
+abbrev NamedOnes : Library → Header → Reason → Key → Type 0
+NamedOnes lib h = ForSome h.elaborate (λ q. IsFor Elaborate (q, Body))
+
+abbrev AllOnes : Library → Header → Reason → Key → Type 0
+AllOnes lib h = ForSome h.elaborate_all (IsForAll lib)
+
+depending : (lib : Library) (p : Key) (r : Reason) (k : Key) → Depending lib p r k → Wants lib p r k
+depending lib p r k h = subst (λ (s : Reason). Wants lib p s k) (sym h.0) (depends h.1)
+
+for_one : (lib : Library) (p : Key) (reason r : Reason) (j k : Key) → Wants lib p reason j → IsFor reason j r k → Wants lib p r k
+for_one lib p reason r j k wants h = subst (λ (s : Reason). Wants lib p s k) (sym h.0) (subst (λ (i : Key). Wants lib p reason i) h.1 wants)
+
+wanted : (lib : Library) (p : Key) (h : Header) → unit_at lib p ≡ Some h → (r : Reason) (k : Key) → ((Depending lib p r k ⊎ NamedOnes lib h r k) ⊎ AllOnes lib h r k) → Wants lib p r k
+wanted lib p h is r k (inl (inl d)) = depending lib p r k d
+wanted lib p h is r k (inl (inr (q, c, for))) = for_one lib p Elaborate r (q, Body) k (elaborate is c) for
+wanted lib p h is r k (inr (q, c, inl for)) = for_one lib p ElaborateAll r (q, Body) k (elaborate_all_body is c) for
+wanted lib p h is r k (inr (q, c, inr needed)) = subst (λ (s : Reason). Wants lib p s k) (sym needed.0) (elaborate_all is c needed.1)
+
+same_header : (lib : Library) (p : Key) (h g : Header) → unit_at lib p ≡ Some h → unit_at lib p ≡ Some g → g ≡ h
+same_header lib p h g is too = let e : Some g ≡ Some h = sym too ∙ is in cc
+
+unwanted : (lib : Library) (p : Key) (h : Header) → unit_at lib p ≡ Some h → (r : Reason) (k : Key) → Wants lib p r k → ((Depending lib p r k ⊎ NamedOnes lib h r k) ⊎ AllOnes lib h r k)
+unwanted lib p h is _ k (depends d) = inl (inl (refl, d))
+unwanted lib p h is _ _ (elaborate {q} {h = g} too c) = inl (inr (q, subst (λ (f : Header). Contains f.elaborate q) (same_header lib p h g is too) c, (refl, refl)))
+unwanted lib p h is _ _ (elaborate_all_body {q} {h = g} too c) = inr (q, subst (λ (f : Header). Contains f.elaborate_all q) (same_header lib p h g is too) c, inl (refl, refl))
+unwanted lib p h is _ k (elaborate_all {q = q} {h = g} too c needed) = inr (q, subst (λ (f : Header). Contains f.elaborate_all q) (same_header lib p h g is too) c, inr (refl, needed))
+
+no_header : (lib : Library) (p : Key) (g : Header) → unit_at lib p ≡ None → unit_at lib p ≡ Some g → ⊥
+no_header lib p g is too = let e = sym is ∙ too in absurd (cc)
+
+only_depends : (lib : Library) (p : Key) → unit_at lib p ≡ None → (r : Reason) (k : Key) → Wants lib p r k → Depending lib p r k
+only_depends lib p is _ k (depends d) = (refl, d)
+only_depends lib p is _ _ (elaborate {h = g} too c) = absurd (no_header lib p g is too)
+only_depends lib p is _ _ (elaborate_all_body {h = g} too c) = absurd (no_header lib p g is too)
+only_depends lib p is _ k (elaborate_all {h = g} too c needed) = absurd (no_header lib p g is too)
+
+module _ (lib : Library) (keys : List Key) (x : End) (p : Key) where
+  pub part_none : (old new : List Tie) → unit_at lib p ≡ None → Adds old new (TiesBy lib keys x (λ r k. (r ≡ Depends) × DependsOn lib p k)) → Adds old new (TiesBy lib keys x (Wants lib p))
+  part_none old new is adds = adds_same old new (TiesBy lib keys x (Depending lib p)) (TiesBy lib keys x (Wants lib p)) adds (ties_same lib keys x (Depending lib p) (Wants lib p) (λ r k c. (depending lib p r k, only_depends lib p is r k)))
+
+  pub part_some : (h : Header) (a b c d : List Tie) → unit_at lib p ≡ Some h → Adds a b (TiesBy lib keys x (λ r k. (r ≡ Depends) × DependsOn lib p k)) → Adds b c (OneOf h.elaborate (λ q. TiesBy lib keys x (IsFor Elaborate (q, Body)))) → Adds c d (OneOf h.elaborate_all (λ q. TiesBy lib keys x (IsForAll lib q))) → Adds a d (TiesBy lib keys x (Wants lib p))
+  part_some h a b c d is first second third =
+      let named = adds_by lib keys x h.elaborate (λ q. IsFor Elaborate (q, Body)) (NamedOnes lib h) b c second (λ r k m. ((λ o. o), (λ o. o))) in
+      let all = adds_by lib keys x h.elaborate_all (IsForAll lib) (AllOnes lib h) c d third (λ r k m. ((λ o. o), (λ o. o))) in
+      let both = adds_either lib keys x (Depending lib p) (NamedOnes lib h) (λ r k. Depending lib p r k ⊎ NamedOnes lib h r k) a b c first named (λ r k. ((λ o. o), (λ o. o))) in
+      adds_either lib keys x (λ r k. Depending lib p r k ⊎ NamedOnes lib h r k) (AllOnes lib h) (Wants lib p) a c d both all (λ r k. (wanted lib p h is r k, unwanted lib p h is r k))

@@ -1,0 +1,124 @@
+// The public call: the elaboration order of a partition, or the first fault.
+ghost use Rattle.std.specs.Prelude.{◌≡◌, ◌<◌, ◌++◌, length, map, IfOk, OnOk, MatchResult};
+ghost use Rattle.std.specs.List.{All};
+ghost use Rattle.al_base.specs.Batch.{key_of};
+ghost use Rattle.al_bind.specs.Binding.{items_at, items_of, line_of, line_seen, IsBindFault, IsElaboration};
+
+use crate::lacking::{Lack, first_lack};
+use crate::places::{Places, copy_of, is_pair};
+use crate::ties::ties_of;
+use al_base::{Name, NoMemory, UnitKey, UnitKind};
+use al_order::{Reason, Tie, order_of_ties};
+use al_unit_graph::Sources;
+use std::alloc::Global;
+
+/// An item that comes after another one, and why.
+#[derive(Debug, Drop)]
+pub struct Line {
+    pub after: UnitKey,
+    pub before: UnitKey,
+    pub reason: Reason,
+}
+
+/// Why a partition has no elaboration order.
+#[derive(Debug, Drop)]
+pub enum BindFault {
+    /// Something is missing.
+    Lacks(Lack),
+    /// A cycle: each line's node comes after that of the next line, and the last line's after that of the first (ARM 10.2.1(17)).
+    Cycle(Vec<Line>),
+}
+
+// Adds the items of a node.
+fn add_items_of(
+    alloc: Global,
+    sources: &Sources,
+    node: &UnitKey,
+    items: &mut Vec<UnitKey>,
+) -> Result<(), NoMemory>
+    ensures { OnOk result (map key_of items.new.items ≡ map key_of items.old.items ++ items_of sources.now (key_of node.now)) }
+{
+    items.push(copy_of(alloc, node)?)?;
+    let name = node.name.as_slice();
+    if matches!(node.kind, UnitKind::Decl) && is_pair(sources, name) {
+        items.push(UnitKey {
+            name: Name::from_slice(alloc, name)?,
+            kind: UnitKind::Body,
+        })?;
+    }
+    Ok(())
+}
+
+// The items of the nodes at these places.
+fn items_at(
+    alloc: Global,
+    sources: &Sources,
+    nodes: &[UnitKey],
+    order: &[usize],
+) -> Result<Vec<UnitKey>, NoMemory>
+    requires { All (λ i. i < length nodes.now) order.now }
+    ensures { IfOk result (λ items. map key_of items.items ≡ items_at sources.now (map key_of nodes.now) order.now) }
+{
+    let mut items = Vec::new(alloc);
+    for place in order {
+        add_items_of(alloc, sources, &nodes[*place], &mut items)?;
+    }
+    Ok(items)
+}
+
+// What a tie says.
+fn line_of(alloc: Global, keys: &[UnitKey], tie: &Tie) -> Result<Line, NoMemory>
+    requires x_in { tie.now.x < length keys.now }
+    requires y_in { tie.now.y < length keys.now }
+    ensures { IfOk result (λ line. line_seen line ≡ line_of (map key_of keys.now) tie.now) }
+{
+    Ok(Line {
+        after: copy_of(alloc, &keys[tie.x])?,
+        before: copy_of(alloc, &keys[tie.y])?,
+        reason: tie.reason,
+    })
+}
+
+// What these ties say.
+fn lines_of(alloc: Global, keys: &[UnitKey], ties: &[Tie]) -> Result<Vec<Line>, NoMemory>
+    requires { All (λ t. (t.x < length keys.now) × (t.y < length keys.now)) ties.now }
+    ensures { IfOk result (λ lines. map line_seen lines.items ≡ map (line_of (map key_of keys.now)) ties.now) }
+{
+    let mut lines = Vec::new(alloc);
+    for tie in ties {
+        lines.push(line_of(alloc, keys, tie)?)?;
+    }
+    Ok(lines)
+}
+
+/// The order in which the items of a partition are elaborated: its needed declarations and bodies, each time the least node by the
+/// bytes of its name, a declaration before a body, whose predecessors all stand before it. A declaration with Elaborate_Body and its
+/// body are one node, the body right after the declaration (ARM 10.2(9), 10.2.1(26)). Or the first fault: what is missing, or else
+/// the cycle that shows that there is no order.
+///
+/// # Errors
+///
+/// `NoMemory` where memory is wanted.
+pub fn bind(
+    alloc: Global,
+    sources: &Sources,
+    main: &[u8],
+) -> Result<Result<Vec<UnitKey>, BindFault>, NoMemory>
+    ensures { IfOk result (λ bound. MatchResult bound (λ items. IsElaboration sources.now main.now (map key_of items.items)) (IsBindFault sources.now main.now)) }
+{
+    if let Some(lack) = first_lack(alloc, sources, main)? {
+        return Ok(Err(BindFault::Lacks(lack)));
+    }
+    let places = Places::of(alloc, sources, main)?;
+    let ties = ties_of(alloc, sources, main, &places)?;
+    match order_of_ties(alloc, places.nodes.len(), &ties)? {
+        Ok(order) => {
+            let items = items_at(alloc, sources, &places.nodes, &order)?;
+            Ok(Ok(items))
+        }
+        Err(shown) => {
+            let lines = lines_of(alloc, &places.keys, &shown)?;
+            Ok(Err(BindFault::Cycle(lines)))
+        }
+    }
+}

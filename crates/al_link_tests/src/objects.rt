@@ -1,0 +1,136 @@
+// Objects by hand.
+use al_base::{Name, NoMemory, UnitKey, UnitKind};
+use al_instr::{Instr, Sized};
+use al_object::{Address, Compiled, Object, Region};
+use al_output::Output;
+use al_view::{LinkKind, LinkSymbol, Symbol};
+use std::alloc::Global;
+
+/// The key of a unit.
+pub(crate) fn key(alloc: Global, name: &[u8], kind: UnitKind) -> Result<UnitKey, NoMemory> {
+    let name = Name::from_slice(alloc, name)?;
+    Ok(UnitKey { name, kind })
+}
+
+/// The first declaration of this name in a unit.
+pub(crate) fn symbol(
+    alloc: Global,
+    unit: &[u8],
+    kind: UnitKind,
+    name: &[u8],
+) -> Result<Symbol, NoMemory> {
+    let unit = key(alloc, unit, kind)?;
+    let name = Name::from_slice(alloc, name)?;
+    Ok(Symbol {
+        unit,
+        name,
+        number: 0,
+    })
+}
+
+/// The object of code without data words.
+fn object_of(alloc: Global, out: Output) -> Object {
+    let protected: Vec<Region> = Vec::new(alloc);
+    match out.finish() {
+        None => Object::Large,
+        Some(written) => Object::Compiled(Compiled::new(
+            written.code,
+            written.uses,
+            written.defines,
+            0,
+            0,
+            protected,
+        )),
+    }
+}
+
+/// The object of code with one data word, where this symbol stands.
+fn object_with(alloc: Global, out: Output, data: Symbol) -> Result<Object, NoMemory> {
+    let Some(written) = out.finish() else {
+        return Ok(Object::Large);
+    };
+    let mut defines = written.defines;
+    let symbol = LinkSymbol {
+        symbol: data,
+        kind: LinkKind::Data,
+    };
+    defines.push(Address { symbol, offset: 0 })?;
+    let protected: Vec<Region> = Vec::new(alloc);
+    Ok(Object::Compiled(Compiled::new(written.code, written.uses, defines, 1, 0, Vec::new(alloc))))
+}
+
+fn put_sized(out: &mut Output, sized: Sized, number: u32) -> Result<(), NoMemory> {
+    let instr = Instr::Sized(sized, number);
+    out.put(&instr)
+}
+
+/// A routine that does nothing.
+fn put_nothing(out: &mut Output) -> Result<(), NoMemory> {
+    put_sized(out, Sized::Enter, 0)?;
+    put_sized(out, Sized::Return, 0)
+}
+
+/// A word of Integer into the object of this symbol.
+fn put_assignment(out: &mut Output, word: i64, data: &Symbol) -> Result<(), NoMemory> {
+    let value = Instr::Const(word);
+    out.put(&value)?;
+    let check = Instr::Check {
+        low: -2_147_483_648,
+        high: 2_147_483_647,
+    };
+    out.put(&check)?;
+    let address = Instr::Global(0);
+    out.put_using(&address, LinkKind::Data, data)?;
+    put_sized(out, Sized::Store, 1)
+}
+
+/// The object of a package without declarations.
+pub(crate) fn package(alloc: Global) -> Result<Object, NoMemory> {
+    let mut out = Output::new(alloc);
+    put_nothing(&mut out)?;
+    Ok(object_of(alloc, out))
+}
+
+/// The object of a package with an object of Integer that has a value.
+pub(crate) fn package_with_value(alloc: Global, data: Symbol) -> Result<Object, NoMemory> {
+    let mut out = Output::new(alloc);
+    put_sized(&mut out, Sized::Enter, 0)?;
+    put_assignment(&mut out, 1, &data)?;
+    put_sized(&mut out, Sized::Return, 0)?;
+    object_with(alloc, out, data)
+}
+
+/// The object of a package with an object of Integer without a value.
+pub(crate) fn package_without_value(alloc: Global, data: Symbol) -> Result<Object, NoMemory> {
+    let mut out = Output::new(alloc);
+    put_sized(&mut out, Sized::Enter, 0)?;
+    let address = Instr::Global(0);
+    out.put_using(&address, LinkKind::Data, &data)?;
+    put_sized(&mut out, Sized::Zero, 1)?;
+    put_sized(&mut out, Sized::Return, 0)?;
+    object_with(alloc, out, data)
+}
+
+/// The object of a library procedure that does nothing.
+pub(crate) fn procedure(alloc: Global, main: &Symbol) -> Result<Object, NoMemory> {
+    let mut out = Output::new(alloc);
+    put_nothing(&mut out)?;
+    out.begin(LinkKind::Code, main)?;
+    put_nothing(&mut out)?;
+    Ok(object_of(alloc, out))
+}
+
+/// The object of a library procedure that sets an object.
+pub(crate) fn procedure_that_sets(
+    alloc: Global,
+    main: &Symbol,
+    data: &Symbol,
+) -> Result<Object, NoMemory> {
+    let mut out = Output::new(alloc);
+    put_nothing(&mut out)?;
+    out.begin(LinkKind::Code, main)?;
+    put_sized(&mut out, Sized::Enter, 0)?;
+    put_assignment(&mut out, 2, data)?;
+    put_sized(&mut out, Sized::Return, 0)?;
+    Ok(object_of(alloc, out))
+}
