@@ -1,7 +1,9 @@
 // The code of calls.
-use crate::trees::{any, code_of, code_of_value, local, number, one, place, small, symbol, typed, value, SMALL};
-use crate::trees::{body, compiled, inside, INTEGER};
 use crate::listing::listing;
+use crate::trees::{
+    INTEGER, SMALL, any, body, code_of, code_of_value, compiled, inside, local, number, one, place,
+    small, symbol, typed, value,
+};
 use al_base::NoMemory;
 use al_typed::{Actual, BodyKind, Callee, Form, StatementForm, TypedCall, TypedName};
 use al_view::{Bounds, Mode, ObjectPlace};
@@ -68,7 +70,9 @@ fn static_links(rt: HostRuntime) -> Result<(), Fail> {
         let mut bodies = Vec::new(alloc);
         bodies.push(body(alloc, b"b", kind, 3, inside(alloc, 0, statements))?)?;
         let object = compiled(alloc, None, bodies)?;
-        let wanted = format!(in alloc; "b.code: Enter 0 Frame 1 7 Load 1 Access {code} Call s.code+0 0 Return 0 ")?;
+        let wanted = format!(in alloc;
+            "b.code: Enter 0 Frame 1 7 Load 1 Access {code} Call s.code+0 0 Return 0 "
+        )?;
         assert_eq!(rt; listing(alloc, &object)?.as_str(), wanted.as_str());
     }
     Ok(())

@@ -1,5 +1,5 @@
 // The code of `if`, `case` and loops.
-use crate::trees::{code_of, local, number, object, one, set, two, value, SMALL};
+use crate::trees::{SMALL, code_of, local, number, object, one, set, two, value};
 use al_base::NoMemory;
 use al_typed::{Alternative, Branch, LoopScheme, StatementForm, Typed, TypedStatement};
 use al_view::{Bounds, Row};
@@ -7,12 +7,7 @@ use std::alloc::Global;
 use std::process::Abort;
 use std::test::Fail;
 
-fn tells(
-    rt: &impl Abort,
-    alloc: Global,
-    form: StatementForm,
-    code: &str,
-) -> Result<(), Fail> {
+fn tells(rt: &impl Abort, alloc: Global, form: StatementForm, code: &str) -> Result<(), Fail> {
     let text = code_of(alloc, one(alloc, form)?)?;
     let wanted = format!(in alloc; "Enter 9 {code} Return 0 ")?;
     assert_eq!(rt; text.as_str(), wanted.as_str());

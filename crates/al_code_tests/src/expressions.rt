@@ -1,12 +1,12 @@
 // The code of names and expressions.
-use crate::trees::{
-    any, body, code_of_value, compiled, composite, constant, inside, integer, local, local_at, number, object, one, small,
-    typed, value,
-};
 use crate::listing::listing;
+use crate::trees::{
+    any, body, code_of_value, compiled, composite, constant, inside, integer, local, local_at,
+    number, object, one, small, typed, value,
+};
 use al_typed::{
-    BinaryOperator, BodyKind, CheckedValue, Conversion, Form, ShortCircuit, StatementForm, Typed, TypedName,
-    UnaryOperator,
+    BinaryOperator, BodyKind, CheckedValue, Conversion, Form, ShortCircuit, StatementForm, Typed,
+    TypedName, UnaryOperator,
 };
 use al_view::{Bounds, StaticValue};
 use std::alloc::Global;

@@ -112,10 +112,7 @@ fn kind_name(kind: LinkKind) -> &'static str {
 }
 
 fn is_code(kind: LinkKind) -> bool {
-    matches!(
-        kind,
-        LinkKind::Code | LinkKind::Gate | LinkKind::EntryBody
-    )
+    matches!(kind, LinkKind::Code | LinkKind::Gate | LinkKind::EntryBody)
 }
 
 fn put_symbol(alloc: Global, text: &mut String, symbol: &LinkSymbol) -> Result<(), Fail> {
@@ -244,12 +241,7 @@ fn put_using(
     Ok(())
 }
 
-fn put_jump(
-    text: &mut String,
-    name: &str,
-    targets: &[i64],
-    placed: &Placed,
-) -> Result<(), Fail> {
+fn put_jump(text: &mut String, name: &str, targets: &[i64], placed: &Placed) -> Result<(), Fail> {
     write!(text, "{name} ")?;
     if let Some(target) = target(placed) {
         if let Some(label) = label(targets, target) {

@@ -1,6 +1,6 @@
 // The code of bodies, and their order in a unit.
-use crate::trees::{body, code_of_body, compiled, inside, local, number, one, set, small};
 use crate::listing::listing;
+use crate::trees::{body, code_of_body, compiled, inside, local, number, one, set, small};
 use al_typed::{BodyKind, FormalWords, StatementForm};
 use al_view::Mode;
 use std::test::Fail;
@@ -34,7 +34,13 @@ fn functions(rt: HostRuntime) -> Result<(), Fail> {
     let alloc = rt.alloc();
     let kind = BodyKind::Function { words: 1, end: 1 };
     assert_eq!(rt;
-        code_of_body(alloc, kind, Vec::new(alloc), one(alloc, set(alloc, b"x", 1)?)?)?.as_str(),
+        code_of_body(
+            alloc,
+            kind,
+            Vec::new(alloc),
+            one(alloc, set(alloc, b"x", 1)?)?
+        )?
+        .as_str(),
         "b.code: Enter 9 Const 1 Global x.data+0 Store 1 Raise 2 "
     );
     Ok(())

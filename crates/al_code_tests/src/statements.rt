@@ -1,23 +1,19 @@
 // The code of simple statements, of what is put out, of blocks and declarations.
 use crate::trees::{
-    any, code_of, code_of_body, code_of_elaboration, composite, local, number, object, one, place, set, small, two, value,
+    any, code_of, code_of_body, code_of_elaboration, composite, local, number, object, one, place,
+    set, small, two, value,
 };
 use al_base::{Name, NoMemory};
 use al_typed::{
-    BodyKind, CheckedValue, DeclarationForm, Form, LoopScheme, Piece, StatementForm, TypedDeclaration,
-    TypedName,
+    BodyKind, CheckedValue, DeclarationForm, Form, LoopScheme, Piece, StatementForm,
+    TypedDeclaration, TypedName,
 };
 use al_view::{Bounds, ObjectPlace, Row};
 use std::alloc::Global;
 use std::process::Abort;
 use std::test::Fail;
 
-fn tells(
-    rt: &impl Abort,
-    alloc: Global,
-    form: StatementForm,
-    code: &str,
-) -> Result<(), Fail> {
+fn tells(rt: &impl Abort, alloc: Global, form: StatementForm, code: &str) -> Result<(), Fail> {
     let text = code_of(alloc, one(alloc, form)?)?;
     let wanted = format!(in alloc; "Enter 9 {code}Return 0 ")?;
     assert_eq!(rt; text.as_str(), wanted.as_str());
@@ -25,12 +21,7 @@ fn tells(
 }
 
 /// The code of a declaration in an elaboration.
-fn declares(
-    rt: &impl Abort,
-    alloc: Global,
-    form: DeclarationForm,
-    code: &str,
-) -> Result<(), Fail> {
+fn declares(rt: &impl Abort, alloc: Global, form: DeclarationForm, code: &str) -> Result<(), Fail> {
     let mut declarations = Vec::new(alloc);
     declarations.push(TypedDeclaration::new(1, form))?;
     let text = code_of_elaboration(alloc, declarations, Vec::new(alloc))?;
@@ -79,7 +70,12 @@ fn assignments(rt: HostRuntime) -> Result<(), Fail> {
         StatementForm::assignment(item, 2, any(record)),
         "Frame 0 4 Load 2 Global a.data+0 Frame 0 3 Load 1 Index 1 4 2 Store 2 ",
     )?;
-    tells(&rt, alloc, StatementForm::delay(value(local(3))), "Frame 0 3 Load 1 Sleep ")?;
+    tells(
+        &rt,
+        alloc,
+        StatementForm::delay(value(local(3))),
+        "Frame 0 3 Load 1 Sleep ",
+    )?;
     Ok(())
 }
 
@@ -101,8 +97,18 @@ fn what_is_put_out(rt: HostRuntime) -> Result<(), Fail> {
     )?;
     let mut pieces = Vec::new(alloc);
     pieces.push(text(alloc, b"hi")?)?;
-    tells(&rt, alloc, StatementForm::put(pieces, false), "PutText 'hi' ")?;
-    tells(&rt, alloc, StatementForm::put(Vec::new(alloc), true), "NewLine ")?;
+    tells(
+        &rt,
+        alloc,
+        StatementForm::put(pieces, false),
+        "PutText 'hi' ",
+    )?;
+    tells(
+        &rt,
+        alloc,
+        StatementForm::put(Vec::new(alloc), true),
+        "NewLine ",
+    )?;
     Ok(())
 }
 
@@ -173,7 +179,12 @@ fn objects_without_a_value(rt: HostRuntime) -> Result<(), Fail> {
 fn flags(rt: HostRuntime) -> Result<(), Fail> {
     let alloc = rt.alloc();
     let flag = ObjectPlace::Frame { depth: 1, word: 3 };
-    declares(&rt, alloc, DeclarationForm::Subprogram(flag), "Frame 0 3 Zero 1 ")?;
+    declares(
+        &rt,
+        alloc,
+        DeclarationForm::Subprogram(flag),
+        "Frame 0 3 Zero 1 ",
+    )?;
     let flag = place(alloc, b"s")?;
     declares(&rt, alloc, DeclarationForm::Subprogram(flag), "")?;
     let flag = ObjectPlace::Frame { depth: 1, word: 3 };

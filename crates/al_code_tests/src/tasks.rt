@@ -1,8 +1,11 @@
 // The code of tasks and protected objects.
-use crate::trees::{code_of_body, code_of_elaboration, number, one, place, set, small, symbol, two};
+use crate::trees::{
+    code_of_body, code_of_elaboration, number, one, place, set, small, symbol, two,
+};
 use al_base::NoMemory;
 use al_typed::{
-    BodyKind, ComponentValue, DeclarationForm, EntryOf, FormalWords, StatementForm, TypedDeclaration,
+    BodyKind, ComponentValue, DeclarationForm, EntryOf, FormalWords, StatementForm,
+    TypedDeclaration,
 };
 use al_view::{Mode, ObjectPlace, Priority, Row};
 use std::alloc::Global;
@@ -24,7 +27,13 @@ fn barrier(alloc: Global) -> Result<ObjectPlace, NoMemory> {
 fn task_bodies(rt: HostRuntime) -> Result<(), Fail> {
     let alloc = rt.alloc();
     assert_eq!(rt;
-        code_of_body(alloc, BodyKind::Task, Vec::new(alloc), one(alloc, set(alloc, b"x", 1)?)?)?.as_str(),
+        code_of_body(
+            alloc,
+            BodyKind::Task,
+            Vec::new(alloc),
+            one(alloc, set(alloc, b"x", 1)?)?
+        )?
+        .as_str(),
         "b.code: Enter 9 Begun Const 1 Global x.data+0 Store 1 Done "
     );
     // a return of a task leads to its end
@@ -80,7 +89,13 @@ fn protected_procedures(rt: HostRuntime) -> Result<(), Fail> {
         copied: 0,
     };
     assert_eq!(rt;
-        code_of_body(alloc, kind, Vec::new(alloc), one(alloc, set(alloc, b"x", 1)?)?)?.as_str(),
+        code_of_body(
+            alloc,
+            kind,
+            Vec::new(alloc),
+            one(alloc, set(alloc, b"x", 1)?)?
+        )?
+        .as_str(),
         "b.code: EnterObject o.protected+0 Enter 9 Const 1 Global x.data+0 Store 1 Leave Return 0 "
     );
     let mut formals = Vec::new(alloc);

@@ -8,8 +8,8 @@ use al_base::{Name, NoMemory, Place, UnitKey, UnitKind};
 use al_code::emit;
 use al_object::Object;
 use al_typed::{
-    BodyKind, CheckedValue, Elaboration, ExpressionType, Form, FormalWords, Labels,
-    StatementForm, Typed, TypedBody, TypedDeclaration, TypedName, TypedStatement, TypedUnit,
+    BodyKind, CheckedValue, Elaboration, ExpressionType, Form, FormalWords, Labels, StatementForm,
+    Typed, TypedBody, TypedDeclaration, TypedName, TypedStatement, TypedUnit,
 };
 use al_view::{Bounds, ObjectPlace, Row, StaticValue, Symbol};
 use std::alloc::Global;
@@ -138,11 +138,7 @@ pub fn set(alloc: Global, name: &[u8], n: i64) -> Result<StatementForm, NoMemory
 }
 
 /// So many words in a frame, and statements.
-pub fn inside(
-    alloc: Global,
-    frame: u32,
-    statements: Vec<TypedStatement>,
-) -> Elaboration {
+pub fn inside(alloc: Global, frame: u32, statements: Vec<TypedStatement>) -> Elaboration {
     Elaboration::new(1, frame, Vec::new(alloc), statements)
 }
 

@@ -1,11 +1,12 @@
 // What the linker must know of a unit beside its code, and units that are too large.
 use crate::listing::data_listing;
-use crate::trees::{compiled, inside, one, symbol, unit_key};
+use crate::trees::{compiled, inside, object, one, set, statement, symbol, unit_key, value};
 use al_base::{NoMemory, UnitKind};
 use al_code::emit;
 use al_object::Object;
 use al_typed::{
-    DataPlace, DeclarationForm, Elaboration, Piece, ProtectedWords, StatementForm, TypedDeclaration, TypedUnit,
+    Branch, DataPlace, DeclarationForm, Elaboration, Piece, ProtectedWords, StatementForm,
+    TypedDeclaration, TypedUnit,
 };
 use al_view::{Priority, Row};
 use std::alloc::Global;
@@ -67,12 +68,24 @@ fn words_of_a_unit(rt: HostRuntime) -> Result<(), Fail> {
     assert_eq!(rt; compiled.data_words(), 9);
     assert_eq!(rt; compiled.tasks(), 2);
     assert_eq!(rt; compiled.protected().len(), 2);
-    for (region, (word, words, ceiling)) in compiled.protected().iter().zip([(4, 3, 30), (7, 1, 15)]) {
+    for (region, (word, words, ceiling)) in compiled
+        .protected()
+        .iter()
+        .zip([(4, 3, 30), (7, 1, 15)])
+    {
         assert_eq!(rt; region.word, word);
         assert_eq!(rt; region.words, words);
         assert_eq!(rt; region.ceiling.level(), ceiling);
     }
     Ok(())
+}
+
+/// How many bytes of code an object has, none where it is too large.
+fn length(object: &Object) -> usize {
+    match object {
+        Object::Compiled(compiled) => compiled.code().len(),
+        Object::Large => 0,
+    }
 }
 
 /// The object of a unit whose elaboration puts out so many bytes, which takes fifteen bytes more.
@@ -87,11 +100,36 @@ fn putting(alloc: Global, count: usize) -> Result<Object, NoMemory> {
 #[test]
 fn code_of_the_greatest_length(rt: HostRuntime) -> Result<(), Fail> {
     let alloc = rt.alloc();
-    let object = putting(alloc, 16_777_201)?;
-    let Object::Compiled(compiled) = &object else {
-        return Err(Fail::from("it is large"));
-    };
-    assert_eq!(rt; compiled.code().len(), 16_777_216);
+    assert_eq!(rt; length(&putting(alloc, 16_777_201)?), 16_777_216);
     assert!(rt; matches!(putting(alloc, 16_777_202)?, Object::Large));
+    Ok(())
+}
+
+// `X := 1;` takes nineteen bytes.
+#[test]
+fn ten_thousand_statements(rt: HostRuntime) -> Result<(), Fail> {
+    let alloc = rt.alloc();
+    let mut statements = Vec::new(alloc);
+    for _ in 0..10_000 {
+        statements.push(statement(set(alloc, b"x", 1)?))?;
+    }
+    let object = compiled(alloc, Some(inside(alloc, 0, statements)), Vec::new(alloc))?;
+    assert_eq!(rt; length(&object), 190_010);
+    Ok(())
+}
+
+// Each `if` takes twenty bytes: the condition ten, and two jumps.
+#[test]
+fn sixty_branches_in_one_another(rt: HostRuntime) -> Result<(), Fail> {
+    let alloc = rt.alloc();
+    let mut statements = one(alloc, set(alloc, b"x", 1)?)?;
+    for _ in 0..60 {
+        let condition = value(object(alloc, b"a")?);
+        let mut branches = Vec::new(alloc);
+        branches.push(Branch::new(1, condition, statements))?;
+        statements = one(alloc, StatementForm::branching(branches, Vec::new(alloc)))?;
+    }
+    let object = compiled(alloc, Some(inside(alloc, 0, statements)), Vec::new(alloc))?;
+    assert_eq!(rt; length(&object), 1229);
     Ok(())
 }

@@ -1,14 +1,15 @@
 // Whole units of programs that were worked out by hand: their code, and how long it is.
 use crate::listing::listing;
 use crate::trees::{
-    any, body, compiled, inside, integer, local, number, object, one, place, symbol, typed, unit, unit_key, value,
+    any, body, compiled, inside, integer, local, number, object, one, place, symbol, typed, unit,
+    unit_key, value,
 };
 use al_base::{Name, NoMemory, UnitKind};
 use al_code::emit;
 use al_object::{Compiled, Object};
 use al_typed::{
-    BinaryOperator, BodyKind, Callee, Conversion, DeclarationForm, Elaboration, Form, Piece, StatementForm, TypedBody,
-    TypedCall, TypedDeclaration,
+    BinaryOperator, BodyKind, Callee, Conversion, DeclarationForm, Elaboration, Form, Piece,
+    StatementForm, TypedBody, TypedCall, TypedDeclaration,
 };
 use al_view::{LinkKind, Priority, Row};
 use std::alloc::Global;
@@ -106,7 +107,8 @@ fn package_with_an_object(rt: HostRuntime) -> Result<(), Fail> {
     };
     let object = declaring(alloc, form)?;
     let compiled = code_of(&object)?;
-    let bytes = b"\x33\0\0\0\0\0\0\0\0\0\0\0\0\x01\x08\xff\xff\xff\xff\x80\0\0\0\0\0\0\0\x7f\xff\xff\xff\x02\0\0\0\0\x04\0\0\0\x01\x34\0\0\0\0";
+    let bytes =
+        b"\x33\0\0\0\0\0\0\0\0\0\0\0\0\x01\x08\xff\xff\xff\xff\x80\0\0\0\0\0\0\0\x7f\xff\xff\xff\x02\0\0\0\0\x04\0\0\0\x01\x34\0\0\0\0";
     assert_eq!(rt; compiled.code(), bytes.as_slice());
     assert_eq!(rt; compiled.uses().len(), 1);
     for used in compiled.uses() {
@@ -141,7 +143,8 @@ fn client_of_a_package(rt: HostRuntime) -> Result<(), Fail> {
     let set = StatementForm::assignment(object(alloc, b"x")?, 1, integer(number(2)));
     let object = procedure(alloc, b"client", inside(alloc, 0, one(alloc, set)?))?;
     let compiled = code_of(&object)?;
-    let bytes = b"\x33\0\0\0\0\x34\0\0\0\0\x33\0\0\0\0\0\0\0\0\0\0\0\0\x02\x08\xff\xff\xff\xff\x80\0\0\0\0\0\0\0\x7f\xff\xff\xff\x02\0\0\0\0\x04\0\0\0\x01\x34\0\0\0\0";
+    let bytes =
+        b"\x33\0\0\0\0\x34\0\0\0\0\x33\0\0\0\0\0\0\0\0\0\0\0\0\x02\x08\xff\xff\xff\xff\x80\0\0\0\0\0\0\0\x7f\xff\xff\xff\x02\0\0\0\0\x04\0\0\0\x01\x34\0\0\0\0";
     assert_eq!(rt; bytes.len(), 56);
     assert_eq!(rt; compiled.code(), bytes.as_slice());
     Ok(())
@@ -190,12 +193,20 @@ fn main_and_its_subunit(rt: HostRuntime) -> Result<(), Fail> {
 fn task_that_sleeps(rt: HostRuntime) -> Result<(), Fail> {
     let alloc = rt.alloc();
     let span = Form::converted(alloc, Conversion::Milliseconds, integer(number(5)))?;
-    let moment = Form::binary(alloc, BinaryOperator::Plus, typed(Form::clock()), typed(span))?;
+    let moment = Form::binary(
+        alloc,
+        BinaryOperator::Plus,
+        typed(Form::clock()),
+        typed(span),
+    )?;
     let mut statements = one(alloc, StatementForm::delay(typed(moment)))?;
     let mut pieces = Vec::new(alloc);
     pieces.push(Piece::Text(Row::new(Vec::from_slice(alloc, b"k")?)))?;
     statements.push(crate::trees::statement(StatementForm::put(pieces, true)))?;
-    let object = with_body(alloc, body(alloc, b"k", BodyKind::Task, 1, inside(alloc, 0, statements))?)?;
+    let object = with_body(
+        alloc,
+        body(alloc, b"k", BodyKind::Task, 1, inside(alloc, 0, statements))?,
+    )?;
     assert_eq!(rt;
         listing(alloc, &object)?.as_str(),
         "Enter 0 Return 0 k.code: Enter 0 Begun Now Const 5 Check -2147483648 2147483647 Add Sleep PutText 'k' NewLine Done "
