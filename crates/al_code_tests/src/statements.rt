@@ -1,12 +1,12 @@
 // The code of simple statements, of what is put out, of blocks and declarations.
 use crate::trees::{
     any, code_of, code_of_body, code_of_elaboration, composite, local, number, object, one, place,
-    set, small, two, value,
+    return_and_set, set, small, value,
 };
 use al_base::{Name, NoMemory};
 use al_typed::{
     BodyKind, CheckedValue, DeclarationForm, Form, LoopScheme, Piece, StatementForm,
-    TypedDeclaration, TypedName,
+    TypedDeclaration, TypedName, TypedStatement,
 };
 use al_view::{Bounds, ObjectPlace, Row};
 use std::alloc::Global;
@@ -112,32 +112,55 @@ fn what_is_put_out(rt: HostRuntime) -> Result<(), Fail> {
     Ok(())
 }
 
+/// The code of a body without formals.
+fn body_tells(
+    rt: &impl Abort,
+    alloc: Global,
+    statements: Vec<TypedStatement>,
+    kind: BodyKind,
+    code: &str,
+) -> Result<(), Fail> {
+    let text = code_of_body(alloc, kind, Vec::new(alloc), statements)?;
+    assert_eq!(rt; text.as_str(), code);
+    Ok(())
+}
+
+/// `return;` in a loop in a loop
+fn return_in_loops(alloc: Global) -> Result<Vec<TypedStatement>, NoMemory> {
+    let leave = one(alloc, StatementForm::returning(None, 0))?;
+    let inner = StatementForm::looping(LoopScheme::Forever, leave);
+    let statements = one(alloc, inner)?;
+    one(
+        alloc,
+        StatementForm::looping(LoopScheme::Forever, statements),
+    )
+}
+
 #[test]
 fn returns(rt: HostRuntime) -> Result<(), Fail> {
     let alloc = rt.alloc();
-    let leave = StatementForm::returning(None, 0);
-    let statements = two(alloc, leave, set(alloc, b"x", 1)?)?;
-    let kind = BodyKind::Procedure { copied: 0 };
-    assert_eq!(rt;
-        code_of_body(alloc, kind, Vec::new(alloc), statements)?.as_str(),
-        "b.code: Enter 9 Jump L0 Const 1 Global x.data+0 Store 1 L0: Return 0 "
-    );
-    // out of two loops
-    let leave = StatementForm::returning(None, 0);
-    let inner = StatementForm::looping(LoopScheme::Forever, one(alloc, leave)?);
-    let outer = StatementForm::looping(LoopScheme::Forever, one(alloc, inner)?);
-    let kind = BodyKind::Procedure { copied: 0 };
-    assert_eq!(rt;
-        code_of_body(alloc, kind, Vec::new(alloc), one(alloc, outer)?)?.as_str(),
-        "b.code: Enter 9 L0: Jump L1 Jump L0 Jump L0 L1: Return 0 "
-    );
+    body_tells(
+        &rt,
+        alloc,
+        return_and_set(alloc)?,
+        BodyKind::Procedure { copied: 0 },
+        "b.code: Enter 9 Jump L0 Const 1 Global x.data+0 Store 1 L0: Return 0 ",
+    )?;
+    body_tells(
+        &rt,
+        alloc,
+        return_in_loops(alloc)?,
+        BodyKind::Procedure { copied: 0 },
+        "b.code: Enter 9 L0: Jump L1 Jump L0 Jump L0 L1: Return 0 ",
+    )?;
     let value = StatementForm::returning(Some(small(number(3))), 1);
-    let kind = BodyKind::Function { words: 1, end: 1 };
-    assert_eq!(rt;
-        code_of_body(alloc, kind, Vec::new(alloc), one(alloc, value)?)?.as_str(),
-        "b.code: Enter 9 Const 3 Check 1 9 Return 1 Raise 2 "
-    );
-    Ok(())
+    body_tells(
+        &rt,
+        alloc,
+        one(alloc, value)?,
+        BodyKind::Function { words: 1, end: 1 },
+        "b.code: Enter 9 Const 3 Check 1 9 Return 1 Raise 2 ",
+    )
 }
 
 #[test]

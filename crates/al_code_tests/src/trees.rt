@@ -131,6 +131,13 @@ pub fn one(alloc: Global, form: StatementForm) -> Result<Vec<TypedStatement>, No
     Ok(statements)
 }
 
+/// `return; X := 1;`
+pub fn return_and_set(alloc: Global) -> Result<Vec<TypedStatement>, NoMemory> {
+    let mut statements = one(alloc, StatementForm::returning(None, 0))?;
+    statements.push(statement(set(alloc, b"x", 1)?))?;
+    Ok(statements)
+}
+
 /// `NAME := n;` of a library-level object, unchecked.
 pub fn set(alloc: Global, name: &[u8], n: i64) -> Result<StatementForm, NoMemory> {
     let target = object(alloc, name)?;
