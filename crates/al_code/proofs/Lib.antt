@@ -1,3 +1,7 @@
+mod BoundedExpressions
+mod BoundedStatements
+mod Bounds
+pub mod Divided
 pub mod Layers
 pub mod Lists
 pub mod Objects

@@ -1,4 +1,5 @@
 pub mod Declarations
+pub mod Division
 pub mod Images
 pub mod Loops
 pub mod ObjectOf

@@ -5,6 +5,7 @@ mod bodies;
 mod choices;
 mod declarations;
 mod images;
+mod laws;
 mod loops;
 mod object;
 mod protected;
@@ -12,4 +13,5 @@ mod routine;
 mod simple;
 mod statements;
 
+pub use laws::code_falls_into_routines;
 pub use object::emit;
