@@ -7,6 +7,7 @@ use al_session::{Device, Ended};
 use std::process::ExitCode;
 
 /// How the program ended.
+#[derive(Drop)]
 pub enum Outcome {
     /// A session was served: to its end, to a text that isn't there as announced, or to the failure of a device.
     Served(Result<Ended, Device>),
