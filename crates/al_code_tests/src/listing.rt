@@ -32,19 +32,6 @@ pub fn listing(alloc: Global, object: &Object) -> Result<String, Fail> {
     Ok(text)
 }
 
-/// What stands among the words of an object's unit, each with a blank behind it.
-pub fn data_listing(alloc: Global, compiled: &Compiled) -> Result<String, Fail> {
-    let mut text = String::new(alloc);
-    for address in compiled.defines() {
-        if !is_code(address.symbol.kind) {
-            put_symbol(alloc, &mut text, &address.symbol)?;
-            let offset = address.offset;
-            write!(text, "+{offset} ")?;
-        }
-    }
-    Ok(text)
-}
-
 fn instructions(alloc: Global, code: &[u8]) -> Result<Vec<Placed>, Fail> {
     let mut instructions = Vec::new(alloc);
     let mut rest = code;

@@ -1,84 +1,11 @@
-// What the linker must know of a unit beside its code, and units that are too large.
-use crate::listing::data_listing;
-use crate::trees::{compiled, inside, object, one, set, statement, symbol, unit_key, value};
-use al_base::{NoMemory, UnitKind};
-use al_code::emit;
+// Units that are too large, long or deep.
+use crate::trees::{compiled, inside, object, one, set, statement, value};
+use al_base::NoMemory;
 use al_object::Object;
-use al_typed::{
-    Branch, DataPlace, DeclarationForm, Elaboration, Piece, ProtectedWords, StatementForm,
-    TypedDeclaration, TypedUnit,
-};
-use al_view::{Priority, Row};
+use al_typed::{Branch, Piece, StatementForm};
+use al_view::Row;
 use std::alloc::Global;
 use std::test::Fail;
-
-fn data_place(alloc: Global, name: &[u8], word: u32) -> Result<DataPlace, NoMemory> {
-    let symbol = symbol(alloc, name)?;
-    Ok(DataPlace { symbol, word })
-}
-
-/// A declaration of a task.
-fn task(alloc: Global, name: &[u8]) -> Result<TypedDeclaration, NoMemory> {
-    let symbol = symbol(alloc, name)?;
-    let priority = Priority::standard();
-    Ok(TypedDeclaration::new(1, DeclarationForm::Task { symbol, priority }))
-}
-
-// Two objects of a unit's nine words, two flags, two protected objects, and two tasks
-#[test]
-fn words_of_a_unit(rt: HostRuntime) -> Result<(), Fail> {
-    let alloc = rt.alloc();
-    let mut declarations = Vec::new(alloc);
-    declarations.push(task(alloc, b"k")?)?;
-    declarations.push(task(alloc, b"l")?)?;
-    let elaboration = Elaboration::new(1, 0, declarations, Vec::new(alloc));
-    let objects = [data_place(alloc, b"x", 0)?, data_place(alloc, b"y", 1)?];
-    let flags = [data_place(alloc, b"f", 3)?, data_place(alloc, b"o", 8)?];
-    let regions = [
-        ProtectedWords {
-            symbol: symbol(alloc, b"o")?,
-            word: 4,
-            words: 3,
-            ceiling: Priority::highest(),
-        },
-        ProtectedWords {
-            symbol: symbol(alloc, b"q")?,
-            word: 7,
-            words: 1,
-            ceiling: Priority::standard(),
-        },
-    ];
-    let unit = TypedUnit::new(
-        unit_key(alloc, b"p", UnitKind::Decl)?,
-        Some(elaboration),
-        Vec::new(alloc),
-        9,
-        Row::new(Vec::from_array(alloc, objects)?),
-        Row::new(Vec::from_array(alloc, flags)?),
-        Row::new(Vec::from_array(alloc, regions)?),
-    );
-    let object = emit(alloc, &unit)?;
-    let Object::Compiled(compiled) = &object else {
-        return Err(Fail::from("it is large"));
-    };
-    assert_eq!(rt;
-        data_listing(alloc, compiled)?.as_str(),
-        "x.data+0 y.data+1 f.flag+3 o.flag+8 o.data+4 o.protected+0 q.data+7 q.protected+1 "
-    );
-    assert_eq!(rt; compiled.data_words(), 9);
-    assert_eq!(rt; compiled.tasks(), 2);
-    assert_eq!(rt; compiled.protected().len(), 2);
-    for (region, (word, words, ceiling)) in compiled
-        .protected()
-        .iter()
-        .zip([(4, 3, 30), (7, 1, 15)])
-    {
-        assert_eq!(rt; region.word, word);
-        assert_eq!(rt; region.words, words);
-        assert_eq!(rt; region.ceiling.level(), ceiling);
-    }
-    Ok(())
-}
 
 /// How many bytes of code an object has, none where it is too large.
 fn length(object: &Object) -> usize {
