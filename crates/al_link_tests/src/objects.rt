@@ -56,14 +56,7 @@ fn object_with(alloc: Global, out: Output, data: Symbol) -> Result<Object, NoMem
     };
     defines.push(Address { symbol, offset: 0 })?;
     let protected: Vec<Region> = Vec::new(alloc);
-    Ok(Object::Compiled(Compiled::new(
-        written.code,
-        written.uses,
-        defines,
-        1,
-        0,
-        protected,
-    )))
+    Ok(Object::Compiled(Compiled::new(written.code, written.uses, defines, 1, 0, protected)))
 }
 
 fn put_sized(out: &mut Output, sized: Sized, number: u32) -> Result<(), NoMemory> {
