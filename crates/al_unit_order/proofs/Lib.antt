@@ -1,0 +1,4 @@
+pub mod FaultlessLemmas
+pub mod PlaceLemmas
+pub mod StepLemmas
+pub mod OrderLemmas
