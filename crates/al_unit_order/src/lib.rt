@@ -2,6 +2,7 @@
 #![tactic(auto)]
 
 mod faultless;
+pub mod laws;
 mod ordering;
 mod places;
 mod reaching;
