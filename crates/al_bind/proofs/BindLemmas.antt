@@ -1,10 +1,9 @@
 -- The order of the nodes, and the lines of a cycle, as they are told in items.
-use Rattle.std.proofs.Common.{◌≡◌, ◌⊎◌, inl, inr, ℕ, ◌<◌, List, [], ◌∷◌, length, map, get_or, replicate, refl, sym, ap, subst, ◌∙◌, arith}
+use Rattle.std.proofs.Common.{◌≡◌, inl, inr, ℕ, ◌<◌, List, [], ◌∷◌, length, get_or, replicate, refl, subst, ◌∙◌, arith}
 use Rattle.std.specs.List.{All, Contains, fold}
-use Rattle.std.proofs.lemmas.List.{get_or_default, length-map, length-replicate}
+use Rattle.std.proofs.lemmas.List.{get_or_default, length-replicate}
 use Rattle.std.proofs.lemmas.List.Elements.{Contains-get_or, All-head, All-tail}
-use Rattle.al_base.specs.Batch.{Key, key_of}
-use Rattle.al_base.specs.declared.unit_key.UnitKey.{UnitKey}
+use Rattle.al_base.specs.Batch.{Key}
 use Rattle.al_graph.specs.Graphs.{Step, with_step}
 use Rattle.al_graph.proofs.Members.{first_or_later, nowhere}
 use Rattle.al_graph.proofs.StepLemmas.{Step-added, Step-kept, length-with_step}

@@ -1,5 +1,5 @@
 -- The ties that are listed are those of the edges.
-use Rattle.std.proofs.Common.{◌≡◌, ◌↔◌, ◌⊎◌, inl, inr, ℕ, ◌<◌, List, [], length, map, get_or, refl, sym, ap, subst, ◌∙◌}
+use Rattle.std.proofs.Common.{◌≡◌, ◌↔◌, ◌⊎◌, inl, inr, ℕ, List, [], map, refl, sym, subst, ◌∙◌}
 use Rattle.std.specs.List.{Contains}
 use Rattle.std.specs.List.Sorted.{IsStrictlySortedBy}
 use Rattle.std.proofs.lemmas.List.{get_or_default}
@@ -14,7 +14,7 @@ use Rattle.al_unit_graph.specs.Needed.{ListsUnits, Needed}
 use Rattle.al_unit_graph.specs.Orders.{key_cmp}
 use Rattle.al_unit_graph.proofs.Lists.{from_map, into_map}
 use Rattle.al_bind.specs.Elaboration.{IsPartOf, node_of}
-use Rattle.al_bind.specs.Numbers.{Adds, IsAt, IsEnd, OneOf, TellsWant, TiesBy, TiesFrom, TiesTo, is_node, nodes_among}
+use Rattle.al_bind.specs.Numbers.{Adds, IsAt, IsEnd, OneOf, TellsWant, TiesBy, TiesFrom, is_node, nodes_among}
 use Rattle.al_bind.specs.declared.places.End.{End}
 use Rattle.al_bind.proofs.TieLemmas.{adds_by, adds_none, adds_same, one_place}
 

@@ -1,25 +1,21 @@
 -- No partition has both an order and a cycle.
-use Rattle.std.proofs.Common.{◌≡◌, ◌↔◌, ◌⊎◌, inl, inr, ℕ, zero, suc, ◌+◌, ◌<◌, List, [], ◌∷◌, length, get_or, IsTrue, refl, sym, ap, subst, ◌∙◌, arith}
+use Rattle.std.proofs.Common.{◌≡◌, ◌↔◌, inl, inr, suc, ◌<◌, List, [], ◌∷◌, length, get_or, refl, sym, ap, subst, ◌∙◌, arith}
 use Rattle.std.specs.List.{Contains}
 use Rattle.std.specs.List.Sorted.{IsStrictlySortedBy}
 use Rattle.std.specs.Ordering.{ordering_reverse}
-use Rattle.std.specs.declared.cmp.Ordering.TheVariants.{Less, Equal, Greater}
+use Rattle.std.specs.declared.cmp.Ordering.TheVariants.{Less}
 use Rattle.std.proofs.lemmas.Map.Keys.{Less-from_sorted, sorted_tail}
 use Rattle.al_base.specs.Batch.{Key}
 use Rattle.al_graph.proofs.Members.{nowhere, first, later, first_or_later}
 use Rattle.al_order.specs.Relations.{IsOrderBy}
 use Rattle.al_order.specs.Ties.{graph_from}
-use Rattle.al_order.specs.declared.tie.Tie.{Tie}
 use Rattle.al_order.proofs.LawLemmas.{cycle_stuck}
 use Rattle.al_order.proofs.PlacingLemmas.{stuck_within}
 use Rattle.al_order.proofs.RelationLemmas.{none_held}
 use Rattle.al_order.proofs.TieLemmas.{step_tied}
-use Rattle.al_unit_graph.specs.Headers.{Library}
-use Rattle.al_unit_graph.specs.Needed.{ListsUnits}
 use Rattle.al_unit_graph.specs.Orders.{key_cmp}
-use Rattle.al_bind.specs.Binding.{IsCycleOfItems, IsElaboration}
 use Rattle.al_bind.specs.Laws.{OrderExcludesCycle}
-use Rattle.al_bind.specs.Numbers.{ComesAfter, IsAt, nodes_among}
+use Rattle.al_bind.specs.Numbers.{ComesAfter, nodes_among}
 use Rattle.al_bind.proofs.BindLemmas.{graph_count, ties_within}
 use Rattle.al_bind.proofs.PlaceLemmas.{key_itself, key_total}
 

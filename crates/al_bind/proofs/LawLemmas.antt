@@ -1,5 +1,5 @@
 -- What an elaboration order keeps.
-use Rattle.std.proofs.Common.{◌≡◌, ◌↔◌, ◌⊎◌, inl, inr, ℕ, zero, suc, ◌+◌, ◌<◌, ◌≤◌, Bool, true, false, not, cond, IsTrue, List, [], ◌∷◌, ◌++◌, length, take, get_or, replicate, refl, sym, ap, subst, ◌∙◌, arith}
+use Rattle.std.proofs.Common.{◌≡◌, ℕ, zero, suc, ◌+◌, ◌<◌, ◌≤◌, Bool, true, false, not, cond, List, [], ◌∷◌, length, take, get_or, refl, sym, ap, subst, ◌∙◌, arith}
 use Rattle.std.specs.List.{Contains, flat_map}
 use Rattle.std.proofs.lemmas.List.{get_or-take, get_or_default, length-take-le}
 use Rattle.std.proofs.lemmas.List.Concat.{get_or-flat_map}
@@ -7,13 +7,12 @@ use Rattle.std.proofs.lemmas.List.Folds.{length-flat_map-take}
 use Rattle.al_base.specs.Batch.{Key}
 use Rattle.al_base.specs.declared.unit_key.UnitKind.TheVariants.{Decl, Body, Sub}
 use Rattle.al_order.specs.declared.tie.Tie.{Tie}
-use Rattle.al_order.specs.declared.tie.Reason.{Reason}
 use Rattle.al_order.proofs.PlacingLemmas.{place_in}
 use Rattle.al_order.proofs.RelationLemmas.{stands_before}
 use Rattle.al_unit_graph.specs.Headers.{Library}
 use Rattle.al_unit_graph.proofs.Lists.{into_filter}
-use Rattle.al_bind.specs.Binding.{IsElaboration, items_at, items_of, key_at}
-use Rattle.al_bind.specs.Elaboration.{Carries, IsItem, is_pair, node_of}
+use Rattle.al_bind.specs.Binding.{items_at, items_of, key_at}
+use Rattle.al_bind.specs.Elaboration.{is_pair, node_of}
 use Rattle.al_bind.specs.Laws.{IsWhole, OrderObeys, PairsStayTogether, StandsBefore}
 use Rattle.al_unit_graph.specs.Needed.{ListsUnits, Needed}
 use Rattle.al_bind.specs.Numbers.{ComesAfter, IsAt, TellsEdge, is_node, nodes_among}

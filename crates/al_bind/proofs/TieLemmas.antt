@@ -1,8 +1,8 @@
 -- The ties of edges, as they are listed one after another.
-use Rattle.std.proofs.Common.{◌≡◌, ◌≢◌, ◌↔◌, ◌⊎◌, inl, inr, ℕ, true, Option, Some, None, ◌+◌, ◌<◌, ◌≤◌, List, [], ◌∷◌, ◌++◌, length, map, take, get_or, refl, sym, ap, subst, ◌∙◌, arith}
+use Rattle.std.proofs.Common.{◌≡◌, ◌↔◌, ◌⊎◌, inl, inr, ℕ, true, Some, None, ◌+◌, ◌<◌, ◌≤◌, List, [], ◌∷◌, ◌++◌, length, map, take, get_or, refl, sym, ap, subst, ◌∙◌, arith}
 use Rattle.std.specs.List.{Contains}
 use Rattle.std.specs.List.Sorted.{IsStrictlySortedBy}
-use Rattle.std.specs.declared.cmp.Ordering.TheVariants.{Less, Equal}
+use Rattle.std.specs.declared.cmp.Ordering.TheVariants.{Less}
 use Rattle.std.proofs.lemmas.Bool.{cases_lt}
 use Rattle.std.proofs.lemmas.Map.Keys.{Less-from_sorted}
 use Rattle.std.proofs.lemmas.List.{take_all, take_more}
@@ -17,7 +17,7 @@ use Rattle.al_order.specs.declared.tie.Reason.TheVariants.{Depends, Elaborate, E
 use Rattle.al_graph.proofs.Members.{nowhere}
 use Rattle.al_unit_graph.specs.Headers.{Header, Library}
 use Rattle.al_unit_graph.specs.Library.{is_unit, unit_at}
-use Rattle.al_unit_graph.specs.Needed.{ListsUnits, Needed}
+use Rattle.al_unit_graph.specs.Needed.{ListsUnits}
 use Rattle.al_unit_graph.proofs.Lists.{from_map, into_map}
 use Rattle.al_unit_graph.specs.Orders.{key_cmp}
 use Rattle.al_bind.specs.Elaboration.{Wants, node_of}

@@ -1,5 +1,5 @@
 -- What an elaboration order keeps, in terms of items.
-use Rattle.std.specs.Prelude.{◌≡◌, ℕ, ◌+◌, ◌<◌, List, IsTrue}
+use Rattle.std.specs.Prelude.{ℕ, ◌+◌, ◌<◌, List, IsTrue}
 use Rattle.al_base.specs.Batch.{Key}
 use Rattle.al_base.specs.declared.unit_key.UnitKind.TheVariants.{Decl, Body}
 use Rattle.al_order.specs.declared.tie.Reason.{Reason}

@@ -1,6 +1,5 @@
-use Rattle.std.proofs.Common.{◌≡◌, ◌↔◌, ℕ, ◌<◌, List, Option, None, Result, Ok, Err, Vec, Global, length, map, sym, ap, subst, ◌∙◌, arith}
+use Rattle.std.proofs.Common.{◌≡◌, ◌↔◌, ℕ, ◌<◌, List, Result, Ok, Err, Vec, Global, length, map, sym, ap, subst, ◌∙◌, arith}
 use Rattle.std.specs.List.{All, Contains}
-use Rattle.std.specs.Option.{MatchOption}
 use Rattle.std.specs.Result.{MatchResult}
 use Rattle.std.proofs.lemmas.Grind.{common_steps}
 use Rattle.std.proofs.lemmas.List.{length-map}
@@ -10,7 +9,7 @@ use Rattle.al_order.specs.Orders.{IsOrdered}
 use Rattle.al_order.specs.Ties.{IsFault, graph_from}
 use Rattle.al_order.specs.declared.tie.Tie.{Tie}
 use Rattle.al_unit_graph.specs.Headers.{Library}
-use Rattle.al_bind.specs.Binding.{IsCycleOfItems, IsElaboration, items_at, line_of, line_seen}
+use Rattle.al_bind.specs.Binding.{items_at, line_of, line_seen}
 use Rattle.al_bind.specs.Numbers.{TellsEdge, TellsWant, nodes_among}
 use Rattle.al_bind.specs.Steps.{WantsTold}
 use Rattle.al_bind.specs.declared.ties.Extent.{Extent}

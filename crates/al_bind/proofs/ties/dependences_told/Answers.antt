@@ -1,4 +1,4 @@
-use Rattle.std.proofs.Common.{◌↔◌, List, map, sym, subst}
+use Rattle.std.proofs.Common.{◌↔◌, map, sym, subst}
 use Rattle.std.specs.List.{Contains}
 use Rattle.std.specs.Result.{IfOk}
 use Rattle.al_base.specs.Batch.{Key, key_of}
