@@ -1,8 +1,9 @@
 #!/usr/bin/env python3
-"""timings.py PROGRAM [ada | units]: times sessions of growing size (with a word that part alone). Each line is the least of three runs, in milliseconds; that of a text of Ada of twelve.
+"""timings.py PROGRAM [ada | units | names]: times sessions of growing size (with a word that part alone). Each line is the least of three runs, in milliseconds; that of a text of Ada of twelve.
 
 Where an effort is linear, each doubling doubles the time beyond that of the empty session.
 """
+import os
 import pathlib
 import resource
 import shutil
@@ -160,9 +161,36 @@ def graphs_of_units(program):
             row(program, f"{what}: and an edit and obsolete units", count, stream + b"build u0\n" + touched + b"report obsolete\n")
 
 
+def peak_of(program, stream):
+    """The most memory that a session holds at a time, in MiB."""
+    with tempfile.TemporaryFile() as given:
+        given.write(stream)
+        given.seek(0)
+        child = subprocess.Popen([program], stdin=given, stdout=subprocess.DEVNULL, stderr=subprocess.DEVNULL)
+        _, _, usage = os.wait4(child.pid, 0)
+        child.returncode = 0
+    return usage.ru_maxrss / 1024
+
+
+def dotted_names(program):
+    """A with clause with one name of so many bytes, every second one a dot, and one with as many names of one part."""
+    for kib in (4, 16, 64):
+        parts = kib * 512
+        for what, withs in (
+            ("one dotted name", b"with " + b".".join([b"A"] * parts) + b";"),
+            ("names of one part", b"".join(b"with A;" for _ in range(parts))),
+        ):
+            text = withs + b" package P is end P;"
+            built = put(b"p.ads", text) + b"build p\n"
+            edited = built + put(b"q.ads", b"package Q is end Q;") + b"report obsolete\n"
+            row(program, f"{what}: put and build", parts, built)
+            row(program, f"{what}: and an edit and obsolete units", parts, edited)
+            print(f"{'':<54} {peak_of(program, edited):>10.1f} MiB at most")
+
+
 def main():
     program = str(pathlib.Path(sys.argv[1]).resolve())
-    parts = {"ada": texts_of_ada, "units": graphs_of_units}
+    parts = {"ada": texts_of_ada, "units": graphs_of_units, "names": dotted_names}
     if sys.argv[2:]:
         parts[sys.argv[2]](program)
         return
@@ -179,6 +207,7 @@ def main():
         row(program, "build of a text of so many bytes of statements", size, put(b"p.adb", procedure(b"P", statements)) + b"build p\n")
     texts_of_ada(program)
     graphs_of_units(program)
+    dotted_names(program)
     for count in doubled(1024, 65536):
         row(program, "session of so many refused commands", count, b"report order\n" * count)
         row(program, "session of so many puts over one file", count, put(b"hello.adb", HELLO) * count)

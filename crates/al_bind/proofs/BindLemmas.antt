@@ -1,12 +1,12 @@
 -- The order of the nodes, and the lines of a cycle, as they are told in items.
-use Rattle.std.proofs.Common.{◌≡◌, ◌↔◌, ℕ, ◌<◌, List, [], ◌∷◌, length, map, get_or, replicate, refl, sym, ap, subst, ◌∙◌, arith}
+use Rattle.std.proofs.Common.{◌≡◌, inl, inr, ℕ, ◌<◌, List, [], ◌∷◌, length, get_or, replicate, refl, subst, ◌∙◌, arith}
 use Rattle.std.specs.List.{All, Contains, fold}
-use Rattle.std.proofs.lemmas.List.{get_or_default, length-map, length-replicate}
-use Rattle.std.proofs.lemmas.List.Elements.{Contains-get_or}
-use Rattle.al_base.specs.Batch.{Key, key_of}
-use Rattle.al_base.specs.declared.unit_key.UnitKey.{UnitKey}
-use Rattle.al_graph.specs.Graphs.{with_step}
-use Rattle.al_graph.proofs.StepLemmas.{length-with_step}
+use Rattle.std.proofs.lemmas.List.{get_or_default, length-replicate}
+use Rattle.std.proofs.lemmas.List.Elements.{Contains-get_or, All-head, All-tail}
+use Rattle.al_base.specs.Batch.{Key}
+use Rattle.al_graph.specs.Graphs.{Step, with_step}
+use Rattle.al_graph.proofs.Members.{first_or_later, nowhere}
+use Rattle.al_graph.proofs.StepLemmas.{Step-added, Step-kept, length-with_step}
 use Rattle.al_order.specs.Orders.{IsOrder}
 use Rattle.al_order.specs.Ties.{IsFault, graph_from}
 use Rattle.al_order.specs.declared.tie.Tie.{Tie}
@@ -30,13 +30,35 @@ order_within count ties order is = λ k d l.
     let size = graph_count count ties in
     omega (arith, below, same, size)
 
-module _ (lib : Library) (main : List ℕ) (keys : List Key) (ties : List Tie) (tells : (t : Tie) → Contains ties t ↔ TellsEdge lib main keys t) where
+module _ (lib : Library) (main : List ℕ) (keys : List Key) (ties : List Tie) (sound : (t : Tie) → Contains ties t → TellsEdge lib main keys t) where
   pub ties_within : All (λ t. (t.after < length (nodes_among lib keys)) × (t.before < length (nodes_among lib keys))) ties
-  ties_within = all_of (λ (t : Tie). (t.after < length (nodes_among lib keys)) × (t.before < length (nodes_among lib keys))) ties (λ t c. let edge = (tells t).0 c in (edge.after_at.0, edge.before_at.0))
+  ties_within = all_of (λ (t : Tie). (t.after < length (nodes_among lib keys)) × (t.before < length (nodes_among lib keys))) ties (λ t c. let edge = sound t c in (edge.after_at.0, edge.before_at.0))
 
   pub shown_within : (count : ℕ) (shown : List Tie) → IsFault count ties shown → All (λ t. (t.x < length keys) × (t.y < length keys)) shown
   shown_within count shown fault = λ k d l.
       let lines = fault.2 in
       let within : k < length fault.0 = omega (arith, l, lines.count) in
-      let edge = (tells (get_or shown k d)).0 (lines.each k within d).0 in
+      let edge = sound (get_or shown k d) (lines.each k within d).0 in
       (edge.x_at.0, edge.y_at.0)
+
+-- a tie is a step
+step_kept : (ties : List Tie) (g : List (List ℕ)) (n : ℕ) → length g ≡ n → All (λ t. (t.after < n) × (t.before < n)) ties → (a b : ℕ) → Step g a b → Step (fold (λ h t. with_step h t.after t.before) g ties) a b
+step_kept [] g n size all a b s = s
+step_kept (t ∷ ts) g n size all a b s =
+    let here = (All-head (λ u. (u.after < n) × (u.before < n)) t ts all).0 in
+    step_kept ts (with_step g t.after t.before) n (length-with_step g t.after t.before ∙ size) (All-tail (λ u. (u.after < n) × (u.before < n)) t ts all) a b (Step-kept g t.after t.before (omega (arith, here, size)) a b s)
+
+step_told : (ties : List Tie) (g : List (List ℕ)) (n : ℕ) → length g ≡ n → All (λ t. (t.after < n) × (t.before < n)) ties → (t : Tie) → Contains ties t → Step (fold (λ h u. with_step h u.after u.before) g ties) t.after t.before
+step_told [] g n size all t c = absurd (nowhere t c)
+step_told (u ∷ us) g n size all t c =
+    let here = (All-head (λ v. (v.after < n) × (v.before < n)) u us all).0 in
+    let rest = All-tail (λ v. (v.after < n) × (v.before < n)) u us all in
+    let h = with_step g u.after u.before in
+    let sized = length-with_step g u.after u.before ∙ size in
+    elim (first_or_later u us t c) [
+      | inl is ↦ subst (λ (v : Tie). Step (fold (λ k w. with_step k w.after w.before) h us) v.after v.before) is (step_kept us h n sized rest u.after u.before (Step-added g u.after u.before (omega (arith, here, size))))
+      | inr old ↦ step_told us h n sized rest t old
+    ]
+
+pub tie_is_step : (count : ℕ) (ties : List Tie) → All (λ t. (t.after < count) × (t.before < count)) ties → (t : Tie) → Contains ties t → Step (graph_from count ties) t.after t.before
+tie_is_step count ties all t c = step_told ties (replicate count []) count (length-replicate {A = List ℕ} count []) all t c

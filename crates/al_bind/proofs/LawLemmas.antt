@@ -1,29 +1,21 @@
 -- What an elaboration order keeps.
-use Rattle.std.proofs.Common.{◌≡◌, ◌↔◌, ◌⊎◌, inl, inr, ℕ, zero, suc, ◌+◌, ◌<◌, ◌≤◌, Bool, true, false, not, cond, IsTrue, List, [], ◌∷◌, ◌++◌, length, take, get_or, replicate, refl, sym, ap, subst, ◌∙◌, arith}
-use Rattle.std.specs.List.{All, Contains, flat_map, fold}
-use Rattle.std.specs.List.Sorted.{IsStrictlySortedBy}
-use Rattle.std.proofs.lemmas.Bool.{cases_lt}
-use Rattle.std.proofs.lemmas.List.{get_or-take, get_or_default, length-replicate, length-take-le}
+use Rattle.std.proofs.Common.{◌≡◌, ℕ, zero, suc, ◌+◌, ◌<◌, ◌≤◌, Bool, true, false, not, cond, List, [], ◌∷◌, length, take, get_or, refl, sym, ap, subst, ◌∙◌, arith}
+use Rattle.std.specs.List.{Contains, flat_map}
+use Rattle.std.proofs.lemmas.List.{get_or-take, get_or_default, length-take-le}
 use Rattle.std.proofs.lemmas.List.Concat.{get_or-flat_map}
 use Rattle.std.proofs.lemmas.List.Folds.{length-flat_map-take}
-use Rattle.std.proofs.lemmas.List.Elements.{Contains-push, Contains-append_left, All-head, All-tail}
 use Rattle.al_base.specs.Batch.{Key}
 use Rattle.al_base.specs.declared.unit_key.UnitKind.TheVariants.{Decl, Body, Sub}
-use Rattle.al_graph.specs.Graphs.{Step, with_step, successors_of}
-use Rattle.al_graph.proofs.Members.{first_or_later, nowhere}
-use Rattle.al_graph.proofs.StepLemmas.{Step-added, Step-kept, length-with_step}
-use Rattle.al_order.specs.Orders.{IsOrder, IsOrdered}
-use Rattle.al_order.specs.Ties.{graph_from}
 use Rattle.al_order.specs.declared.tie.Tie.{Tie}
-use Rattle.al_order.specs.declared.tie.Reason.{Reason}
-use Rattle.al_order.proofs.PlacingLemmas.{place_in, placed_before}
+use Rattle.al_order.proofs.PlacingLemmas.{place_in}
+use Rattle.al_order.proofs.RelationLemmas.{stands_before}
 use Rattle.al_unit_graph.specs.Headers.{Library}
 use Rattle.al_unit_graph.proofs.Lists.{into_filter}
-use Rattle.al_bind.specs.Binding.{IsElaboration, items_at, items_of, key_at}
-use Rattle.al_bind.specs.Elaboration.{Carries, IsItem, is_pair, node_of}
+use Rattle.al_bind.specs.Binding.{items_at, items_of, key_at}
+use Rattle.al_bind.specs.Elaboration.{is_pair, node_of}
 use Rattle.al_bind.specs.Laws.{IsWhole, OrderObeys, PairsStayTogether, StandsBefore}
-use Rattle.al_bind.specs.Numbers.{AreNumbered, IsAt, TellsEdge, is_node, nodes_among}
-use Rattle.al_bind.proofs.BindLemmas.{graph_count, ties_within}
+use Rattle.al_unit_graph.specs.Needed.{ListsUnits, Needed}
+use Rattle.al_bind.specs.Numbers.{ComesAfter, IsAt, TellsEdge, is_node, nodes_among}
 
 -- a node's node is itself
 is_node_by : (lib : Library) (name : List ℕ) (b : Bool) → is_pair lib name ≡ b → is_node lib (cond b (name, Decl) (name, Body)) ≡ true
@@ -36,9 +28,9 @@ nodes_are_nodes lib (name, Body) item = is_node_by lib name (is_pair lib name) r
 nodes_are_nodes lib (name, Sub) item = absurd (item refl)
 
 -- where a needed item's node stands
-node_place : (lib : Library) (main : List ℕ) (keys : List Key) (ties : List Tie) → AreNumbered lib main keys ties → (x : Key) → IsWhole lib main x → Contains (nodes_among lib keys) (node_of lib x)
-node_place lib main keys ties numbered x (item, node) =
-    into_filter (is_node lib) keys (node_of lib x) ((numbered.lists.all (node_of lib x)).1 (node.0, node.1)) (nodes_are_nodes lib x item.2)
+node_place : (lib : Library) (main : List ℕ) (keys : List Key) → ListsUnits lib keys (Needed lib main) → (x : Key) → IsWhole lib main x → Contains (nodes_among lib keys) (node_of lib x)
+node_place lib main keys lists x (item, node) =
+    into_filter (is_node lib) keys (node_of lib x) ((lists.all (node_of lib x)).1 (node.0, node.1)) (nodes_are_nodes lib x item.2)
 
 -- an item is one of its node's
 of_its_node_by : (lib : Library) (name : List ℕ) (b : Bool) → is_pair lib name ≡ b → Contains (items_of lib (cond b (name, Decl) (name, Body))) (name, Body)
@@ -79,28 +71,6 @@ module _ {X A : Type 0} (f : X → List A) (xs : List X) where
   pub pieces_before : (i j : ℕ) (d : X) (k m : ℕ) → i < j → j ≤ length xs → k < length (f (get_or xs i d)) → length (flat_map f (take i xs)) + k < length (flat_map f (take j xs)) + m
   pieces_before i j d k m less within there = let upto = pieces_apart i j d less within in omega (arith, upto, there)
 
--- a tie is a step
-step_kept : (ties : List Tie) (g : List (List ℕ)) (n : ℕ) → length g ≡ n → All (λ t. (t.after < n) × (t.before < n)) ties → (a b : ℕ) → Step g a b → Step (fold (λ h t. with_step h t.after t.before) g ties) a b
-step_kept [] g n size all a b s = s
-step_kept (t ∷ ts) g n size all a b s =
-    let here = (All-head (λ u. (u.after < n) × (u.before < n)) t ts all).0 in
-    step_kept ts (with_step g t.after t.before) n (length-with_step g t.after t.before ∙ size) (All-tail (λ u. (u.after < n) × (u.before < n)) t ts all) a b (Step-kept g t.after t.before (omega (arith, here, size)) a b s)
-
-step_told : (ties : List Tie) (g : List (List ℕ)) (n : ℕ) → length g ≡ n → All (λ t. (t.after < n) × (t.before < n)) ties → (t : Tie) → Contains ties t → Step (fold (λ h u. with_step h u.after u.before) g ties) t.after t.before
-step_told [] g n size all t c = absurd (nowhere t c)
-step_told (u ∷ us) g n size all t c =
-    let here = (All-head (λ v. (v.after < n) × (v.before < n)) u us all).0 in
-    let rest = All-tail (λ v. (v.after < n) × (v.before < n)) u us all in
-    let h = with_step g u.after u.before in
-    let sized = length-with_step g u.after u.before ∙ size in
-    elim (first_or_later u us t c) [
-      | inl is ↦ subst (λ (v : Tie). Step (fold (λ k w. with_step k w.after w.before) h us) v.after v.before) is (step_kept us h n sized rest u.after u.before (Step-added g u.after u.before (omega (arith, here, size))))
-      | inr old ↦ step_told us h n sized rest t old
-    ]
-
-pub tie_is_step : (count : ℕ) (ties : List Tie) → All (λ t. (t.after < count) × (t.before < count)) ties → (t : Tie) → Contains ties t → Step (graph_from count ties) t.after t.before
-tie_is_step count ties all t c = step_told ties (replicate count []) count (length-replicate {A = List ℕ} count []) all t c
-
 -- the item at its node's place in the order
 module _ (lib : Library) (nodes : List Key) (order : List ℕ) where
   abbrev piece : ℕ → List Key
@@ -127,20 +97,15 @@ module _ (lib : Library) (nodes : List Key) (order : List ℕ) where
 pub order_obeys : OrderObeys
 order_obeys lib main items is reason x y whole_x whole_y carries =
     let nodes = nodes_among lib is.keys in
-    let count = length nodes in
-    let (n, n_in, n_is) = node_place lib main is.keys is.ties is.numbered x whole_x in
-    let (m, m_in, m_is) = node_place lib main is.keys is.ties is.numbered y whole_y in
-    let (i, i_in, i_is) = (is.numbered.lists.all x).1 (whole_x.0.0, whole_x.0.1) in
-    let (j, j_in, j_is) = (is.numbered.lists.all y).1 (whole_y.0.0, whole_y.0.1) in
+    let (n, n_in, n_is) = node_place lib main is.keys is.lists x whole_x in
+    let (m, m_in, m_is) = node_place lib main is.keys is.lists y whole_y in
+    let (i, i_in, i_is) = (is.lists.all x).1 (whole_x.0.0, whole_x.0.1) in
+    let (j, j_in, j_is) = (is.lists.all y).1 (whole_y.0.0, whole_y.0.1) in
     let t : Tie = record { after = n; before = m; reason = reason; x = i; y = j } in
     let edge : TellsEdge lib main is.keys t = record { x = x; y = y; carries = carries; x_at = (i_in, i_is); y_at = (j_in, j_is); after_at = (n_in, n_is); before_at = (m_in, m_is) } in
-    let within = ties_within lib main is.keys is.ties is.numbered.tells in
-    let g = graph_from count is.ties in
-    let step : Step g n m = tie_is_step count is.ties within t ((is.numbered.tells t).1 edge) in
-    let size = graph_count count is.ties in
-    let (a, a_in, a_is) = place_in is.order n (is.ordered.0.all n (omega (arith, n_in, size))) in
-    let stepped : Step g (get_or is.order a 0) m = subst (λ (k : ℕ). Step g k m) (sym a_is) step in
-    let (b, less, b_is) = placed_before g is.order is.ordered.0.takes_least a a_in m stepped in
+    let (a, a_in, a_is) = place_in is.order n (is.ordered.all n n_in) in
+    let comes : ComesAfter lib main is.keys n m = (t, edge, (refl, refl)) in
+    let (b, less, b_is) = stands_before (length nodes) (ComesAfter lib main is.keys) is.order is.ordered a a_in m (subst (λ (k : ℕ). ComesAfter lib main is.keys k m) (sym a_is) comes) in
     subst (λ (ks : List Key). StandsBefore ks y x) (sym is.items_are)
     (before_in_order lib nodes is.order y x b a m n whole_y.0.2 whole_x.0.2 (m_in, m_is) (n_in, n_is) b_is a_is less a_in)
 
@@ -149,9 +114,8 @@ pub pairs_stay : PairsStayTogether
 pairs_stay lib main items is name pair item =
     let nodes = nodes_among lib is.keys in
     let d : Key = (name, Decl) in
-    let (n, n_in, n_is) = node_place lib main is.keys is.ties is.numbered d (item, item) in
-    let size = graph_count (length nodes) is.ties in
-    let (a, a_in, a_is) = place_in is.order n (is.ordered.0.all n (omega (arith, n_in, size))) in
+    let (n, n_in, n_is) = node_place lib main is.keys is.lists d (item, item) in
+    let (a, a_in, a_is) = place_in is.order n (is.ordered.all n n_in) in
     let f : ℕ → List Key = λ i. items_of lib (key_at nodes i) in
     let node : key_at nodes (get_or is.order a 0) ≡ d = ap (λ (i : ℕ). key_at nodes i) a_is ∙ get_or_default nodes n ([], Decl) d n_in ∙ n_is in
     let both : f (get_or is.order a 0) ≡ d ∷ (name, Body) ∷ [] = ap (λ (k : Key). items_of lib k) node ∙ ap (λ (b : Bool). d ∷ cond b ((name, Body) ∷ []) []) pair in

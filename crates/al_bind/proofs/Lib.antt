@@ -4,4 +4,6 @@ pub mod PartLemmas
 pub mod TieLemmas
 pub mod EdgeLemmas
 pub mod BindLemmas
+pub mod StepLemmas
 pub mod LawLemmas
+pub mod ExcludeLemmas

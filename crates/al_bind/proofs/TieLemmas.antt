@@ -1,8 +1,8 @@
 -- The ties of edges, as they are listed one after another.
-use Rattle.std.proofs.Common.{◌≡◌, ◌≢◌, ◌↔◌, ◌⊎◌, inl, inr, ℕ, true, Option, Some, None, ◌+◌, ◌<◌, ◌≤◌, List, [], ◌∷◌, ◌++◌, length, map, take, get_or, refl, sym, ap, subst, ◌∙◌, arith}
+use Rattle.std.proofs.Common.{◌≡◌, ◌↔◌, ◌⊎◌, inl, inr, ℕ, true, Some, None, ◌+◌, ◌<◌, ◌≤◌, List, [], ◌∷◌, ◌++◌, length, map, take, get_or, refl, sym, ap, subst, ◌∙◌, arith}
 use Rattle.std.specs.List.{Contains}
 use Rattle.std.specs.List.Sorted.{IsStrictlySortedBy}
-use Rattle.std.specs.declared.cmp.Ordering.TheVariants.{Less, Equal}
+use Rattle.std.specs.declared.cmp.Ordering.TheVariants.{Less}
 use Rattle.std.proofs.lemmas.Bool.{cases_lt}
 use Rattle.std.proofs.lemmas.Map.Keys.{Less-from_sorted}
 use Rattle.std.proofs.lemmas.List.{take_all, take_more}
@@ -17,13 +17,13 @@ use Rattle.al_order.specs.declared.tie.Reason.TheVariants.{Depends, Elaborate, E
 use Rattle.al_graph.proofs.Members.{nowhere}
 use Rattle.al_unit_graph.specs.Headers.{Header, Library}
 use Rattle.al_unit_graph.specs.Library.{is_unit, unit_at}
-use Rattle.al_unit_graph.specs.Dependence.{DependsOn}
-use Rattle.al_unit_graph.specs.Needed.{ListsUnits, Needed}
+use Rattle.al_unit_graph.specs.Needed.{ListsUnits}
 use Rattle.al_unit_graph.proofs.Lists.{from_map, into_map}
 use Rattle.al_unit_graph.specs.Orders.{key_cmp}
 use Rattle.al_bind.specs.Elaboration.{Wants, node_of}
 use Rattle.al_bind.specs.Elaboration.Wants.{depends, elaborate, elaborate_all_body, elaborate_all}
 use Rattle.al_bind.specs.Numbers.{Adds, IsAt, IsEnd, IsFor, IsForAll, OneOf, TiesBy, TiesTo, is_node, nodes_among}
+use Rattle.al_bind.specs.Steps.{WantsBy}
 use Rattle.al_bind.specs.declared.places.End.{End}
 use Rattle.al_bind.proofs.PlaceLemmas.{key_itself}
 
@@ -171,16 +171,23 @@ adds_either lib keys x R S T old mid new first second same =
     ))
 
 -- to the units that a call lists
-pub listed_ties : (lib : Library) (keys : List Key) (x : End) (reason : Reason) (ys : List UnitKey) (P : Key → Type 0) (old new : List Tie) → ListsUnits lib (map key_of ys) P → ((k : Key) → Contains keys k → is_unit lib k ≡ true) → Adds old new (OneOf ys (λ y. TiesBy lib keys x (IsFor reason (key_of y)))) → Adds old new (TiesBy lib keys x (λ r k. (r ≡ reason) × P k))
-listed_ties lib keys x reason ys P old new lists units adds =
+pub told_ties : (lib : Library) (keys : List Key) (x : End) (reason : Reason) (ys : List UnitKey) (P : Key → Type 0) (old new : List Tie) → ((k : Key) → Contains keys k → Contains (map key_of ys) k ↔ P k) → Adds old new (OneOf ys (λ y. TiesBy lib keys x (IsFor reason (key_of y)))) → Adds old new (TiesBy lib keys x (λ r k. (r ≡ reason) × P k))
+told_ties lib keys x reason ys P old new same adds =
     adds_by lib keys x ys (λ y. IsFor reason (key_of y)) (λ r k. (r ≡ reason) × P k) old new adds (λ r k c. (
-      (λ h. (h.2.0, ((lists.all k).0 (subst (λ (j : Key). Contains (map key_of ys) j) h.2.1 (into_map key_of ys h.0 h.1))).0)),
-      (λ h. let f = from_map key_of ys k ((lists.all k).1 (h.1, units k c)) in (f.0, f.1, (h.0, f.2))),
+      (λ h. (h.2.0, (same k c).0 (subst (λ (j : Key). Contains (map key_of ys) j) h.2.1 (into_map key_of ys h.0 h.1)))),
+      (λ h. let f = from_map key_of ys k ((same k c).1 h.1) in (f.0, f.1, (h.0, f.2))),
     ))
 
--- what a part wants
-abbrev Depending : Library → Key → Reason → Key → Type 0
-Depending lib p r k = (r ≡ Depends) × DependsOn lib p k
+-- of units of the library
+pub listed_among : (lib : Library) (keys : List Key) (ys : List Key) (P : Key → Type 0) → ListsUnits lib ys P → ((k : Key) → Contains keys k → is_unit lib k ≡ true) → (k : Key) → Contains keys k → Contains ys k ↔ P k
+listed_among lib keys ys P lists units k c = ((λ h. ((lists.all k).0 h).0), (λ p. (lists.all k).1 (p, units k c)))
+
+pub listed_ties : (lib : Library) (keys : List Key) (x : End) (reason : Reason) (ys : List UnitKey) (P : Key → Type 0) (old new : List Tie) → ListsUnits lib (map key_of ys) P → ((k : Key) → Contains keys k → is_unit lib k ≡ true) → Adds old new (OneOf ys (λ y. TiesBy lib keys x (IsFor reason (key_of y)))) → Adds old new (TiesBy lib keys x (λ r k. (r ≡ reason) × P k))
+listed_ties lib keys x reason ys P old new lists units adds = told_ties lib keys x reason ys P old new (listed_among lib keys (map key_of ys) P lists units) adds
+
+-- what a part wants, where these dependences are told
+abbrev Depending : (Key → Type 0) → Reason → Key → Type 0
+Depending D r k = (r ≡ Depends) × D k
 
 abbrev NamedOnes : Library → Header → Reason → Key → Type 0
 NamedOnes lib h = ForSome h.elaborate (λ q. IsFor Elaborate (q, Body))
@@ -188,43 +195,57 @@ NamedOnes lib h = ForSome h.elaborate (λ q. IsFor Elaborate (q, Body))
 abbrev AllOnes : Library → Header → Reason → Key → Type 0
 AllOnes lib h = ForSome h.elaborate_all (IsForAll lib)
 
-depending : (lib : Library) (p : Key) (r : Reason) (k : Key) → Depending lib p r k → Wants lib p r k
-depending lib p r k h = subst (λ (s : Reason). Wants lib p s k) (sym h.0) (depends h.1)
+other_reason : (r s : Reason) → r ≡ s → (s ≡ Depends → ⊥) → r ≡ Depends → ⊥
+other_reason r s is other e = other (sym is ∙ e)
+
+named_is_other : Elaborate ≡ Depends → ⊥
+named_is_other e = absurd (cc)
+
+all_is_other : ElaborateAll ≡ Depends → ⊥
+all_is_other e = absurd (cc)
 
 for_one : (lib : Library) (p : Key) (reason r : Reason) (j k : Key) → Wants lib p reason j → IsFor reason j r k → Wants lib p r k
 for_one lib p reason r j k wants h = subst (λ (s : Reason). Wants lib p s k) (sym h.0) (subst (λ (i : Key). Wants lib p reason i) h.1 wants)
 
-wanted : (lib : Library) (p : Key) (h : Header) → unit_at lib p ≡ Some h → (r : Reason) (k : Key) → ((Depending lib p r k ⊎ NamedOnes lib h r k) ⊎ AllOnes lib h r k) → Wants lib p r k
-wanted lib p h is r k (inl (inl d)) = depending lib p r k d
-wanted lib p h is r k (inl (inr (q, c, for))) = for_one lib p Elaborate r (q, Body) k (elaborate is c) for
-wanted lib p h is r k (inr (q, c, inl for)) = for_one lib p ElaborateAll r (q, Body) k (elaborate_all_body is c) for
-wanted lib p h is r k (inr (q, c, inr needed)) = subst (λ (s : Reason). Wants lib p s k) (sym needed.0) (elaborate_all is c needed.1)
+wanted : (D : Key → Type 0) (lib : Library) (p : Key) (h : Header) → unit_at lib p ≡ Some h → (r : Reason) (k : Key) → ((Depending D r k ⊎ NamedOnes lib h r k) ⊎ AllOnes lib h r k) → WantsBy D lib p r k
+wanted D lib p h is r k (inl (inl d)) = inl d
+wanted D lib p h is r k (inl (inr (q, c, for))) = inr (other_reason r Elaborate for.0 named_is_other, for_one lib p Elaborate r (q, Body) k (elaborate is c) for)
+wanted D lib p h is r k (inr (q, c, inl for)) = inr (other_reason r ElaborateAll for.0 all_is_other, for_one lib p ElaborateAll r (q, Body) k (elaborate_all_body is c) for)
+wanted D lib p h is r k (inr (q, c, inr needed)) = inr (other_reason r ElaborateAll needed.0 all_is_other, subst (λ (s : Reason). Wants lib p s k) (sym needed.0) (elaborate_all is c needed.1))
 
 same_header : (lib : Library) (p : Key) (h g : Header) → unit_at lib p ≡ Some h → unit_at lib p ≡ Some g → g ≡ h
 same_header lib p h g is too = let e : Some g ≡ Some h = sym too ∙ is in cc
 
-unwanted : (lib : Library) (p : Key) (h : Header) → unit_at lib p ≡ Some h → (r : Reason) (k : Key) → Wants lib p r k → ((Depending lib p r k ⊎ NamedOnes lib h r k) ⊎ AllOnes lib h r k)
-unwanted lib p h is _ k (depends d) = inl (inl (refl, d))
-unwanted lib p h is _ _ (elaborate {q} {h = g} too c) = inl (inr (q, subst (λ (f : Header). Contains f.elaborate q) (same_header lib p h g is too) c, (refl, refl)))
-unwanted lib p h is _ _ (elaborate_all_body {q} {h = g} too c) = inr (q, subst (λ (f : Header). Contains f.elaborate_all q) (same_header lib p h g is too) c, inl (refl, refl))
-unwanted lib p h is _ k (elaborate_all {q = q} {h = g} too c needed) = inr (q, subst (λ (f : Header). Contains f.elaborate_all q) (same_header lib p h g is too) c, inr (refl, needed))
+unwanted_other : (D : Key → Type 0) (lib : Library) (p : Key) (h : Header) → unit_at lib p ≡ Some h → (r : Reason) (k : Key) → (r ≡ Depends → ⊥) → Wants lib p r k → ((Depending D r k ⊎ NamedOnes lib h r k) ⊎ AllOnes lib h r k)
+unwanted_other D lib p h is _ k other (depends d) = absurd (other refl)
+unwanted_other D lib p h is _ _ other (elaborate {q} {h = g} too c) = inl (inr (q, subst (λ (f : Header). Contains f.elaborate q) (same_header lib p h g is too) c, (refl, refl)))
+unwanted_other D lib p h is _ _ other (elaborate_all_body {q} {h = g} too c) = inr (q, subst (λ (f : Header). Contains f.elaborate_all q) (same_header lib p h g is too) c, inl (refl, refl))
+unwanted_other D lib p h is _ k other (elaborate_all {q = q} {h = g} too c needed) = inr (q, subst (λ (f : Header). Contains f.elaborate_all q) (same_header lib p h g is too) c, inr (refl, needed))
+
+unwanted : (D : Key → Type 0) (lib : Library) (p : Key) (h : Header) → unit_at lib p ≡ Some h → (r : Reason) (k : Key) → WantsBy D lib p r k → ((Depending D r k ⊎ NamedOnes lib h r k) ⊎ AllOnes lib h r k)
+unwanted D lib p h is r k (inl d) = inl (inl d)
+unwanted D lib p h is r k (inr o) = unwanted_other D lib p h is r k o.0 o.1
 
 no_header : (lib : Library) (p : Key) (g : Header) → unit_at lib p ≡ None → unit_at lib p ≡ Some g → ⊥
 no_header lib p g is too = let e = sym is ∙ too in absurd (cc)
 
-only_depends : (lib : Library) (p : Key) → unit_at lib p ≡ None → (r : Reason) (k : Key) → Wants lib p r k → Depending lib p r k
-only_depends lib p is _ k (depends d) = (refl, d)
-only_depends lib p is _ _ (elaborate {h = g} too c) = absurd (no_header lib p g is too)
-only_depends lib p is _ _ (elaborate_all_body {h = g} too c) = absurd (no_header lib p g is too)
-only_depends lib p is _ k (elaborate_all {h = g} too c needed) = absurd (no_header lib p g is too)
+other_wants_none : (lib : Library) (p : Key) → unit_at lib p ≡ None → (r : Reason) (k : Key) → (r ≡ Depends → ⊥) → Wants lib p r k → ⊥
+other_wants_none lib p is _ k other (depends d) = other refl
+other_wants_none lib p is _ _ other (elaborate {h = g} too c) = no_header lib p g is too
+other_wants_none lib p is _ _ other (elaborate_all_body {h = g} too c) = no_header lib p g is too
+other_wants_none lib p is _ k other (elaborate_all {h = g} too c needed) = no_header lib p g is too
 
-module _ (lib : Library) (keys : List Key) (x : End) (p : Key) where
-  pub part_none : (old new : List Tie) → unit_at lib p ≡ None → Adds old new (TiesBy lib keys x (λ r k. (r ≡ Depends) × DependsOn lib p k)) → Adds old new (TiesBy lib keys x (Wants lib p))
-  part_none old new is adds = adds_same old new (TiesBy lib keys x (Depending lib p)) (TiesBy lib keys x (Wants lib p)) adds (ties_same lib keys x (Depending lib p) (Wants lib p) (λ r k c. (depending lib p r k, only_depends lib p is r k)))
+only_depends : (D : Key → Type 0) (lib : Library) (p : Key) → unit_at lib p ≡ None → (r : Reason) (k : Key) → WantsBy D lib p r k → Depending D r k
+only_depends D lib p is r k (inl d) = d
+only_depends D lib p is r k (inr o) = absurd (other_wants_none lib p is r k o.0 o.1)
 
-  pub part_some : (h : Header) (a b c d : List Tie) → unit_at lib p ≡ Some h → Adds a b (TiesBy lib keys x (λ r k. (r ≡ Depends) × DependsOn lib p k)) → Adds b c (OneOf h.elaborate (λ q. TiesBy lib keys x (IsFor Elaborate (q, Body)))) → Adds c d (OneOf h.elaborate_all (λ q. TiesBy lib keys x (IsForAll lib q))) → Adds a d (TiesBy lib keys x (Wants lib p))
+module _ (lib : Library) (keys : List Key) (x : End) (p : Key) (D : Key → Type 0) where
+  pub part_none : (old new : List Tie) → unit_at lib p ≡ None → Adds old new (TiesBy lib keys x (λ r k. (r ≡ Depends) × D k)) → Adds old new (TiesBy lib keys x (WantsBy D lib p))
+  part_none old new is adds = adds_same old new (TiesBy lib keys x (Depending D)) (TiesBy lib keys x (WantsBy D lib p)) adds (ties_same lib keys x (Depending D) (WantsBy D lib p) (λ r k c. ((λ d. inl d), only_depends D lib p is r k)))
+
+  pub part_some : (h : Header) (a b c d : List Tie) → unit_at lib p ≡ Some h → Adds a b (TiesBy lib keys x (λ r k. (r ≡ Depends) × D k)) → Adds b c (OneOf h.elaborate (λ q. TiesBy lib keys x (IsFor Elaborate (q, Body)))) → Adds c d (OneOf h.elaborate_all (λ q. TiesBy lib keys x (IsForAll lib q))) → Adds a d (TiesBy lib keys x (WantsBy D lib p))
   part_some h a b c d is first second third =
       let named = adds_by lib keys x h.elaborate (λ q. IsFor Elaborate (q, Body)) (NamedOnes lib h) b c second (λ r k m. ((λ o. o), (λ o. o))) in
       let all = adds_by lib keys x h.elaborate_all (IsForAll lib) (AllOnes lib h) c d third (λ r k m. ((λ o. o), (λ o. o))) in
-      let both = adds_either lib keys x (Depending lib p) (NamedOnes lib h) (λ r k. Depending lib p r k ⊎ NamedOnes lib h r k) a b c first named (λ r k. ((λ o. o), (λ o. o))) in
-      adds_either lib keys x (λ r k. Depending lib p r k ⊎ NamedOnes lib h r k) (AllOnes lib h) (Wants lib p) a c d both all (λ r k. (wanted lib p h is r k, unwanted lib p h is r k))
+      let both = adds_either lib keys x (Depending D) (NamedOnes lib h) (λ r k. Depending D r k ⊎ NamedOnes lib h r k) a b c first named (λ r k. ((λ o. o), (λ o. o))) in
+      adds_either lib keys x (λ r k. Depending D r k ⊎ NamedOnes lib h r k) (AllOnes lib h) (WantsBy D lib p) a c d both all (λ r k. (wanted D lib p h is r k, unwanted D lib p h is r k))

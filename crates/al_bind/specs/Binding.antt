@@ -3,14 +3,15 @@ use Rattle.std.specs.Prelude.{◌≡◌, ℕ, List, [], ◌∷◌, length, map, 
 use Rattle.std.specs.List.{flat_map}
 use Rattle.al_base.specs.Batch.{Key, key_of}
 use Rattle.al_base.specs.declared.unit_key.UnitKind.TheVariants.{Decl, Body, Sub}
-use Rattle.al_order.specs.Orders.{IsOrdered}
-use Rattle.al_order.specs.Ties.{IsFault, graph_from}
+use Rattle.al_order.specs.Relations.{IsOrderBy}
+use Rattle.al_order.specs.Ties.{IsFault}
 use Rattle.al_order.specs.declared.tie.Tie.{Tie}
 use Rattle.al_order.specs.declared.tie.Reason.{Reason}
 use Rattle.al_unit_graph.specs.Headers.{Library}
 use Rattle.al_bind.specs.Elaboration.{is_pair}
 use Rattle.al_bind.specs.Faults.{IsComplete, IsLack}
-use Rattle.al_bind.specs.Numbers.{AreNumbered, nodes_among}
+use Rattle.al_unit_graph.specs.Needed.{ListsUnits, Needed}
+use Rattle.al_bind.specs.Numbers.{AreNumbered, ComesAfter, nodes_among}
 use Rattle.al_bind.specs.declared.binding.Line.{Line}
 use Rattle.al_bind.specs.declared.binding.BindFault.{BindFault}
 use Rattle.al_bind.specs.declared.binding.BindFault.TheVariants.{Lacks, Cycle}
@@ -29,18 +30,14 @@ items_of lib (name, Sub) = (name, Sub) ∷ []
 abbrev pub items_at : Library → List Key → List ℕ → List Key
 items_at lib nodes order = flat_map (λ i. items_of lib (key_at nodes i)) order
 
--- each edge is a step from a node to a predecessor; nodes are numbered in the order of their keys
-abbrev pub elaboration_graph : Library → List Key → List Tie → List (List ℕ)
-elaboration_graph lib keys ties = graph_from (length (nodes_among lib keys)) ties
-
--- nothing is missing, and the items are those of all nodes, each time the least node whose predecessors all stand before it
+-- nothing is missing, and the items are those of all nodes, each time the least node all of whose predecessors stand before it;
+-- nodes are numbered in the order of their keys
 pub record IsElaboration (lib : Library) (main : List ℕ) (items : List Key) : Type 0 where
   pub complete : IsComplete lib main
   pub keys : List Key
-  pub ties : List Tie
-  pub numbered : AreNumbered lib main keys ties
+  pub lists : ListsUnits lib keys (Needed lib main)
   pub order : List ℕ
-  pub ordered : IsOrdered (elaboration_graph lib keys ties) order
+  pub ordered : IsOrderBy (length (nodes_among lib keys)) (ComesAfter lib main keys) order
   pub items_are : items ≡ items_at lib (nodes_among lib keys) order
 
 -- what a line says: an item, the item before it, and why

@@ -11,7 +11,8 @@ use Rattle.al_unit_graph.specs.Library.{is_unit}
 use Rattle.al_unit_graph.specs.Needed.{Needed, ListsUnits}
 use Rattle.al_unit_graph.specs.Orders.{key_cmp}
 use Rattle.std.specs.List.Sorted.{IsStrictlySortedBy}
-use Rattle.al_bind.specs.Elaboration.{Carries, Follows, is_pair, node_of}
+use Rattle.al_order.specs.Ties.{IsBetween}
+use Rattle.al_bind.specs.Elaboration.{Carries, IsItem, IsPartOf, is_pair, node_of}
 use Rattle.al_bind.specs.declared.places.End.{End}
 use Rattle.al_bind.specs.declared.places.Places.{Places}
 
@@ -38,6 +39,10 @@ pub record TellsEdge (lib : Library) (main : List ℕ) (keys : List Key) (tie : 
   pub y_at : IsAt keys y tie.y
   pub after_at : IsAt (nodes_among lib keys) (node_of lib x) tie.after
   pub before_at : IsAt (nodes_among lib keys) (node_of lib y) tie.before
+
+-- an edge leads from node a to node b, which comes before it
+abbrev pub ComesAfter : Library → List ℕ → List Key → ℕ → ℕ → Type 0
+ComesAfter lib main keys a b = (t : Tie) × TellsEdge lib main keys t × IsBetween a b t
 
 -- the needed units in the order of their keys, and for each edge between two nodes and each pair of items that carries it a tie
 pub record AreNumbered (lib : Library) (main : List ℕ) (keys : List Key) (ties : List Tie) : Type 0 where
@@ -77,11 +82,26 @@ IsFor reason key r k = (r ≡ reason) × (key ≡ k)
 abbrev pub IsForAll : Library → List ℕ → Reason → Key → Type 0
 IsForAll lib q r k = IsFor ElaborateAll (q, Body) r k ⊎ ((r ≡ ElaborateAll) × Needed lib q k)
 
--- a tie of an edge that this item carries
-pub record TiesFrom (lib : Library) (keys : List Key) (x : Key) (tie : Tie) : Type 0 where
+-- a tie of what a part of this item wants
+pub record TiesFrom (lib : Library) (keys : List Key) (WantsIt : Key → Reason → Key → Type 0) (x : Key) (tie : Tie) : Type 0 where
   pub end : End
   pub is_end : IsEnd lib keys x end
-  pub ties : TiesBy lib keys end (λ reason y. Follows lib reason x y) tie
+  pub ties : TiesBy lib keys end (λ reason y. (p : Key) × IsPartOf lib x p × WantsIt p reason y) tie
+
+-- a tie tells what a part of an item wants, by places as TellsEdge has them
+pub record TellsWant (lib : Library) (main : List ℕ) (keys : List Key) (WantsIt : Key → Reason → Key → Type 0) (tie : Tie) : Type 0 where
+  pub x : Key
+  pub y : Key
+  pub after : IsItem lib main x
+  pub before : IsItem lib main y
+  pub part : Key
+  pub is_part : IsPartOf lib x part
+  pub wants : WantsIt part tie.reason y
+  pub apart : node_of lib x ≢ node_of lib y
+  pub x_at : IsAt keys x tie.x
+  pub y_at : IsAt keys y tie.y
+  pub after_at : IsAt (nodes_among lib keys) (node_of lib x) tie.after
+  pub before_at : IsAt (nodes_among lib keys) (node_of lib y) tie.before
 
 -- one that is so by some member of a list
 abbrev pub OneOf : {X : Type 0} → List X → (X → Tie → Type 0) → Tie → Type 0

@@ -2,11 +2,15 @@
 ghost use Rattle.std.specs.Prelude.{◌≡◌, ◌<◌, ◌++◌, length, map, IfOk, OnOk, MatchResult};
 ghost use Rattle.std.specs.List.{All};
 ghost use Rattle.al_base.specs.Batch.{key_of};
-ghost use Rattle.al_bind.specs.Binding.{items_at, items_of, line_of, line_seen, IsBindFault, IsElaboration};
+ghost use Rattle.al_unit_graph.specs.Needed.{ListsUnits, Needed};
+ghost use Rattle.al_bind.specs.Binding.{items_at, items_of, line_of, line_seen, IsBindFault, IsCycleOfItems, IsElaboration};
+ghost use Rattle.al_bind.specs.Faults.{IsComplete};
+ghost use Rattle.al_bind.specs.Numbers.{ArePlaces};
+ghost use Rattle.al_bind.specs.declared.ties.Extent.TheVariants.{Whole};
 
 use crate::lacking::{Lack, first_lack};
 use crate::places::{Places, copy_of, is_pair};
-use crate::ties::ties_of;
+use crate::ties::{Extent, ties_of};
 use al_base::{Name, NoMemory, UnitKey, UnitKind};
 use al_order::{Reason, Tie, order_of_ties};
 use al_unit_graph::Sources;
@@ -91,6 +95,32 @@ fn lines_of(alloc: Global, keys: &[UnitKey], ties: &[Tie]) -> Result<Vec<Line>, 
     Ok(lines)
 }
 
+// The order by these ties, or the lines of the cycle that they show: where these are all ties, that of the partition.
+fn bound_by(
+    alloc: Global,
+    sources: &Sources,
+    main: &[u8],
+    places: &Places,
+    extent: Extent,
+) -> Result<Result<Vec<UnitKey>, Vec<Line>>, NoMemory>
+    requires complete { IsComplete sources.now main.now }
+    requires lists { ListsUnits sources.now (map key_of places.now.keys.items) (Needed sources.now main.now) }
+    requires places { ArePlaces sources.now places.now }
+    ensures { IfOk result (λ bound. MatchResult bound (λ items. IsElaboration sources.now main.now (map key_of items.items)) (λ lines. extent ≡ Whole → IsCycleOfItems sources.now main.now lines.items)) }
+{
+    let ties = ties_of(alloc, sources, main, places, extent)?;
+    match order_of_ties(alloc, places.nodes.len(), &ties)? {
+        Ok(order) => {
+            let items = items_at(alloc, sources, &places.nodes, &order)?;
+            Ok(Ok(items))
+        }
+        Err(shown) => {
+            let lines = lines_of(alloc, &places.keys, &shown)?;
+            Ok(Err(lines))
+        }
+    }
+}
+
 /// The order in which the items of a partition are elaborated: its needed declarations and bodies, each time the least node by the
 /// bytes of its name, a declaration before a body, whose predecessors all stand before it. A declaration with Elaborate_Body and its
 /// body are one node, the body right after the declaration (ARM 10.2(9), 10.2.1(26)). Or the first fault: what is missing, or else
@@ -110,15 +140,11 @@ pub fn bind(
         return Ok(Err(BindFault::Lacks(lack)));
     }
     let places = Places::of(alloc, sources, main)?;
-    let ties = ties_of(alloc, sources, main, &places)?;
-    match order_of_ties(alloc, places.nodes.len(), &ties)? {
-        Ok(order) => {
-            let items = items_at(alloc, sources, &places.nodes, &order)?;
-            Ok(Ok(items))
-        }
-        Err(shown) => {
-            let lines = lines_of(alloc, &places.keys, &shown)?;
-            Ok(Err(BindFault::Cycle(lines)))
-        }
+    if let Ok(items) = bound_by(alloc, sources, main, &places, Extent::Steps)? {
+        return Ok(Ok(items));
+    }
+    match bound_by(alloc, sources, main, &places, Extent::Whole)? {
+        Ok(items) => Ok(Ok(items)),
+        Err(lines) => Ok(Err(BindFault::Cycle(lines))),
     }
 }

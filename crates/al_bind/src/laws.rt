@@ -9,7 +9,7 @@ ghost use Rattle.al_unit_graph.specs.Headers.{Header, Library};
 ghost use Rattle.al_unit_graph.specs.Library.{unit_at};
 ghost use Rattle.al_unit_graph.specs.Needed.{Needed};
 ghost use Rattle.al_bind.specs.Elaboration.{Carries, IsItem, is_pair, node_of};
-ghost use Rattle.al_bind.specs.Laws.{OrderObeys, PairsStayTogether};
+ghost use Rattle.al_bind.specs.Laws.{OrderExcludesCycle, OrderObeys, PairsStayTogether};
 
 /// The two parts of a pair under Elaborate_Body are one node, and no edge is between them: so nothing is elaborated between them.
 pub fn pair_is_one_node()
@@ -31,4 +31,9 @@ pub fn order_obeys()
 /// In the order the body of a pair under Elaborate_Body comes right after its declaration (ARM 10.2.1(26)).
 pub fn pairs_stay_together()
     ensures { PairsStayTogether }
+{}
+
+/// A partition has an order or a cycle, and never both.
+pub fn order_excludes_cycle()
+    ensures { OrderExcludesCycle }
 {}

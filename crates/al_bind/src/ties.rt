@@ -1,14 +1,14 @@
-// For each edge between two nodes, and each pair of items that carries it, a tie.
-ghost use Rattle.std.specs.Prelude.{◌≡◌, ◌↔◌, ◌⊎◌, map, IfOk, OnOk};
+// For each edge between two nodes, and each pair of items that carries it, a tie; or for some, which lead to all.
+ghost use Rattle.std.specs.Prelude.{◌≡◌, ◌↔◌, ◌⊎◌, map, IfOk, MatchBool, OnOk};
 ghost use Rattle.std.specs.List.{Contains};
-ghost use Rattle.al_base.specs.Batch.{key_of};
+ghost use Rattle.al_base.specs.Batch.{key_of, Key};
 ghost use Rattle.al_base.specs.declared.unit_key.UnitKind.TheVariants.{Body};
 ghost use Rattle.al_order.specs.declared.tie.Reason.TheVariants.{Depends, Elaborate, ElaborateAll};
 ghost use Rattle.al_order.specs.declared.tie.Tie.{Tie};
-ghost use Rattle.al_unit_graph.specs.Dependence.{DependsOn};
+ghost use Rattle.al_bind.specs.declared.ties.Extent.TheVariants.{Steps};
 ghost use Rattle.al_unit_graph.specs.Needed.{Needed, ListsUnits};
-ghost use Rattle.al_bind.specs.Elaboration.{Wants};
-ghost use Rattle.al_bind.specs.Numbers.{Adds, ArePlaces, IsFor, IsForAll, OneOf, TellsEdge, TiesBy, TiesFrom};
+ghost use Rattle.al_bind.specs.Numbers.{Adds, ArePlaces, IsFor, IsForAll, OneOf, TellsWant, TiesBy, TiesFrom};
+ghost use Rattle.al_bind.specs.Steps.{ArePlaced, IsTold, WantsTold};
 
 use crate::parts::parts_of;
 use crate::places::{End, Places};
@@ -16,6 +16,15 @@ use al_base::{Name, NoMemory, UnitKey, UnitKind};
 use al_order::{Reason, Tie};
 use al_unit_graph::Sources;
 use std::alloc::Global;
+
+// How many of the ties are listed.
+#[derive(Clone, Copy)]
+pub(crate) enum Extent {
+    // One for each edge between two nodes, and each pair of items that carries it.
+    Whole,
+    // Some of these, which lead to all.
+    Steps,
+}
 
 // Adds the tie from an item to another one, where that is one of the partition and of another node.
 fn add_tie(
@@ -62,18 +71,60 @@ fn add_ties(
     Ok(())
 }
 
-// To all on which a part of the item depends.
+// Whether all of these are items that have their places.
+fn are_placed(sources: &Sources, places: &Places, keys: &[UnitKey]) -> bool
+    requires { ArePlaces sources.now places.now }
+    ensures { MatchBool result (ArePlaced sources.now (map key_of places.now.keys.items) (map key_of keys.now)) (ArePlaced sources.now (map key_of places.now.keys.items) (map key_of keys.now) → ⊥) }
+{
+    for key in keys {
+        let Some(_end) = places.end_of(sources, key) else {
+            return false;
+        };
+    }
+    true
+}
+
+// What a unit depends on by itself, where these are placed items; or else all on which it depends.
+fn steps_from(sources: &Sources, places: &Places, part: &UnitKey) -> Result<Vec<UnitKey>, NoMemory>
+    requires { ArePlaces sources.now places.now }
+    ensures { IfOk result (λ keys. (y : Key) → Contains (map key_of places.now.keys.items) y → Contains (map key_of keys.items) y ↔ IsTold Steps sources.now (map key_of places.now.keys.items) (key_of part.now) y) }
+{
+    let direct = sources.direct(part)?;
+    if are_placed(sources, places, &direct) {
+        return Ok(direct);
+    }
+    sources.depends(part)
+}
+
+// The dependences of a unit that are told as ties.
+fn dependences_told(
+    sources: &Sources,
+    places: &Places,
+    extent: Extent,
+    part: &UnitKey,
+) -> Result<Vec<UnitKey>, NoMemory>
+    requires { ArePlaces sources.now places.now }
+    ensures { IfOk result (λ keys. (y : Key) → Contains (map key_of places.now.keys.items) y → Contains (map key_of keys.items) y ↔ IsTold extent sources.now (map key_of places.now.keys.items) (key_of part.now) y) }
+{
+    match extent {
+        Extent::Whole => sources.depends(part),
+        Extent::Steps => steps_from(sources, places, part),
+    }
+}
+
+// To those on which a part of the item depends.
 fn add_dependences(
     sources: &Sources,
     places: &Places,
+    extent: Extent,
     x: End,
     part: &UnitKey,
     ties: &mut Vec<Tie>,
 ) -> Result<(), NoMemory>
     requires { ArePlaces sources.now places.now }
-    ensures { OnOk result (Adds ties.old.items ties.new.items (TiesBy sources.now (map key_of places.now.keys.items) x (λ r k. (r ≡ Depends) × DependsOn sources.now (key_of part.now) k))) }
+    ensures { OnOk result (Adds ties.old.items ties.new.items (TiesBy sources.now (map key_of places.now.keys.items) x (λ r k. (r ≡ Depends) × IsTold extent sources.now (map key_of places.now.keys.items) (key_of part.now) k))) }
 {
-    let keys = sources.depends(part)?;
+    let keys = dependences_told(sources, places, extent, part)?;
     add_ties(sources, places, Reason::Depends, x, &keys, ties)?;
     Ok(())
 }
@@ -168,19 +219,20 @@ fn add_all(
     Ok(())
 }
 
-// To all that a part of the item wants before it.
+// To what a part of the item wants before it.
 fn add_part(
     alloc: Global,
     sources: &Sources,
     places: &Places,
+    extent: Extent,
     x: End,
     part: &UnitKey,
     ties: &mut Vec<Tie>,
 ) -> Result<(), NoMemory>
     requires { ArePlaces sources.now places.now }
-    ensures { OnOk result (Adds ties.old.items ties.new.items (TiesBy sources.now (map key_of places.now.keys.items) x (Wants sources.now (key_of part.now)))) }
+    ensures { OnOk result (Adds ties.old.items ties.new.items (TiesBy sources.now (map key_of places.now.keys.items) x (WantsTold extent sources.now (map key_of places.now.keys.items) (key_of part.now)))) }
 {
-    add_dependences(sources, places, x, part, ties)?;
+    add_dependences(sources, places, extent, x, part, ties)?;
     let Some(header) = sources.unit(part) else {
         return Ok(());
     };
@@ -201,68 +253,79 @@ fn add_parts(
     alloc: Global,
     sources: &Sources,
     places: &Places,
+    extent: Extent,
     x: End,
     parts: &[UnitKey],
     ties: &mut Vec<Tie>,
 ) -> Result<(), NoMemory>
     requires { ArePlaces sources.now places.now }
-    ensures { OnOk result (Adds ties.old.items ties.new.items (OneOf parts.now (λ p. TiesBy sources.now (map key_of places.now.keys.items) x (Wants sources.now (key_of p))))) }
+    ensures { OnOk result (Adds ties.old.items ties.new.items (OneOf parts.now (λ p. TiesBy sources.now (map key_of places.now.keys.items) x (WantsTold extent sources.now (map key_of places.now.keys.items) (key_of p))))) }
 {
     for part in parts {
-        add_part(alloc, sources, places, x, part, ties)?;
+        add_part(alloc, sources, places, extent, x, part, ties)?;
     }
     Ok(())
 }
 
-// The ties of all edges that an item carries.
+// The ties of edges that an item carries.
 fn add_item(
     alloc: Global,
     sources: &Sources,
     places: &Places,
+    extent: Extent,
     key: &UnitKey,
     ties: &mut Vec<Tie>,
 ) -> Result<(), NoMemory>
     requires { ArePlaces sources.now places.now }
-    ensures { OnOk result (Adds ties.old.items ties.new.items (TiesFrom sources.now (map key_of places.now.keys.items) (key_of key.now))) }
+    ensures { OnOk result (Adds ties.old.items ties.new.items (TiesFrom sources.now (map key_of places.now.keys.items) (WantsTold extent sources.now (map key_of places.now.keys.items)) (key_of key.now))) }
 {
     let Some(x) = places.end_of(sources, key) else {
         return Ok(());
     };
     let parts = parts_of(alloc, sources, key)?;
-    add_parts(alloc, sources, places, x, &parts, ties)?;
+    add_parts(alloc, sources, places, extent, x, &parts, ties)?;
     Ok(())
 }
 
-// The ties of all edges that these items carry.
+// The ties of edges that these items carry.
 fn add_items(
     alloc: Global,
     sources: &Sources,
     places: &Places,
+    extent: Extent,
     keys: &[UnitKey],
     ties: &mut Vec<Tie>,
 ) -> Result<(), NoMemory>
     requires { ArePlaces sources.now places.now }
-    ensures { OnOk result (Adds ties.old.items ties.new.items (OneOf keys.now (λ k. TiesFrom sources.now (map key_of places.now.keys.items) (key_of k)))) }
+    ensures { OnOk result (Adds ties.old.items ties.new.items (OneOf keys.now (λ k. TiesFrom sources.now (map key_of places.now.keys.items) (WantsTold extent sources.now (map key_of places.now.keys.items)) (key_of k)))) }
 {
     for key in keys {
-        add_item(alloc, sources, places, key, ties)?;
+        add_item(alloc, sources, places, extent, key, ties)?;
     }
     Ok(())
 }
 
-// The ties of all edges of a partition.
+// The ties of the edges of a partition: all, or some that lead to all.
 pub(crate) fn ties_of(
     alloc: Global,
     sources: &Sources,
     main: &[u8],
     places: &Places,
+    extent: Extent,
 ) -> Result<Vec<Tie>, NoMemory>
     requires places { ArePlaces sources.now places.now }
     requires lists { ListsUnits sources.now (map key_of places.now.keys.items) (Needed sources.now main.now) }
-    ensures { IfOk result (λ ties. (t : Tie) → Contains ties.items t ↔ TellsEdge sources.now main.now (map key_of places.now.keys.items) t) }
+    ensures { IfOk result (λ ties. (t : Tie) → Contains ties.items t ↔ TellsWant sources.now main.now (map key_of places.now.keys.items) (WantsTold extent sources.now (map key_of places.now.keys.items)) t) }
 {
     let _main = main;
     let mut ties = Vec::new(alloc);
-    add_items(alloc, sources, places, places.keys.as_slice(), &mut ties)?;
+    add_items(
+        alloc,
+        sources,
+        places,
+        extent,
+        places.keys.as_slice(),
+        &mut ties,
+    )?;
     Ok(ties)
 }

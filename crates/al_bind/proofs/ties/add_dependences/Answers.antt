@@ -2,9 +2,9 @@ use Rattle.std.proofs.Common.{List, map, subst}
 use Rattle.al_base.specs.Batch.{key_of}
 use Rattle.al_base.specs.declared.unit_key.UnitKey.{UnitKey}
 use Rattle.al_order.specs.declared.tie.Reason.TheVariants.{Depends}
-use Rattle.al_unit_graph.specs.Dependence.{DependsOn}
 use Rattle.al_bind.specs.Numbers.{Adds, IsFor, OneOf, TiesBy}
-use Rattle.al_bind.proofs.TieLemmas.{listed_ties}
+use Rattle.al_bind.specs.Steps.{IsTold}
+use Rattle.al_bind.proofs.TieLemmas.{told_ties}
 use Rattle.al_bind.proofs.ties.add_dependences.Goals as goal
 
 pub returns : goal.returns
@@ -14,5 +14,5 @@ returns c =
     let old = c.args.ties.now.items in
     let new = c.add_ties.new.ties.items in
     let Q : UnitKey → _ = λ y. TiesBy lib keys c.args.x (IsFor Depends (key_of y)) in
-    listed_ties lib keys c.args.x Depends c.in_ok-keys.keys.items (DependsOn lib (key_of c.args.part.now)) old new c.in_ok-keys.ensures c.requires.units
+    told_ties lib keys c.args.x Depends c.in_ok-keys.keys.items (IsTold c.args.extent lib keys (key_of c.args.part.now)) old new c.in_ok-keys.ensures
     (subst (λ (ys : List UnitKey). Adds old new (OneOf ys Q)) c.deref.ensures.value c.in_ok-add_ties.ensures)

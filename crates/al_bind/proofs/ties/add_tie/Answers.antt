@@ -1,4 +1,4 @@
-use Rattle.std.proofs.Common.{◌≡◌, ◌++◌, ◌∷◌, [], List, map, sym, subst}
+use Rattle.std.proofs.Common.{List, map, sym, subst}
 use Rattle.al_base.specs.Batch.{key_of}
 use Rattle.al_order.specs.declared.tie.Tie.{Tie}
 use Rattle.al_bind.specs.Numbers.{Adds, IsFor, TiesBy}

@@ -1,0 +1,29 @@
+-- Which dependences are told as ties: all of a unit's, or some that lead to all.
+use Rattle.std.specs.Prelude.{◌≡◌, ◌≢◌, ◌⊎◌, List}
+use Rattle.std.specs.List.{Contains}
+use Rattle.al_base.specs.Batch.{Key}
+use Rattle.al_order.specs.declared.tie.Reason.{Reason}
+use Rattle.al_order.specs.declared.tie.Reason.TheVariants.{Depends}
+use Rattle.al_unit_graph.specs.Headers.{Library}
+use Rattle.al_unit_graph.specs.Dependence.{DependsOn, direct}
+use Rattle.al_bind.specs.Elaboration.{Wants}
+use Rattle.al_bind.specs.Numbers.{IsEnd}
+use Rattle.al_bind.specs.declared.places.End.{End}
+use Rattle.al_bind.specs.declared.ties.Extent.{Extent}
+use Rattle.al_bind.specs.declared.ties.Extent.TheVariants.{Whole, Steps}
+
+-- each of these is an item that has its place, and its node has one
+abbrev pub ArePlaced : Library → List Key → List Key → Type 0
+ArePlaced lib keys those = (y : Key) → Contains those y → (end : End) × IsEnd lib keys y end
+
+-- all on which a unit depends; or, where what it depends on by itself are placed items, these alone, which lead to the others
+abbrev pub IsTold : Extent → Library → List Key → Key → Key → Type 0
+IsTold Whole lib keys p y = DependsOn lib p y
+IsTold Steps lib keys p y = (ArePlaced lib keys (direct lib p) × Contains (direct lib p) y) ⊎ ((ArePlaced lib keys (direct lib p) → ⊥) × DependsOn lib p y)
+
+-- what a unit wants before it, with these dependences in place of all
+abbrev pub WantsBy : (Key → Type 0) → Library → Key → Reason → Key → Type 0
+WantsBy IsSo lib p r y = ((r ≡ Depends) × IsSo y) ⊎ ((r ≢ Depends) × Wants lib p r y)
+
+abbrev pub WantsTold : Extent → Library → List Key → Key → Reason → Key → Type 0
+WantsTold extent lib keys p r y = WantsBy (IsTold extent lib keys p) lib p r y
