@@ -1,0 +1,6 @@
+pub mod DeclarationLemmas
+pub mod HomonymLemmas
+pub mod LayoutLemmas
+pub mod NumberLemmas
+pub mod RangeLemmas
+pub mod TypeLemmas

@@ -1,0 +1,6 @@
+use Rattle.std.proofs.Common.{◌≡◌, take}
+use Rattle.al_decl_type.specs.TypeLists.{joined}
+use Rattle.al_decl_type.proofs.type_list.add_types.Given as goal
+
+abbrev pub invariant-loop-of : goal.invariant-loop-of
+invariant-loop-of l = l.types ≡ joined l.fn.types (take l.of-index l.others)

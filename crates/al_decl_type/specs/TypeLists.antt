@@ -1,0 +1,21 @@
+-- Lists of types that views hold: each type once, those of Standard left out.
+use Rattle.std.specs.Prelude.{Bool, not, List, [], ◌∷◌, ◌++◌, fold, filter, is_some, if◌then◌else◌}
+use Rattle.al_view.specs.declared.symbol.Symbol.{Symbol}
+use Rattle.al_view.specs.declared.types.TypeView.{TypeView}
+use Rattle.al_predefined.specs.StandardTypes.{type_of}
+
+-- whether the type with this symbol is known where these are: it is one of them, or one of Standard's
+abbrev pub is_known : List TypeView → Symbol → Bool
+is_known types symbol = is_some (type_of types symbol)
+
+-- those that aren't Standard's, which every unit has
+abbrev pub other_types : List TypeView → List TypeView
+other_types types = filter (λ of. not (is_known [] of.symbol)) types
+
+-- one more type, unless it is known there
+abbrev pub with_type : List TypeView → TypeView → List TypeView
+with_type types of = if is_known types of.symbol then types else types ++ of ∷ []
+
+-- these types, and then those of the others that aren't known there
+abbrev pub joined : List TypeView → List TypeView → List TypeView
+joined types others = fold with_type types others
