@@ -1,12 +1,11 @@
 // Terms (ARM 4.1 to 4.7).
-ghost use Rattle.std.specs.Prelude.{◌≡◌, IfOk, map};
+ghost use Rattle.std.specs.Prelude.{◌≡◌, map};
 ghost use Rattle.al_term.specs.Terms.{TermTree as terms};
 ghost use Rattle.al_term.specs.TermViews.{term_seen, terms_of};
 
-use al_base::{Name, NoMemory, Place};
+use al_base::{Name, Place};
 use al_typed::{BinaryOperator, Conversion, ShortCircuit, UnaryOperator};
 use al_view::{Bounds, StaticValue, SubtypeView, Views};
-use std::alloc::Global;
 
 /// An expression whose names have been looked up: with each name stands what is visible under it.
 #[derive(Drop)]
@@ -157,20 +156,18 @@ impl Term {
 
     /// A component of that name of what stands before the dot.
     #[tactic(auto, using(crate::proofs::TermsMade::selected_made))]
-    pub fn selected(alloc: Global, prefix: Term, name: Name) -> Result<Term, NoMemory>
-        ensures { IfOk result (λ term. term_seen term ≡ terms.SelectedTerm (term_seen prefix) name) }
+    pub fn selected(prefix: Box<Term>, name: Name) -> Term
+        ensures { term_seen result ≡ terms.SelectedTerm (term_seen prefix.value) name }
     {
-        let prefix = Box::new(alloc, prefix)?;
-        Ok(Term::Selected { prefix, name })
+        Term::Selected { prefix, name }
     }
 
     /// Indexes or arguments behind a name.
     #[tactic(auto, using(crate::proofs::TermsMade::applied_made))]
-    pub fn applied(alloc: Global, name: Term, arguments: Vec<Term>) -> Result<Term, NoMemory>
-        ensures { IfOk result (λ term. term_seen term ≡ terms.AppliedTerm (term_seen name) (terms_of (map term_seen arguments.items))) }
+    pub fn applied(name: Box<Term>, arguments: Vec<Term>) -> Term
+        ensures { term_seen result ≡ terms.AppliedTerm (term_seen name.value) (terms_of (map term_seen arguments.items)) }
     {
-        let name = Box::new(alloc, name)?;
-        Ok(Term::Applied { name, arguments })
+        Term::Applied { name, arguments }
     }
 
     /// The first or the last value of a subtype.
@@ -195,191 +192,131 @@ impl Term {
 
     /// A type conversion.
     #[tactic(auto, using(crate::proofs::TermsMade::conversion_made))]
-    pub fn conversion(
-        alloc: Global,
-        place: Place,
-        subtype: SubtypeView,
-        operand: Term,
-    ) -> Result<Term, NoMemory>
-        ensures { IfOk result (λ term. term_seen term ≡ terms.ConversionTerm place subtype (term_seen operand)) }
+    pub fn conversion(place: Place, subtype: SubtypeView, operand: Box<Term>) -> Term
+        ensures { term_seen result ≡ terms.ConversionTerm place subtype (term_seen operand.value) }
     {
-        let operand = Box::new(alloc, operand)?;
-        Ok(Term::Conversion {
+        Term::Conversion {
             place,
             subtype,
             operand,
-        })
+        }
     }
 
     /// A qualified expression.
     #[tactic(auto, using(crate::proofs::TermsMade::qualified_made))]
-    pub fn qualified(
-        alloc: Global,
-        place: Place,
-        subtype: SubtypeView,
-        operand: Term,
-    ) -> Result<Term, NoMemory>
-        ensures { IfOk result (λ term. term_seen term ≡ terms.QualifiedTerm place subtype (term_seen operand)) }
+    pub fn qualified(place: Place, subtype: SubtypeView, operand: Box<Term>) -> Term
+        ensures { term_seen result ≡ terms.QualifiedTerm place subtype (term_seen operand.value) }
     {
-        let operand = Box::new(alloc, operand)?;
-        Ok(Term::Qualified {
+        Term::Qualified {
             place,
             subtype,
             operand,
-        })
+        }
     }
 
     /// `S'Pos (X)`, `S'Val (X)`, `S'Succ (X)` or `S'Pred (X)`.
     #[tactic(auto, using(crate::proofs::TermsMade::attribute_made))]
     pub fn attribute(
-        alloc: Global,
         place: Place,
         conversion: Conversion,
         subtype: SubtypeView,
-        argument: Term,
-    ) -> Result<Term, NoMemory>
-        ensures { IfOk result (λ term. term_seen term ≡ terms.AttributeTerm place conversion subtype (term_seen argument)) }
+        argument: Box<Term>,
+    ) -> Term
+        ensures { term_seen result ≡ terms.AttributeTerm place conversion subtype (term_seen argument.value) }
     {
-        let argument = Box::new(alloc, argument)?;
-        Ok(Term::Attribute {
+        Term::Attribute {
             place,
             conversion,
             subtype,
             argument,
-        })
+        }
     }
 
     /// `S'Image (X)`
     #[tactic(auto, using(crate::proofs::TermsMade::image_made))]
-    pub fn image(
-        alloc: Global,
-        place: Place,
-        subtype: SubtypeView,
-        argument: Term,
-    ) -> Result<Term, NoMemory>
-        ensures { IfOk result (λ term. term_seen term ≡ terms.ImageTerm place subtype (term_seen argument)) }
+    pub fn image(place: Place, subtype: SubtypeView, argument: Box<Term>) -> Term
+        ensures { term_seen result ≡ terms.ImageTerm place subtype (term_seen argument.value) }
     {
-        let argument = Box::new(alloc, argument)?;
-        Ok(Term::Image {
+        Term::Image {
             place,
             subtype,
             argument,
-        })
+        }
     }
 
     /// An operator in front of its operand, with the declarations that are visible under its sign.
     #[tactic(auto, using(crate::proofs::TermsMade::prefixed_made))]
-    pub fn prefixed(
-        alloc: Global,
-        place: Place,
-        operator: UnaryOperator,
-        views: Views,
-        operand: Term,
-    ) -> Result<Term, NoMemory>
-        ensures { IfOk result (λ term. term_seen term ≡ terms.PrefixedTerm place operator views (term_seen operand)) }
+    pub fn prefixed(place: Place, operator: UnaryOperator, views: Views, operand: Box<Term>) -> Term
+        ensures { term_seen result ≡ terms.PrefixedTerm place operator views (term_seen operand.value) }
     {
-        let operand = Box::new(alloc, operand)?;
-        Ok(Term::Prefixed {
+        Term::Prefixed {
             place,
             operator,
             views,
             operand,
-        })
+        }
     }
 
     /// An operator between its operands, with the declarations that are visible under its sign.
     #[tactic(auto, using(crate::proofs::TermsMade::infix_made))]
-    pub fn infix(
-        alloc: Global,
-        operator: BinaryOperator,
-        views: Views,
-        left: Term,
-        right: Term,
-    ) -> Result<Term, NoMemory>
-        ensures { IfOk result (λ term. term_seen term ≡ terms.InfixTerm operator views (term_seen left) (term_seen right)) }
+    pub fn infix(operator: BinaryOperator, views: Views, left: Box<Term>, right: Box<Term>) -> Term
+        ensures { term_seen result ≡ terms.InfixTerm operator views (term_seen left.value) (term_seen right.value) }
     {
-        let left = Box::new(alloc, left)?;
-        let right = Box::new(alloc, right)?;
-        Ok(Term::Infix {
+        Term::Infix {
             operator,
             views,
             left,
             right,
-        })
+        }
     }
 
     /// `left & right`
     #[tactic(auto, using(crate::proofs::TermsMade::concatenation_made))]
-    pub fn concatenation(alloc: Global, left: Term, right: Term) -> Result<Term, NoMemory>
-        ensures { IfOk result (λ term. term_seen term ≡ terms.ConcatenationTerm (term_seen left) (term_seen right)) }
+    pub fn concatenation(left: Box<Term>, right: Box<Term>) -> Term
+        ensures { term_seen result ≡ terms.ConcatenationTerm (term_seen left.value) (term_seen right.value) }
     {
-        let left = Box::new(alloc, left)?;
-        let right = Box::new(alloc, right)?;
-        Ok(Term::Concatenation { left, right })
+        Term::Concatenation { left, right }
     }
 
     /// `left and then right` or `left or else right`
     #[tactic(auto, using(crate::proofs::TermsMade::short_circuit_made))]
-    pub fn short_circuit(
-        alloc: Global,
-        form: ShortCircuit,
-        left: Term,
-        right: Term,
-    ) -> Result<Term, NoMemory>
-        ensures { IfOk result (λ term. term_seen term ≡ terms.ShortCircuitTerm form (term_seen left) (term_seen right)) }
+    pub fn short_circuit(form: ShortCircuit, left: Box<Term>, right: Box<Term>) -> Term
+        ensures { term_seen result ≡ terms.ShortCircuitTerm form (term_seen left.value) (term_seen right.value) }
     {
-        let left = Box::new(alloc, left)?;
-        let right = Box::new(alloc, right)?;
-        Ok(Term::ShortCircuit { form, left, right })
+        Term::ShortCircuit { form, left, right }
     }
 
     /// `value [not] in subtype`
     #[tactic(auto, using(crate::proofs::TermsMade::member_made))]
-    pub fn member(
-        alloc: Global,
-        value: Term,
-        is_negated: bool,
-        subtype: SubtypeView,
-    ) -> Result<Term, NoMemory>
-        ensures { IfOk result (λ term. term_seen term ≡ terms.MemberTerm (term_seen value) is_negated subtype) }
+    pub fn member(value: Box<Term>, is_negated: bool, subtype: SubtypeView) -> Term
+        ensures { term_seen result ≡ terms.MemberTerm (term_seen value.value) is_negated subtype }
     {
-        let value = Box::new(alloc, value)?;
-        Ok(Term::Member {
+        Term::Member {
             value,
             is_negated,
             subtype,
-        })
+        }
     }
 
     /// `value [not] in low .. high`
     #[tactic(auto, using(crate::proofs::TermsMade::range_member_made))]
-    pub fn range_member(
-        alloc: Global,
-        value: Term,
-        is_negated: bool,
-        low: Term,
-        high: Term,
-    ) -> Result<Term, NoMemory>
-        ensures { IfOk result (λ term. term_seen term ≡ terms.RangeMemberTerm (term_seen value) is_negated (term_seen low) (term_seen high)) }
+    pub fn range_member(value: Box<Term>, is_negated: bool, low: Box<Term>, high: Box<Term>) -> Term
+        ensures { term_seen result ≡ terms.RangeMemberTerm (term_seen value.value) is_negated (term_seen low.value) (term_seen high.value) }
     {
-        let value = Box::new(alloc, value)?;
-        let low = Box::new(alloc, low)?;
-        let high = Box::new(alloc, high)?;
-        Ok(Term::RangeMember {
+        Term::RangeMember {
             value,
             is_negated,
             low,
             high,
-        })
+        }
     }
 
     /// A term in parentheses.
     #[tactic(auto, using(crate::proofs::TermsMade::group_made))]
-    pub fn group(alloc: Global, place: Place, inner: Term) -> Result<Term, NoMemory>
-        ensures { IfOk result (λ term. term_seen term ≡ terms.GroupTerm place (term_seen inner)) }
+    pub fn group(place: Place, inner: Box<Term>) -> Term
+        ensures { term_seen result ≡ terms.GroupTerm place (term_seen inner.value) }
     {
-        let inner = Box::new(alloc, inner)?;
-        Ok(Term::Group { place, inner })
+        Term::Group { place, inner }
     }
 
     /// A positional aggregate.
@@ -392,11 +329,10 @@ impl Term {
 
     /// `(others => component)`
     #[tactic(auto, using(crate::proofs::TermsMade::others_made))]
-    pub fn others(alloc: Global, place: Place, component: Term) -> Result<Term, NoMemory>
-        ensures { IfOk result (λ term. term_seen term ≡ terms.OthersTerm place (term_seen component)) }
+    pub fn others(place: Place, component: Box<Term>) -> Term
+        ensures { term_seen result ≡ terms.OthersTerm place (term_seen component.value) }
     {
-        let component = Box::new(alloc, component)?;
-        Ok(Term::Others { place, component })
+        Term::Others { place, component }
     }
 
     /// What fits nothing.
