@@ -10,7 +10,7 @@ use Rattle.al_tree.specs.declared.expression.Longer.{Longer, out-Longer}
 use Rattle.al_tree.specs.declared.expression.Member.{Member, out-Member}
 use Rattle.al_tree.specs.declared.expression.Prefixed.{Prefixed}
 use Rattle.al_keys.proofs.Fields.{infix_fields, longer_fields, member_fields, prefixed_fields}
-use Rattle.al_keys.specs.Keys.{Denotations, key_of, key_with, missing_name, missing_with}
+use Rattle.al_keys.specs.Keys.{key_of, key_with}
 
 pub longer_key : (n : Longer) → key_of (longer_seen n) ≡ key_with (key_of (expression_seen (out-Longer n).prefix)) (part_seen (out-Longer n).part)
 longer_key n = ap key_of (longer_fields n)
@@ -28,20 +28,3 @@ no_key s n t (Some u) = refl
 pub member_key : (m : Member) → key_of (member_seen m) ≡ None
 member_key m = ap key_of (member_fields m)
     ∙ no_key (expression_seen (out-Member m).left) (option_map place_label (out-Member m).not) (expression_seen (out-Member m).low) (option_map expression_seen (out-Member m).high)
-
-pub longer_missing : (d : Denotations) (n : Longer) → missing_name d (longer_seen n) ≡ missing_with d (missing_name d (expression_seen (out-Longer n).prefix)) (key_of (expression_seen (out-Longer n).prefix)) (part_seen (out-Longer n).part)
-longer_missing d n = ap (missing_name d) (longer_fields n)
-
-pub prefixed_missing : (d : Denotations) (p : Prefixed) → missing_name d (prefixed_seen p) ≡ None
-prefixed_missing d p = ap (missing_name d) (prefixed_fields p)
-
-pub infix_missing : (d : Denotations) (i : Infix) → missing_name d (infix_seen i) ≡ None
-infix_missing d i = ap (missing_name d) (infix_fields i)
-
-none_missing : (d : Denotations) (s : ExpressionTree) (n : Option Label) (t : ExpressionTree) (u : Option ExpressionTree) → missing_name d (member_of s n t u) ≡ None
-none_missing d s n t None = refl
-none_missing d s n t (Some u) = refl
-
-pub member_missing : (d : Denotations) (m : Member) → missing_name d (member_seen m) ≡ None
-member_missing d m = ap (missing_name d) (member_fields m)
-    ∙ none_missing d (expression_seen (out-Member m).left) (option_map place_label (out-Member m).not) (expression_seen (out-Member m).low) (option_map expression_seen (out-Member m).high)

@@ -1,15 +1,13 @@
 // Names of a text (ARM 4.1.3).
 ghost use Rattle.std.specs.Prelude.{◌≡◌, IfOk, option_map};
-ghost use Rattle.std.specs.List.{list_any};
-ghost use Rattle.al_keys.specs.Keys.{denoted, dotted, is_awaited, is_none, key_of, key_with, missing_name, missing_with, not_visible, unless_awaited, unless_selected, unless_visible};
+ghost use Rattle.al_keys.specs.Keys.{dotted, is_none, key_of, key_with, not_visible};
 ghost use Rattle.al_tree.specs.ExpressionViews.{expression_seen, part_seen};
 ghost use Rattle.al_tree.specs.Lexemes.{identifier_label};
 
-use crate::names::Names;
 use al_base::{NoMemory, Rule};
 use al_judged::Fault;
 use al_tree::{Expression, Identifier, NamePart};
-use al_view::{View, ViewKind};
+use al_view::View;
 use std::alloc::Global;
 
 /// A name that is selected in another one.
@@ -73,7 +71,8 @@ pub fn key_of(alloc: Global, expression: &Expression) -> Result<Option<Vec<u8>>,
     }
 }
 
-fn not_visible(identifier: &Identifier) -> Fault
+/// E401 at an identifier.
+pub fn not_visible(identifier: &Identifier) -> Fault
     ensures { result ≡ not_visible (identifier_label identifier.now) }
 {
     Fault {
@@ -82,126 +81,12 @@ fn not_visible(identifier: &Identifier) -> Fault
     }
 }
 
+/// Whether nothing is visible.
 pub fn is_none(views: &[View]) -> bool
     ensures { result ≡ is_none views.now }
 {
     match views {
         [] => true,
         [_, ..] => false,
-    }
-}
-
-fn unless_visible(names: &Names, key: &[u8], identifier: &Identifier) -> Option<Fault>
-    ensures { result ≡ unless_visible (denoted names.now) key.now (identifier_label identifier.now) }
-{
-    if is_none(names.visible.views(key)) {
-        Some(not_visible(identifier))
-    } else {
-        None
-    }
-}
-
-/// Whether its components or operations aren't looked for yet.
-fn is_awaited(view: &View) -> bool
-    ensures { result ≡ is_awaited view.now }
-{
-    match view.kind() {
-        ViewKind::OfObject(_) => true,
-        ViewKind::OfProtected(_) => true,
-        ViewKind::OfNumber(_) => false,
-        ViewKind::OfLiteral(_) => false,
-        ViewKind::OfSubprogram(_) => false,
-        ViewKind::OfComponent => false,
-        ViewKind::OfType(_) => false,
-        ViewKind::OfSubtype(_) => false,
-        ViewKind::OfTask(_) => false,
-        ViewKind::OfPackage(_) => false,
-    }
-}
-
-fn is_any_awaited(views: &[View]) -> bool
-    ensures { result ≡ list_any is_awaited views.now }
-{
-    views.iter().any(|view| is_awaited(view))
-}
-
-fn unless_awaited(prefix: &[View], identifier: &Identifier) -> Option<Fault>
-    ensures { result ≡ unless_awaited prefix.now (identifier_label identifier.now) }
-{
-    if is_any_awaited(prefix) {
-        Some(Fault {
-            place: identifier.place,
-            code: Rule::NotYet.number(),
-        })
-    } else {
-        None
-    }
-}
-
-/// E401 at a selector that isn't found where it was looked for.
-fn unless_selected(
-    alloc: Global,
-    names: &Names,
-    prefix: &[u8],
-    identifier: &Identifier,
-) -> Result<Option<Fault>, NoMemory>
-    ensures { IfOk result (λ fault. fault ≡ unless_selected (denoted names.now) prefix.now (identifier_label identifier.now)) }
-{
-    let key = dotted(alloc, prefix, identifier.name.as_slice())?;
-    if is_none(names.prefixes.views(key.as_slice())) {
-        let views = names.visible.views(prefix);
-        return Ok(unless_awaited(views, identifier));
-    }
-    Ok(unless_visible(names, key.as_slice(), identifier))
-}
-
-#[tactic(auto, using(al_tree::proofs::ExpressionsMade::part_selector_seen, al_tree::proofs::ExpressionsMade::part_arguments_seen, al_tree::proofs::ExpressionsMade::part_attribute_seen, al_tree::proofs::ExpressionsMade::part_range_attribute_seen, al_tree::proofs::ExpressionsMade::part_operand_seen))]
-fn missing_with(
-    alloc: Global,
-    names: &Names,
-    before: Option<Fault>,
-    key: Option<Vec<u8>>,
-    part: &NamePart,
-) -> Result<Option<Fault>, NoMemory>
-    ensures { IfOk result (λ fault. fault ≡ missing_with (denoted names.now) before (option_map (λ k. k.items) key) (part_seen part.now)) }
-{
-    match part {
-        NamePart::Selector(identifier) => match (before, key) {
-            (Some(fault), _) => Ok(Some(fault)),
-            (None, Some(prefix)) => unless_selected(alloc, names, prefix.as_slice(), identifier),
-            (None, None) => Ok(None),
-        },
-        NamePart::Arguments(_, _, _) => Ok(None),
-        NamePart::Attribute(_) => Ok(None),
-        NamePart::RangeAttribute => Ok(None),
-        NamePart::Operand(_) => Ok(None),
-    }
-}
-
-/// E401 at the first identifier of a name that denotes nothing.
-#[tactic(auto, using(crate::proofs::NameKeys::longer_missing, crate::proofs::NameKeys::prefixed_missing, crate::proofs::NameKeys::infix_missing, crate::proofs::NameKeys::member_missing, al_tree::proofs::ExpressionsMade::expression_numeric_seen, al_tree::proofs::ExpressionsMade::expression_text_seen, al_tree::proofs::ExpressionsMade::expression_name_seen, al_tree::proofs::ExpressionsMade::expression_longer_seen, al_tree::proofs::ExpressionsMade::expression_prefixed_seen, al_tree::proofs::ExpressionsMade::expression_infix_seen, al_tree::proofs::ExpressionsMade::expression_member_seen, al_tree::proofs::ExpressionsMade::expression_group_seen))]
-pub fn missing_name(
-    alloc: Global,
-    names: &Names,
-    expression: &Expression,
-) -> Result<Option<Fault>, NoMemory>
-    ensures { IfOk result (λ fault. fault ≡ missing_name (denoted names.now) (expression_seen expression.now)) }
-{
-    match expression {
-        Expression::Name(identifier) => {
-            let name = identifier.name.as_slice();
-            Ok(unless_visible(names, name, identifier))
-        }
-        Expression::Longer(longer) => {
-            let before = missing_name(alloc, names, &longer.prefix)?;
-            let key = key_of(alloc, &longer.prefix)?;
-            missing_with(alloc, names, before, key, &longer.part)
-        }
-        Expression::Numeric(_) => Ok(None),
-        Expression::Text(_) => Ok(None),
-        Expression::Prefixed(_) => Ok(None),
-        Expression::Infix(_) => Ok(None),
-        Expression::Member(_) => Ok(None),
-        Expression::Group(_) => Ok(None),
     }
 }

@@ -6,7 +6,8 @@ ghost use Rattle.al_tree.specs.ExpressionViews.{expression_seen, group_seen, pre
 use al_base::Place;
 use al_tree::{Expression, Group, PrefixOperator, Sign};
 
-fn prefix_place(operator: &PrefixOperator) -> Place
+/// The operator itself.
+pub fn prefix_place(operator: &PrefixOperator) -> Place
     ensures { result ≡ prefix_place (prefix_seen operator.now) }
 {
     match operator {
