@@ -12,3 +12,4 @@ mod ties;
 pub use al_order::Reason;
 pub use binding::{BindFault, Line, bind};
 pub use lacking::{Lack, first_lack};
+pub use parts::parts_of;

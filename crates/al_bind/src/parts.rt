@@ -77,8 +77,8 @@ fn add_keys(alloc: Global, keys: &mut Vec<UnitKey>, more: &[UnitKey]) -> Result<
     Ok(())
 }
 
-// The parts of an item. The subunits of each are added once.
-pub(crate) fn parts_of(
+/// The parts of an item: itself, its subunits and theirs (ARM 10.1.3). The subunits of each are added once.
+pub fn parts_of(
     alloc: Global,
     sources: &Sources,
     key: &UnitKey,

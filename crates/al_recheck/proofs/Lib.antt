@@ -1,0 +1,2 @@
+pub mod KeyOrders
+pub mod RecheckLemmas
