@@ -1,0 +1,4 @@
+pub mod Awaiting
+pub mod Completing
+pub mod Conformance
+pub mod Standing
