@@ -1,5 +1,5 @@
 -- A specification has the types of one signature alone.
-use Rattle.std.proofs.Common.{◌≡◌, ◌+◌, ℕ, ◌<◌, List, [], ◌∷◌, zero, suc, length, get_or, map, ap, sym, subst, ◌∙◌, refl, arith, Option, Some, None}
+use Rattle.std.proofs.Common.{◌≡◌, List, [], ◌∷◌, zero, suc, map, ap, sym, ◌∙◌, refl, arith, Option, Some, None}
 use Rattle.std.specs.Option.{option_map}
 use Rattle.al_view.specs.declared.symbol.Symbol.{Symbol}
 use Rattle.al_view.specs.declared.types.Subtype.{Subtype}

@@ -1,5 +1,5 @@
 -- Which declaration a body completes (ARM 3.11.1).
-use Rattle.std.specs.Prelude.{◌≡◌, ℕ, ◌<◌, Bool, true, false, List, length, Option, IsTrue, IsFalse, slice_index_or, is_some}
+use Rattle.std.specs.Prelude.{◌≡◌, ℕ, ◌<◌, Bool, true, false, List, length, IsTrue, IsFalse, slice_index_or}
 use Rattle.al_view.specs.declared.view.CallKind.{CallKind}
 use Rattle.al_view.specs.declared.view.CallKind.TheVariants as call
 use Rattle.al_view.specs.declared.view.Operation.{Operation}

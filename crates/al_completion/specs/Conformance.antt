@@ -1,6 +1,5 @@
 -- When a specification conforms to a profile (ARM 6.3.1).
-use Rattle.std.specs.Prelude.{◌≡◌, ℕ, ◌<◌, Bool, List, length, Option, Some, None, slice_index_or}
-use Rattle.al_view.specs.declared.symbol.Symbol.{Symbol}
+use Rattle.std.specs.Prelude.{◌≡◌, ℕ, ◌<◌, List, length, Option, Some, None, slice_index_or}
 use Rattle.al_view.specs.declared.types.Subtype.{Subtype}
 use Rattle.al_view.specs.declared.view.Parameter.{Parameter}
 use Rattle.al_view.specs.declared.view.Profile.{Profile}

@@ -1,5 +1,5 @@
 -- Loops round a statement are kept with the innermost one last.
-use Rattle.std.proofs.Common.{◌≡◌, ◌++◌, ◌∷◌, [], ℕ, ◌<◌, List, length, reverse, ap, sym, ◌∙◌, refl, arith, Option, Some, None, ◌↔◌, IsSome, zero, suc}
+use Rattle.std.proofs.Common.{◌≡◌, ◌++◌, ◌∷◌, [], ℕ, ◌<◌, List, length, reverse, ap, sym, ◌∙◌, refl, arith, Option, Some, None, IsSome}
 use Rattle.std.specs.Option.{option_to_list}
 use Rattle.std.proofs.lemmas.List.{reverse-append}
 use Rattle.al_loops.specs.Exits.{LoopsRound, without_innermost}

@@ -1,5 +1,5 @@
 -- Names at ends.
-use Rattle.std.specs.Prelude.{ℕ, Bool, true, false, List, Option, Some, None, if◌then◌else◌}
+use Rattle.std.specs.Prelude.{ℕ, Bool, false, List, Option, Some, None, if◌then◌else◌}
 use Rattle.std.specs.Str.{str_eq_ignore_ascii_case}
 use Rattle.al_base.specs.Rules.{number_of}
 use Rattle.al_base.specs.declared.place.Place.{Place}

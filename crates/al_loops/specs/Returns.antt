@@ -1,5 +1,5 @@
 -- Return statements (ARM 6.5).
-use Rattle.std.specs.Prelude.{Bool, true, false, not, Option, Some, None, if◌then◌else◌}
+use Rattle.std.specs.Prelude.{Bool, false, not, Option, Some, None, if◌then◌else◌}
 use Rattle.al_base.specs.Rules.{number_of}
 use Rattle.al_base.specs.declared.place.Place.{Place}
 use Rattle.al_base.specs.declared.rule.Rule.TheVariants.{BadReturn, NoReturn}

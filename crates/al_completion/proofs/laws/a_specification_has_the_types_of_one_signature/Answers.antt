@@ -1,5 +1,5 @@
 -- The types of the parameters, and of the result.
-use Rattle.std.proofs.Common.{◌≡◌, List, Option, Some, None, ap, sym, ◌∙◌, refl}
+use Rattle.std.proofs.Common.{◌≡◌, List, Option, Some, ap, sym, ◌∙◌}
 use Rattle.al_view.specs.declared.symbol.Symbol.{Symbol}
 use Rattle.al_view.specs.Homographs.{Signature, types_of}
 use Rattle.al_completion.proofs.SignatureLemmas.{same_bases, same_results}

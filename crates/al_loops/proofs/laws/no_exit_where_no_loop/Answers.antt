@@ -1,8 +1,8 @@
 -- What `position` says where it finds nothing.
-use Rattle.std.proofs.Common.{◌≡◌, ℕ, ◌<◌, Bool, true, false, cond, List, length, get_or, Option, Some, None, not, refl, sym, ◌∙◌, arith, ltb, ◌≤◌}
+use Rattle.std.proofs.Common.{◌≡◌, ℕ, Bool, true, false, cond, length, Some, None, not, refl, sym, arith, ltb, ◌≤◌}
 use Rattle.std.proofs.lemmas.Bool.Decides.{nat_tests}
-use Rattle.std.specs.List.{All, position, position_or_len, prefix_len}
-use Rattle.std.proofs.lemmas.List.Sums.{prefix_len_passes, prefix_len-le-length}
+use Rattle.std.specs.List.{position_or_len}
+use Rattle.std.proofs.lemmas.List.Sums.{prefix_len_passes}
 use Rattle.al_loops.specs.Exits.{may_leave}
 use Rattle.al_loops.proofs.laws.no_exit_where_no_loop.Goals as goal
 
