@@ -1,0 +1,26 @@
+use Rattle.std.proofs.Common.{◌≡◌, List, take, refl, ap, ◌∙◌, arith}
+use Rattle.std.proofs.lemmas.List.{take_all}
+use Rattle.al_keys.specs.declared.names.Names.{Names}
+use Rattle.al_lookup.proofs.Folds.{folded}
+use Rattle.al_lookup.specs.Lookups.{selected_in, with_each, with_selected}
+use Rattle.al_view.specs.declared.view.ViewKind.{ViewKind}
+use Rattle.al_lookup.proofs.select.add_each.Goals as goal
+
+pub loop-view-init : goal.loop-view-init
+loop-view-init g c = record { asked = refl; told = λ t h. (h, refl) }
+
+pub loop-view-preserved : goal.loop-view-preserved
+loop-view-preserved g c =
+    let i = c.loop-view.invariant in
+    record {
+      asked = c.add_selected.ensures.asked ∙ i.asked;
+      told = λ t h. let told = c.in_ok-add_selected.ensures.told t h in
+          let before = i.told t told.0 in
+          (before.0, folded (λ (found : Names) (v : ViewKind). with_selected c.args.key.now v found (selected_in t c.args.scope.now c.args.packages.now c.args.name.now v)) c.args.names.now c.loop-view.names c.add_selected.new.names c.args.views.now c.loop-view.view-index c.view-item.result (omega arith) c.view-item.is before.1 told.1);
+    }
+
+pub returns-clause-told : goal.returns-clause-told
+returns-clause-told g c t h =
+    let before = c.loop-view.invariant.told t h in
+    let all : take c.loop-view.view-index c.args.views.now ≡ c.args.views.now = take_all c.loop-view.view-index c.args.views.now (omega arith) in
+    (before.0, before.1 ∙ ap (λ (vs : List ViewKind). with_each t c.args.scope.now c.args.packages.now c.args.key.now c.args.name.now c.args.names.now vs) all)

@@ -1,0 +1,10 @@
+use Rattle.std.proofs.Common.{◌≡◌, take}
+use Rattle.al_lookup.specs.Lookups.{with_each}
+use Rattle.al_query.specs.Reads.{Told}
+use Rattle.al_lookup.proofs.select.add_each.Given as goal
+
+abbrev pub invariant-loop-view : goal.invariant-loop-view
+invariant-loop-view g l = record {
+  asked : l.recorder.asked ≡ l.fn.recorder.asked;
+  told : Told l.fn.recorder.log l.recorder.log (λ t. l.names ≡ with_each t l.scope l.packages l.key l.name l.fn.names (take l.view-index l.views));
+}

@@ -1,0 +1,2 @@
+pub mod TextNames
+pub mod Lookups

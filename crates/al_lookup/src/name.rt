@@ -1,0 +1,11 @@
+// Names and signs of a text.
+use al_base::Name;
+
+/// A name or a sign that stands in a text, in lower case.
+#[derive(Drop)]
+pub enum TextName {
+    /// An identifier alone, or the sign of an operator.
+    Simple(Name),
+    /// A name that is selected in another one (ARM 4.1.3).
+    Selected { prefix: Name, name: Name },
+}
