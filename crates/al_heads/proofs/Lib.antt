@@ -1,0 +1,4 @@
+pub mod TermsSeen
+pub mod LawLemmas
+pub mod Gathered
+pub mod HeadsMade
