@@ -20,4 +20,4 @@ pub use laws::{
     aggregates_stand_where_allowed, indexes_take_one_value, nothing_from_nothing,
     numbers_are_universal, numbers_need_no_operator,
 };
-pub use part::{Nominal, part_of};
+pub use part::{Nominal, declared_under, part_of};

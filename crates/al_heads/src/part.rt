@@ -194,7 +194,7 @@ pub fn part_of<'a>(standard: &'a StandardTypes, term: &'a Term) -> Option<(&'a S
 
 /// What is visible under a term that is a name.
 #[tactic(auto, using(crate::proofs::TermsSeen::terms_made))]
-pub(crate) fn declared_under(term: &Term) -> Option<&[View]>
+pub fn declared_under(term: &Term) -> Option<&[View]>
     ensures { option_map (λ visible. visible.now) result ≡ declared_under (term_seen term.now) }
 {
     match term {
