@@ -21,12 +21,12 @@ pub fn components_are_apart()
     ensures { ComponentsAreApart }
 {}
 
-/// In the types of a type none stands twice.
+/// Where two lists of types are joined none stands twice.
 pub fn types_stand_once()
     ensures { TypesStandOnce }
 {}
 
-/// And each stands behind all types that it is of.
+/// And each stands behind all types that it is of, where that holds of the two lists.
 pub fn types_are_there()
     ensures { TypesAreThere }
 {}
