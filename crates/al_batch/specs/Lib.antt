@@ -1,0 +1,5 @@
+pub mod Objects
+pub mod Partitions
+pub mod Batches
+pub mod ObjectsSeen
+pub mod PartitionsSeen
