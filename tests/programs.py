@@ -1,0 +1,102 @@
+#!/usr/bin/env python3
+"""programs.py PROGRAM: the Ada programs of tests/programs through a built program.
+programs.py --gnat [NAME..]: the same through GNAT, where there is one.
+
+tests/programs/NAME holds the units of one Ada program, whose main unit is NAME, beside `stdout`, what it writes, and `outcome`, how its
+run ends where it doesn't end `finished`. Where the file `no-gnat` is there, GNAT's run differs, for the reason in it.
+
+Each program is put, its units are reported, it is built and run. As long as a build answers that a unit isn't compiled yet (E700), what is
+held against the files is that every unit is sound and that nothing else is wrong with it. The last line is `N passed, M failed`.
+"""
+import pathlib
+import re
+import subprocess
+import sys
+import tempfile
+
+PROGRAMS = pathlib.Path(__file__).resolve().parent / "programs"
+STEPS = 1_000_000_000
+
+
+def files_of(folder):
+    return sorted(it for it in folder.iterdir() if it.suffix in (".ads", ".adb"))
+
+
+def unit_line(file):
+    """What `report units` says of a file."""
+    kind = "decl" if file.suffix == ".ads" else "sub" if re.match(rb"\s*separate\b", file.read_bytes()) else "body"
+    return f"{file.name} {kind} {file.stem.replace('-', '.')}"
+
+
+def session_of(folder):
+    commands = [b"put %s %d\n%s\n" % (it.name.encode(), len(it.read_bytes()), it.read_bytes()) for it in files_of(folder)]
+    return b"".join(commands) + f"report units\nbuild {folder.name}\nrun {STEPS}\n".encode()
+
+
+def wanted_run(folder):
+    """The reply to `run`."""
+    written = (folder / "stdout").read_bytes()
+    ends = folder / "outcome"
+    return b"output %d\n%s\nend %s" % (len(written), written, ends.read_bytes().strip() if ends.exists() else b"finished")
+
+
+def judged(folder, replies):
+    """What is wrong with the replies to a program's session, or None."""
+    files = files_of(folder)
+    heads = [*["ok"] * len(files), f"units {len(files)}", *map(unit_line, files)]
+    lines = replies.decode(errors="replace").split("\n")
+    if lines[: len(heads)] != heads:
+        return f"units: {lines[: len(heads)]}"
+    build = lines[len(heads)]
+    if build.startswith("failed "):
+        faults = lines[len(heads) + 1 : len(heads) + 1 + int(build.split()[1])]
+        return next((it for it in faults if not re.fullmatch(r"\S+:1:1: E700 not yet", it)), None)
+    if not build.startswith("built "):
+        return build
+    got = replies.split(build.encode() + b"\n", 1)[1].strip(b"\n")
+    return None if got == wanted_run(folder).strip(b"\n") else f"{got[-300:]!r}"
+
+
+def by_program(program, folder):
+    try:
+        done = subprocess.run([program], input=session_of(folder), stdout=subprocess.PIPE, stderr=subprocess.PIPE, timeout=120)
+    except subprocess.TimeoutExpired:
+        return "no end within 120 seconds"
+    if done.returncode != 0 or done.stderr:
+        return f"exit status {done.returncode}, {done.stderr[-300:]!r}"
+    return judged(folder, done.stdout)
+
+
+def by_gnat(folder):
+    with tempfile.TemporaryDirectory() as room:
+        for it in files_of(folder):
+            (pathlib.Path(room) / it.name).write_bytes(it.read_bytes())
+        made = subprocess.run(["gnatmake", "-q", "-gnat2012", folder.name], cwd=room, stdout=subprocess.PIPE, stderr=subprocess.STDOUT)
+        if made.returncode != 0:
+            return made.stdout.decode(errors="replace")
+        done = subprocess.run([f"{room}/{folder.name}"], stdout=subprocess.PIPE, stderr=subprocess.PIPE, timeout=60)
+    ends = folder / "outcome"
+    raised = ends.read_text().split()[1].upper() if ends.exists() else ""
+    if raised not in done.stderr.decode() or (done.returncode == 0) == ends.exists():
+        return f"exit status {done.returncode}, {done.stderr[-300:]!r}"
+    return None if done.stdout == (folder / "stdout").read_bytes() else f"{done.stdout[-300:]!r}"
+
+
+def main(words):
+    is_gnat = words[:1] == ["--gnat"]
+    passed = failed = 0
+    for folder in sorted(it for it in PROGRAMS.iterdir() if it.is_dir()):
+        if is_gnat and ((folder / "no-gnat").exists() or words[1:] and folder.name not in words[1:]):
+            continue
+        wrong = by_gnat(folder) if is_gnat else by_program(words[0], folder)
+        if wrong is None:
+            passed += 1
+        else:
+            failed += 1
+            print(f"{folder.name}: failed\n  {wrong}")
+    print(f"{passed} passed, {failed} failed")
+    return 1 if failed else 0
+
+
+if __name__ == "__main__":
+    sys.exit(main(sys.argv[1:]))

@@ -1,0 +1,3 @@
+package Shapes.Drawing is
+   procedure Draw (S : Shape);
+end Shapes.Drawing;

@@ -1,0 +1,3 @@
+package Tables is
+   function Lookup (Key : Integer) return Integer;
+end Tables;

@@ -1,0 +1,5 @@
+package Journal is
+   pragma Elaborate_Body;
+   procedure Note (Step : Integer);
+   function Notes return Natural;
+end Journal;

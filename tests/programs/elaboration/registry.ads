@@ -1,0 +1,4 @@
+package Registry is
+   function Add (Value : Integer) return Positive;
+   function Total return Integer;
+end Registry;

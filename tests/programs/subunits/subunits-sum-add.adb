@@ -1,0 +1,6 @@
+separate (Subunits.Sum)
+procedure Add (Item : Integer) is
+begin
+   Calls := Calls + 1;
+   Total := Total + Item;
+end Add;
