@@ -1,9 +1,7 @@
 -- What is wrong with two texts that stand one behind the other.
-use Rattle.std.proofs.Common.{◌≡◌, ◌++◌, List, Option, Some, None, refl}
+use Rattle.std.proofs.Common.{◌≡◌, List, Option, Some, None, refl}
 use Rattle.al_judged.specs.declared.fault.Fault.{Fault}
 use Rattle.al_faults.specs.FaultLists.{followed}
-use Rattle.al_faults.specs.declared.fault_list.FaultList.{FaultList}
-use Rattle.al_stmts.specs.Checking.{Checked}
 use Rattle.al_typed.specs.DeclarationTrees.{DeclarationTree}
 use Rattle.al_typed.specs.StatementTrees.{StatementTree}
 use Rattle.al_typed.specs.UnitTrees.{BodyTree}

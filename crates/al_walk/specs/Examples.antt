@@ -1,13 +1,13 @@
 -- Short texts with what is wrong with them, over a reading that knows two things: `foo` is not visible anywhere, and a subprogram that is
 -- declared waits until a body stands there. So the walk itself is held against lists that are known.
-use Rattle.std.specs.Prelude.{◌≡◌, ◌+◌, ℕ, pos, Bool, true, false, List, [], ◌∷◌, map, Option, Some, None, Result, Ok, Err, codes, if◌then◌else◌}
+use Rattle.std.specs.Prelude.{◌≡◌, ◌+◌, ℕ, pos, false, List, [], ◌∷◌, Option, Some, None, Result, Ok, Err, codes, if◌then◌else◌}
 use Rattle.std.specs.Str.{bytes_eq}
 use Rattle.al_base.specs.declared.place.Place.{Place}
 use Rattle.al_view.specs.declared.view.ObjectPlace.TheVariants.{Frame}
 use Rattle.al_judged.specs.Faults.{fault_at}
 use Rattle.al_judged.specs.declared.fault.Fault.{Fault}
 use Rattle.al_grammar.specs.Grammar.{Label}
-use Rattle.al_syntax.specs.DeclarationTrees.{CommonTree, CompoundNameTree, DiscreteRangeTree, ObjectFormTree, ObjectTypeTree, SpecificationTree}
+use Rattle.al_syntax.specs.DeclarationTrees.{CommonTree, CompoundNameTree, DiscreteRangeTree, ObjectFormTree, SpecificationTree}
 use Rattle.al_syntax.specs.DeclarationTrees.CommonTree.{ObjectDeclaration}
 use Rattle.al_syntax.specs.DeclarationTrees.DiscreteRangeTree.{Bounds}
 use Rattle.al_syntax.specs.DeclarationTrees.ObjectFormTree.{TypedObject}
@@ -15,7 +15,7 @@ use Rattle.al_syntax.specs.DeclarationTrees.ObjectTypeTree.{NamedType}
 use Rattle.al_syntax.specs.DeclarationTrees.SpecificationTree.{FunctionSpecification, ProcedureSpecification}
 use Rattle.al_syntax.specs.ExpressionTrees.{ExpressionTree}
 use Rattle.al_syntax.specs.ExpressionTrees.ExpressionTree.{Name}
-use Rattle.al_syntax.specs.StatementTrees.{BodyTree, ItemTree, ItemsTree, MoreStatementsTree, StatementTree, StatementsTree}
+use Rattle.al_syntax.specs.StatementTrees.{ItemTree, ItemsTree, StatementTree, StatementsTree}
 use Rattle.al_syntax.specs.StatementTrees.AlternativeTree.{Alternative}
 use Rattle.al_syntax.specs.StatementTrees.AlternativesTree.{NoAlternative}
 use Rattle.al_syntax.specs.StatementTrees.BlockTree.{DeclareBlock}
@@ -37,18 +37,15 @@ use Rattle.al_loops.specs.declared.returns.BodyRound.TheVariants as bodies
 use Rattle.al_faults.specs.FaultLists.{all_faults}
 use Rattle.al_typed.specs.DeclarationTrees.{DeclarationTree}
 use Rattle.al_typed.specs.ExpressionTrees.{TypedTree}
-use Rattle.al_typed.specs.ExpressionTrees.CallTree.{Called}
-use Rattle.al_typed.specs.ExpressionTrees.FormTree.{LiteralForm, NamedForm}
+use Rattle.al_typed.specs.ExpressionTrees.FormTree.{NamedForm}
 use Rattle.al_typed.specs.ExpressionTrees.NameTree.{ObjectName}
 use Rattle.al_typed.specs.ExpressionTrees.TypedTree.{Labelled}
-use Rattle.al_typed.specs.declared.expression.Callee.TheVariants as callees
 use Rattle.al_typed.specs.declared.label.ExpressionType.TheVariants.{RootInteger}
 use Rattle.al_typed.specs.declared.label.Labels.{Labels}
-use Rattle.al_typed.specs.declared.unit.BodyKind.TheVariants as kinds
 use Rattle.al_typed.specs.UnitTrees.{BodyTree as LabelledBody}
 use Rattle.al_stmts.specs.LoopForms.{RangeTree}
 use Rattle.al_stmts.specs.declared.simple.ReturnContext.{ReturnContext}
-use Rattle.al_walk.specs.Readings.{Performed, Put, Read, Reading}
+use Rattle.al_walk.specs.Readings.{Put, Read, Reading}
 use Rattle.al_walk.specs.Walking.{Around, items_walked, statements_walked}
 
 -- ---- the reading

@@ -1,7 +1,6 @@
 -- What a walk over a text asks of whoever knows what its names mean. H is how far the check has come: the place with its regions, what
 -- is declared and waits there, and the words that are taken.
 use Rattle.std.specs.Prelude.{ℕ, Bool, List, Option, Result}
-use Rattle.al_base.specs.declared.place.Place.{Place}
 use Rattle.al_view.specs.declared.types.Bounds.{Bounds}
 use Rattle.al_judged.specs.declared.fault.Fault.{Fault}
 use Rattle.al_grammar.specs.Grammar.{Label}

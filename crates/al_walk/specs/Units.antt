@@ -1,6 +1,5 @@
 -- The walk over the item of a compilation unit, behind its context clause (ARM 7.1, 7.2, 10.1.1, 10.1.3).
 use Rattle.std.specs.Prelude.{List, [], ◌∷◌, ◌++◌, Option, Some, None, Err}
-use Rattle.al_judged.specs.declared.fault.Fault.{Fault}
 use Rattle.al_grammar.specs.Grammar.{Label}
 use Rattle.al_syntax.specs.DeclarationTrees.{CompoundNameTree, DeclarationTree as Basic}
 use Rattle.al_syntax.specs.DeclarationTrees.DeclarationTree.{CommonDeclaration, SubprogramDeclaration, TaskDeclaration, ProtectedDeclaration}

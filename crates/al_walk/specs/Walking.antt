@@ -9,7 +9,7 @@ use Rattle.al_judged.specs.declared.fault.Fault.{Fault}
 use Rattle.al_grammar.specs.Grammar.{Label}
 use Rattle.al_syntax.specs.DeclarationTrees.{CompoundNameTree, SpecificationTree}
 use Rattle.al_syntax.specs.ExpressionTrees.{ExpressionTree}
-use Rattle.al_syntax.specs.StatementTrees.{AlternativeTree, AlternativesTree, BlockTree, BodyTree, BranchTree, ChoiceTree, ElseTree, ElsifsTree, HandledTree, ItemTree, ItemsTree, LoopTree, MoreStatementsTree, StatementTree, StatementsTree}
+use Rattle.al_syntax.specs.StatementTrees.{AlternativeTree, AlternativesTree, BlockTree, BodyTree, BranchTree, ElseTree, ElsifsTree, HandledTree, ItemTree, ItemsTree, LoopTree, MoreStatementsTree, StatementTree, StatementsTree}
 use Rattle.al_syntax.specs.StatementTrees.StatementsTree.{Statements}
 use Rattle.al_syntax.specs.StatementTrees.MoreStatementsTree.{NoStatement, MoreStatements}
 use Rattle.al_syntax.specs.StatementTrees.StatementTree.{NullStatement, Assignment, CallStatement, ReturnStatement, ExitStatement, DelayStatement, IfStatement, CaseStatement, LoopStatement, BlockStatement}
