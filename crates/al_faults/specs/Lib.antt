@@ -1,0 +1,2 @@
+pub mod FaultLists
+pub mod Laws

@@ -1,0 +1,6 @@
+//! Whether a return statement stands among statements.
+#![tactic(auto)]
+
+mod walk;
+
+pub use walk::has_return;

@@ -1,0 +1,107 @@
+// If statements.
+ghost use Rattle.std.specs.Prelude.{◌≡◌, ◌++◌, IfOk, OnOk, map};
+ghost use Rattle.al_judged.specs.Judging.{fault_in, seen_by};
+ghost use Rattle.al_typed.specs.ExpressionViews.{typed_seen};
+ghost use Rattle.al_typed.specs.StatementViews.{branch_seen, statement_seen};
+ghost use Rattle.al_stmts.specs.Branches.{branch_of, branched, branches_checked, no_branch, with_branch, with_otherwise};
+ghost use Rattle.al_stmts.specs.Checking.{all_checked, one_checked};
+
+use crate::checked::{CheckedStatement, CheckedStatements};
+use al_base::NoMemory;
+use al_faults::FaultList;
+use al_judged::{Fault, Judged, earlier, unless};
+use al_typed::{Branch, StatementForm, Typed, TypedStatement};
+use std::alloc::{AllocError, Global};
+
+/// The branches of an if statement that are checked so far (ARM 5.3).
+#[derive(Drop)]
+pub struct CheckedBranches {
+    /// What is wrong inside them.
+    pub faults: FaultList,
+    /// The first fault of a condition.
+    pub own: Option<Fault>,
+    pub branches: Vec<Branch>,
+    /// What is done where no condition holds.
+    pub otherwise: Vec<TypedStatement>,
+}
+
+/// One more branch, unless its condition is faulty.
+#[tactic(auto, using(std::proofs::lemmas::Grind::common_steps))]
+fn push(
+    branches: &mut Vec<Branch>,
+    line: usize,
+    condition: Judged<Typed>,
+    statements: Vec<TypedStatement>,
+) -> Result<(), AllocError>
+    ensures { OnOk result (map branch_seen branches.new.items ≡ map branch_seen branches.old.items ++ branch_of line (seen_by typed_seen condition) (map statement_seen statements.items)) }
+{
+    match condition {
+        Ok(condition) => branches.push(Branch::new(line, condition, statements))?,
+        Err(_) => {}
+    }
+    Ok(())
+}
+
+/// The fault of a condition, if it has one.
+fn fault_in(condition: &Judged<Typed>) -> Option<Fault>
+    ensures { result ≡ fault_in condition.now }
+{
+    match condition {
+        Ok(_) => None,
+        Err(fault) => Some(*fault),
+    }
+}
+
+impl CheckedBranches {
+    /// No branch yet.
+    pub fn new(alloc: Global) -> Self
+        ensures { branches_checked result ≡ no_branch }
+    {
+        CheckedBranches {
+            faults: FaultList::none(alloc),
+            own: None,
+            branches: Vec::new(alloc),
+            otherwise: Vec::new(alloc),
+        }
+    }
+
+    /// The branch that stands behind, with the line of its `if` or `elsif`.
+    pub fn add(
+        &mut self,
+        line: usize,
+        condition: Judged<Typed>,
+        inner: CheckedStatements,
+    ) -> Result<(), NoMemory>
+        ensures { OnOk result (branches_checked self.new ≡ with_branch (branches_checked self.old) line (seen_by typed_seen condition) (all_checked inner)) }
+    {
+        self.own = earlier(self.own, fault_in(&condition));
+        let CheckedStatements { faults, statements } = inner;
+        push(&mut self.branches, line, condition, statements)?;
+        self.faults.follow(faults)
+    }
+
+    /// The statements behind `else`.
+    pub fn add_otherwise(&mut self, inner: CheckedStatements) -> Result<(), NoMemory>
+        ensures { OnOk result (branches_checked self.new ≡ with_otherwise (branches_checked self.old) (all_checked inner)) }
+    {
+        let CheckedStatements { faults, statements } = inner;
+        self.otherwise = statements;
+        self.faults.follow(faults)
+    }
+
+    /// The whole statement: of its conditions the first fault is its own.
+    #[tactic(auto, using(crate::proofs::Seen::seen_unless))]
+    pub fn finish(self, alloc: Global, line: usize) -> Result<CheckedStatement, NoMemory>
+        ensures { IfOk result (λ one. one_checked one ≡ branched line (branches_checked self)) }
+    {
+        let CheckedBranches {
+            faults,
+            own,
+            branches,
+            otherwise,
+        } = self;
+        let form = StatementForm::branching(branches, otherwise);
+        let judged = unless(own, Ok(TypedStatement::new(line, form)));
+        CheckedStatement::compound(alloc, judged, faults)
+    }
+}

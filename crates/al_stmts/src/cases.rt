@@ -1,0 +1,79 @@
+// The selector of a case statement with its choices.
+ghost use Rattle.std.specs.Prelude.{◌≡◌, ◌↔◌, IfOk, IsTrue};
+ghost use Rattle.al_judged.specs.Judging.{seen_by};
+ghost use Rattle.al_typed.specs.ExpressionViews.{typed_seen};
+ghost use Rattle.al_stmts.specs.Cases.{RightFor, bounds_of, held_against, held_by, right_or_told, selected};
+
+use crate::choices::CaseChoices;
+use al_base::{NoMemory, Place, Rule};
+use al_choices::{Selector, are_right};
+use al_judged::{Fault, Judged, unless};
+use al_typed::Typed;
+use al_view::Bounds;
+use std::alloc::Global;
+
+/// What the choices of a selector are held against: the range of its nominal subtype, where it has one, or else that of its
+/// whole type (ARM 5.4(7 to 9)).
+#[tactic(auto, using(crate::proofs::Layers::typed_bounds))]
+pub fn selector_of(selector: &Typed, whole: Bounds) -> Selector
+    ensures { result ≡ held_against (bounds_of (typed_seen selector.now)) whole }
+{
+    match selector.labels.bounds {
+        Some(bounds) => Selector::OfSubtype(bounds),
+        None => Selector::OfType(whole),
+    }
+}
+
+/// What the choices of a selector are held against, where it has no fault.
+#[tactic(auto, using(crate::proofs::Layers::typed_bounds))]
+fn held_by(selector: &Judged<Typed>, whole: Bounds) -> Option<Selector>
+    ensures { result ≡ held_by (seen_by typed_seen selector.now) whole }
+{
+    match selector {
+        Ok(selector) => Some(selector_of(selector, whole)),
+        Err(_) => None,
+    }
+}
+
+/// Whether the choices of a case statement are right for its selector, of a type with these bounds (ARM 5.4(5 to 10)). Of a
+/// selector that has a fault they always are.
+pub fn choices_are_right(
+    alloc: Global,
+    selector: &Judged<Typed>,
+    whole: Bounds,
+    choices: &CaseChoices,
+) -> Result<bool, NoMemory>
+    ensures { IfOk result (λ right. IsTrue right ↔ RightFor (held_by (seen_by typed_seen selector.now) whole) choices.now.alternatives) }
+{
+    match held_by(selector, whole) {
+        Some(held) => are_right(alloc, choices.alternatives.as_slice(), held),
+        None => Ok(true),
+    }
+}
+
+/// The selector of a case statement, by the first fault of its choices and by whether they are right for it. E503 at `case`, where
+/// they aren't, is told only where neither the selector nor a choice has a fault.
+#[tactic(auto, using(crate::proofs::Seen::seen_unless))]
+pub fn judged_selector(
+    place: Place,
+    selector: Judged<Typed>,
+    fault: Option<Fault>,
+    are_right: bool,
+) -> Judged<Typed>
+    ensures { seen_by typed_seen result ≡ selected place (seen_by typed_seen selector) fault are_right }
+{
+    match unless(fault, selector) {
+        Ok(selector) => with_choices(place, selector, are_right),
+        Err(fault) => Err(fault),
+    }
+}
+
+fn with_choices(place: Place, selector: Typed, are_right: bool) -> Judged<Typed>
+    ensures { seen_by typed_seen result ≡ right_or_told place are_right (typed_seen selector) }
+{
+    if are_right {
+        return Ok(selector);
+    }
+    let code = Rule::BadChoices.number();
+    Err(Fault { place, code })
+}

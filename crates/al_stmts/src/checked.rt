@@ -1,0 +1,114 @@
+// Statements that are checked.
+ghost use Rattle.std.specs.Prelude.{◌≡◌, ◌++◌, [], ◌∷◌, IfOk, OnOk, Err, is_some, map, option_map};
+ghost use Rattle.std.specs.Option.{option_to_list};
+ghost use Rattle.al_faults.specs.FaultLists.{no_fault};
+ghost use Rattle.al_judged.specs.Judging.{seen_by};
+ghost use Rattle.al_typed.specs.StatementViews.{statement_seen};
+ghost use Rattle.al_stmts.specs.Checking.{all_checked, alone, broken_off, checked_behind, compound, one_checked};
+
+use al_base::NoMemory;
+use al_faults::FaultList;
+use al_judged::{Fault, Judged};
+use al_typed::TypedStatement;
+use std::alloc::{AllocError, Global};
+
+/// A statement that is checked: what is wrong with it and with what stands inside it, and the statement where its own parts are
+/// right.
+#[derive(Drop)]
+pub struct CheckedStatement {
+    pub faults: FaultList,
+    pub statement: Option<TypedStatement>,
+}
+
+/// Statements that are checked, in text order.
+#[derive(Drop)]
+pub struct CheckedStatements {
+    pub faults: FaultList,
+    pub statements: Vec<TypedStatement>,
+}
+
+impl CheckedStatement {
+    /// A statement with nothing inside it.
+    pub fn alone(alloc: Global, judged: Judged<TypedStatement>) -> Result<Self, NoMemory>
+        ensures { IfOk result (λ one. one_checked one ≡ alone (seen_by statement_seen judged)) }
+    {
+        CheckedStatement::compound(alloc, judged, FaultList::none(alloc))
+    }
+
+    /// A statement by its own parts, with what is wrong with what stands inside it.
+    pub fn compound(
+        alloc: Global,
+        judged: Judged<TypedStatement>,
+        inner: FaultList,
+    ) -> Result<Self, NoMemory>
+        ensures { IfOk result (λ one. one_checked one ≡ compound (seen_by statement_seen judged) inner) }
+    {
+        match judged {
+            Ok(statement) => Ok(CheckedStatement {
+                faults: inner,
+                statement: Some(statement),
+            }),
+            Err(fault) => CheckedStatement::faulty(alloc, fault, inner),
+        }
+    }
+
+    fn faulty(alloc: Global, own: Fault, inner: FaultList) -> Result<Self, NoMemory>
+        ensures { IfOk result (λ one. one_checked one ≡ compound (Err own) inner) }
+    {
+        let faults = FaultList::round(alloc, Some(own), inner)?;
+        Ok(CheckedStatement {
+            faults,
+            statement: None,
+        })
+    }
+
+    /// A statement that ends with the fault of a declaration inside it.
+    pub fn broken_off(faults: FaultList) -> Self
+        ensures { one_checked result ≡ broken_off faults }
+    {
+        CheckedStatement {
+            faults,
+            statement: None,
+        }
+    }
+}
+
+/// One more statement, if there is one.
+#[tactic(auto, using(std::proofs::lemmas::Grind::common_steps))]
+fn push(statements: &mut Vec<TypedStatement>, one: Option<TypedStatement>) -> Result<(), AllocError>
+    ensures { OnOk result (map statement_seen statements.new.items ≡ map statement_seen statements.old.items ++ option_to_list (option_map statement_seen one)) }
+{
+    match one {
+        Some(statement) => statements.push(statement)?,
+        None => {}
+    }
+    Ok(())
+}
+
+impl CheckedStatements {
+    /// No statement yet, behind text of which this is wrong.
+    pub fn behind(alloc: Global, faults: FaultList) -> Self
+        ensures { all_checked result ≡ broken_off faults }
+    {
+        CheckedStatements {
+            faults,
+            statements: Vec::new(alloc),
+        }
+    }
+
+    /// Whether nothing behind is looked at.
+    pub fn is_ended(&self) -> bool
+        ensures { result ≡ is_some self.now.faults.end }
+    {
+        self.faults.is_ended()
+    }
+
+    /// The statement that stands behind.
+    pub fn add(&mut self, one: CheckedStatement) -> Result<(), NoMemory>
+        ensures { OnOk result (all_checked self.new ≡ checked_behind (all_checked self.old) (one_checked one)) }
+    {
+        let CheckedStatement { faults, statement } = one;
+        push(&mut self.statements, statement)?;
+        self.faults.follow(faults)
+    }
+}

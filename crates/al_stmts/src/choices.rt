@@ -1,0 +1,67 @@
+// The choices of a case statement, one by one.
+ghost use Rattle.std.specs.Prelude.{◌≡◌, OnOk};
+ghost use Rattle.al_stmts.specs.Cases.{no_alternative, no_choice, with_choice, with_choices};
+
+use al_base::NoMemory;
+use al_choices::Choice;
+use al_judged::{Fault, Judged, earlier};
+use al_view::Row;
+use std::alloc::Global;
+
+/// The choices of an alternative so far: the first fault of one, and those that are right.
+#[derive(Drop)]
+pub struct AlternativeChoices {
+    pub fault: Option<Fault>,
+    pub choices: Row<Choice>,
+}
+
+/// The choices of a case statement so far, by alternatives in text order.
+#[derive(Drop)]
+pub struct CaseChoices {
+    pub fault: Option<Fault>,
+    pub alternatives: Row<Row<Choice>>,
+}
+
+impl AlternativeChoices {
+    /// No choice yet.
+    pub fn new(alloc: Global) -> Self
+        ensures { result ≡ no_choice }
+    {
+        AlternativeChoices {
+            fault: None,
+            choices: Row::empty(alloc),
+        }
+    }
+
+    /// One more choice, or its fault.
+    pub fn add(&mut self, choice: Judged<Choice>) -> Result<(), NoMemory>
+        ensures { OnOk result (self.new ≡ with_choice self.old choice) }
+    {
+        match choice {
+            Ok(choice) => self.choices.push(choice)?,
+            Err(fault) => self.fault = earlier(self.fault, Some(fault)),
+        }
+        Ok(())
+    }
+}
+
+impl CaseChoices {
+    /// No alternative yet.
+    pub fn new(alloc: Global) -> Self
+        ensures { result ≡ no_alternative }
+    {
+        CaseChoices {
+            fault: None,
+            alternatives: Row::empty(alloc),
+        }
+    }
+
+    /// The choices of one more alternative.
+    pub fn add(&mut self, alternative: AlternativeChoices) -> Result<(), NoMemory>
+        ensures { OnOk result (self.new ≡ with_choices self.old alternative) }
+    {
+        self.fault = earlier(self.fault, alternative.fault);
+        self.alternatives.push(alternative.choices)?;
+        Ok(())
+    }
+}

@@ -1,0 +1,94 @@
+// The target of an assignment (ARM 5.2).
+ghost use Rattle.std.specs.Prelude.{◌≡◌, Some, option_map};
+ghost use Rattle.al_base.specs.Rules.{number_of};
+ghost use Rattle.al_base.specs.declared.rule.Rule.TheVariants.{NotAVariable};
+ghost use Rattle.al_judged.specs.Faults.{fault_at};
+ghost use Rattle.al_judged.specs.Judging.{seen_by};
+ghost use Rattle.al_typed.specs.ExpressionViews.{form_seen, name_seen, typed_seen};
+ghost use Rattle.al_stmts.specs.Simple.{is_variable, name_in, target_named, target_of, target_seen};
+
+use al_base::{Place, Rule};
+use al_judged::{Fault, Judged};
+use al_typed::{Form, Labels, Typed, TypedName};
+use al_view::Bounds;
+
+/// A variable that is assigned to: its words, and the range of its nominal subtype where that is scalar.
+#[derive(Drop)]
+pub struct Target {
+    pub name: TypedName,
+    pub words: u32,
+    pub bounds: Option<Bounds>,
+}
+
+/// Whether a name denotes a variable: an object that is no constant, or a part of one.
+#[tactic(auto, using(al_typed::proofs::ExpressionsMade::object_made, al_typed::proofs::ExpressionsMade::component_made, al_typed::proofs::ExpressionsMade::indexed_made))]
+fn is_variable(name: &TypedName) -> bool
+    ensures { result ≡ is_variable (name_seen name.now) }
+{
+    match name {
+        TypedName::Object { is_constant, .. } => !*is_constant,
+        TypedName::Component { whole, .. } => is_variable(whole),
+        TypedName::Indexed { array, .. } => is_variable(array),
+    }
+}
+
+/// The name that an expression is.
+#[tactic(auto, using(al_typed::proofs::ExpressionsMade::literal_made, al_typed::proofs::ExpressionsMade::named_made, al_typed::proofs::ExpressionsMade::unary_made, al_typed::proofs::ExpressionsMade::binary_made, al_typed::proofs::ExpressionsMade::converted_made, al_typed::proofs::ExpressionsMade::clock_made, al_typed::proofs::ExpressionsMade::short_circuit_made, al_typed::proofs::ExpressionsMade::membership_made, al_typed::proofs::ExpressionsMade::others_made, al_typed::proofs::ExpressionsMade::aggregate_made, al_typed::proofs::ExpressionsMade::call_form_made))]
+fn name_in(form: Form) -> Option<TypedName>
+    ensures { option_map name_seen result ≡ name_in (form_seen form) }
+{
+    match form {
+        Form::Named(name) => Some(name),
+        Form::Literal(_) => None,
+        Form::Unary(_, _) => None,
+        Form::Binary(_, _, _) => None,
+        Form::ShortCircuit(_, _, _) => None,
+        Form::Membership { .. } => None,
+        Form::Converted(_, _) => None,
+        Form::Aggregate(_) => None,
+        Form::Others(_, _) => None,
+        Form::Call(_) => None,
+        Form::Clock => None,
+    }
+}
+
+/// The fault at the first token of what is no variable.
+fn no_variable(place: Place) -> Fault
+    ensures { result ≡ fault_at place (number_of NotAVariable) }
+{
+    let code = Rule::NotAVariable.number();
+    Fault { place, code }
+}
+
+/// A name as a target.
+fn variable(labels: Labels, name: TypedName) -> Judged<Target>
+    ensures { seen_by target_seen result ≡ target_named labels (Some (name_seen name)) }
+{
+    if is_variable(&name) {
+        return Ok(Target {
+            name,
+            words: labels.words,
+            bounds: labels.bounds,
+        });
+    }
+    Err(no_variable(labels.place))
+}
+
+/// A name as a target, if it is one.
+fn named(labels: Labels, name: Option<TypedName>) -> Judged<Target>
+    ensures { seen_by target_seen result ≡ target_named labels (option_map name_seen name) }
+{
+    match name {
+        None => Err(no_variable(labels.place)),
+        Some(name) => variable(labels, name),
+    }
+}
+
+/// What stands on the left of an assignment, or the fault at its first token that it is no variable (ARM 5.2(5)).
+#[tactic(auto, using(crate::proofs::Layers::typed_layers))]
+pub fn target_of(found: Typed) -> Judged<Target>
+    ensures { seen_by target_seen result ≡ target_of (typed_seen found) }
+{
+    let Typed { labels, form } = found;
+    named(labels, name_in(form))
+}

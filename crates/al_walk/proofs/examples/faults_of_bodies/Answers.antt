@@ -1,0 +1,20 @@
+-- Both sides compute.
+use Rattle.std.proofs.Common.{refl}
+use Rattle.al_base.specs.Rules.{number_of}
+use Rattle.al_walk.proofs.examples.faults_of_bodies.Goals as goal
+
+pub returns-clause-part : goal.returns-clause-part
+unfolding number_of
+returns-clause-part c = λ b. refl
+
+pub returns-clause-waits : goal.returns-clause-waits
+unfolding number_of
+returns-clause-waits c = λ b. refl
+
+pub returns-clause-returns : goal.returns-clause-returns
+unfolding number_of
+returns-clause-returns c = λ b. refl
+
+pub returns-clause-innermost : goal.returns-clause-innermost
+unfolding number_of
+returns-clause-innermost c = λ b. refl
