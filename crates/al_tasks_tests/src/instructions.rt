@@ -60,6 +60,12 @@ const -1; frame 0 0; store 1; frame 1 0; done => /stuck\n\
 const 16384; frame 0 0; store 1; mark 1; done => /stuck\n\
 # a link that leads to its own frame is followed as often as asked\n\
 frame 0 0; frame 0 0; store 1; frame 100000 0; put_integer 0; done =>  0/finished\n\
+frame 0 0; frame 0 0; store 1; frame 4294967295 0; put_integer 0; done =>  0/finished\n\
+# so are links that lead round two or three words\n\
+const 4; const 3; const 3; frame 0 0; store 1; frame 4294967295 0; put_integer 0; frame 4294967294 0; put_integer 0; \
+    done =>  3 4/finished\n\
+const 4; const 5; const 3; const 3; frame 0 0; store 1; frame 4294967295 0; put_integer 0; frame 4294967294 0; put_integer 0; \
+    frame 4294967293 0; put_integer 0; done =>  5 4 3/finished\n\
 # a damaged program is stuck before it raises an exception\n\
 enter 10000; const 9000; load 10000 => /stuck\n\
 enter 10000; frame 0 3; load 10000 => /storage_error 0\n\
