@@ -86,6 +86,29 @@ fn mention_each(alloc: Global, names: &[Name], scope: &mut Scope) -> Result<(), 
     Ok(())
 }
 
+fn push_mentioned(
+    alloc: Global,
+    names: &[Name],
+    scope: &mut Scope,
+    reply: &mut String,
+) -> Result<(), NoMemory> {
+    mention_each(alloc, names, scope)?;
+    reply.push_str("mentioned:")?;
+    push_names(alloc, names, reply)?;
+    push_line("", reply)
+}
+
+fn mentioned_in(
+    alloc: Global,
+    own: &OwnText,
+    scope: &mut Scope,
+    recorder: &mut Recorder<Library>,
+    reply: &mut String,
+) -> Result<(), NoMemory> {
+    let names = mentioned(alloc, own, recorder)?;
+    push_mentioned(alloc, names.as_slice(), scope, reply)
+}
+
 // The library units that are mentioned at the start of a text; they are mentioned in the place from here on.
 fn mentions(
     alloc: Global,
@@ -95,11 +118,7 @@ fn mentions(
     reply: &mut String,
 ) -> Result<(), NoMemory> {
     let own = text_of(alloc, words)?;
-    let names = mentioned(alloc, &own, recorder)?;
-    mention_each(alloc, names.as_slice(), scope)?;
-    reply.push_str("mentioned:")?;
-    push_names(alloc, names.as_slice(), reply)?;
-    push_line("", reply)
+    mentioned_in(alloc, &own, scope, recorder, reply)
 }
 
 // The place at the start of a text.
@@ -127,11 +146,15 @@ fn goes_on(
     enter_private_part(alloc, scope, &own, recorder)
 }
 
+fn may_elaborate(alloc: Global, name: &str, words: &str) -> Result<bool, NoMemory> {
+    let own = text_of(alloc, words)?;
+    Ok(own.may_elaborate(name.as_bytes()))
+}
+
 // Whether a pragma Elaborate of a text may name a unit.
 fn elaborates(alloc: Global, words: &str, reply: &mut String) -> Result<(), NoMemory> {
     let (name, words) = first_word(words);
-    let own = text_of(alloc, words)?;
-    let may = own.may_elaborate(name.as_bytes());
+    let may = may_elaborate(alloc, name, words)?;
     reply.push_str(name)?;
     push_line(
         if may {
