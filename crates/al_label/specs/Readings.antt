@@ -36,7 +36,7 @@ use Rattle.al_view.specs.declared.view.ViewKind.{ViewKind}
 use Rattle.al_view.specs.declared.view.ViewKind.TheVariants as views
 use Rattle.al_heads.specs.Interpreting.{interpreted}
 use Rattle.al_heads.specs.Parts.{declared_under, nominal, part_of}
-use Rattle.al_heads.specs.Universal.{computes_one, computes_two, is_universal}
+use Rattle.al_heads.specs.Universal.{computes_one, computes_two, is_position, is_universal}
 use Rattle.al_heads.specs.declared.everywhere.Predefined.{Predefined}
 use Rattle.al_heads.specs.declared.part.Nominal.{Nominal}
 use Rattle.al_nodes.specs.Calls.{call_node, with_actual}
@@ -106,11 +106,6 @@ abbrev pub application : Option (List ViewKind) → Option Nominal → Label →
 application (Some visible) part label = option_map_or applied_view (pick (number_in label) visible) Misapplied
 application None part label = option_map_or ElementOfPart part Misapplied
 
--- whether parentheses stand behind a name
-abbrev pub is_applied : TermTree → Bool
-is_applied (t.AppliedTerm prefix arguments) = true
-is_applied _ = false
-
 -- a component of an array, where an index is read at its type
 abbrev pub indexed_node : Symbol → Place → List TypeView → Symbol → ReadingTree → (Symbol → ReadingTree) → ReadingTree
 indexed_node root place types of whole index =
@@ -146,9 +141,9 @@ argument_check conversions.Milliseconds mark = range_in mark.types mark.subtype
 
 -- `S'Pos (X)` is a number, which has the type at which it stands; the others are of S's type
 abbrev pub attribute_node : Symbol → Place → Conversion → SubtypeView → List TypeView → Symbol → ReadingTree → ReadingTree
-attribute_node root place conversions.Pos mark types at argument = conversion_node root place types at None conversions.Pos None argument
 attribute_node root place conversion mark types at argument =
-    conversion_node root place mark.types mark.subtype.base None conversion (argument_check conversion mark) argument
+    if is_position conversion then conversion_node root place types at None conversions.Pos None argument
+    else conversion_node root place mark.types mark.subtype.base None conversion (argument_check conversion mark) argument
 
 -- a conversion to this subtype, or a qualified expression of it
 abbrev pub mark_node : Symbol → Place → Conversion → SubtypeView → ReadingTree → ReadingTree

@@ -1,5 +1,5 @@
 -- What the program's values are as plain data.
-use Rattle.std.specs.Prelude.{option_map}
+use Rattle.std.specs.Option.{option_copied}
 use Rattle.al_heads.specs.Parts.{nominal}
 use Rattle.al_label.specs.declared.leaf.Application.{Application}
 use Rattle.al_label.specs.declared.leaf.Application.TheVariants as a
@@ -14,4 +14,4 @@ application_seen (a.ElementOfPart subtype types) = made.ElementOfPart (nominal t
 application_seen a.Misapplied = made.Misapplied
 
 abbrev pub told_seen : TypeTold → types_told
-told_seen t = told (option_map (λ x. x.now) t.types) t.of.now
+told_seen t = told (option_copied t.types) t.of.now

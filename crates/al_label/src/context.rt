@@ -14,7 +14,7 @@ use al_choice::Labelled;
 use al_heads::{Nominal, Predefined, declared_under, interpret_term};
 use al_judged::{Judged, unless};
 use al_nodes::{
-    Actuals, Labeller, is_variable, judged, no_variable, nothing_fits, picked_subprogram,
+    Actuals, Labeller, is_variable, judged, nothing_fits, picked_subprogram, unless_variable,
 };
 use al_overload::Context;
 use al_term::{Term, first_place};
@@ -77,11 +77,7 @@ pub fn judge_target(
     match interpret_term(labeller.alloc, predefined, &context, &None, term)? {
         Ok(label) => {
             let reading = read(labeller, term, &label, types, &predefined.root)?;
-            let fault = if is_variable(term) {
-                None
-            } else {
-                Some(no_variable(first_place(term)))
-            };
+            let fault = unless_variable(is_variable(term), first_place(term));
             Ok(unless(fault, judged(reading)))
         }
         Err(fault) => Ok(Err(fault)),

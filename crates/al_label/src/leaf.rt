@@ -11,6 +11,7 @@ ghost use Rattle.al_label.specs.Seen.{application_seen};
 ghost use Rattle.al_label.specs.Readings.{aggregate_node, application, applied_view, argument_check, argument_type, attribute_node, bound_node, bound_word, candidate_node, checked, component_in, component_of_type, in_bounds_node, in_mark_node, length_node, mark_node, mark_type, named_node, others_form, others_of, view_node, with_value};
 ghost use Rattle.al_nodes.specs.Views.{reading_seen, values_seen};
 
+use crate::told::is_position;
 use al_base::{NoMemory, Place};
 use al_choice::Labelled;
 use al_heads::{Nominal, declared_under, part_of};
@@ -290,7 +291,7 @@ pub(crate) fn attribute_reading(
 ) -> Result<Reading, NoMemory>
     ensures { IfOk result (λ r. reading_seen r ≡ attribute_node labeller.now.predefined.root place conversion mark.now types.now at.now (reading_seen argument)) }
 {
-    if matches!(conversion, Conversion::Pos) {
+    if is_position(conversion) {
         return labeller.conversion(place, types, at, None, Conversion::Pos, None, argument);
     }
     let check = argument_check(&labeller.predefined.standard, conversion, mark);

@@ -1,5 +1,6 @@
 // Pairs of bounds and selectors, with the types that they tell (ARM 3.5, 3.6(18), 5.4(4), 5.5).
-ghost use Rattle.std.specs.Prelude.{◌≡◌, IfOk, []};
+ghost use Rattle.std.specs.Prelude.{◌≡◌, IfOk, [], unwrap_or};
+ghost use Rattle.std.specs.Option.{option_copied};
 ghost use Rattle.al_choice.specs.Counts.{label_of};
 ghost use Rattle.al_judged.specs.Judging.{both, seen_by};
 ghost use Rattle.al_term.specs.TermViews.{term_seen};
@@ -53,14 +54,24 @@ fn no_types(alloc: Global) -> Result<Types, NoMemory>
     Ok(types)
 }
 
+/// The same types once more; nothing where there are none.
+fn shared(alloc: Global, types: Option<&Types>) -> Result<Types, NoMemory>
+    ensures { IfOk result (λ copy. copy ≡ unwrap_or (option_copied types.entry) []) }
+{
+    match types {
+        Some(types) => {
+            let copy = types.share()?;
+            Ok(copy)
+        }
+        None => no_types(alloc),
+    }
+}
+
 fn found_type(alloc: Global, told: &TypeTold<'_>) -> Result<FoundType, NoMemory>
     ensures { IfOk result (λ found. found ≡ found_type (told_seen told.now)) }
 {
     let of = told.of.copy(alloc)?;
-    let types = match told.types {
-        Some(types) => types.share()?,
-        None => no_types(alloc)?,
-    };
+    let types = shared(alloc, told.types)?;
     Ok(FoundType { of, types })
 }
 

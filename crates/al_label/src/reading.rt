@@ -1,12 +1,10 @@
 // The labelled tree of a term with its labelling: what recurses.
-ghost use Rattle.std.specs.Prelude.{◌≡◌, true, IfOk, OnOk, map};
+ghost use Rattle.std.specs.Prelude.{◌≡◌, IfOk, OnOk, map};
 ghost use Rattle.al_choice.specs.Counts.{label_of};
 ghost use Rattle.al_heads.specs.Interpreting.{interpreted};
 ghost use Rattle.al_term.specs.TermViews.{term_seen, terms_of};
 ghost use Rattle.al_nodes.specs.Gathering.{no_parts};
-ghost use Rattle.al_label.specs.Readings.{actual_read, actuals_read, component_read, index_read, inner, is_applied, operand_read, reading, values_read};
-ghost use Rattle.al_label.specs.Seen.{told_seen};
-ghost use Rattle.al_label.specs.Told.{types_in};
+ghost use Rattle.al_label.specs.Readings.{actual_read, actuals_read, component_read, index_read, indexed_node, inner, operand_read, reading, values_read};
 ghost use Rattle.al_term.specs.Places.{first_place};
 ghost use Rattle.al_nodes.specs.Names.{is_variable};
 ghost use Rattle.al_nodes.specs.Views.{actuals_seen, reading_seen, values_seen};
@@ -16,7 +14,7 @@ use crate::leaf::{
     bound_reading, component_of_type, conversion_context, in_mark_reading, length_reading,
     marked_reading, named_reading, nominal_of, others_reading, qualified_context,
 };
-use crate::told::{TypeTold, are_universal, computes_one, is_universal, test_type, types_in};
+use crate::told::{are_universal, is_computed, test_type, types_in};
 use al_base::{NoMemory, Place};
 use al_choice::Labelled;
 use al_heads::{Nominal, interpret_term, part_of};
@@ -29,6 +27,21 @@ use al_picks::{how_indexed, operand_label, range_in};
 use al_term::{Term, first_place};
 use al_typed::Conversion;
 use al_view::{SubprogramView, Symbol, Types};
+
+/// Two operands.
+#[derive(Drop)]
+struct Two {
+    first: Reading,
+    second: Reading,
+}
+
+/// Three operands.
+#[derive(Drop)]
+struct Three {
+    first: Reading,
+    second: Reading,
+    third: Reading,
+}
 
 /// What a term is with its labelling, where it stands at this type among these.
 #[cycle(reading)]
@@ -54,7 +67,27 @@ pub(crate) fn read(
             let part = part_of(&labeller.predefined.standard, prefix);
             labeller.selected(place, name.as_slice(), part, whole)
         }
-        Term::Applied { .. } => read_applied(labeller, term, label, types, at),
+        Term::Applied { name, arguments } => {
+            let place = first_place(name);
+            let arguments = arguments.as_slice();
+            match application(&labeller.predefined.standard, name, label) {
+                Application::CallOf(subprogram) => {
+                    let actuals = read_actuals(labeller, arguments, subprogram, label)?;
+                    labeller.call(place, subprogram, actuals)
+                }
+                Application::ElementOf(object) => {
+                    let whole = labeller.object(place, object)?;
+                    let (types, of) = (&object.types, &object.subtype.base);
+                    read_element(labeller, arguments, place, 0, label, types, of, whole)
+                }
+                Application::ElementOfPart(subtype, part) => {
+                    let whole = read_operand(labeller, name, place, 0, label, types, at)?;
+                    let of = &subtype.base;
+                    read_element(labeller, arguments, place, 1, label, part, of, whole)
+                }
+                Application::Misapplied => Ok(misfit(place)),
+            }
+        }
         Term::Bound {
             place,
             subtype,
@@ -124,7 +157,7 @@ pub(crate) fn read(
             views,
             operand,
         } => {
-            let of_numbers = computes_one(*operator) && is_universal(operand);
+            let of_numbers = is_computed(*operator, operand);
             let views = views.as_slice();
             let Some(of) = labeller.unary_signature(views, of_numbers, label, types, at) else {
                 return Ok(misfit(*place));
@@ -145,14 +178,16 @@ pub(crate) fn read(
             else {
                 return Ok(misfit(place));
             };
-            let two = read_two(labeller, left, right, label, of.types, of.left, of.right)?;
-            labeller.binary(place, *operator, &of, two.left, two.right)
+            let first = read_operand(labeller, left, place, 0, label, of.types, of.left)?;
+            let two = read_second(labeller, right, place, label, of.types, of.right, first)?;
+            labeller.binary(place, *operator, &of, two.first, two.second)
         }
         Term::ShortCircuit { form, left, right } => {
             let place = first_place(left);
             let of = &labeller.predefined.types.boolean.symbol;
-            let two = read_two(labeller, left, right, label, types, of, of)?;
-            labeller.short_circuit(place, types, *form, two.left, two.right)
+            let first = read_operand(labeller, left, place, 0, label, types, of)?;
+            let two = read_second(labeller, right, place, label, types, of, first)?;
+            labeller.short_circuit(place, types, *form, two.first, two.second)
         }
         Term::Member {
             value,
@@ -172,15 +207,11 @@ pub(crate) fn read(
         } => {
             let place = first_place(value);
             let told = test_type(labeller, value, low, high, label);
-            let three = read_three(labeller, value, low, high, label, types, &told)?;
-            labeller.membership(
-                place,
-                types,
-                *is_negated,
-                three.value,
-                three.low,
-                three.high,
-            )
+            let (among, of) = (types_in(types, &told), told.of);
+            let first = read_operand(labeller, value, place, 0, label, among, of)?;
+            let two = read_second(labeller, low, place, label, among, of, first)?;
+            let all = read_third(labeller, high, place, label, among, of, two)?;
+            labeller.membership(place, types, *is_negated, all.first, all.second, all.third)
         }
     }
 }
@@ -204,59 +235,45 @@ pub(crate) fn read_operand(
     }
 }
 
-/// Two operands.
-struct Two {
-    left: Reading,
-    right: Reading,
-}
-
-/// Both operands of an operator.
+/// One more operand, behind the first.
 #[cycle(reading)]
-fn read_two(
+fn read_second(
     labeller: &Labeller,
-    left: &Term,
-    right: &Term,
+    term: &Term,
+    place: Place,
     label: &Labelled,
     types: &Types,
-    left_type: &Symbol,
-    right_type: &Symbol,
+    at: &Symbol,
+    first: Reading,
 ) -> Result<Two, NoMemory>
-    ensures left { IfOk result (λ r. reading_seen r.left ≡ operand_read labeller.now.predefined labeller.now.own (first_place (term_seen left.now)) 0 (term_seen left.now) (label_of label.now) types.now left_type.now) }
-    ensures right { IfOk result (λ r. reading_seen r.right ≡ operand_read labeller.now.predefined labeller.now.own (first_place (term_seen left.now)) 1 (term_seen right.now) (label_of label.now) types.now right_type.now) }
+    ensures first { IfOk result (λ r. reading_seen r.first ≡ reading_seen first) }
+    ensures second { IfOk result (λ r. reading_seen r.second ≡ operand_read labeller.now.predefined labeller.now.own place 1 (term_seen term.now) (label_of label.now) types.now at.now) }
 {
-    let place = first_place(left);
-    let left = read_operand(labeller, left, place, 0, label, types, left_type)?;
-    let right = read_operand(labeller, right, place, 1, label, types, right_type)?;
-    Ok(Two { left, right })
+    let second = read_operand(labeller, term, place, 1, label, types, at)?;
+    Ok(Two { first, second })
 }
 
-/// The value and the bounds of a membership test.
-struct Three {
-    value: Reading,
-    low: Reading,
-    high: Reading,
-}
-
+/// The third operand, behind two.
 #[cycle(reading)]
-fn read_three(
+fn read_third(
     labeller: &Labeller,
-    value: &Term,
-    low: &Term,
-    high: &Term,
+    term: &Term,
+    place: Place,
     label: &Labelled,
     types: &Types,
-    told: &TypeTold<'_>,
+    at: &Symbol,
+    two: Two,
 ) -> Result<Three, NoMemory>
-    ensures value { IfOk result (λ r. reading_seen r.value ≡ operand_read labeller.now.predefined labeller.now.own (first_place (term_seen value.now)) 0 (term_seen value.now) (label_of label.now) (types_in types.now (told_seen told.now)) told.now.of.now) }
-    ensures low { IfOk result (λ r. reading_seen r.low ≡ operand_read labeller.now.predefined labeller.now.own (first_place (term_seen value.now)) 1 (term_seen low.now) (label_of label.now) (types_in types.now (told_seen told.now)) told.now.of.now) }
-    ensures high { IfOk result (λ r. reading_seen r.high ≡ operand_read labeller.now.predefined labeller.now.own (first_place (term_seen value.now)) 2 (term_seen high.now) (label_of label.now) (types_in types.now (told_seen told.now)) told.now.of.now) }
+    ensures first { IfOk result (λ r. reading_seen r.first ≡ reading_seen two.first) }
+    ensures second { IfOk result (λ r. reading_seen r.second ≡ reading_seen two.second) }
+    ensures third { IfOk result (λ r. reading_seen r.third ≡ operand_read labeller.now.predefined labeller.now.own place 2 (term_seen term.now) (label_of label.now) types.now at.now) }
 {
-    let place = first_place(value);
-    let (among, of) = (types_in(types, told), told.of);
-    let value = read_operand(labeller, value, place, 0, label, among, of)?;
-    let low = read_operand(labeller, low, place, 1, label, among, of)?;
-    let high = read_operand(labeller, high, place, 2, label, among, of)?;
-    Ok(Three { value, low, high })
+    let third = read_operand(labeller, term, place, 2, label, types, at)?;
+    Ok(Three {
+        first: two.first,
+        second: two.second,
+        third,
+    })
 }
 
 /// A context inside another one, which has its own interpretation.
@@ -277,50 +294,25 @@ pub(crate) fn read_inner(
     }
 }
 
-/// A name with what stands in parentheses behind it.
+/// A component of an array, by what stands in parentheses behind it.
 #[cycle(reading)]
-#[tactic(auto, using(al_nodes::proofs::TermsSeen::terms_made))]
-fn read_applied(
+fn read_element(
     labeller: &Labeller,
-    term: &Term,
+    arguments: &[Term],
+    place: Place,
+    position: usize,
     label: &Labelled,
     types: &Types,
-    at: &Symbol,
+    of: &Symbol,
+    whole: Reading,
 ) -> Result<Reading, NoMemory>
-    requires { is_applied (term_seen term.now) ≡ true }
-    ensures { IfOk result (λ r. reading_seen r ≡ reading labeller.now.predefined labeller.now.own (term_seen term.now) (label_of label.now) types.now at.now) }
+    ensures { IfOk result (λ r. reading_seen r ≡ indexed_node labeller.now.predefined.root place types.now of.now (reading_seen whole) (λ index. index_read labeller.now.predefined labeller.now.own place position (label_of label.now) types.now index (terms_of (map term_seen arguments.now)))) }
 {
-    let Term::Applied { name, arguments } = term else {
-        unreachable!()
+    let Some(by) = how_indexed(&labeller.predefined.standard, types, of) else {
+        return Ok(misfit(place));
     };
-    let standard = &labeller.predefined.standard;
-    let place = first_place(name);
-    match application(standard, name, label) {
-        Application::CallOf(subprogram) => {
-            let actuals = read_actuals(labeller, arguments.as_slice(), subprogram, label)?;
-            labeller.call(place, subprogram, actuals)
-        }
-        Application::ElementOf(object) => {
-            let of_object = &object.types;
-            let Some(by) = how_indexed(standard, of_object, &object.subtype.base) else {
-                return Ok(misfit(place));
-            };
-            let whole = labeller.object(place, object)?;
-            let arguments = arguments.as_slice();
-            let index = read_index(labeller, arguments, place, 0, label, of_object, by.index)?;
-            labeller.element(place, of_object, &by, whole, index)
-        }
-        Application::ElementOfPart(subtype, of_part) => {
-            let Some(by) = how_indexed(standard, of_part, &subtype.base) else {
-                return Ok(misfit(place));
-            };
-            let arguments = arguments.as_slice();
-            let whole = read_operand(labeller, name, place, 0, label, types, at)?;
-            let index = read_index(labeller, arguments, place, 1, label, of_part, by.index)?;
-            labeller.element(place, of_part, &by, whole, index)
-        }
-        Application::Misapplied => Ok(misfit(place)),
-    }
+    let index = read_index(labeller, arguments, place, position, label, types, by.index)?;
+    labeller.element(place, types, &by, whole, index)
 }
 
 /// The only index.

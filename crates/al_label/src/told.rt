@@ -18,7 +18,7 @@ use al_typed::{BinaryOperator, Conversion, UnaryOperator};
 use al_view::{SubprogramView, Subtype, SubtypeView, Symbol, Types, View, ViewKind};
 
 /// Whether an operator in front of a number gives a number.
-pub(crate) fn computes_one(operator: UnaryOperator) -> bool
+fn computes_one(operator: UnaryOperator) -> bool
     ensures { result ≡ computes_one operator }
 {
     match operator {
@@ -30,7 +30,7 @@ pub(crate) fn computes_one(operator: UnaryOperator) -> bool
 }
 
 /// Whether an operator between two numbers gives a number.
-pub(crate) fn computes_two(operator: BinaryOperator) -> bool
+fn computes_two(operator: BinaryOperator) -> bool
     ensures { result ≡ computes_two operator }
 {
     match operator {
@@ -71,15 +71,15 @@ fn is_sole_number(visible: &[View]) -> bool
     }
 }
 
-fn is_position(conversion: Conversion) -> bool
+pub(crate) fn is_position(conversion: Conversion) -> bool
     ensures { result ≡ is_position conversion }
 {
     matches!(conversion, Conversion::Pos)
 }
 
 /// Whether a term is of numbers alone (ARM 3.4.1(7)). Right operands are looked at first: chains of operators lean to the left.
-#[tactic(auto, using(al_nodes::proofs::TermsSeen::terms_made))]
-pub(crate) fn is_universal(term: &Term) -> bool
+#[tactic(auto, using(al_nodes::proofs::TermsSeen::terms_made, crate::proofs::Booleans::and_false, crate::proofs::Booleans::and_true))]
+fn is_universal(term: &Term) -> bool
     ensures { result ≡ is_universal (term_seen term.now) }
 {
     match term {
@@ -275,7 +275,7 @@ pub(crate) fn type_told<'a>(
             operand,
             ..
         } => {
-            let of_numbers = computes_one(*operator) && is_universal(operand);
+            let of_numbers = is_computed(*operator, operand);
             operator_type(standard, root, views.as_slice(), of_numbers, label)
         }
         Term::Infix {
@@ -303,7 +303,15 @@ pub(crate) fn type_told<'a>(
     }
 }
 
+/// Whether an operator in front and its operand are numbers alone.
+pub(crate) fn is_computed(operator: UnaryOperator, operand: &Term) -> bool
+    ensures { result ≡ (computes_one operator && is_universal (term_seen operand.now)) }
+{
+    computes_one(operator) && is_universal(operand)
+}
+
 /// Whether an operator and its operands are numbers alone.
+#[tactic(auto, using(crate::proofs::Booleans::and_false, crate::proofs::Booleans::and_true))]
 pub(crate) fn are_universal(operator: BinaryOperator, left: &Term, right: &Term) -> bool
     ensures { result ≡ (computes_two operator && (is_universal (term_seen left.now) && is_universal (term_seen right.now))) }
 {

@@ -227,7 +227,8 @@ fn variable_actual(mode: Mode, range: Option<Bounds>, typed: Typed) -> Judged<Ac
     variable_of(mode, range, labels, form)
 }
 
-fn unless_variable(is_variable: bool, place: Place) -> Option<Fault>
+/// E406 here, unless it is a variable.
+pub fn unless_variable(is_variable: bool, place: Place) -> Option<Fault>
     ensures { result ≡ unless_variable is_variable place }
 {
     if is_variable {

@@ -8,7 +8,7 @@ mod name;
 mod node;
 mod operator;
 
-pub use call::add_actual;
+pub use call::{add_actual, unless_variable};
 pub use gather::{Actuals, Values};
 pub use labeller::Labeller;
 pub use name::{is_variable, no_variable};

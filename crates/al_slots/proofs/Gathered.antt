@@ -1,6 +1,6 @@
 -- Lists as they are numbered from their start.
 use Rattle.std.proofs.Common.{◌≡◌, ◌≤◌, ◌++◌, ℕ, List, [], ◌∷◌, map, length, take, refl, sym, ap, ◌∙◌}
-use Rattle.std.proofs.lemmas.List.{append-nil, append_assoc}
+use Rattle.std.proofs.lemmas.List.{append-nil, append_assoc, take_all}
 use Rattle.std.specs.Prelude.{fold}
 use Rattle.al_typed.specs.ExpressionTrees.{ActualTree, ActualsTree, ValueTree, ValuesTree}
 use Rattle.al_typed.specs.ExpressionTrees.ActualsTree.{NoActual, MoreActuals}
@@ -60,3 +60,42 @@ pieces_list word done [] = sym (append-nil done)
 pieces_list word done (p ∷ ps) =
     pieces_list (piece_behind word (piece_seen p)) (done ++ (piece_numbered word (piece_seen p) ∷ [])) ps
     ∙ append_assoc done (piece_numbered word (piece_seen p) ∷ []) (pieces_numbered (piece_behind word (piece_seen p)) (map piece_seen ps))
+
+pub values_end_word : (word behind i : ℕ) (xs ys : List CheckedValue) → (behind, map value_seen (take i xs)) ≡ fold with_value (word, []) (take i ys) → length ys ≤ i
+    → behind ≡ values_behind word (values_of (map value_seen ys))
+values_end_word word behind i xs ys inv past =
+    ap (λ (p : ℕ × List ValueTree). p.0) inv ∙ ap (λ (l : List CheckedValue). (fold with_value (word, []) l).0) (take_all i ys past) ∙ values_word word [] ys
+
+pub values_end_tree : (word behind i : ℕ) (xs ys : List CheckedValue) → (behind, map value_seen (take i xs)) ≡ fold with_value (word, []) (take i ys) → length ys ≤ i → length xs ≤ i
+    → (values_of (map value_seen xs)) ≡ values_numbered word (values_of (map value_seen ys))
+values_end_tree word behind i xs ys inv past over =
+    sym (ap (λ (l : List CheckedValue). (values_of (map value_seen l))) (take_all i xs over))
+    ∙ ap (λ (p : ℕ × List ValueTree). values_of p.1) inv
+    ∙ ap (λ (l : List CheckedValue). values_of (fold with_value (word, []) l).1) (take_all i ys past)
+    ∙ values_list word [] ys
+
+pub actuals_end_word : (word behind i : ℕ) (xs ys : List Actual) → (behind, map actual_seen (take i xs)) ≡ fold with_actual (word, []) (take i ys) → length ys ≤ i
+    → behind ≡ actuals_behind word (actuals_of (map actual_seen ys))
+actuals_end_word word behind i xs ys inv past =
+    ap (λ (p : ℕ × List ActualTree). p.0) inv ∙ ap (λ (l : List Actual). (fold with_actual (word, []) l).0) (take_all i ys past) ∙ actuals_word word [] ys
+
+pub actuals_end_tree : (word behind i : ℕ) (xs ys : List Actual) → (behind, map actual_seen (take i xs)) ≡ fold with_actual (word, []) (take i ys) → length ys ≤ i → length xs ≤ i
+    → (actuals_of (map actual_seen xs)) ≡ actuals_numbered word (actuals_of (map actual_seen ys))
+actuals_end_tree word behind i xs ys inv past over =
+    sym (ap (λ (l : List Actual). (actuals_of (map actual_seen l))) (take_all i xs over))
+    ∙ ap (λ (p : ℕ × List ActualTree). actuals_of p.1) inv
+    ∙ ap (λ (l : List Actual). actuals_of (fold with_actual (word, []) l).1) (take_all i ys past)
+    ∙ actuals_list word [] ys
+
+pub pieces_end_word : (word behind i : ℕ) (xs ys : List Piece) → (behind, map piece_seen (take i xs)) ≡ fold with_piece (word, []) (take i ys) → length ys ≤ i
+    → behind ≡ pieces_behind word (map piece_seen ys)
+pieces_end_word word behind i xs ys inv past =
+    ap (λ (p : ℕ × List PieceTree). p.0) inv ∙ ap (λ (l : List Piece). (fold with_piece (word, []) l).0) (take_all i ys past) ∙ pieces_word word [] ys
+
+pub pieces_end_tree : (word behind i : ℕ) (xs ys : List Piece) → (behind, map piece_seen (take i xs)) ≡ fold with_piece (word, []) (take i ys) → length ys ≤ i → length xs ≤ i
+    → (map piece_seen xs) ≡ pieces_numbered word (map piece_seen ys)
+pieces_end_tree word behind i xs ys inv past over =
+    sym (ap (λ (l : List Piece). (map piece_seen l)) (take_all i xs over))
+    ∙ ap (λ (p : ℕ × List PieceTree). p.1) inv
+    ∙ ap (λ (l : List Piece). (fold with_piece (word, []) l).1) (take_all i ys past)
+    ∙ pieces_list word [] ys

@@ -1,4 +1,3 @@
-pub mod Changed
 pub mod Gathered
 pub mod Layers
 pub mod Runs

@@ -25,6 +25,15 @@ pub fn number_slots(typed: &mut Typed, word: u32) -> u32
     number_form(&mut typed.form, word)
 }
 
+/// An operand in its box.
+#[cycle(slots)]
+fn number_operand(operand: &mut Box<Typed>, word: u32) -> u32
+    ensures tree { typed_seen operand.new.value ≡ numbered word (typed_seen operand.old.value) }
+    ensures word { result ≡ behind word (typed_seen operand.old.value) }
+{
+    number_slots(operand, word)
+}
+
 #[cycle(slots)]
 #[tactic(auto, using(al_typed::proofs::ExpressionsMade::literal_made, al_typed::proofs::ExpressionsMade::named_made, al_typed::proofs::ExpressionsMade::unary_made, al_typed::proofs::ExpressionsMade::binary_made, al_typed::proofs::ExpressionsMade::converted_made, al_typed::proofs::ExpressionsMade::clock_made, al_typed::proofs::ExpressionsMade::short_circuit_made, al_typed::proofs::ExpressionsMade::membership_made, al_typed::proofs::ExpressionsMade::others_made, al_typed::proofs::ExpressionsMade::aggregate_made, al_typed::proofs::ExpressionsMade::call_form_made))]
 fn number_form(form: &mut Form, word: u32) -> u32
@@ -34,14 +43,14 @@ fn number_form(form: &mut Form, word: u32) -> u32
     match form {
         Form::Literal(_) => word,
         Form::Named(name) => number_name(name, word),
-        Form::Unary(_, operand) => number_slots(operand, word),
+        Form::Unary(_, operand) => number_operand(operand, word),
         Form::Binary(_, left, right) => {
-            let word = number_slots(left, word);
-            number_slots(right, word)
+            let word = number_operand(left, word);
+            number_operand(right, word)
         }
         Form::ShortCircuit(_, left, right) => {
-            let word = number_slots(left, word);
-            number_slots(right, word)
+            let word = number_operand(left, word);
+            number_operand(right, word)
         }
         Form::Membership {
             value,
@@ -51,16 +60,25 @@ fn number_form(form: &mut Form, word: u32) -> u32
             slot,
         } => {
             *slot = word;
-            let word = number_slots(value, next(word));
-            let word = number_slots(low, word);
-            number_slots(high, word)
+            let word = number_operand(value, next(word));
+            let word = number_operand(low, word);
+            number_operand(high, word)
         }
-        Form::Converted(_, value) => number_value(value, word),
-        Form::Aggregate(values) => number_values(values.as_mut_slice(), word),
-        Form::Others(_, value) => number_value(value, word),
+        Form::Converted(_, value) => number_boxed(value, word),
+        Form::Aggregate(values) => number_values(values, word),
+        Form::Others(_, value) => number_boxed(value, word),
         Form::Call(call) => number_call(call, word),
         Form::Clock => word,
     }
+}
+
+/// What stands before a component, in its box.
+#[cycle(slots)]
+fn number_prefix(prefix: &mut Box<TypedName>, word: u32) -> u32
+    ensures tree { name_seen prefix.new.value ≡ name_numbered word (name_seen prefix.old.value) }
+    ensures word { result ≡ name_behind word (name_seen prefix.old.value) }
+{
+    number_name(prefix, word)
 }
 
 #[cycle(slots)]
@@ -71,10 +89,10 @@ fn number_name(name: &mut TypedName, word: u32) -> u32
 {
     match name {
         TypedName::Object { .. } => word,
-        TypedName::Component { whole, offset: _ } => number_name(whole, word),
+        TypedName::Component { whole, offset: _ } => number_prefix(whole, word),
         TypedName::Indexed { array, index, .. } => {
-            let word = number_name(array, word);
-            number_slots(index, word)
+            let word = number_prefix(array, word);
+            number_operand(index, word)
         }
     }
 }
@@ -88,10 +106,20 @@ fn number_value(value: &mut CheckedValue, word: u32) -> u32
     number_slots(&mut value.value, word)
 }
 
+/// A value in its box.
 #[cycle(slots)]
-fn number_values(values: &mut [CheckedValue], word: u32) -> u32
-    ensures tree { values_of (map value_seen values.new) ≡ values_numbered word (values_of (map value_seen values.old)) }
-    ensures word { result ≡ values_behind word (values_of (map value_seen values.old)) }
+fn number_boxed(value: &mut Box<CheckedValue>, word: u32) -> u32
+    ensures tree { value_seen value.new.value ≡ value_numbered word (value_seen value.old.value) }
+    ensures word { result ≡ value_behind word (value_seen value.old.value) }
+{
+    number_value(value, word)
+}
+
+#[cycle(slots)]
+#[tactic(auto, using(crate::proofs::Gathered::values_end_word, crate::proofs::Gathered::values_end_tree))]
+fn number_values(values: &mut Vec<CheckedValue>, word: u32) -> u32
+    ensures tree { values_of (map value_seen values.new.items) ≡ values_numbered word (values_of (map value_seen values.old.items)) }
+    ensures word { result ≡ values_behind word (values_of (map value_seen values.old.items)) }
 {
     let mut behind = word;
     for value in values.iter_mut() {
@@ -116,9 +144,10 @@ fn number_actual(actual: &mut Actual, word: u32) -> u32
 }
 
 #[cycle(slots)]
-fn number_actuals(actuals: &mut [Actual], word: u32) -> u32
-    ensures tree { actuals_of (map actual_seen actuals.new) ≡ actuals_numbered word (actuals_of (map actual_seen actuals.old)) }
-    ensures word { result ≡ actuals_behind word (actuals_of (map actual_seen actuals.old)) }
+#[tactic(auto, using(crate::proofs::Gathered::actuals_end_word, crate::proofs::Gathered::actuals_end_tree))]
+fn number_actuals(actuals: &mut Vec<Actual>, word: u32) -> u32
+    ensures tree { actuals_of (map actual_seen actuals.new.items) ≡ actuals_numbered word (actuals_of (map actual_seen actuals.old.items)) }
+    ensures word { result ≡ actuals_behind word (actuals_of (map actual_seen actuals.old.items)) }
 {
     let mut behind = word;
     for actual in actuals.iter_mut() {
@@ -134,5 +163,5 @@ pub fn number_call(call: &mut TypedCall, word: u32) -> u32
     ensures tree { call_seen call.new ≡ call_numbered word (call_seen call.old) }
     ensures word { result ≡ call_behind word (call_seen call.old) }
 {
-    number_actuals(call.actuals.as_mut_slice(), word)
+    number_actuals(&mut call.actuals, word)
 }

@@ -18,9 +18,10 @@ fn number_piece(piece: &mut Piece, word: u32) -> u32
 }
 
 /// Gives each temporary in what is put its word, from this one on, in the order of the text, and tells the next word.
-pub fn number_pieces(pieces: &mut [Piece], word: u32) -> u32
-    ensures tree { map piece_seen pieces.new ≡ pieces_numbered word (map piece_seen pieces.old) }
-    ensures word { result ≡ pieces_behind word (map piece_seen pieces.old) }
+#[tactic(auto, using(crate::proofs::Gathered::pieces_end_word, crate::proofs::Gathered::pieces_end_tree))]
+pub fn number_pieces(pieces: &mut Vec<Piece>, word: u32) -> u32
+    ensures tree { map piece_seen pieces.new.items ≡ pieces_numbered word (map piece_seen pieces.old.items) }
+    ensures word { result ≡ pieces_behind word (map piece_seen pieces.old.items) }
 {
     let mut behind = word;
     for piece in pieces.iter_mut() {
