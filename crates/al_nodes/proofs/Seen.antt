@@ -1,5 +1,5 @@
 -- Two things that are judged each by itself, as they are seen, and trees by their fields.
-use Rattle.std.proofs.Common.{◌≡◌, ◌<◌, ◌-◌, ℕ, List, [], ◌∷◌, map, length, get_or, Option, Some, None, option_map, Result, Ok, Err, refl, sym, ap, ◌∙◌, arith, lit<}
+use Rattle.std.proofs.Common.{◌≡◌, ◌<◌, ◌-◌, List, [], ◌∷◌, map, length, get_or, Option, Some, None, option_map, Result, Ok, Err, refl, sym, ap, ◌∙◌, arith, lit<}
 use Rattle.al_judged.specs.Judging.{both, seen_by}
 use Rattle.al_judged.specs.declared.fault.Fault.{Fault}
 use Rattle.al_typed.specs.ExpressionTrees.{TypedTree as typed_trees}

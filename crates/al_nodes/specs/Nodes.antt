@@ -1,7 +1,7 @@
 -- A labelled tree with what is known of its value, and how it is put together.
 use Rattle.std.specs.Prelude.{Bool, List, Option, Some, None, Result, Ok, Err, if◌then◌else◌}
 use Rattle.al_base.specs.declared.place.Place.{Place}
-use Rattle.al_judged.specs.Judging.{both, next, seen_by, unless}
+use Rattle.al_judged.specs.Judging.{both, seen_by, unless}
 use Rattle.al_judged.specs.declared.fault.Fault.{Fault}
 use Rattle.al_overload.specs.Meanings.{nothing_fits}
 use Rattle.al_static.specs.Combining.{converted, failure_in, membership}

@@ -1,6 +1,6 @@
 -- Operators with the types of their operands and results.
-use Rattle.std.specs.Prelude.{ℕ, ◌==◌, Bool, true, false, ◌&&◌, List, [], ◌∷◌, Option, Some, None, Result, if◌then◌else◌}
-use Rattle.std.specs.Option.{option_and_then, option_map_or}
+use Rattle.std.specs.Prelude.{ℕ, Bool, true, false, List, [], ◌∷◌, Option, Some, None, if◌then◌else◌}
+use Rattle.std.specs.Option.{option_and_then}
 use Rattle.al_base.specs.declared.place.Place.{Place}
 use Rattle.al_choice.specs.Labelling.{Label}
 use Rattle.al_judged.specs.Judging.{both, seen_by}

@@ -1,5 +1,5 @@
 -- What the program's values are as plain data.
-use Rattle.std.specs.Prelude.{List, map, Result}
+use Rattle.std.specs.Prelude.{map}
 use Rattle.al_judged.specs.Judging.{seen_by}
 use Rattle.al_typed.specs.ExpressionTrees.{ActualTree, NameTree, TypedTree, ValueTree}
 use Rattle.al_typed.specs.ExpressionViews.{actual_seen, name_seen, typed_seen, value_seen}
