@@ -13,7 +13,8 @@ use Rattle.al_view.specs.declared.types.TypeView.{TypeView}
 use Rattle.al_view.specs.declared.view.SubprogramView.{SubprogramView}
 use Rattle.al_nodes.specs.Gathering.{Parts, no_parts}
 use Rattle.al_nodes.specs.Names.{is_variable}
-use Rattle.al_label.specs.Readings.{actual_read, actuals_read, component_read, reading, values_read}
+use Rattle.al_label.specs.Readings.{actuals_read, reading, values_read}
+use Rattle.al_told.specs.Leaves.{actual_read, component_read}
 
 -- a list from one of its elements on
 pub drop_here : {A : Type 0} (xs : List A) (i : ℕ) (x : A) → i < length xs → x ≡ get_or xs i x → drop i xs ≡ x ∷ drop (i + 1) xs

@@ -1,2 +1,1 @@
-pub mod Booleans
 pub mod Gathered

@@ -1,10 +1,9 @@
 -- What the terms of complete contexts are: their labelled trees, or what is wrong with them (ARM 8.6).
-use Rattle.std.specs.Prelude.{Bool, List, Option, Some, None, unwrap_or, Result, Ok, Err}
-use Rattle.std.specs.Option.{option_and_then, option_map_or, option_or}
+use Rattle.std.specs.Prelude.{List, Option, None, Result, Ok, Err}
+use Rattle.std.specs.Option.{option_and_then, option_map_or}
 use Rattle.al_base.specs.declared.place.Place.{Place}
 use Rattle.al_choice.specs.Labelling.{Label}
-use Rattle.al_choice.specs.declared.types.ValueType.{ValueType}
-use Rattle.al_judged.specs.Judging.{both, next, unless}
+use Rattle.al_judged.specs.Judging.{next, unless}
 use Rattle.al_judged.specs.declared.fault.Fault.{Fault}
 use Rattle.al_overload.specs.Meanings.{nothing_fits}
 use Rattle.al_overload.specs.declared.context.Context.{Context}
@@ -15,17 +14,17 @@ use Rattle.al_typed.specs.ExpressionTrees.{ActualTree, CallTree, TypedTree}
 use Rattle.al_view.specs.declared.symbol.Symbol.{Symbol}
 use Rattle.al_view.specs.declared.types.TypeView.{TypeView}
 use Rattle.al_view.specs.declared.view.SubprogramView.{SubprogramView}
-use Rattle.al_heads.specs.Interpreting.{bounds_interpreted, interpreted}
+use Rattle.al_heads.specs.Interpreting.{interpreted}
 use Rattle.al_heads.specs.Parts.{declared_under}
 use Rattle.al_heads.specs.declared.everywhere.Predefined.{Predefined}
 use Rattle.al_heads.specs.declared.part.Nominal.{Nominal}
 use Rattle.al_nodes.specs.Calls.{call_made, unless_variable}
 use Rattle.al_nodes.specs.Gathering.{Parts, no_parts}
-use Rattle.al_picks.specs.Labels.{operand_label}
 use Rattle.al_nodes.specs.Names.{is_variable}
 use Rattle.al_nodes.specs.Nodes.{ReadingTree, judged}
 use Rattle.al_nodes.specs.Operators.{picked_subprogram}
-use Rattle.al_label.specs.Readings.{actuals_read, inner, labelled, operand_type, reading}
+use Rattle.al_label.specs.Readings.{actuals_read, reading}
+use Rattle.al_told.specs.Leaves.{inner}
 
 -- The type at which numbers alone stand in a context: that which it wants, or else the root type.
 abbrev pub stands_at : Predefined → Context → Symbol

@@ -1,5 +1,5 @@
 -- What pairs of bounds and selectors are, with the types that they tell (ARM 3.5, 3.6(18), 5.4(4), 5.5).
-use Rattle.std.specs.Prelude.{ℕ, List, [], Option, Some, None, unwrap_or, Result}
+use Rattle.std.specs.Prelude.{ℕ, List, [], Option, None, unwrap_or, Result}
 use Rattle.al_choice.specs.Labelling.{Label}
 use Rattle.al_judged.specs.Judging.{both, next, seen_by}
 use Rattle.al_judged.specs.declared.fault.Fault.{Fault}
@@ -15,7 +15,7 @@ use Rattle.al_heads.specs.declared.everywhere.Predefined.{Predefined}
 use Rattle.al_nodes.specs.Nodes.{ReadingTree, judged}
 use Rattle.al_label.specs.Contexts.{stands_at}
 use Rattle.al_label.specs.Readings.{operand_read, reading}
-use Rattle.al_label.specs.Told.{TypeTold, among, everywhere, pair_type, range_type, type_told, types_in}
+use Rattle.al_told.specs.Told.{TypeTold, among, everywhere, pair_type, range_type, type_told, types_in}
 use Rattle.al_label.specs.declared.range.FoundType.{FoundType}
 
 -- a type with the types among which it is: nothing where every unit has it

@@ -2,10 +2,8 @@
 #![tactic(auto)]
 
 mod context;
-mod leaf;
 mod range;
 mod reading;
-mod told;
 
 pub use context::{judge_call, judge_target, judge_term, read_call};
 pub use range::{Found, FoundType, Pair, judge_bounds, judge_selector};

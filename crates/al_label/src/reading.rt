@@ -4,17 +4,12 @@ ghost use Rattle.al_choice.specs.Counts.{label_of};
 ghost use Rattle.al_heads.specs.Interpreting.{interpreted};
 ghost use Rattle.al_term.specs.TermViews.{term_seen, terms_of};
 ghost use Rattle.al_nodes.specs.Gathering.{no_parts};
-ghost use Rattle.al_label.specs.Readings.{actual_read, actuals_read, component_read, index_read, indexed_node, inner, operand_read, reading, values_read};
+ghost use Rattle.al_label.specs.Readings.{actuals_read, index_read, operand_read, reading, values_read};
+ghost use Rattle.al_told.specs.Leaves.{actual_read, component_read, indexed_node, inner};
 ghost use Rattle.al_term.specs.Places.{first_place};
 ghost use Rattle.al_nodes.specs.Names.{is_variable};
 ghost use Rattle.al_nodes.specs.Views.{actuals_seen, reading_seen, values_seen};
 
-use crate::leaf::{
-    Application, add_value, aggregate_reading, application, argument_type, attribute_reading,
-    bound_reading, component_of_type, conversion_context, in_mark_reading, length_reading,
-    marked_reading, named_reading, nominal_of, others_reading, qualified_context,
-};
-use crate::told::{are_universal, is_computed, test_type, types_in};
 use al_base::{NoMemory, Place};
 use al_choice::Labelled;
 use al_heads::{Nominal, interpret_term, part_of};
@@ -25,6 +20,12 @@ use al_nodes::{
 use al_overload::Context;
 use al_picks::{how_indexed, operand_label, range_in};
 use al_term::{Term, first_place};
+use al_told::{
+    Application, add_value, aggregate_reading, are_universal, argument_type, attribute_reading,
+    bound_reading, component_of_type, conversion_context, how_applied, in_mark_reading,
+    is_computed, length_reading, marked_reading, named_reading, nominal_of, others_reading,
+    qualified_context, test_type, types_in,
+};
 use al_typed::Conversion;
 use al_view::{SubprogramView, Symbol, Types};
 
@@ -70,7 +71,7 @@ pub(crate) fn read(
         Term::Applied { name, arguments } => {
             let place = first_place(name);
             let arguments = arguments.as_slice();
-            match application(&labeller.predefined.standard, name, label) {
+            match how_applied(&labeller.predefined.standard, name, label) {
                 Application::CallOf(subprogram) => {
                     let actuals = read_actuals(labeller, arguments, subprogram, label)?;
                     labeller.call(place, subprogram, actuals)

@@ -30,7 +30,7 @@ use Rattle.al_heads.specs.declared.everywhere.Predefined.{Predefined}
 use Rattle.al_nodes.specs.Gathering.{Parts, no_parts, with_part}
 use Rattle.al_nodes.specs.Operators.{picked_subprogram}
 use Rattle.al_label.specs.Contexts.{call_read, term_judged}
-use Rattle.al_label.specs.Readings.{mark_type}
+use Rattle.al_told.specs.Leaves.{mark_type}
 
 -- ---- what is put
 

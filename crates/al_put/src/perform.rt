@@ -1,15 +1,15 @@
 // Calls as statements (ARM 6.4, 9.5.3, A.10.7).
-ghost use Rattle.std.specs.Prelude.{◌≡◌, IfOk, option_map, map};
+ghost use Rattle.std.specs.Prelude.{◌≡◌, IfOk, option_map};
 ghost use Rattle.std.specs.Option.{option_copied};
 ghost use Rattle.al_choice.specs.Counts.{label_of};
 ghost use Rattle.al_judged.specs.Judging.{seen_by};
-ghost use Rattle.al_term.specs.TermViews.{term_seen, terms_of};
-ghost use Rattle.al_put.specs.Puts.{argument_read, arguments_of, called, ends_line, performed, performed_by, performed_read, put_judged, visible_under};
+ghost use Rattle.al_term.specs.TermViews.{term_seen};
+ghost use Rattle.al_put.specs.Puts.{called, ends_line, performed, performed_by, performed_read, put_judged, visible_under};
 ghost use Rattle.al_put.specs.Seen.{performed_seen, pieces_seen};
 ghost use Rattle.al_typed.specs.ExpressionViews.{call_seen};
 ghost use Rattle.al_typed.specs.StatementTrees.{StatementFormTree as forms};
 
-use crate::text::{Pieces, read_argument};
+use crate::text::{Pieces, read_pieces};
 use al_base::NoMemory;
 use al_choice::Labelled;
 use al_heads::{declared_under, interpret_term};
@@ -58,36 +58,6 @@ fn visible_under(term: &Term) -> Option<&[View]>
         Term::Aggregate { .. } => None,
         Term::Others { .. } => None,
         Term::Nothing { .. } => None,
-    }
-}
-
-/// The arguments of a call.
-#[tactic(auto, using(al_nodes::proofs::TermsSeen::terms_made))]
-fn arguments_of(term: &Term) -> &[Term]
-    ensures { terms_of (map term_seen result.now) ≡ arguments_of (term_seen term.now) }
-{
-    match term {
-        Term::Applied { name: _, arguments } => arguments.as_slice(),
-        Term::Named { .. } => &[],
-        Term::Number { .. } => &[],
-        Term::Text { .. } => &[],
-        Term::Selected { .. } => &[],
-        Term::Bound { .. } => &[],
-        Term::Length { .. } => &[],
-        Term::Conversion { .. } => &[],
-        Term::Qualified { .. } => &[],
-        Term::Attribute { .. } => &[],
-        Term::Image { .. } => &[],
-        Term::Prefixed { .. } => &[],
-        Term::Infix { .. } => &[],
-        Term::Concatenation { .. } => &[],
-        Term::ShortCircuit { .. } => &[],
-        Term::Member { .. } => &[],
-        Term::RangeMember { .. } => &[],
-        Term::Group { .. } => &[],
-        Term::Aggregate { .. } => &[],
-        Term::Others { .. } => &[],
-        Term::Nothing { .. } => &[],
     }
 }
 
@@ -152,7 +122,7 @@ fn perform(
 {
     match &subprogram.call {
         CallKind::Predefined => {
-            let pieces = read_argument(labeller, arguments_of(term))?;
+            let pieces = read_pieces(labeller, term)?;
             Ok(put(subprogram.symbol.name.as_slice(), pieces))
         }
         CallKind::Subprogram { .. } => {

@@ -7,7 +7,7 @@ ghost use Rattle.al_typed.specs.ExpressionViews.{typed_seen};
 ghost use Rattle.al_typed.specs.StatementTrees.PieceTree.{TextPiece};
 ghost use Rattle.al_typed.specs.StatementViews.{piece_seen};
 ghost use Rattle.al_nodes.specs.Gathering.{no_parts, with_part};
-ghost use Rattle.al_put.specs.Puts.{argument_read, image, image_judged, image_of, text_read, upper};
+ghost use Rattle.al_put.specs.Puts.{argument_read, arguments_of, image, image_judged, image_of, text_read, upper};
 ghost use Rattle.al_put.specs.Seen.{pieces_seen};
 
 use al_base::{Name, NoMemory, Place};
@@ -180,13 +180,45 @@ fn read_text(labeller: &Labeller, term: &Term, pieces: &mut Pieces) -> Result<()
 }
 
 /// The pieces of the first argument, if there is one.
-pub(crate) fn read_argument(labeller: &Labeller, arguments: &[Term]) -> Result<Pieces, NoMemory>
+fn read_argument(labeller: &Labeller, arguments: &[Term]) -> Result<Pieces, NoMemory>
     ensures { IfOk result (λ pieces. pieces_seen pieces ≡ argument_read labeller.now.predefined labeller.now.own (terms_of (map term_seen arguments.now))) }
 {
-    let mut pieces = Pieces::none(labeller.alloc);
     match arguments {
-        [] => {}
-        [first, ..] => read_text(labeller, first, &mut pieces)?,
+        [] => Ok(Pieces::none(labeller.alloc)),
+        [first, ..] => {
+            let mut pieces = Pieces::none(labeller.alloc);
+            read_text(labeller, first, &mut pieces)?;
+            Ok(pieces)
+        }
     }
-    Ok(pieces)
+}
+
+/// The pieces that a call puts.
+#[tactic(auto, using(al_nodes::proofs::TermsSeen::terms_made))]
+pub(crate) fn read_pieces(labeller: &Labeller, call: &Term) -> Result<Pieces, NoMemory>
+    ensures { IfOk result (λ pieces. pieces_seen pieces ≡ argument_read labeller.now.predefined labeller.now.own (arguments_of (term_seen call.now))) }
+{
+    match call {
+        Term::Applied { name: _, arguments } => read_argument(labeller, arguments.as_slice()),
+        Term::Number { .. } => Ok(Pieces::none(labeller.alloc)),
+        Term::Text { .. } => Ok(Pieces::none(labeller.alloc)),
+        Term::Named { .. } => Ok(Pieces::none(labeller.alloc)),
+        Term::Selected { .. } => Ok(Pieces::none(labeller.alloc)),
+        Term::Bound { .. } => Ok(Pieces::none(labeller.alloc)),
+        Term::Length { .. } => Ok(Pieces::none(labeller.alloc)),
+        Term::Conversion { .. } => Ok(Pieces::none(labeller.alloc)),
+        Term::Qualified { .. } => Ok(Pieces::none(labeller.alloc)),
+        Term::Attribute { .. } => Ok(Pieces::none(labeller.alloc)),
+        Term::Image { .. } => Ok(Pieces::none(labeller.alloc)),
+        Term::Prefixed { .. } => Ok(Pieces::none(labeller.alloc)),
+        Term::Infix { .. } => Ok(Pieces::none(labeller.alloc)),
+        Term::Concatenation { .. } => Ok(Pieces::none(labeller.alloc)),
+        Term::ShortCircuit { .. } => Ok(Pieces::none(labeller.alloc)),
+        Term::Member { .. } => Ok(Pieces::none(labeller.alloc)),
+        Term::RangeMember { .. } => Ok(Pieces::none(labeller.alloc)),
+        Term::Group { .. } => Ok(Pieces::none(labeller.alloc)),
+        Term::Aggregate { .. } => Ok(Pieces::none(labeller.alloc)),
+        Term::Others { .. } => Ok(Pieces::none(labeller.alloc)),
+        Term::Nothing { .. } => Ok(Pieces::none(labeller.alloc)),
+    }
 }

@@ -7,6 +7,6 @@ use Rattle.al_slots.proofs.pieces.number_pieces.Given as goal
 
 abbrev pub invariant-loop-piece : goal.invariant-loop-piece
 invariant-loop-piece l =
-    (length l.pieces.items ≡ length l.initial.pieces.items)
-    × ((k : ℕ) (d : Piece) → l.piece-index ≤ k → get_or l.pieces.items k d ≡ get_or l.initial.pieces.items k d)
-    × ((l.behind, map piece_seen (take l.piece-index l.pieces.items)) ≡ fold with_piece (l.word, []) (take l.piece-index l.initial.pieces.items))
+    (length l.piece-items ≡ length l.initial.piece-items)
+    × ((k : ℕ) (d : Piece) → l.piece-index ≤ k → get_or l.piece-items k d ≡ get_or l.initial.piece-items k d)
+    × ((l.behind, map piece_seen (take l.piece-index l.piece-items)) ≡ fold with_piece (l.word, []) (take l.piece-index l.initial.piece-items))

@@ -7,8 +7,8 @@ ghost use Rattle.al_judged.specs.Judging.{seen_by};
 ghost use Rattle.al_overload.specs.declared.context.Context.TheVariants as contexts;
 ghost use Rattle.al_term.specs.TermViews.{term_seen};
 ghost use Rattle.al_typed.specs.ExpressionViews.{form_seen, typed_seen, value_seen};
-ghost use Rattle.al_label.specs.Seen.{application_seen};
-ghost use Rattle.al_label.specs.Readings.{aggregate_node, application, applied_view, argument_check, argument_type, attribute_node, bound_node, bound_word, candidate_node, checked, component_in, component_of_type, in_bounds_node, in_mark_node, length_node, mark_node, mark_type, named_node, others_form, others_of, view_node, with_value};
+ghost use Rattle.al_told.specs.Seen.{application_seen};
+ghost use Rattle.al_told.specs.Leaves.{aggregate_node, application, applied_view, argument_check, argument_type, attribute_node, bound_node, bound_word, candidate_node, checked, component_in, component_of_type, in_bounds_node, in_mark_node, length_node, mark_node, mark_type, named_node, others_form, others_of, view_node, with_value};
 ghost use Rattle.al_nodes.specs.Views.{reading_seen, values_seen};
 
 use crate::told::is_position;
@@ -31,7 +31,7 @@ use al_view::{
 use std::alloc::Global;
 
 /// What stands behind a name: arguments of a call, an index of an object, or an index of a part of one.
-pub(crate) enum Application<'a> {
+pub enum Application<'a> {
     CallOf(&'a SubprogramView),
     ElementOf(&'a ObjectView),
     ElementOfPart(&'a Subtype, &'a Types),
@@ -66,7 +66,7 @@ fn applied_view(view: &ViewKind, _candidate: usize) -> Application<'_>
 }
 
 /// What stands behind a name, by what that denotes.
-pub(crate) fn application<'a>(
+pub fn how_applied<'a>(
     standard: &'a StandardTypes,
     prefix: &'a Term,
     label: &Labelled,
@@ -105,7 +105,7 @@ fn component_in(position: usize, definition: &TypeDefinition) -> Option<&Subtype
     }
 }
 
-pub(crate) fn component_of_type<'a>(
+pub fn component_of_type<'a>(
     standard: &'a StandardTypes,
     types: &'a Types,
     at: &Symbol,
@@ -120,7 +120,7 @@ pub(crate) fn component_of_type<'a>(
 }
 
 /// Where an attribute's argument stands.
-pub(crate) fn argument_type<'a>(
+pub fn argument_type<'a>(
     root: &'a Symbol,
     conversion: Conversion,
     mark: &'a SubtypeView,
@@ -168,11 +168,7 @@ fn checked(range: Option<Bounds>, value: Judged<Typed>) -> Judged<CheckedValue>
 }
 
 /// One more component of an aggregate.
-pub(crate) fn add_value(
-    values: &mut Values,
-    range: Option<Bounds>,
-    value: Reading,
-) -> Result<(), NoMemory>
+pub fn add_value(values: &mut Values, range: Option<Bounds>, value: Reading) -> Result<(), NoMemory>
     ensures { OnOk result (values_seen values.new ≡ with_value (values_seen values.old) range (reading_seen value)) }
 {
     let failure = value.known.failure();
@@ -197,7 +193,7 @@ fn others_form(
 }
 
 /// The first or the last value of a subtype.
-pub(crate) fn bound_reading(
+pub fn bound_reading(
     labeller: &Labeller,
     place: Place,
     mark: &SubtypeView,
@@ -216,7 +212,7 @@ pub(crate) fn bound_reading(
     }
 }
 
-pub(crate) fn length_reading(
+pub fn length_reading(
     labeller: &Labeller,
     place: Place,
     types: &Types,
@@ -259,7 +255,7 @@ fn view_reading(
 }
 
 /// A name alone.
-pub(crate) fn named_reading(
+pub fn named_reading(
     labeller: &Labeller,
     place: Place,
     visible: &[View],
@@ -280,7 +276,7 @@ pub(crate) fn named_reading(
 }
 
 /// `S'Pos (X)`, `S'Val (X)`, `S'Succ (X)` or `S'Pred (X)`.
-pub(crate) fn attribute_reading(
+pub fn attribute_reading(
     labeller: &Labeller,
     place: Place,
     conversion: Conversion,
@@ -300,7 +296,7 @@ pub(crate) fn attribute_reading(
 }
 
 /// A conversion to this subtype, or a qualified expression of it.
-pub(crate) fn marked_reading(
+pub fn marked_reading(
     labeller: &Labeller,
     place: Place,
     conversion: Conversion,
@@ -314,10 +310,7 @@ pub(crate) fn marked_reading(
     labeller.conversion(place, &mark.types, base, range, conversion, range, operand)
 }
 
-pub(crate) fn conversion_context(
-    labeller: &Labeller,
-    mark: &SubtypeView,
-) -> Result<Context, NoMemory>
+pub fn conversion_context(labeller: &Labeller, mark: &SubtypeView) -> Result<Context, NoMemory>
     ensures { IfOk result (λ context. context ≡ contexts.ConversionOperand (mark_type mark.now)) }
 {
     let standard = &labeller.predefined.standard;
@@ -325,10 +318,7 @@ pub(crate) fn conversion_context(
     Ok(Context::ConversionOperand(of))
 }
 
-pub(crate) fn qualified_context(
-    labeller: &Labeller,
-    mark: &SubtypeView,
-) -> Result<Context, NoMemory>
+pub fn qualified_context(labeller: &Labeller, mark: &SubtypeView) -> Result<Context, NoMemory>
     ensures { IfOk result (λ context. context ≡ contexts.QualifiedOperand (mark_type mark.now)) }
 {
     let standard = &labeller.predefined.standard;
@@ -337,10 +327,7 @@ pub(crate) fn qualified_context(
 }
 
 /// What an aggregate may be of behind a mark.
-pub(crate) fn nominal_of(
-    labeller: &Labeller,
-    mark: &SubtypeView,
-) -> Result<Option<Nominal>, NoMemory>
+pub fn nominal_of(labeller: &Labeller, mark: &SubtypeView) -> Result<Option<Nominal>, NoMemory>
     ensures { IfOk result (λ allowed. allowed ≡ Some (nominal mark.now.types mark.now.subtype)) }
 {
     let subtype = mark.subtype.copy(labeller.alloc)?;
@@ -349,7 +336,7 @@ pub(crate) fn nominal_of(
 }
 
 /// `value [not] in mark`
-pub(crate) fn in_mark_reading(
+pub fn in_mark_reading(
     labeller: &Labeller,
     place: Place,
     is_negated: bool,
@@ -368,7 +355,7 @@ pub(crate) fn in_mark_reading(
 }
 
 /// A positional aggregate.
-pub(crate) fn aggregate_reading(
+pub fn aggregate_reading(
     labeller: &Labeller,
     place: Place,
     types: &Types,
@@ -383,7 +370,7 @@ pub(crate) fn aggregate_reading(
 }
 
 /// `(others => value)`
-pub(crate) fn others_reading(
+pub fn others_reading(
     labeller: &Labeller,
     place: Place,
     types: &Types,

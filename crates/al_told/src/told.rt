@@ -5,8 +5,8 @@ ghost use Rattle.al_choice.specs.Counts.{label_of};
 ghost use Rattle.al_heads.specs.Parts.{declared_under, nominal, part_of};
 ghost use Rattle.al_heads.specs.Universal.{computes_one, computes_two, is_number, is_position, is_sole_number, is_universal};
 ghost use Rattle.al_term.specs.TermViews.{term_seen};
-ghost use Rattle.al_label.specs.Seen.{told_seen};
-ghost use Rattle.al_label.specs.Told.{among, attribute_type, everywhere, mark_told, operand_type, operator_type, pair_type, part_type, range_type, result_of, test_type, type_of_view, type_picked, type_told, types_in};
+ghost use Rattle.al_told.specs.Seen.{told_seen};
+ghost use Rattle.al_told.specs.Told.{among, attribute_type, everywhere, mark_told, operand_type, operator_type, pair_type, part_type, range_type, result_of, test_type, type_of_view, type_picked, type_told, types_in};
 
 use al_choice::Labelled;
 use al_heads::{declared_under, part_of};
@@ -71,7 +71,7 @@ fn is_sole_number(visible: &[View]) -> bool
     }
 }
 
-pub(crate) fn is_position(conversion: Conversion) -> bool
+pub fn is_position(conversion: Conversion) -> bool
     ensures { result ≡ is_position conversion }
 {
     matches!(conversion, Conversion::Pos)
@@ -118,12 +118,12 @@ fn is_universal(term: &Term) -> bool
 
 /// A type that an expression tells, and the types among which it is; none where it is one that every unit has.
 #[derive(Drop)]
-pub(crate) struct TypeTold<'a> {
-    pub(crate) of: &'a Symbol,
-    pub(crate) types: Option<&'a Types>,
+pub struct TypeTold<'a> {
+    pub of: &'a Symbol,
+    pub types: Option<&'a Types>,
 }
 
-pub(crate) fn among<'a>(types: &'a Types, of: &'a Symbol) -> TypeTold<'a>
+pub fn among<'a>(types: &'a Types, of: &'a Symbol) -> TypeTold<'a>
     ensures { told_seen result ≡ among types.now of.now }
 {
     TypeTold {
@@ -132,7 +132,7 @@ pub(crate) fn among<'a>(types: &'a Types, of: &'a Symbol) -> TypeTold<'a>
     }
 }
 
-pub(crate) fn everywhere(of: &Symbol) -> TypeTold<'_>
+pub fn everywhere(of: &Symbol) -> TypeTold<'_>
     ensures { told_seen result ≡ everywhere of.now }
 {
     TypeTold { of, types: None }
@@ -247,7 +247,7 @@ fn applied_type<'a>(
 
 /// The type that an expression tells by itself: none where it is of numbers alone, an aggregate or text.
 #[tactic(auto, using(al_nodes::proofs::TermsSeen::terms_made))]
-pub(crate) fn type_told<'a>(
+pub fn type_told<'a>(
     labeller: &'a Labeller,
     term: &'a Term,
     label: &Labelled,
@@ -304,7 +304,7 @@ pub(crate) fn type_told<'a>(
 }
 
 /// Whether an operator in front and its operand are numbers alone.
-pub(crate) fn is_computed(operator: UnaryOperator, operand: &Term) -> bool
+pub fn is_computed(operator: UnaryOperator, operand: &Term) -> bool
     ensures { result ≡ (computes_one operator && is_universal (term_seen operand.now)) }
 {
     computes_one(operator) && is_universal(operand)
@@ -312,7 +312,7 @@ pub(crate) fn is_computed(operator: UnaryOperator, operand: &Term) -> bool
 
 /// Whether an operator and its operands are numbers alone.
 #[tactic(auto, using(crate::proofs::Booleans::and_false, crate::proofs::Booleans::and_true))]
-pub(crate) fn are_universal(operator: BinaryOperator, left: &Term, right: &Term) -> bool
+pub fn are_universal(operator: BinaryOperator, left: &Term, right: &Term) -> bool
     ensures { result ≡ (computes_two operator && (is_universal (term_seen left.now) && is_universal (term_seen right.now))) }
 {
     computes_two(operator) && is_universal(right) && is_universal(left)
@@ -332,7 +332,7 @@ fn operand_type<'a>(
 }
 
 /// The types among which it is; those that are known here, where every unit has it.
-pub(crate) fn types_in<'a>(known: &'a Types, told: &TypeTold<'a>) -> &'a Types
+pub fn types_in<'a>(known: &'a Types, told: &TypeTold<'a>) -> &'a Types
     ensures { result.now ≡ types_in known.now (told_seen told.now) }
 {
     match told.types {
@@ -342,7 +342,7 @@ pub(crate) fn types_in<'a>(known: &'a Types, told: &TypeTold<'a>) -> &'a Types
 }
 
 /// The type of the operands of a membership test: that of the first of them that tells one; Integer where all are of numbers alone.
-pub(crate) fn test_type<'a>(
+pub fn test_type<'a>(
     labeller: &'a Labeller,
     value: &'a Term,
     low: &'a Term,
@@ -364,7 +364,7 @@ pub(crate) fn test_type<'a>(
 }
 
 /// The same of a pair of bounds, which have this type where both are of numbers alone.
-pub(crate) fn pair_type<'a>(
+pub fn pair_type<'a>(
     labeller: &'a Labeller,
     otherwise: TypeTold<'a>,
     low: &'a Term,
@@ -383,7 +383,7 @@ pub(crate) fn pair_type<'a>(
 }
 
 /// A range of the root type is of Integer (ARM 3.6(18)).
-pub(crate) fn range_type<'a>(labeller: &'a Labeller, told: TypeTold<'a>) -> TypeTold<'a>
+pub fn range_type<'a>(labeller: &'a Labeller, told: TypeTold<'a>) -> TypeTold<'a>
     ensures { told_seen result ≡ range_type labeller.now.predefined (told_seen told.entry) }
 {
     if told.of.is(&labeller.predefined.root) {

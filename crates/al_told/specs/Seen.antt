@@ -1,11 +1,11 @@
 -- What the program's values are as plain data.
 use Rattle.std.specs.Option.{option_copied}
 use Rattle.al_heads.specs.Parts.{nominal}
-use Rattle.al_label.specs.declared.leaf.Application.{Application}
-use Rattle.al_label.specs.declared.leaf.Application.TheVariants as a
-use Rattle.al_label.specs.declared.told.TypeTold.{TypeTold}
-use Rattle.al_label.specs.Readings.{Application as plain, Application as made}
-use Rattle.al_label.specs.Told.{TypeTold as types_told, told}
+use Rattle.al_told.specs.declared.leaf.Application.{Application}
+use Rattle.al_told.specs.declared.leaf.Application.TheVariants as a
+use Rattle.al_told.specs.declared.told.TypeTold.{TypeTold}
+use Rattle.al_told.specs.Leaves.{Application as plain, Application as made}
+use Rattle.al_told.specs.Told.{TypeTold as types_told, told}
 
 abbrev pub application_seen : Application → plain
 application_seen (a.CallOf s) = made.CallOf s.now
