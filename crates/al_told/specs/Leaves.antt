@@ -11,7 +11,6 @@ use Rattle.al_overload.specs.Meanings.{nothing_fits}
 use Rattle.al_predefined.specs.StandardTypes.{type_of}
 use Rattle.al_static.specs.Combining.{failure_in}
 use Rattle.al_static.specs.declared.knowledge.Known.TheVariants.{Open}
-use Rattle.al_term.specs.Terms.{TermsTree as terms}
 use Rattle.al_typed.specs.ExpressionTrees.{TypedTree, FormTree, ValueTree, ActualTree}
 use Rattle.al_typed.specs.ExpressionTrees.FormTree.{AggregateForm, OthersForm}
 use Rattle.al_typed.specs.ExpressionTrees.ValueTree.{Checked}
