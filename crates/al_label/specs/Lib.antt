@@ -1,0 +1,4 @@
+pub mod Readings
+pub mod Contexts
+pub mod Ranges
+pub mod RangesSeen

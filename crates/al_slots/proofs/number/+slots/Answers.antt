@@ -1,0 +1,44 @@
+use Rattle.std.proofs.Common.{◌≡◌, ℕ, [], map, take, List, length, ap, sym, subst, ◌∙◌, arith}
+use Rattle.std.specs.Prelude.{fold}
+use Rattle.std.proofs.lemmas.List.{with_items_is}
+use Rattle.al_typed.specs.ExpressionViews.{actual_seen, actuals_of, value_seen, values_of}
+use Rattle.al_typed.specs.declared.expression.Actual.{Actual}
+use Rattle.al_typed.specs.declared.expression.CheckedValue.{CheckedValue}
+use Rattle.al_slots.proofs.Gathered.{actuals_end_tree, actuals_end_word, values_end_tree, values_end_word, with_actual, with_value}
+use Rattle.al_slots.proofs.number.+slots.Goals as goal
+
+pub number_values-returns-clause-word : goal.number_values-returns-clause-word
+number_values-returns-clause-word t c =
+    let e : c.deref_mut-value-items.result.now ≡ c.args.values.now.items = c.deref_mut-value-items.ensures.value in
+    values_end_word c.args.word c.loop-value.behind c.loop-value.value-index c.loop-value.value-items c.args.values.now.items
+    (subst (λ (zs : List CheckedValue). (c.loop-value.behind, map value_seen (take c.loop-value.value-index c.loop-value.value-items)) ≡ fold with_value (c.args.word, []) (take c.loop-value.value-index zs)) e c.loop-value.invariant.1)
+    (omega (arith, ap length e))
+
+pub number_values-returns-clause-tree : goal.number_values-returns-clause-tree
+number_values-returns-clause-tree t c =
+    let e : c.deref_mut-value-items.result.now ≡ c.args.values.now.items = c.deref_mut-value-items.ensures.value in
+    ap (λ (zs : List CheckedValue). values_of (map value_seen zs)) (with_items_is c.args.values.now c.loop-value.value-items (omega (arith, ap length e, c.args.values.now.ok.0, c.loop-value.invariant.0.0)))
+    ∙ values_end_tree c.args.word c.loop-value.behind c.loop-value.value-index c.loop-value.value-items c.args.values.now.items
+    (subst (λ (zs : List CheckedValue). (c.loop-value.behind, map value_seen (take c.loop-value.value-index c.loop-value.value-items)) ≡ fold with_value (c.args.word, []) (take c.loop-value.value-index zs)) e c.loop-value.invariant.1)
+    (omega (arith, ap length e)) (omega (arith, ap length e, c.loop-value.invariant.0.0))
+
+pub number_actuals-returns-clause-word : goal.number_actuals-returns-clause-word
+number_actuals-returns-clause-word t c =
+    let e : c.deref_mut-actual-items.result.now ≡ c.args.actuals.now.items = c.deref_mut-actual-items.ensures.value in
+    actuals_end_word c.args.word c.loop-actual.behind c.loop-actual.actual-index c.loop-actual.actual-items c.args.actuals.now.items
+    (subst (λ (zs : List Actual). (c.loop-actual.behind, map actual_seen (take c.loop-actual.actual-index c.loop-actual.actual-items)) ≡ fold with_actual (c.args.word, []) (take c.loop-actual.actual-index zs)) e c.loop-actual.invariant.1)
+    (omega (arith, ap length e))
+
+pub number_actuals-returns-clause-tree : goal.number_actuals-returns-clause-tree
+number_actuals-returns-clause-tree t c =
+    let e : c.deref_mut-actual-items.result.now ≡ c.args.actuals.now.items = c.deref_mut-actual-items.ensures.value in
+    ap (λ (zs : List Actual). actuals_of (map actual_seen zs)) (with_items_is c.args.actuals.now c.loop-actual.actual-items (omega (arith, ap length e, c.args.actuals.now.ok.0, c.loop-actual.invariant.0.0)))
+    ∙ actuals_end_tree c.args.word c.loop-actual.behind c.loop-actual.actual-index c.loop-actual.actual-items c.args.actuals.now.items
+    (subst (λ (zs : List Actual). (c.loop-actual.behind, map actual_seen (take c.loop-actual.actual-index c.loop-actual.actual-items)) ≡ fold with_actual (c.args.word, []) (take c.loop-actual.actual-index zs)) e c.loop-actual.invariant.1)
+    (omega (arith, ap length e)) (omega (arith, ap length e, c.loop-actual.invariant.0.0))
+
+pub number_form-returns-in-Unary-clause-tree : goal.number_form-returns-in-Unary-clause-tree
+number_form-returns-in-Unary-clause-tree t c = let h = c.in-Unary in ?
+
+pub number_form-returns-in-Binary-clause-tree : goal.number_form-returns-in-Binary-clause-tree
+number_form-returns-in-Binary-clause-tree t c = let h = c.in-Binary in ?
