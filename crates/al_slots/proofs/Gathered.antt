@@ -2,9 +2,9 @@
 use Rattle.std.proofs.Common.{◌≡◌, ◌≤◌, ◌++◌, ℕ, List, [], ◌∷◌, map, length, take, refl, sym, ap, ◌∙◌}
 use Rattle.std.proofs.lemmas.List.{append-nil, append_assoc, take_all}
 use Rattle.std.specs.Prelude.{fold}
-use Rattle.al_typed.specs.ExpressionTrees.{ActualTree, ActualsTree, ValueTree, ValuesTree}
-use Rattle.al_typed.specs.ExpressionTrees.ActualsTree.{NoActual, MoreActuals}
-use Rattle.al_typed.specs.ExpressionTrees.ValuesTree.{NoValue, MoreValues}
+use Rattle.al_typed.specs.ExpressionTrees.{ActualTree, ValueTree}
+use Rattle.al_typed.specs.ExpressionTrees.ActualsTree.{MoreActuals}
+use Rattle.al_typed.specs.ExpressionTrees.ValuesTree.{MoreValues}
 use Rattle.al_typed.specs.ExpressionViews.{actual_seen, actuals_of, value_seen, values_of}
 use Rattle.al_typed.specs.Listed.{listed}
 use Rattle.al_typed.specs.declared.expression.Actual.{Actual}

@@ -1,3 +1,4 @@
+pub mod Changed
 pub mod Gathered
 pub mod Layers
 pub mod Runs

@@ -43,18 +43,18 @@ fn number_form(form: &mut Form, word: u32) -> u32
     match form {
         Form::Literal(_) => word,
         Form::Named(name) => number_name(name, word),
-        Form::Unary(_, operand) => number_operand(operand, word),
-        Form::Binary(_, left, right) => {
+        Form::Unary(_operator, operand) => number_operand(operand, word),
+        Form::Binary(_operator, left, right) => {
             let word = number_operand(left, word);
             number_operand(right, word)
         }
-        Form::ShortCircuit(_, left, right) => {
+        Form::ShortCircuit(_operator, left, right) => {
             let word = number_operand(left, word);
             number_operand(right, word)
         }
         Form::Membership {
             value,
-            is_negated: _,
+            is_negated: _is_negated,
             low,
             high,
             slot,
@@ -64,9 +64,9 @@ fn number_form(form: &mut Form, word: u32) -> u32
             let word = number_operand(low, word);
             number_operand(high, word)
         }
-        Form::Converted(_, value) => number_boxed(value, word),
+        Form::Converted(_conversion, value) => number_boxed(value, word),
         Form::Aggregate(values) => number_values(values, word),
-        Form::Others(_, value) => number_boxed(value, word),
+        Form::Others(_count, value) => number_boxed(value, word),
         Form::Call(call) => number_call(call, word),
         Form::Clock => word,
     }

@@ -1,7 +1,9 @@
-use Rattle.std.proofs.Common.{◌≡◌, ℕ, [], map, take, List, length, ap, sym, subst, ◌∙◌, arith}
+use Rattle.std.proofs.Common.{◌≡◌, [], map, take, List, length, ap, subst, ◌∙◌, arith, rules}
 use Rattle.std.specs.Prelude.{fold}
 use Rattle.std.proofs.lemmas.List.{with_items_is}
-use Rattle.al_typed.specs.ExpressionViews.{actual_seen, actuals_of, value_seen, values_of}
+use Rattle.al_typed.specs.ExpressionViews.{actual_seen, actuals_of, typed_seen, value_seen, values_of}
+use Rattle.al_slots.specs.Slots.{behind, next_word, numbered}
+use Rattle.al_slots.proofs.Changed.{binary_changed, converted_changed, membership_changed, others_changed, short_circuit_changed, unary_changed}
 use Rattle.al_typed.specs.declared.expression.Actual.{Actual}
 use Rattle.al_typed.specs.declared.expression.CheckedValue.{CheckedValue}
 use Rattle.al_slots.proofs.Gathered.{actuals_end_tree, actuals_end_word, values_end_tree, values_end_word, with_actual, with_value}
@@ -38,7 +40,30 @@ number_actuals-returns-clause-tree t c =
     (omega (arith, ap length e)) (omega (arith, ap length e, c.loop-actual.invariant.0.0))
 
 pub number_form-returns-in-Unary-clause-tree : goal.number_form-returns-in-Unary-clause-tree
-number_form-returns-in-Unary-clause-tree t c = let h = c.in-Unary in ?
+number_form-returns-in-Unary-clause-tree t c = search (rules, unary_changed)
 
 pub number_form-returns-in-Binary-clause-tree : goal.number_form-returns-in-Binary-clause-tree
-number_form-returns-in-Binary-clause-tree t c = let h = c.in-Binary in ?
+number_form-returns-in-Binary-clause-tree t c =
+    let a : typed_seen c.number_operand-word.new.operand.value ≡ numbered c.args.word (typed_seen c.in-Binary.left.value) = search rules in
+    let w : c.number_operand-word.result ≡ behind c.args.word (typed_seen c.in-Binary.left.value) = search rules in
+    let b : typed_seen c.number_operand-in-Binary.new.operand.value ≡ numbered c.number_operand-word.result (typed_seen c.in-Binary.right.value) = search rules in
+    search (rules, binary_changed)
+
+pub number_form-returns-in-ShortCircuit-clause-tree : goal.number_form-returns-in-ShortCircuit-clause-tree
+number_form-returns-in-ShortCircuit-clause-tree t c = search (rules, short_circuit_changed)
+
+pub number_form-returns-in-Membership-clause-tree : goal.number_form-returns-in-Membership-clause-tree
+number_form-returns-in-Membership-clause-tree t c =
+    let n : c.next.result ≡ next_word c.args.word = search rules in
+    let a : typed_seen c.number_operand-word-in-Membership.new.operand.value ≡ numbered c.next.result (typed_seen c.in-Membership.value.value) = search rules in
+    let w : c.number_operand-word-in-Membership.result ≡ behind c.next.result (typed_seen c.in-Membership.value.value) = search rules in
+    let b : typed_seen c.number_operand-word-in-Membership-2.new.operand.value ≡ numbered c.number_operand-word-in-Membership.result (typed_seen c.in-Membership.low.value) = search rules in
+    let v : c.number_operand-word-in-Membership-2.result ≡ behind c.number_operand-word-in-Membership.result (typed_seen c.in-Membership.low.value) = search rules in
+    let d : typed_seen c.number_operand-in-Membership.new.operand.value ≡ numbered c.number_operand-word-in-Membership-2.result (typed_seen c.in-Membership.high.value) = search rules in
+    search (rules, membership_changed)
+
+pub number_form-returns-in-Converted-clause-tree : goal.number_form-returns-in-Converted-clause-tree
+number_form-returns-in-Converted-clause-tree t c = search (rules, converted_changed)
+
+pub number_form-returns-in-Others-clause-tree : goal.number_form-returns-in-Others-clause-tree
+number_form-returns-in-Others-clause-tree t c = search (rules, others_changed)

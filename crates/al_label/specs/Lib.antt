@@ -1,4 +1,0 @@
-pub mod Readings
-pub mod Contexts
-pub mod Ranges
-pub mod RangesSeen

@@ -1,9 +1,0 @@
-//! The labelled tree of a term and its labelling (ARM 8.6).
-#![tactic(auto)]
-
-mod context;
-mod range;
-mod reading;
-
-pub use context::{judge_call, judge_target, judge_term, read_call};
-pub use range::{Found, FoundType, Pair, judge_bounds, judge_selector};
