@@ -1,0 +1,13 @@
+use Rattle.std.proofs.Common.{◌≡◌, length, map}
+use Rattle.al_keys.specs.Keys.{denoted}
+use Rattle.al_judged.specs.Judging.{seen_by}
+use Rattle.al_readings.specs.TermLists.{all_seen}
+use Rattle.al_terms.specs.Texts.{read_more}
+use Rattle.al_tree.specs.ExpressionViews.{expression_seen, expressions_of}
+use Rattle.al_terms.proofs.text.+text.Given as goal
+
+abbrev pub invariant-read_more-loop-rest : goal.invariant-read_more-loop-rest
+invariant-read_more-loop-rest l = read_more (denoted l.names) (seen_by all_seen l.done) (expressions_of (map expression_seen l.rest)) ≡ read_more (denoted l.names) (seen_by all_seen l.fn.first) (expressions_of (map expression_seen l.fn.others))
+
+abbrev pub decreases-read_more-loop-rest : goal.decreases-read_more-loop-rest
+decreases-read_more-loop-rest l = length l.rest

@@ -1,0 +1,8 @@
+//! The term of an expression's text, by what its names denote; E401 and E404 (ARM 4.1 to 4.7).
+#![tactic(auto)]
+
+mod range;
+mod text;
+
+pub use range::{RangeTerm, bounds_of, range_of};
+pub use text::{mark_of_text, term_of};
