@@ -1,5 +1,5 @@
 -- Which units are asked where a name is selected.
-use Rattle.std.proofs.Common.{◌≡◌, ℕ, suc, ◌<◌, List, [], ◌∷◌, ◌++◌, map, length, get_or, arith, Bool, true, false, cond, ◌||◌, Option, Some, None, refl, sym, ap, ◌∙◌, subst}
+use Rattle.std.proofs.Common.{◌≡◌, ℕ, zero, suc, ◌<◌, List, [], ◌∷◌, ◌++◌, map, length, get_or, arith, Bool, true, false, cond, ◌||◌, Option, Some, None, refl, sym, ap, ◌∙◌, subst}
 use Rattle.std.specs.List.{list_any}
 use Rattle.std.specs.Option.{option_map_or}
 use Rattle.std.specs.Str.{bytes_eq}
@@ -72,7 +72,7 @@ package-known packages (views.OfLiteral x) s e = absurd (cc)
 -- one of several names
 pub one-among : (xs : List TextName) (i : ℕ) (x : TextName) → i < length xs → x ≡ get_or xs i x → (n : List ℕ) → list_any (bytes_eq n) (asked_name x ∷ []) ≡ true → list_any (bytes_eq n) (map asked_name xs) ≡ true
 one-among [] i x h e n k = absurd (omega arith)
-one-among (y ∷ ys) 0 x h e n k = at (bytes_eq n (asked_name y)) (subst (λ (z : TextName). (bytes_eq n (asked_name z) || false) ≡ true) e k)
+one-among (y ∷ ys) zero x h e n k = at (bytes_eq n (asked_name y)) (subst (λ (z : TextName). (bytes_eq n (asked_name z) || false) ≡ true) e k)
   where
     at : (b : Bool) → (b || false) ≡ true → (b || list_any (bytes_eq n) (map asked_name ys)) ≡ true
     at true j = refl

@@ -5,4 +5,5 @@ pub mod Signs
 pub mod Readings
 pub mod ReadingViews
 pub mod TermLists
+pub mod Pairs
 pub mod Steps

@@ -1,7 +1,6 @@
 -- What is joined of the parts of a text, each judged by itself.
 use Rattle.std.specs.Prelude.{ℕ, Bool, List, [], ◌∷◌, ◌++◌, Result, Ok, Err}
 use Rattle.al_base.specs.declared.place.Place.{Place}
-use Rattle.al_base.specs.declared.refusal.NoMemory.{NoMemory}
 use Rattle.al_judged.specs.Judging.{both, next, seen_by}
 use Rattle.al_judged.specs.declared.fault.Fault.{Fault}
 use Rattle.al_keys.specs.Keys.{Denotations}
@@ -12,12 +11,6 @@ use Rattle.al_syntax.specs.ExpressionTrees.{Operator, Prefix}
 use Rattle.al_term.specs.Terms.{TermTree, TermTree as terms}
 use Rattle.al_term.specs.TermViews.{terms_of}
 use Rattle.al_view.specs.declared.view.SubtypeView.{SubtypeView}
-
--- two things that each want memory
-abbrev pub together : {A B : Type 0} → Result A NoMemory → Result B NoMemory → Result (A × B) NoMemory
-together (Ok a) (Ok b) = Ok (a, b)
-together (Ok a) (Err e) = Err e
-together (Err e) two = Err e
 
 unfoldable pub prefixed_read : Denotations → Prefix → Result TermTree Fault → Result ReadTree Fault
 prefixed_read d p operand = seen_by (λ (t : TermTree). reads.TermRead (prefixed d.visible p t)) operand

@@ -1,6 +1,6 @@
 // Things that each want memory, made one after another: none is held while another is made.
 ghost use Rattle.std.specs.Prelude.{◌≡◌, IfOk};
-ghost use Rattle.al_readings.specs.Steps.{together};
+ghost use Rattle.al_readings.specs.Pairs.{together};
 
 use al_base::NoMemory;
 use al_term::Term;
@@ -34,7 +34,8 @@ pub fn boxed_pair(
     left: Term,
     right: Term,
 ) -> Result<(Box<Term>, Box<Term>), NoMemory>
-    ensures { IfOk result (λ made. (made.0.value, made.1.value) ≡ (left, right)) }
+    ensures left { IfOk result (λ made. made.0.value ≡ left) }
+    ensures right { IfOk result (λ made. made.1.value ≡ right) }
 {
     let right = boxed(alloc, right);
     let left = boxed(alloc, left);

@@ -81,10 +81,8 @@ fn mark_prefix(
 ) -> Result<Prefix, NoMemory>
     ensures { IfOk result (λ prefix. prefix ≡ mark_prefix mark) }
 {
-    match array_of(alloc, standard, &mark.types, &mark.subtype.base)? {
-        Some(array) => Ok(array),
-        None => Ok(scalar_prefix(standard, mark)),
-    }
+    let array = array_of(alloc, standard, &mark.types, &mark.subtype.base)?;
+    Ok(array.unwrap_or(scalar_prefix(standard, mark)))
 }
 
 /// An object or a part of one, with its types.

@@ -1,4 +1,4 @@
-use Rattle.std.proofs.Common.{◌≡◌, List, [], ◌∷◌, map, take, refl, ap, ◌∙◌, arith}
+use Rattle.std.proofs.Common.{◌≡◌, List, [], ◌∷◌, map, take, refl, ap, ◌∙◌, arith, rules}
 use Rattle.std.proofs.lemmas.List.{take_all}
 use Rattle.al_lookup.proofs.Folds.{folded}
 use Rattle.al_lookup.proofs.Asked.{one-among}
@@ -11,7 +11,7 @@ use Rattle.al_lookup.proofs.lookup.look_up_all.Goals as goal
 pub loop-one-init : goal.loop-one-init
 loop-one-init g c = record {
   asked = refl;
-  told = λ t h. (h, c.names.ensures_not_known);
+  told = search rules;
   asks = asks_none (OfKnown (asked_units c.args.scope.now c.args.packages.now) (by_name (map asked_name c.args.of.now))) c.args.recorder.now.log;
 }
 
