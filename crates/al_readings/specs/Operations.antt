@@ -13,9 +13,12 @@ use Rattle.al_view.specs.declared.view.ViewKind.TheVariants as views
 abbrev pub called : Place → Operation → TermTree
 called p o = terms.NamedTerm p (views.OfSubprogram o.subprogram ∷ [])
 
+abbrev pub operation_named : List ℕ → List Operation → Option Operation
+operation_named name operations = find (λ (o : Operation). bytes_eq name o.name) operations
+
 -- the operation of that name; a name that the object hasn't fits nothing
 unfoldable pub operation_of : Place → ProtectedView → List ℕ → TermTree
-operation_of p object name = option_map_or (called p) (find (λ (o : Operation). bytes_eq name o.name) object.operations) (terms.NothingTerm p)
+operation_of p object name = option_map_or (called p) (operation_named name object.operations) (terms.NothingTerm p)
 
 abbrev pub protected_of : ViewKind → Option ProtectedView
 protected_of (views.OfProtected p) = Some p

@@ -2,7 +2,7 @@
 ghost use Rattle.std.specs.Prelude.{◌≡◌, IfOk};
 ghost use Rattle.std.specs.Option.{option_copied};
 ghost use Rattle.al_term.specs.TermViews.{term_seen};
-ghost use Rattle.al_readings.specs.Operations.{called, operation_of, protected_in, protected_of};
+ghost use Rattle.al_readings.specs.Operations.{called, operation_named, operation_of, protected_in, protected_of};
 
 use crate::copied::copied_subprogram;
 use al_base::{NoMemory, Place};
@@ -48,6 +48,14 @@ fn called(alloc: Global, place: Place, operation: &Operation) -> Result<Term, No
     Ok(Term::named(place, views))
 }
 
+fn operation_named<'a>(operations: &'a [Operation], name: &[u8]) -> Option<&'a Operation>
+    ensures { option_copied result ≡ operation_named name.now operations.now }
+{
+    operations
+        .iter()
+        .find(|operation| name == operation.name.as_slice())
+}
+
 /// The operation of that name of the object.
 #[tactic(auto, unfolding(crate::specs::Operations::operation_of))]
 pub fn operation_of(
@@ -58,11 +66,7 @@ pub fn operation_of(
 ) -> Result<Term, NoMemory>
     ensures { IfOk result (λ term. term_seen term ≡ operation_of place object.now name.now) }
 {
-    let operations = object.operations.as_slice();
-    match operations
-        .iter()
-        .find(|operation| name == operation.name.as_slice())
-    {
+    match operation_named(object.operations.as_slice(), name) {
         Some(operation) => called(alloc, place, operation),
         None => Ok(Term::nothing(place)),
     }

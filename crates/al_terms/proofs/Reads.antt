@@ -1,5 +1,5 @@
 -- How trees of the program are read, by their constructors and fields.
-use Rattle.std.proofs.Common.{◌≡◌, ℕ, Bool, false, ◌&&◌, ◌||◌, List, [], ◌∷◌, Option, Some, None, Result, Ok, Err, refl, sym, ap, ◌∙◌}
+use Rattle.std.proofs.Common.{◌≡◌, ℕ, zero, suc, ◌<◌, Bool, false, ◌&&◌, ◌||◌, List, [], ◌∷◌, map, length, take, get_or, Option, Some, None, Result, Ok, Err, refl, sym, ap, subst, ◌∙◌, arith}
 use Rattle.std.specs.Prelude.{option_map, is_some}
 use Rattle.al_base.specs.declared.place.Place.{Place}
 use Rattle.al_grammar.specs.Grammar.{Label}
@@ -14,7 +14,7 @@ use Rattle.al_readings.specs.Attributes.{attribute_named}
 use Rattle.al_readings.specs.Readings.{ReadTree, ReadTree as reads, callable, marking, named, selected, valued}
 use Rattle.al_readings.specs.Steps.{added, aggregated, applied_read, applied_to_read, grouped, joined_read, member_read, prefixed_read, qualified_read, range_member_read, repeated, started, with_attribute, with_range}
 use Rattle.al_terms.specs.Texts.{group_term, is_name, is_range, is_range_attribute, is_selector, number_value, one_range, read, read_more, read_part}
-use Rattle.al_tree.specs.ExpressionViews.{expression_seen, infix_seen, longer_seen, member_of, member_seen, operator_seen, part_seen, prefix_seen, prefixed_seen}
+use Rattle.al_tree.specs.ExpressionViews.{expression_seen, expressions_of, infix_seen, longer_seen, member_of, member_seen, operator_seen, part_seen, prefix_seen, prefixed_seen}
 use Rattle.al_tree.specs.Lexemes.{place_label}
 use Rattle.al_tree.specs.declared.expression.Expression.{Expression}
 use Rattle.al_tree.specs.declared.expression.Infix.{Infix, out-Infix}
@@ -166,3 +166,16 @@ none_more d done = refl
 pub one_more : (d : Denotations) (done : Result (List TermTree) Fault) (x : ExpressionTree) (xs : ExpressionsTree) → read_more d done (es.MoreExpressions x xs) ≡ read_more d (added done (next (read d x) valued)) xs
 unfolding read_more
 one_more d done x xs = refl
+
+-- with the one at an index read too
+with_one : (d : Denotations) (first : Result (List TermTree) Fault) (xs : List Expression) (i : ℕ) (x : Expression) → i < length xs → x ≡ get_or xs i x
+    → read_more d first (expressions_of (map expression_seen (take (suc i) xs))) ≡ added (read_more d first (expressions_of (map expression_seen (take i xs)))) (next (read d (expression_seen x)) valued)
+unfolding read_more
+with_one d first [] i x h e = absurd (omega arith)
+with_one d first (y ∷ ys) zero x h e = ap (λ (z : Expression). added first (next (read d (expression_seen z)) valued)) (sym e)
+with_one d first (y ∷ ys) (suc i) x h e = with_one d (added first (next (read d (expression_seen y)) valued)) ys i x (omega arith) e
+
+pub more_read : (d : Denotations) (first : Result (List TermTree) Fault) (xs : List Expression) (n i : ℕ) (x : Expression) → n ≡ suc i → i < length xs → x ≡ get_or xs i x
+    → read_more d first (expressions_of (map expression_seen (take n xs))) ≡ added (read_more d first (expressions_of (map expression_seen (take i xs)))) (next (read d (expression_seen x)) valued)
+more_read d first xs n i x is h e =
+    ap (λ (k : ℕ). read_more d first (expressions_of (map expression_seen (take k xs)))) is ∙ with_one d first xs i x h e

@@ -7,5 +7,4 @@ pub fn first_faults_are_told()
     ensures missing { MissingNamesAreTold }
     ensures first { FirstFaultsAreTold }
     ensures own { OwnFaultsAreTold }
-{
-}
+{}

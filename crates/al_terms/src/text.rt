@@ -48,7 +48,7 @@ fn number(literal: &NumericLiteral) -> Term
     Term::number(literal.place, number_value(literal))
 }
 
-fn text(alloc: Global, literal: &StringLiteral) -> Result<Term, NoMemory>
+fn string(alloc: Global, literal: &StringLiteral) -> Result<Term, NoMemory>
     ensures { IfOk result (λ term. term_seen term ≡ terms.TextTerm (place_of (string_label literal.now)) (string_label literal.now).text) }
 {
     let bytes = Vec::from_slice(alloc, literal.text.as_slice())?;
@@ -175,7 +175,7 @@ fn read(
     match expression {
         Expression::Numeric(literal) => Ok(Ok(Reading::Value(number(literal)))),
         Expression::Text(literal) => {
-            let term = text(alloc, literal)?;
+            let term = string(alloc, literal)?;
             Ok(Ok(Reading::Value(term)))
         }
         Expression::Name(name) => identifier(alloc, names, name),
@@ -332,6 +332,7 @@ fn several(
 
 /// Several terms behind others.
 #[cycle(text)]
+#[tactic(auto, using(crate::proofs::Reads::more_read))]
 fn read_more(
     alloc: Global,
     standard: &StandardTypes,
@@ -342,12 +343,10 @@ fn read_more(
     ensures { IfOk result (λ judged. seen_by all_seen judged ≡ read_more (denoted names.now) (seen_by all_seen first) (expressions_of (map expression_seen others.now))) }
 {
     let mut done = first;
-    let mut rest = others;
-    while let [next, more @ ..] = rest {
+    for next in others {
         let term = term_of(alloc, standard, names, next);
         let (before, term) = together(Ok(done), term)?;
         done = added(before, term)?;
-        rest = more;
     }
     Ok(done)
 }
