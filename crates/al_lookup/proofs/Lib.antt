@@ -1,2 +1,3 @@
+pub mod Asked
 pub mod Folds
 pub mod Found

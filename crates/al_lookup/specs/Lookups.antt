@@ -1,5 +1,5 @@
 -- What the names of a text denote at its place, as they are looked up one after another (ARM 4.1.3, 8.3).
-use Rattle.std.specs.Prelude.{ℕ, Bool, List, [], fold, Option, Some, None, if◌then◌else◌}
+use Rattle.std.specs.Prelude.{ℕ, Bool, List, [], ◌++◌, fold, Option, Some, None, if◌then◌else◌}
 use Rattle.al_base.specs.declared.unit_key.UnitKey.{UnitKey}
 use Rattle.al_keys.specs.Keys.{dotted, is_none}
 use Rattle.al_keys.specs.declared.names.Names.{Names}
@@ -9,7 +9,7 @@ use Rattle.al_lookup.specs.declared.name.TextName.TheVariants.{Simple, Selected}
 use Rattle.al_query.specs.Known.{has_unit}
 use Rattle.al_query.specs.Reads.{Table}
 use Rattle.al_scope.specs.Expanded.{selected_at, within}
-use Rattle.al_scope.specs.Places.{Place}
+use Rattle.al_scope.specs.Places.{Place, place_units}
 use Rattle.al_scope.specs.Visible.{visible_at}
 use Rattle.al_syntax.specs.ExpressionTrees.{ExpressionTree}
 use Rattle.al_view.specs.Interfaces.{views_of, with_view}
@@ -94,3 +94,14 @@ looked_up_all t place packages names = fold (looked_up t place packages) nothing
 -- what the names of an expression's text denote
 abbrev pub names_at : Table → Place → List UnitKey → ExpressionTree → Names
 names_at t place packages x = looked_up_all t place packages (names_in x)
+
+-- ---- which questions are asked
+
+-- the units that may be asked: those of the place, and the packages that are mentioned
+abbrev pub asked_units : Place → List UnitKey → List UnitKey
+asked_units place packages = place_units place ++ packages
+
+-- the identifier that they are asked for
+abbrev pub asked_name : TextName → List ℕ
+asked_name (Simple name) = name
+asked_name (Selected prefix name) = name

@@ -1,7 +1,10 @@
 // The names of an expression's text, looked up at its place.
-ghost use Rattle.std.specs.Prelude.{◌≡◌, IfOk, OnOk};
-ghost use Rattle.al_lookup.specs.Lookups.{found, is_new, looked_up, looked_up_all, names_at, with_prefixed, with_visible};
+ghost use Rattle.std.specs.Prelude.{◌≡◌, [], ◌∷◌, IfOk, OnOk, map};
+ghost use Rattle.al_lookup.specs.Lookups.{asked_name, asked_units, found, is_new, looked_up, looked_up_all, names_at, with_prefixed, with_visible};
+ghost use Rattle.al_lookup.specs.TextNames.{names_in};
+ghost use Rattle.al_query.specs.Asked.{AsksOf, by_name};
 ghost use Rattle.al_query.specs.Reads.{Told};
+ghost use Rattle.al_scope.specs.Places.{place_units};
 ghost use Rattle.al_tree.specs.ExpressionViews.{expression_seen};
 
 use crate::name::TextName;
@@ -24,6 +27,7 @@ fn find_visible<A: Answers>(
 ) -> Result<(), NoMemory>
     ensures asked { recorder.new.asked ≡ recorder.old.asked }
     ensures told { OnOk result (Told recorder.old.log recorder.new.log (λ t. names.new ≡ with_visible t scope.now name.now names.old)) }
+    ensures asks { OnOk result (AsksOf (place_units scope.now) (by_name (name.now ∷ [])) recorder.old.log recorder.new.log) }
 {
     let found = scope.visible(name, recorder)?;
     add_views(&mut names.visible, name, found.as_slice())?;
@@ -42,6 +46,7 @@ fn find_selected<A: Answers>(
 ) -> Result<(), NoMemory>
     ensures asked { recorder.new.asked ≡ recorder.old.asked }
     ensures told { OnOk result (Told recorder.old.log recorder.new.log (λ t. names.new ≡ with_prefixed t scope.now packages.now prefix.now name.now names.old)) }
+    ensures asks { OnOk result (AsksOf (asked_units scope.now packages.now) (by_name (name.now ∷ [])) recorder.old.log recorder.new.log) }
 {
     let key = dotted(alloc, prefix, name)?;
     let mut views = Views::new(alloc);
@@ -75,6 +80,7 @@ fn find<A: Answers>(
 ) -> Result<(), NoMemory>
     ensures asked { recorder.new.asked ≡ recorder.old.asked }
     ensures told { OnOk result (Told recorder.old.log recorder.new.log (λ t. names.new ≡ found t scope.now packages.now names.old of.now)) }
+    ensures asks { OnOk result (AsksOf (asked_units scope.now packages.now) (by_name (asked_name of.now ∷ [])) recorder.old.log recorder.new.log) }
 {
     match of {
         TextName::Simple(name) => {
@@ -101,6 +107,7 @@ fn look_up<A: Answers>(
 ) -> Result<(), NoMemory>
     ensures asked { recorder.new.asked ≡ recorder.old.asked }
     ensures told { OnOk result (Told recorder.old.log recorder.new.log (λ t. names.new ≡ looked_up t scope.now packages.now names.old of.now)) }
+    ensures asks { OnOk result (AsksOf (asked_units scope.now packages.now) (by_name (asked_name of.now ∷ [])) recorder.old.log recorder.new.log) }
 {
     if is_new(alloc, names, of)? {
         find(alloc, scope, packages, names, of, recorder)?;
@@ -119,6 +126,7 @@ pub fn look_up_all<A: Answers>(
 ) -> Result<Names, NoMemory>
     ensures asked { recorder.new.asked ≡ recorder.old.asked }
     ensures told { IfOk result (λ names. Told recorder.old.log recorder.new.log (λ t. names ≡ looked_up_all t scope.now packages.now of.now)) }
+    ensures asks { IfOk result (λ _. AsksOf (asked_units scope.now packages.now) (by_name (map asked_name of.now)) recorder.old.log recorder.new.log) }
 {
     let mut names = Names {
         visible: Interface::new(alloc),
@@ -140,6 +148,7 @@ pub fn names<A: Answers>(
 ) -> Result<Names, NoMemory>
     ensures asked { recorder.new.asked ≡ recorder.old.asked }
     ensures told { IfOk result (λ names. Told recorder.old.log recorder.new.log (λ t. names ≡ names_at t scope.now packages.now (expression_seen expression.now))) }
+    ensures asks { IfOk result (λ _. AsksOf (asked_units scope.now packages.now) (by_name (map asked_name (names_in (expression_seen expression.now)))) recorder.old.log recorder.new.log) }
 {
     let of = names_in(alloc, expression)?;
     let names = look_up_all(alloc, scope, packages, &of, recorder)?;

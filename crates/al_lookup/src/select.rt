@@ -1,8 +1,9 @@
 // What is selected behind a name (ARM 4.1.3).
-ghost use Rattle.std.specs.Prelude.{◌≡◌, IfOk, OnOk};
+ghost use Rattle.std.specs.Prelude.{◌≡◌, [], ◌∷◌, IfOk, OnOk};
 ghost use Rattle.std.specs.Option.{option_copied};
-ghost use Rattle.al_lookup.specs.Lookups.{construct_of, package_in, selected_in, with_each, with_selected, with_views};
+ghost use Rattle.al_lookup.specs.Lookups.{asked_units, construct_of, package_in, selected_in, with_each, with_selected, with_views};
 ghost use Rattle.al_query.specs.Known.{has_unit};
+ghost use Rattle.al_query.specs.Asked.{AsksOf, by_name};
 ghost use Rattle.al_query.specs.Reads.{Told};
 
 use al_base::{NoMemory, UnitKey};
@@ -81,6 +82,7 @@ fn selected_in<A: Answers>(
 ) -> Result<Option<Views>, NoMemory>
     ensures asked { recorder.new.asked ≡ recorder.old.asked }
     ensures told { IfOk result (λ found. Told recorder.old.log recorder.new.log (λ t. found ≡ selected_in t scope.now packages.now name.now view.now)) }
+    ensures asks { IfOk result (λ _. AsksOf (asked_units scope.now packages.now) (by_name (name.now ∷ [])) recorder.old.log recorder.new.log) }
 {
     match package_in(packages, view) {
         Some(symbol) => {
@@ -129,6 +131,7 @@ fn add_selected<A: Answers>(
 ) -> Result<(), NoMemory>
     ensures asked { recorder.new.asked ≡ recorder.old.asked }
     ensures told { OnOk result (Told recorder.old.log recorder.new.log (λ t. names.new ≡ with_selected key.now view.now names.old (selected_in t scope.now packages.now name.now view.now))) }
+    ensures asks { OnOk result (AsksOf (asked_units scope.now packages.now) (by_name (name.now ∷ [])) recorder.old.log recorder.new.log) }
 {
     let found = selected_in(scope, packages, name, view, recorder)?;
     put_selected(names, key, view, found)?;
@@ -147,6 +150,7 @@ pub(crate) fn add_each<A: Answers>(
 ) -> Result<(), NoMemory>
     ensures asked { recorder.new.asked ≡ recorder.old.asked }
     ensures told { OnOk result (Told recorder.old.log recorder.new.log (λ t. names.new ≡ with_each t scope.now packages.now key.now name.now names.old views.now)) }
+    ensures asks { OnOk result (AsksOf (asked_units scope.now packages.now) (by_name (name.now ∷ [])) recorder.old.log recorder.new.log) }
 {
     for view in views {
         add_selected(scope, packages, names, key, name, view, recorder)?;

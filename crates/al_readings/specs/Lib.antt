@@ -1,0 +1,9 @@
+pub mod Marks
+pub mod Attributes
+pub mod Operations
+pub mod Signs
+pub mod Readings
+pub mod ReadingViews
+pub mod TermLists
+pub mod Pairs
+pub mod Steps

@@ -1,0 +1,23 @@
+//! What an expression may be until what stands round it is known, and what is joined of its parts; E401 and E404 (ARM 4.1 to 4.7).
+#![tactic(auto)]
+
+mod attribute;
+mod copied;
+mod mark;
+mod operation;
+mod pair;
+mod prefix;
+mod reading;
+mod sign;
+mod steps;
+
+pub use attribute::{Attribute, attribute_named};
+pub use mark::mark_in;
+pub use pair::together;
+pub use prefix::Prefix;
+pub use reading::{Reading, named, wrong_kind};
+pub use steps::{
+    added, aggregated, apply, apply_to, as_mark, as_single, as_value, attribute_of, bounds, called,
+    grouped, join, member, of_value, operate, qualify, range_attribute_of, range_member, repeated,
+    select, started,
+};
