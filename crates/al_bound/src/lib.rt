@@ -1,0 +1,4 @@
+//! What the binder answers is one thing: there is one order of elaboration at most, or one fault at most, and not both.
+#![tactic(auto)]
+
+pub mod laws;

@@ -1,0 +1,5 @@
+mod Known
+mod Judged
+mod ToyFiles
+mod Predefined
+mod Results

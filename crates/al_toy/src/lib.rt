@@ -1,0 +1,13 @@
+//! A small checker of units over a small language, for tests of what is proved for every checker. A unit's parent is the first unit
+//! that it mentions; a unit is faulty where the parent of its parent is marked. Elaborated, a unit puts out its name.
+#![tactic(auto)]
+
+mod checker;
+mod files;
+mod outcomes;
+mod packages;
+mod reading;
+
+pub use checker::Toy;
+pub use files::sources_of;
+pub use packages::Packages;
