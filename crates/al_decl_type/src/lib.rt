@@ -21,5 +21,5 @@ pub use object::{
 };
 pub use record::{Part, record_type};
 pub use subtype::{StaticRange, scalar_bounds, subtype_of};
-pub use type_list::{enumeration_type, integer_type, words_of};
+pub use type_list::{add_types, enumeration_type, integer_type, words_of};
 pub use words::Words;

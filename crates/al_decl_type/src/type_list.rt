@@ -120,8 +120,8 @@ fn add_type(
     Ok(())
 }
 
-/// And those of the others that aren't known there.
-pub(crate) fn add_types(
+/// The other types behind these, those apart that are known there: among these, or Standard's, which every unit has.
+pub fn add_types(
     alloc: Global,
     standard: &StandardTypes,
     types: &mut Row<TypeView>,

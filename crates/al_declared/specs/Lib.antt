@@ -1,0 +1,10 @@
+pub mod Declaring
+pub mod DefiningNames
+pub mod Indications
+pub mod Numbers
+pub mod Objects
+pub mod Progressing
+pub mod Rules
+pub mod StaticPieces
+pub mod Subtypes
+pub mod TypeKinds
