@@ -100,7 +100,7 @@ fn is_range_attribute(part: &NamePart) -> bool
 }
 
 /// Whether it is written as a name.
-#[tactic(auto, using(crate::proofs::Reads::longer_is_name, crate::proofs::Reads::prefixed_is_name, crate::proofs::Reads::infix_is_name, crate::proofs::Reads::member_is_name, al_tree::proofs::ExpressionsMade::expression_numeric_seen, al_tree::proofs::ExpressionsMade::expression_text_seen, al_tree::proofs::ExpressionsMade::expression_name_seen, al_tree::proofs::ExpressionsMade::expression_longer_seen, al_tree::proofs::ExpressionsMade::expression_prefixed_seen, al_tree::proofs::ExpressionsMade::expression_infix_seen, al_tree::proofs::ExpressionsMade::expression_member_seen, al_tree::proofs::ExpressionsMade::expression_group_seen))]
+#[tactic(auto, using(crate::proofs::ReadLemmas::longer_is_name, crate::proofs::ReadLemmas::prefixed_is_name, crate::proofs::ReadLemmas::infix_is_name, crate::proofs::ReadLemmas::member_is_name, al_tree::proofs::ExpressionsMade::expression_numeric_seen, al_tree::proofs::ExpressionsMade::expression_text_seen, al_tree::proofs::ExpressionsMade::expression_name_seen, al_tree::proofs::ExpressionsMade::expression_longer_seen, al_tree::proofs::ExpressionsMade::expression_prefixed_seen, al_tree::proofs::ExpressionsMade::expression_infix_seen, al_tree::proofs::ExpressionsMade::expression_member_seen, al_tree::proofs::ExpressionsMade::expression_group_seen))]
 fn is_name(expression: &Expression) -> bool
     ensures { result ≡ is_name (expression_seen expression.now) }
 {
@@ -117,7 +117,7 @@ fn is_name(expression: &Expression) -> bool
 }
 
 /// Whether it is written as a name or a Range attribute.
-#[tactic(auto, using(crate::proofs::Reads::longer_is_range, crate::proofs::Reads::prefixed_is_range, crate::proofs::Reads::infix_is_range, crate::proofs::Reads::member_is_range, al_tree::proofs::ExpressionsMade::expression_numeric_seen, al_tree::proofs::ExpressionsMade::expression_text_seen, al_tree::proofs::ExpressionsMade::expression_name_seen, al_tree::proofs::ExpressionsMade::expression_longer_seen, al_tree::proofs::ExpressionsMade::expression_prefixed_seen, al_tree::proofs::ExpressionsMade::expression_infix_seen, al_tree::proofs::ExpressionsMade::expression_member_seen, al_tree::proofs::ExpressionsMade::expression_group_seen))]
+#[tactic(auto, using(crate::proofs::ReadLemmas::longer_is_range, crate::proofs::ReadLemmas::prefixed_is_range, crate::proofs::ReadLemmas::infix_is_range, crate::proofs::ReadLemmas::member_is_range, al_tree::proofs::ExpressionsMade::expression_numeric_seen, al_tree::proofs::ExpressionsMade::expression_text_seen, al_tree::proofs::ExpressionsMade::expression_name_seen, al_tree::proofs::ExpressionsMade::expression_longer_seen, al_tree::proofs::ExpressionsMade::expression_prefixed_seen, al_tree::proofs::ExpressionsMade::expression_infix_seen, al_tree::proofs::ExpressionsMade::expression_member_seen, al_tree::proofs::ExpressionsMade::expression_group_seen))]
 fn is_range(expression: &Expression) -> bool
     ensures { result ≡ is_range (expression_seen expression.now) }
 {
@@ -163,7 +163,7 @@ fn as_range(
 
 /// What an expression may be.
 #[cycle(text)]
-#[tactic(auto, using(crate::proofs::Reads::number_read, crate::proofs::Reads::text_read, crate::proofs::Reads::name_read, crate::proofs::Reads::longer_read, crate::proofs::Reads::prefix_read, crate::proofs::Reads::infix_read, crate::proofs::Reads::group_read, al_tree::proofs::ExpressionsMade::expression_numeric_seen, al_tree::proofs::ExpressionsMade::expression_text_seen, al_tree::proofs::ExpressionsMade::expression_name_seen, al_tree::proofs::ExpressionsMade::expression_longer_seen, al_tree::proofs::ExpressionsMade::expression_prefixed_seen, al_tree::proofs::ExpressionsMade::expression_infix_seen, al_tree::proofs::ExpressionsMade::expression_member_seen, al_tree::proofs::ExpressionsMade::expression_group_seen))]
+#[tactic(auto, using(crate::proofs::ReadLemmas::number_read, crate::proofs::ReadLemmas::text_read, crate::proofs::ReadLemmas::name_read, crate::proofs::ReadLemmas::longer_read, crate::proofs::ReadLemmas::prefix_read, crate::proofs::ReadLemmas::infix_read, crate::proofs::ReadLemmas::group_read, al_tree::proofs::ExpressionsMade::expression_numeric_seen, al_tree::proofs::ExpressionsMade::expression_text_seen, al_tree::proofs::ExpressionsMade::expression_name_seen, al_tree::proofs::ExpressionsMade::expression_longer_seen, al_tree::proofs::ExpressionsMade::expression_prefixed_seen, al_tree::proofs::ExpressionsMade::expression_infix_seen, al_tree::proofs::ExpressionsMade::expression_member_seen, al_tree::proofs::ExpressionsMade::expression_group_seen))]
 fn read(
     alloc: Global,
     standard: &StandardTypes,
@@ -203,7 +203,7 @@ fn read(
 
 /// A membership test.
 #[cycle(text)]
-#[tactic(auto, using(crate::proofs::Reads::member_in_mark, crate::proofs::Reads::member_in_range))]
+#[tactic(auto, using(crate::proofs::ReadLemmas::member_in_mark, crate::proofs::ReadLemmas::member_in_range))]
 fn read_member(
     alloc: Global,
     standard: &StandardTypes,
@@ -245,7 +245,7 @@ pub(crate) fn one_range(
 
 /// With a part behind it.
 #[cycle(text)]
-#[tactic(auto, using(crate::proofs::Reads::selector_read, crate::proofs::Reads::argument_read, crate::proofs::Reads::arguments_read, crate::proofs::Reads::attribute_read, crate::proofs::Reads::range_attribute_read, crate::proofs::Reads::operand_read, al_tree::proofs::ExpressionsMade::part_selector_seen, al_tree::proofs::ExpressionsMade::part_arguments_seen, al_tree::proofs::ExpressionsMade::part_attribute_seen, al_tree::proofs::ExpressionsMade::part_range_attribute_seen, al_tree::proofs::ExpressionsMade::part_operand_seen))]
+#[tactic(auto, using(crate::proofs::ReadLemmas::selector_read, crate::proofs::ReadLemmas::argument_read, crate::proofs::ReadLemmas::arguments_read, crate::proofs::ReadLemmas::attribute_read, crate::proofs::ReadLemmas::range_attribute_read, crate::proofs::ReadLemmas::operand_read, al_tree::proofs::ExpressionsMade::part_selector_seen, al_tree::proofs::ExpressionsMade::part_arguments_seen, al_tree::proofs::ExpressionsMade::part_attribute_seen, al_tree::proofs::ExpressionsMade::part_range_attribute_seen, al_tree::proofs::ExpressionsMade::part_operand_seen))]
 fn read_part(
     alloc: Global,
     standard: &StandardTypes,
@@ -285,7 +285,7 @@ fn read_part(
 
 /// What stands in parentheses.
 #[cycle(text)]
-#[tactic(auto, using(crate::proofs::Reads::sole_group, crate::proofs::Reads::aggregate_group, crate::proofs::Reads::others_group, al_tree::proofs::ExpressionsMade::group_positional_seen, al_tree::proofs::ExpressionsMade::group_others_aggregate_seen))]
+#[tactic(auto, using(crate::proofs::ReadLemmas::sole_group, crate::proofs::ReadLemmas::aggregate_group, crate::proofs::ReadLemmas::others_group, al_tree::proofs::ExpressionsMade::group_positional_seen, al_tree::proofs::ExpressionsMade::group_others_aggregate_seen))]
 fn group_term(
     alloc: Global,
     standard: &StandardTypes,
@@ -332,7 +332,7 @@ fn several(
 
 /// Several terms behind others.
 #[cycle(text)]
-#[tactic(auto, using(crate::proofs::Reads::more_read))]
+#[tactic(auto, using(crate::proofs::ReadLemmas::more_read))]
 fn read_more(
     alloc: Global,
     standard: &StandardTypes,
