@@ -1,6 +1,9 @@
 // The predefined operators of types.
-ghost use Rattle.std.specs.Prelude.{◌≡◌, IfOk, OnOk};
-ghost use Rattle.al_predefined.specs.Operators.{gives, natural, operand, operands, operators_of, operator_view, predefined_symbol, spelling, standard_symbol, whole_type, with_group, with_operator, with_operators, arithmetic, logical};
+ghost use Rattle.std.specs.Prelude.{◌≡◌, [], ◌∷◌, codes, IfOk, OnOk, Some, None};
+ghost use Rattle.al_view.specs.declared.types.TypeDefinition.TheVariants.{Integer};
+ghost use Rattle.al_view.specs.declared.view.CallKind.TheVariants as call;
+ghost use Rattle.al_view.specs.declared.view.ViewKind.TheVariants as kinds;
+ghost use Rattle.al_predefined.specs.Operators.{gives, natural, operand, operands, operators_of, operator_view, predefined_symbol, spelling, standard_symbol, time_span, whole_type, with_group, with_operator, with_operators, arithmetic, logical};
 
 use al_base::{Name, NoMemory, UnitKey, UnitKind};
 use al_view::{
@@ -134,6 +137,14 @@ pub fn whole_type(alloc: Global, symbol: &Symbol) -> Result<Subtype, NoMemory>
     Ok(Subtype { base, bounds: None })
 }
 
+/// All values of a type of Standard.
+pub(crate) fn whole_standard(alloc: Global, name: &[u8]) -> Result<Subtype, NoMemory>
+    ensures { IfOk result (λ subtype. subtype ≡ whole_type (standard_symbol name.now)) }
+{
+    let base = standard_symbol(alloc, name)?;
+    Ok(Subtype { base, bounds: None })
+}
+
 fn natural(alloc: Global) -> Result<Subtype, NoMemory>
     ensures { IfOk result (λ subtype. subtype ≡ natural) }
 {
@@ -159,6 +170,43 @@ pub fn operand(alloc: Global, name: &[u8], subtype: Subtype) -> Result<Parameter
     })
 }
 
+/// All values of a span of time (ARM D.8).
+fn whole_span(alloc: Global) -> Result<Subtype, NoMemory>
+    ensures { IfOk result (λ subtype. subtype ≡ whole_type time_span) }
+{
+    let base = predefined_symbol(alloc, b"ada.real_time", b"time_span")?;
+    Ok(Subtype { base, bounds: None })
+}
+
+/// One parameter of mode `in`.
+pub(crate) fn one_operand(
+    alloc: Global,
+    name: &[u8],
+    subtype: Subtype,
+) -> Result<Row<Parameter>, NoMemory>
+    ensures { IfOk result (λ parameters. parameters ≡ operand name.now subtype ∷ []) }
+{
+    let parameter = operand(alloc, name, subtype)?;
+    let mut parameters = Row::empty(alloc);
+    parameters.push(parameter)?;
+    Ok(parameters)
+}
+
+/// A parameter of the type, and one of the subtype behind it.
+fn two_operands(
+    alloc: Global,
+    symbol: &Symbol,
+    subtype: Subtype,
+) -> Result<Row<Parameter>, NoMemory>
+    ensures { IfOk result (λ parameters. parameters ≡ operand (codes "left") (whole_type symbol.now) ∷ operand (codes "right") subtype ∷ []) }
+{
+    let right = operand(alloc, b"right", subtype)?;
+    let left = whole_type(alloc, symbol)?;
+    let mut parameters = one_operand(alloc, b"left", left)?;
+    parameters.push(right)?;
+    Ok(parameters)
+}
+
 fn operands(
     alloc: Global,
     symbol: &Symbol,
@@ -166,22 +214,26 @@ fn operands(
 ) -> Result<Row<Parameter>, NoMemory>
     ensures { IfOk result (λ parameters. parameters ≡ operands symbol.now profile) }
 {
-    let mut parameters = Row::empty(alloc);
-    if profile != OperatorProfile::Unary {
-        let left = operand(alloc, b"left", whole_type(alloc, symbol)?)?;
-        parameters.push(left)?;
-    }
-    let subtype = match profile {
-        OperatorProfile::Power => natural(alloc)?,
-        OperatorProfile::Later => {
-            let span = predefined_symbol(alloc, b"ada.real_time", b"time_span")?;
-            whole_type(alloc, &span)?
+    match profile {
+        OperatorProfile::Unary => {
+            let subtype = whole_type(alloc, symbol)?;
+            let parameters = one_operand(alloc, b"right", subtype)?;
+            Ok(parameters)
         }
-        _ => whole_type(alloc, symbol)?,
-    };
-    let right = operand(alloc, b"right", subtype)?;
-    parameters.push(right)?;
-    Ok(parameters)
+        OperatorProfile::Power => {
+            let parameters = two_operands(alloc, symbol, natural(alloc)?)?;
+            Ok(parameters)
+        }
+        OperatorProfile::Later => {
+            let parameters = two_operands(alloc, symbol, whole_span(alloc)?)?;
+            Ok(parameters)
+        }
+        _ => {
+            let subtype = whole_type(alloc, symbol)?;
+            let parameters = two_operands(alloc, symbol, subtype)?;
+            Ok(parameters)
+        }
+    }
 }
 
 fn gives(alloc: Global, symbol: &Symbol, profile: OperatorProfile) -> Result<Subtype, NoMemory>
@@ -189,8 +241,7 @@ fn gives(alloc: Global, symbol: &Symbol, profile: OperatorProfile) -> Result<Sub
 {
     match profile {
         OperatorProfile::Relation => {
-            let boolean = standard_symbol(alloc, b"boolean")?;
-            let subtype = whole_type(alloc, &boolean)?;
+            let subtype = whole_standard(alloc, b"boolean")?;
             Ok(subtype)
         }
         _ => {
@@ -198,6 +249,56 @@ fn gives(alloc: Global, symbol: &Symbol, profile: OperatorProfile) -> Result<Sub
             Ok(subtype)
         }
     }
+}
+
+/// An operator of the type's unit, with its number among its homonyms there.
+fn operator_symbol(
+    alloc: Global,
+    of_type: &Symbol,
+    operator: OperatorSymbol,
+    number: usize,
+) -> Result<Symbol, NoMemory>
+    ensures { IfOk result (λ symbol. symbol ≡ record { unit = of_type.now.unit; name = spelling operator; number = number }) }
+{
+    let unit = copied_unit(alloc, &of_type.unit)?;
+    let name = Name::from_slice(alloc, operator.spelling())?;
+    Ok(Symbol { unit, name, number })
+}
+
+fn operator_profile(
+    alloc: Global,
+    of_type: &Symbol,
+    profile: OperatorProfile,
+) -> Result<Profile, NoMemory>
+    ensures { IfOk result (λ made. made ≡ record { parameters = operands of_type.now profile; result = Some (gives of_type.now profile) }) }
+{
+    let parameters = operands(alloc, of_type, profile)?;
+    let subtype = gives(alloc, of_type, profile)?;
+    Ok(Profile {
+        parameters,
+        result: Some(subtype),
+    })
+}
+
+fn operator_with(
+    alloc: Global,
+    of_type: &Symbol,
+    types: &Types,
+    symbol: Symbol,
+    profile: Profile,
+) -> Result<View, NoMemory>
+    ensures { IfOk result (λ view. view ≡ kinds.OfSubprogram (record { symbol = symbol; profile = profile; types = types.now; call = call.Operator of_type.now; flag = None })) }
+{
+    let of_type = of_type.copy(alloc)?;
+    let subprogram = SubprogramView {
+        symbol,
+        profile,
+        types: types.share()?,
+        call: CallKind::Operator { of_type },
+        flag: None,
+    };
+    let view = View::new(alloc, ViewKind::OfSubprogram(subprogram))?;
+    Ok(view)
 }
 
 /// An operator of the type with this symbol and these types, with its number among its homonyms in its unit.
@@ -211,23 +312,9 @@ pub fn operator_view(
 ) -> Result<View, NoMemory>
     ensures { IfOk result (λ view. view ≡ operator_view of_type.now types.now profile operator number) }
 {
-    let unit = copied_unit(alloc, &of_type.unit)?;
-    let name = Name::from_slice(alloc, operator.spelling())?;
-    let parameters = operands(alloc, of_type, profile)?;
-    let subtype = gives(alloc, of_type, profile)?;
-    let subprogram = SubprogramView {
-        symbol: Symbol { unit, name, number },
-        profile: Profile {
-            parameters,
-            result: Some(subtype),
-        },
-        types: types.share()?,
-        call: CallKind::Operator {
-            of_type: of_type.copy(alloc)?,
-        },
-        flag: None,
-    };
-    let view = View::new(alloc, ViewKind::OfSubprogram(subprogram))?;
+    let symbol = operator_symbol(alloc, of_type, operator, number)?;
+    let profile = operator_profile(alloc, of_type, profile)?;
+    let view = operator_with(alloc, of_type, types, symbol, profile)?;
     Ok(view)
 }
 
@@ -374,4 +461,36 @@ pub fn declare_operators(
         TypeDefinition::Time | TypeDefinition::Private => {}
     }
     Ok(())
+}
+
+/// The same, where the unit declares nothing elsewhere.
+pub(crate) fn declare_first_operators(
+    alloc: Global,
+    interface: &mut Interface,
+    of_type: &Symbol,
+    types: &Types,
+    definition: &TypeDefinition,
+) -> Result<(), NoMemory>
+    ensures { OnOk result (interface.new ≡ with_operators of_type.now types.now [] interface.old (operators_of definition.now)) }
+{
+    let elsewhere = Interface::new(alloc);
+    let declared = declare_operators(alloc, &elsewhere, interface, of_type, types, definition);
+    drop(elsewhere);
+    declared
+}
+
+/// The operators of an integer type, where the unit declares nothing elsewhere.
+pub(crate) fn declare_integer_operators(
+    alloc: Global,
+    interface: &mut Interface,
+    of_type: &Symbol,
+    types: &Types,
+    bounds: Bounds,
+) -> Result<(), NoMemory>
+    ensures { OnOk result (interface.new ≡ with_operators of_type.now types.now [] interface.old (operators_of (Integer bounds))) }
+{
+    let definition = TypeDefinition::Integer(bounds);
+    let declared = declare_first_operators(alloc, interface, of_type, types, &definition);
+    drop(definition);
+    declared
 }

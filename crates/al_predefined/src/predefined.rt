@@ -1,16 +1,22 @@
 // What the predefined packages declare.
-ghost use Rattle.std.specs.Prelude.{◌≡◌, [], IfOk, OnOk, Some, None};
-ghost use Rattle.al_predefined.specs.Predefined.{item, milliseconds, predefined, predefined_subprogram, real_time, text_io, with_text_procedure, with_time_function};
+ghost use Rattle.std.specs.Prelude.{◌≡◌, [], codes, IfOk, OnOk, Some, None};
+ghost use Rattle.al_view.specs.declared.types.TypeDefinition.TheVariants.{Time};
+ghost use Rattle.al_view.specs.Interfaces.{with_view};
+ghost use Rattle.al_predefined.specs.declared.operators.OperatorProfile.TheVariants.{Later};
+ghost use Rattle.al_predefined.specs.declared.operators.OperatorSymbol.TheVariants.{Plus};
+ghost use Rattle.al_predefined.specs.Operators.{predefined_symbol, time_span, whole_type, with_operator};
+ghost use Rattle.al_predefined.specs.Predefined.{item, milliseconds, predefined, predefined_subprogram, real_time, real_time_name, span_types, text_io, text_io_name, time, time_types, with_text_procedure, with_time_function};
+ghost use Rattle.al_predefined.specs.Standard.{of_type, scalar};
 
 use crate::operators::{
-    OperatorProfile, OperatorSymbol, declare_operator, operand, predefined_symbol, standard_symbol,
-    whole_type,
+    OperatorProfile, OperatorSymbol, declare_operator, one_operand, predefined_symbol,
+    whole_standard, whole_type,
 };
-use crate::standard::{no_names, of_type, scalar, standard_package};
+use crate::standard::{declare_type, no_names, no_types, scalar, standard_package};
 use al_base::NoMemory;
 use al_view::{
-    CallKind, Interface, Parameter, Profile, Row, SubprogramView, Subtype, Symbol, TypeDefinition,
-    Types, View, ViewKind,
+    CallKind, Interface, Parameter, Profile, Row, SubprogramView, Symbol, TypeDefinition, Types,
+    View, ViewKind,
 };
 use std::alloc::Global;
 
@@ -39,23 +45,32 @@ pub fn predefined_package(alloc: Global, name: &[u8]) -> Result<Option<Interface
 fn predefined_subprogram(
     alloc: Global,
     symbol: Symbol,
-    parameters: Row<Parameter>,
-    gives: Option<Subtype>,
+    profile: Profile,
     types: Types,
 ) -> Result<View, NoMemory>
-    ensures { IfOk result (λ view. view ≡ predefined_subprogram symbol parameters gives types) }
+    ensures { IfOk result (λ view. view ≡ predefined_subprogram symbol profile.parameters profile.result types) }
 {
     let subprogram = SubprogramView {
         symbol,
-        profile: Profile {
-            parameters,
-            result: gives,
-        },
+        profile,
         types,
         call: CallKind::Predefined,
         flag: None,
     };
     let view = View::new(alloc, ViewKind::OfSubprogram(subprogram))?;
+    Ok(view)
+}
+
+fn text_procedure(alloc: Global, parameters: Row<Parameter>, name: &[u8]) -> Result<View, NoMemory>
+    ensures { IfOk result (λ view. view ≡ predefined_subprogram (predefined_symbol text_io_name name.now) parameters None []) }
+{
+    let symbol = predefined_symbol(alloc, b"ada.text_io", name)?;
+    let types = no_types(alloc)?;
+    let profile = Profile {
+        parameters,
+        result: None,
+    };
+    let view = predefined_subprogram(alloc, symbol, profile, types)?;
     Ok(view)
 }
 
@@ -68,9 +83,7 @@ fn declare_procedure(
 ) -> Result<(), NoMemory>
     ensures { OnOk result (interface.new ≡ with_text_procedure parameters interface.old name.now) }
 {
-    let symbol = predefined_symbol(alloc, b"ada.text_io", name)?;
-    let types = Types::new(alloc, Row::empty(alloc))?;
-    let view = predefined_subprogram(alloc, symbol, parameters, None, types)?;
+    let view = text_procedure(alloc, parameters, name)?;
     interface.declare(name, view)?;
     Ok(())
 }
@@ -79,11 +92,8 @@ fn declare_procedure(
 fn item(alloc: Global) -> Result<Row<Parameter>, NoMemory>
     ensures { IfOk result (λ parameters. parameters ≡ item) }
 {
-    let string = standard_symbol(alloc, b"string")?;
-    let subtype = whole_type(alloc, &string)?;
-    let parameter = operand(alloc, b"item", subtype)?;
-    let mut parameters = Row::empty(alloc);
-    parameters.push(parameter)?;
+    let subtype = whole_standard(alloc, b"string")?;
+    let parameters = one_operand(alloc, b"item", subtype)?;
     Ok(parameters)
 }
 
@@ -91,10 +101,41 @@ fn text_io(alloc: Global) -> Result<Interface, NoMemory>
     ensures { IfOk result (λ interface. interface ≡ text_io) }
 {
     let mut interface = Interface::new(alloc);
-    declare_procedure(alloc, &mut interface, item(alloc)?, b"put")?;
-    declare_procedure(alloc, &mut interface, item(alloc)?, b"put_line")?;
-    declare_procedure(alloc, &mut interface, Row::empty(alloc), b"new_line")?;
+    declare_text_io(alloc, &mut interface)?;
     Ok(interface)
+}
+
+fn declare_text_io(alloc: Global, interface: &mut Interface) -> Result<(), NoMemory>
+    ensures { OnOk result (interface.new ≡ with_text_procedure [] (with_text_procedure item (with_text_procedure item interface.old (codes "put")) (codes "put_line")) (codes "new_line")) }
+{
+    declare_procedure(alloc, interface, item(alloc)?, b"put")?;
+    declare_procedure(alloc, interface, item(alloc)?, b"put_line")?;
+    declare_procedure(alloc, interface, Row::empty(alloc), b"new_line")?;
+    Ok(())
+}
+
+fn giving(alloc: Global, parameters: Row<Parameter>, gives: &Symbol) -> Result<Profile, NoMemory>
+    ensures { IfOk result (λ profile. profile ≡ record { parameters = parameters; result = Some (whole_type gives.now) }) }
+{
+    let subtype = whole_type(alloc, gives)?;
+    Ok(Profile {
+        parameters,
+        result: Some(subtype),
+    })
+}
+
+fn time_function(
+    alloc: Global,
+    profile: Profile,
+    types: &Types,
+    name: &[u8],
+) -> Result<View, NoMemory>
+    ensures { IfOk result (λ view. view ≡ predefined_subprogram (predefined_symbol real_time_name name.now) profile.parameters profile.result types.now) }
+{
+    let symbol = predefined_symbol(alloc, b"ada.real_time", name)?;
+    let types = types.share()?;
+    let view = predefined_subprogram(alloc, symbol, profile, types)?;
+    Ok(view)
 }
 
 /// One more function of `Ada.Real_Time`.
@@ -108,10 +149,8 @@ fn declare_function(
 ) -> Result<(), NoMemory>
     ensures { OnOk result (interface.new ≡ with_time_function parameters gives.now types.now interface.old name.now) }
 {
-    let symbol = predefined_symbol(alloc, b"ada.real_time", name)?;
-    let subtype = whole_type(alloc, gives)?;
-    let types = types.share()?;
-    let view = predefined_subprogram(alloc, symbol, parameters, Some(subtype), types)?;
+    let profile = giving(alloc, parameters, gives)?;
+    let view = time_function(alloc, profile, types, name)?;
     interface.declare(name, view)?;
     Ok(())
 }
@@ -120,44 +159,98 @@ fn declare_function(
 fn milliseconds(alloc: Global) -> Result<Row<Parameter>, NoMemory>
     ensures { IfOk result (λ parameters. parameters ≡ milliseconds) }
 {
-    let integer = standard_symbol(alloc, b"integer")?;
-    let subtype = whole_type(alloc, &integer)?;
-    let parameter = operand(alloc, b"ms", subtype)?;
-    let mut parameters = Row::empty(alloc);
-    parameters.push(parameter)?;
+    let subtype = whole_standard(alloc, b"integer")?;
+    let parameters = one_operand(alloc, b"ms", subtype)?;
     Ok(parameters)
+}
+
+/// `Clock`, and the sum of a moment and a span, behind both types.
+fn declare_time_functions(
+    alloc: Global,
+    interface: &mut Interface,
+    time: &Symbol,
+    times: &Types,
+) -> Result<(), NoMemory>
+    ensures { OnOk result (interface.new ≡ with_operator time.now times.now Later [] (with_time_function [] time.now times.now interface.old (codes "clock")) Plus) }
+{
+    let none = Row::empty(alloc);
+    declare_function(alloc, interface, none, time, times, b"clock")?;
+    let elsewhere = Interface::new(alloc);
+    let later = OperatorProfile::Later;
+    let plus = OperatorSymbol::Plus;
+    declare_operator(alloc, &elsewhere, interface, time, times, later, plus)?;
+    Ok(())
+}
+
+/// `Milliseconds`, which gives a span.
+fn declare_milliseconds(
+    alloc: Global,
+    interface: &mut Interface,
+    span: &Symbol,
+    spans: &Types,
+) -> Result<(), NoMemory>
+    ensures { OnOk result (interface.new ≡ with_time_function milliseconds span.now spans.now interface.old (codes "milliseconds")) }
+{
+    let ms = milliseconds(alloc)?;
+    declare_function(alloc, interface, ms, span, spans, b"milliseconds")?;
+    Ok(())
+}
+
+/// Both types, and then the functions.
+fn declare_times(
+    alloc: Global,
+    interface: &mut Interface,
+    time: &Symbol,
+    span: &Symbol,
+    times: &Types,
+    spans: &Types,
+) -> Result<(), NoMemory>
+    ensures { OnOk result (interface.new ≡ with_time_function milliseconds span.now spans.now (with_operator time.now times.now Later [] (with_time_function [] time.now times.now (with_view (with_view interface.old (codes "time") (of_type times.now [])) (codes "time_span") (of_type spans.now [])) (codes "clock")) Plus) (codes "milliseconds")) }
+{
+    declare_type(alloc, interface, times, no_names(alloc)?, b"time")?;
+    declare_type(alloc, interface, spans, no_names(alloc)?, b"time_span")?;
+    declare_time_functions(alloc, interface, time, times)?;
+    declare_milliseconds(alloc, interface, span, spans)?;
+    Ok(())
+}
+
+/// A type of time: its symbol and its types.
+fn time_type(alloc: Global, name: &[u8]) -> Result<(Symbol, Types), NoMemory>
+    ensures { IfOk result (λ made. made ≡ (predefined_symbol real_time_name name.now, scalar (predefined_symbol real_time_name name.now) Time)) }
+{
+    let symbol = predefined_symbol(alloc, b"ada.real_time", name)?;
+    let types = scalar(alloc, &symbol, TypeDefinition::Time)?;
+    Ok((symbol, types))
+}
+
+/// Time_Span, behind what is told of Time, and the functions.
+fn declare_spans(
+    alloc: Global,
+    interface: &mut Interface,
+    time: &Symbol,
+    times: &Types,
+) -> Result<(), NoMemory>
+    ensures { OnOk result (interface.new ≡ with_time_function milliseconds time_span span_types (with_operator time.now times.now Later [] (with_time_function [] time.now times.now (with_view (with_view interface.old (codes "time") (of_type times.now [])) (codes "time_span") (of_type span_types [])) (codes "clock")) Plus) (codes "milliseconds")) }
+{
+    let (span, spans) = time_type(alloc, b"time_span")?;
+    let declared = declare_times(alloc, interface, time, &span, times, &spans);
+    drop((span, spans));
+    declared
+}
+
+fn declare_real_time(alloc: Global, interface: &mut Interface) -> Result<(), NoMemory>
+    ensures { OnOk result (interface.new ≡ with_time_function milliseconds time_span span_types (with_operator time time_types Later [] (with_time_function [] time time_types (with_view (with_view interface.old (codes "time") (of_type time_types [])) (codes "time_span") (of_type span_types [])) (codes "clock")) Plus) (codes "milliseconds")) }
+{
+    let (time, times) = time_type(alloc, b"time")?;
+    let declared = declare_spans(alloc, interface, &time, &times);
+    drop((time, times));
+    declared
 }
 
 fn real_time(alloc: Global) -> Result<Interface, NoMemory>
     ensures { IfOk result (λ interface. interface ≡ real_time) }
 {
-    let time = predefined_symbol(alloc, b"ada.real_time", b"time")?;
-    let times = scalar(alloc, &time, TypeDefinition::Time)?;
-    let span = predefined_symbol(alloc, b"ada.real_time", b"time_span")?;
-    let spans = scalar(alloc, &span, TypeDefinition::Time)?;
     let mut interface = Interface::new(alloc);
-    interface.declare(b"time", of_type(alloc, &times, no_names(alloc)?)?)?;
-    interface.declare(b"time_span", of_type(alloc, &spans, no_names(alloc)?)?)?;
-    declare_function(
-        alloc,
-        &mut interface,
-        Row::empty(alloc),
-        &time,
-        &times,
-        b"clock",
-    )?;
-    let later = OperatorProfile::Later;
-    let elsewhere = Interface::new(alloc);
-    declare_operator(
-        alloc,
-        &elsewhere,
-        &mut interface,
-        &time,
-        &times,
-        later,
-        OperatorSymbol::Plus,
-    )?;
-    let ms = milliseconds(alloc)?;
-    declare_function(alloc, &mut interface, ms, &span, &spans, b"milliseconds")?;
+    declare_real_time(alloc, &mut interface)?;
     Ok(interface)
 }

@@ -1,8 +1,12 @@
 // What the predefined package Standard declares.
-ghost use Rattle.std.specs.Prelude.{◌≡◌, [], IfOk, OnOk};
-ghost use Rattle.al_predefined.specs.Standard.{boolean_literals, integers_from, literal, of_type, scalar, standard, with_boolean, with_integer, with_subtypes};
+ghost use Rattle.std.specs.Prelude.{◌≡◌, [], codes, IfOk, OnOk, Some, pos};
+ghost use Rattle.al_view.specs.Interfaces.{with_view};
+ghost use Rattle.al_predefined.specs.Operators.{logical, operators_of, with_operators};
+ghost use Rattle.al_predefined.specs.Standard.{boolean_definition, boolean_literals, integer, integer_definition, integers_from, literal, of_type, scalar, standard, with_boolean, with_integer, with_subtypes};
 
-use crate::operators::{declare_logical, declare_operators, standard_symbol};
+use crate::operators::{
+    declare_first_operators, declare_integer_operators, declare_logical, standard_symbol,
+};
 use al_base::{Name, NoMemory};
 use al_view::{
     Bounds, DeclaredType, Interface, Layout, LiteralView, Names, Row, Subtype, SubtypeView, Symbol,
@@ -54,6 +58,14 @@ fn boolean_literals(alloc: Global) -> Result<Names, NoMemory>
     Ok(names)
 }
 
+/// The types of what has none of its own.
+pub(crate) fn no_types(alloc: Global) -> Result<Types, NoMemory>
+    ensures { IfOk result (λ types. types ≡ []) }
+{
+    let types = Types::new(alloc, Row::empty(alloc))?;
+    Ok(types)
+}
+
 /// The literals of what has none.
 pub fn no_names(alloc: Global) -> Result<Names, NoMemory>
     ensures { IfOk result (λ names. names ≡ []) }
@@ -86,20 +98,115 @@ pub fn of_type(alloc: Global, types: &Types, literals: Names) -> Result<View, No
     Ok(view)
 }
 
+/// A type of these types, the last of them, under its name.
+pub(crate) fn declare_type(
+    alloc: Global,
+    interface: &mut Interface,
+    types: &Types,
+    literals: Names,
+    name: &[u8],
+) -> Result<(), NoMemory>
+    ensures { OnOk result (interface.new ≡ with_view interface.old name.now (of_type types.now literals)) }
+{
+    let view = of_type(alloc, types, literals)?;
+    interface.declare(name, view)?;
+    Ok(())
+}
+
+fn declare_literal(
+    alloc: Global,
+    interface: &mut Interface,
+    symbol: &Symbol,
+    types: &Types,
+    position: u32,
+    name: &[u8],
+) -> Result<(), NoMemory>
+    ensures { OnOk result (interface.new ≡ with_view interface.old name.now (literal symbol.now types.now position)) }
+{
+    let view = literal(alloc, symbol, types, position)?;
+    interface.declare(name, view)?;
+    Ok(())
+}
+
+/// Boolean and its literals.
+fn declare_truths(
+    alloc: Global,
+    interface: &mut Interface,
+    symbol: &Symbol,
+    types: &Types,
+) -> Result<(), NoMemory>
+    ensures { OnOk result (interface.new ≡ with_view (with_view (with_view interface.old (codes "boolean") (of_type types.now boolean_literals)) (codes "false") (literal symbol.now types.now 0)) (codes "true") (literal symbol.now types.now 1)) }
+{
+    let names = boolean_literals(alloc)?;
+    declare_type(alloc, interface, types, names, b"boolean")?;
+    declare_literal(alloc, interface, symbol, types, 0, b"false")?;
+    declare_literal(alloc, interface, symbol, types, 1, b"true")?;
+    Ok(())
+}
+
+fn declare_truth_relations(
+    alloc: Global,
+    interface: &mut Interface,
+    symbol: &Symbol,
+    types: &Types,
+) -> Result<(), NoMemory>
+    ensures { OnOk result (interface.new ≡ with_operators symbol.now types.now [] interface.old (operators_of boolean_definition)) }
+{
+    let definition = TypeDefinition::Enumeration { literals: 2 };
+    let declared = declare_first_operators(alloc, interface, symbol, types, &definition);
+    drop(definition);
+    declared
+}
+
+fn declare_first_logical(
+    alloc: Global,
+    interface: &mut Interface,
+    symbol: &Symbol,
+    types: &Types,
+) -> Result<(), NoMemory>
+    ensures { OnOk result (interface.new ≡ with_operators symbol.now types.now [] interface.old logical) }
+{
+    let elsewhere = Interface::new(alloc);
+    let declared = declare_logical(alloc, &elsewhere, interface, symbol, types);
+    drop(elsewhere);
+    declared
+}
+
+fn declare_truth_operators(
+    alloc: Global,
+    interface: &mut Interface,
+    symbol: &Symbol,
+    types: &Types,
+) -> Result<(), NoMemory>
+    ensures { OnOk result (interface.new ≡ with_operators symbol.now types.now [] (with_operators symbol.now types.now [] interface.old (operators_of boolean_definition)) logical) }
+{
+    declare_truth_relations(alloc, interface, symbol, types)?;
+    declare_first_logical(alloc, interface, symbol, types)?;
+    Ok(())
+}
+
 fn declare_boolean(alloc: Global, interface: &mut Interface) -> Result<(), NoMemory>
     ensures { OnOk result (interface.new ≡ with_boolean interface.old) }
 {
     let symbol = standard_symbol(alloc, b"boolean")?;
     let definition = TypeDefinition::Enumeration { literals: 2 };
     let types = scalar(alloc, &symbol, definition)?;
-    let names = boolean_literals(alloc)?;
-    interface.declare(b"boolean", of_type(alloc, &types, names)?)?;
-    interface.declare(b"false", literal(alloc, &symbol, &types, 0)?)?;
-    interface.declare(b"true", literal(alloc, &symbol, &types, 1)?)?;
-    let definition = TypeDefinition::Enumeration { literals: 2 };
-    let elsewhere = Interface::new(alloc);
-    declare_operators(alloc, &elsewhere, interface, &symbol, &types, &definition)?;
-    declare_logical(alloc, &elsewhere, interface, &symbol, &types)?;
+    declare_truths(alloc, interface, &symbol, &types)?;
+    declare_truth_operators(alloc, interface, &symbol, &types)?;
+    Ok(())
+}
+
+/// Integer and its operators, of this symbol and these types.
+fn declare_integer_type(
+    alloc: Global,
+    interface: &mut Interface,
+    symbol: &Symbol,
+    types: &Types,
+) -> Result<(), NoMemory>
+    ensures { OnOk result (interface.new ≡ with_operators symbol.now types.now [] (with_view interface.old (codes "integer") (of_type types.now [])) (operators_of integer_definition)) }
+{
+    declare_type(alloc, interface, types, no_names(alloc)?, b"integer")?;
+    declare_integer_operators(alloc, interface, symbol, types, INTEGER_BOUNDS)?;
     Ok(())
 }
 
@@ -108,41 +215,55 @@ fn declare_integer(alloc: Global, interface: &mut Interface) -> Result<(), NoMem
 {
     let symbol = standard_symbol(alloc, b"integer")?;
     let types = scalar(alloc, &symbol, TypeDefinition::Integer(INTEGER_BOUNDS))?;
-    let names = no_names(alloc)?;
-    let view = of_type(alloc, &types, names)?;
-    interface.declare(b"integer", view)?;
-    let definition = TypeDefinition::Integer(INTEGER_BOUNDS);
-    let elsewhere = Interface::new(alloc);
-    declare_operators(alloc, &elsewhere, interface, &symbol, &types, &definition)?;
+    declare_integer_type(alloc, interface, &symbol, &types)?;
     Ok(())
+}
+
+/// The values of Integer from this bound on.
+fn range_from(alloc: Global, low: u32) -> Result<Subtype, NoMemory>
+    ensures { IfOk result (λ subtype. subtype ≡ record { base = integer; bounds = Some (record { low = pos low; high = pos 2147483647 }) }) }
+{
+    let base = standard_symbol(alloc, b"integer")?;
+    let bounds = Bounds {
+        low: i64::from(low),
+        high: 2147483647,
+    };
+    Ok(Subtype {
+        base,
+        bounds: Some(bounds),
+    })
 }
 
 /// A subtype of Integer from this bound on.
 fn integers_from(alloc: Global, low: u32) -> Result<View, NoMemory>
     ensures { IfOk result (λ view. view ≡ integers_from low) }
 {
-    let base = standard_symbol(alloc, b"integer")?;
-    let types = Types::new(alloc, Row::empty(alloc))?;
-    let bounds = Bounds {
-        low: i64::from(low),
-        high: 2147483647,
-    };
     let subtype = SubtypeView {
-        subtype: Subtype {
-            base,
-            bounds: Some(bounds),
-        },
-        types,
+        subtype: range_from(alloc, low)?,
+        types: no_types(alloc)?,
         literals: no_names(alloc)?,
     };
     let view = View::new(alloc, ViewKind::OfSubtype(subtype))?;
     Ok(view)
 }
 
+fn declare_integers(
+    alloc: Global,
+    interface: &mut Interface,
+    low: u32,
+    name: &[u8],
+) -> Result<(), NoMemory>
+    ensures { OnOk result (interface.new ≡ with_view interface.old name.now (integers_from low)) }
+{
+    let view = integers_from(alloc, low)?;
+    interface.declare(name, view)?;
+    Ok(())
+}
+
 fn declare_subtypes(alloc: Global, interface: &mut Interface) -> Result<(), NoMemory>
     ensures { OnOk result (interface.new ≡ with_subtypes interface.old) }
 {
-    interface.declare(b"natural", integers_from(alloc, 0)?)?;
-    interface.declare(b"positive", integers_from(alloc, 1)?)?;
+    declare_integers(alloc, interface, 0, b"natural")?;
+    declare_integers(alloc, interface, 1, b"positive")?;
     Ok(())
 }

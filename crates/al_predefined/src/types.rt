@@ -1,10 +1,12 @@
 // The types that every unit has, and what types are like.
-ghost use Rattle.std.specs.Prelude.{◌≡◌, [], IfOk, option_map};
+ghost use Rattle.std.specs.Prelude.{◌≡◌, [], ◌∷◌, ◌++◌, IfOk, OnOk, option_map};
 ghost use Rattle.std.specs.Option.{option_and_then, option_copied};
 ghost use Rattle.al_view.specs.Types.{definition_bounds, layout_words};
-ghost use Rattle.al_predefined.specs.StandardTypes.{root_integer, root_operators, standard_types, type_of};
+ghost use Rattle.al_predefined.specs.Operators.{operators_of, with_operators};
+ghost use Rattle.al_predefined.specs.Standard.{boolean_types, integer_types};
+ghost use Rattle.al_predefined.specs.StandardTypes.{root_definition, root_integer, root_operators, root_types, standard_types, type_of};
 
-use crate::operators::{declare_operators, standard_symbol};
+use crate::operators::{declare_integer_operators, standard_symbol};
 use crate::standard::{INTEGER_BOUNDS, scalar};
 use al_base::NoMemory;
 use al_view::{Bounds, Interface, Layout, Row, Symbol, TypeDefinition, TypeView, Types};
@@ -40,14 +42,7 @@ impl StandardTypes {
     pub fn new(alloc: Global) -> Result<Self, NoMemory>
         ensures { IfOk result (λ standard. standard ≡ standard_types) }
     {
-        let boolean = standard_symbol(alloc, b"boolean")?;
-        let integer = standard_symbol(alloc, b"integer")?;
-        let root = root_integer(alloc)?;
-        let mut types = Row::empty(alloc);
-        types.push(one(boolean, TypeDefinition::Enumeration { literals: 2 }))?;
-        types.push(one(integer, TypeDefinition::Integer(INTEGER_BOUNDS)))?;
-        types.push(one(root, TypeDefinition::Integer(ROOT_BOUNDS)))?;
-        let types = Types::new(alloc, types)?;
+        let types = standard_types(alloc)?;
         Ok(StandardTypes { types })
     }
 
@@ -82,6 +77,41 @@ impl StandardTypes {
     }
 }
 
+fn standard_types(alloc: Global) -> Result<Types, NoMemory>
+    ensures { IfOk result (λ types. types ≡ standard_types) }
+{
+    let mut types = Row::empty(alloc);
+    add_boolean(alloc, &mut types)?;
+    add_integer(alloc, &mut types)?;
+    add_root(alloc, &mut types)?;
+    let shared = Types::new(alloc, types)?;
+    Ok(shared)
+}
+
+fn add_boolean(alloc: Global, types: &mut Row<TypeView>) -> Result<(), NoMemory>
+    ensures { OnOk result (types.new ≡ types.old ++ boolean_types) }
+{
+    let symbol = standard_symbol(alloc, b"boolean")?;
+    types.push(one(symbol, TypeDefinition::Enumeration { literals: 2 }))?;
+    Ok(())
+}
+
+fn add_integer(alloc: Global, types: &mut Row<TypeView>) -> Result<(), NoMemory>
+    ensures { OnOk result (types.new ≡ types.old ++ integer_types) }
+{
+    let symbol = standard_symbol(alloc, b"integer")?;
+    types.push(one(symbol, TypeDefinition::Integer(INTEGER_BOUNDS)))?;
+    Ok(())
+}
+
+fn add_root(alloc: Global, types: &mut Row<TypeView>) -> Result<(), NoMemory>
+    ensures { OnOk result (types.new ≡ types.old ++ root_types) }
+{
+    let symbol = root_integer(alloc)?;
+    types.push(one(symbol, TypeDefinition::Integer(ROOT_BOUNDS)))?;
+    Ok(())
+}
+
 fn one(symbol: Symbol, definition: TypeDefinition) -> TypeView
     ensures { result ≡ record { symbol = symbol; definition = definition; layout = Layout.Scalar } }
 {
@@ -104,19 +134,16 @@ pub fn root_integer(alloc: Global) -> Result<Symbol, NoMemory>
 pub fn root_operators(alloc: Global) -> Result<Interface, NoMemory>
     ensures { IfOk result (λ interface. interface ≡ root_operators) }
 {
-    let symbol = root_integer(alloc)?;
-    let definition = TypeDefinition::Integer(ROOT_BOUNDS);
-    let types = scalar(alloc, &symbol, definition)?;
-    let definition = TypeDefinition::Integer(ROOT_BOUNDS);
-    let elsewhere = Interface::new(alloc);
     let mut interface = Interface::new(alloc);
-    declare_operators(
-        alloc,
-        &elsewhere,
-        &mut interface,
-        &symbol,
-        &types,
-        &definition,
-    )?;
+    declare_root_operators(alloc, &mut interface)?;
     Ok(interface)
+}
+
+fn declare_root_operators(alloc: Global, interface: &mut Interface) -> Result<(), NoMemory>
+    ensures { OnOk result (interface.new ≡ with_operators root_integer root_types [] interface.old (operators_of root_definition)) }
+{
+    let symbol = root_integer(alloc)?;
+    let types = scalar(alloc, &symbol, TypeDefinition::Integer(ROOT_BOUNDS))?;
+    declare_integer_operators(alloc, interface, &symbol, &types, ROOT_BOUNDS)?;
+    Ok(())
 }
