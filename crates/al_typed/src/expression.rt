@@ -170,8 +170,7 @@ impl Form {
     ) -> Result<Form, NoMemory>
         ensures { IfOk result (λ form. form_seen form ≡ form_trees.BinaryForm operator (typed_seen left) (typed_seen right)) }
     {
-        let left = Box::new(alloc, left)?;
-        let right = Box::new(alloc, right)?;
+        let (left, right) = both_boxed(alloc, left, right)?;
         Ok(Form::Binary(operator, left, right))
     }
 
@@ -185,8 +184,7 @@ impl Form {
     ) -> Result<Form, NoMemory>
         ensures { IfOk result (λ made. form_seen made ≡ form_trees.ShortCircuitForm form (typed_seen left) (typed_seen right)) }
     {
-        let left = Box::new(alloc, left)?;
-        let right = Box::new(alloc, right)?;
+        let (left, right) = both_boxed(alloc, left, right)?;
         Ok(Form::ShortCircuit(form, left, right))
     }
 
@@ -202,9 +200,7 @@ impl Form {
     ) -> Result<Form, NoMemory>
         ensures { IfOk result (λ form. form_seen form ≡ form_trees.MembershipForm (typed_seen value) is_negated (typed_seen low) (typed_seen high) slot) }
     {
-        let value = Box::new(alloc, value)?;
-        let low = Box::new(alloc, low)?;
-        let high = Box::new(alloc, high)?;
+        let (value, low, high) = all_boxed(alloc, value, low, high)?;
         Ok(Form::Membership {
             value,
             is_negated,
@@ -290,8 +286,7 @@ impl TypedName {
     ) -> Result<TypedName, NoMemory>
         ensures { IfOk result (λ name. name_seen name ≡ name_trees.IndexedName (name_seen array) (typed_seen index) bounds words) }
     {
-        let array = Box::new(alloc, array)?;
-        let index = Box::new(alloc, index)?;
+        let (array, index) = both_boxed(alloc, array, index)?;
         Ok(TypedName::Indexed {
             array,
             index,
@@ -361,4 +356,34 @@ impl TypedCall {
             actuals,
         }
     }
+}
+
+/// Both in places of their own. Of what type they are isn't known here, so that letting go of either is one call.
+fn both_boxed<T: Drop, U: Drop>(
+    alloc: Global,
+    left: T,
+    right: U,
+) -> Result<(Box<T>, Box<U>), NoMemory>
+    ensures left { IfOk result (λ boxes. boxes.0.value ≡ left) }
+    ensures right { IfOk result (λ boxes. boxes.1.value ≡ right) }
+{
+    let left = Box::new(alloc, left)?;
+    let right = Box::new(alloc, right)?;
+    Ok((left, right))
+}
+
+/// The same of three.
+fn all_boxed<T: Drop>(
+    alloc: Global,
+    value: T,
+    low: T,
+    high: T,
+) -> Result<(Box<T>, Box<T>, Box<T>), NoMemory>
+    ensures value { IfOk result (λ boxes. boxes.0.value ≡ value) }
+    ensures low { IfOk result (λ boxes. boxes.1.value ≡ low) }
+    ensures high { IfOk result (λ boxes. boxes.2.value ≡ high) }
+{
+    let (value, low) = both_boxed(alloc, value, low)?;
+    let high = Box::new(alloc, high)?;
+    Ok((value, low, high))
 }
