@@ -53,7 +53,7 @@ pub(crate) fn statements<'a>(
     ensures { Gives (λ x. statements_tokens (statements_seen x.0)) (λ x. lexemes source.now x.1.now) result (lexemes source.now tokens.now) (reading depth statements_rule (lexemes source.now tokens.now)) }
 {
     let (first, rest) = statement(alloc, source, depth, tokens)?;
-    let (others, rest) = more_statements(alloc, source, depth, rest)?;
+    let (others, rest) = read_or_drop!(more_statements(alloc, source, depth, rest), first);
     Ok((Statements::new(first, others), rest))
 }
 
@@ -161,15 +161,15 @@ fn behind_label<'a>(
 ) -> Result<(Statement, &'a [Token]), Stop>
     ensures { Gives (λ x. statement_tokens (statement_seen x.0)) (λ x. lexemes source.now x.1.now) result (labelled symbols.Identifier (identifier_label name) ∷ lexemes source.now tokens.now) (reading depth (the symbols.Colon ⨾ (loop_rule ∣ block_rule)) (lexemes source.now tokens.now)) }
 {
-    let rest = expect(source, tokens, Symbol::Colon)?;
+    let rest = read_or_drop!(expect(source, tokens, Symbol::Colon), name);
     if is_loop_next(source, rest) {
-        let (statement, rest) = loop_statement(alloc, source, depth, rest)?;
+        let (statement, rest) = read_or_drop!(loop_statement(alloc, source, depth, rest), name);
         return Ok((
             Statement::looping(Some(name), boxed(alloc, statement)?),
             rest,
         ));
     }
-    let (statement, rest) = block_statement(alloc, source, depth, rest)?;
+    let (statement, rest) = read_or_drop!(block_statement(alloc, source, depth, rest), name);
     Ok((Statement::block(Some(name), boxed(alloc, statement)?), rest))
 }
 
@@ -215,8 +215,11 @@ fn if_statement<'a>(
 {
     let (first, rest) = branch(alloc, source, depth, tokens)?;
     let (others, rest) = read_or_drop!(elsifs(alloc, source, depth, rest), first);
-    let (otherwise, rest) = read_or_drop!(otherwise(alloc, source, depth, rest), first);
-    let (end, closing, rest) = read_or_drop!(closing_words(source, Symbol::If, rest), first);
+    let (otherwise, rest) = read_or_drop!(otherwise(alloc, source, depth, rest), (first, others));
+    let (end, closing, rest) = read_or_drop!(
+        closing_words(source, Symbol::If, rest),
+        (first, others, otherwise)
+    );
     Ok((
         IfStatement::new(opening, first, others, otherwise, end, closing),
         rest,
@@ -235,8 +238,8 @@ fn branch<'a>(
     ensures { Gives (λ x. branch_tokens (branch_seen x.0)) (λ x. lexemes source.now x.1.now) result (lexemes source.now tokens.now) (reading depth branch_rule (lexemes source.now tokens.now)) }
 {
     let (condition, rest) = expression(alloc, source, depth, tokens)?;
-    let rest = expect(source, rest, Symbol::Then)?;
-    let (statements, rest) = statements(alloc, source, depth, rest)?;
+    let rest = read_or_drop!(expect(source, rest, Symbol::Then), condition);
+    let (statements, rest) = read_or_drop!(statements(alloc, source, depth, rest), condition);
     Ok((Branch::new(condition, statements), rest))
 }
 
@@ -307,10 +310,16 @@ fn case_statement<'a>(
     ensures { Gives (λ x. statement_tokens (case_seen x.0)) (λ x. lexemes source.now x.1.now) result (labelled symbols.Case (place_label opening) ∷ lexemes source.now tokens.now) (reading depth (grammar (place constructs.CaseStatement)) (lexemes source.now tokens.now)) }
 {
     let (selector, rest) = expression(alloc, source, depth, tokens)?;
-    let rest = expect(source, rest, Symbol::Is)?;
-    let (first, rest) = alternative(alloc, source, depth, rest)?;
-    let (others, rest) = more_alternatives(alloc, source, depth, rest)?;
-    let (end, closing, rest) = closing_words(source, Symbol::Case, rest)?;
+    let rest = read_or_drop!(expect(source, rest, Symbol::Is), selector);
+    let (first, rest) = read_or_drop!(alternative(alloc, source, depth, rest), selector);
+    let (others, rest) = read_or_drop!(
+        more_alternatives(alloc, source, depth, rest),
+        (selector, first)
+    );
+    let (end, closing, rest) = read_or_drop!(
+        closing_words(source, Symbol::Case, rest),
+        (selector, first, others)
+    );
     Ok((
         CaseStatement::new(opening, selector, first, others, end, closing),
         rest,
@@ -330,8 +339,8 @@ fn alternative<'a>(
 {
     let rest = expect(source, tokens, Symbol::When)?;
     let (first, others, rest) = choices(alloc, source, depth, rest)?;
-    let rest = expect(source, rest, Symbol::Arrow)?;
-    let (statements, rest) = statements(alloc, source, depth, rest)?;
+    let rest = read_or_drop!(expect(source, rest, Symbol::Arrow), (first, others));
+    let (statements, rest) = read_or_drop!(statements(alloc, source, depth, rest), (first, others));
     Ok((Alternative::new(first, others, statements), rest))
 }
 
@@ -391,7 +400,7 @@ fn loop_body<'a>(
     ensures { Gives (λ x. statements_tokens (statements_seen x.0) ++ loop_end_tokens (loop_end_seen x.1)) (λ x. lexemes source.now x.2.now) result (lexemes source.now tokens.now) (reading depth plain_loop_rule (lexemes source.now tokens.now)) }
 {
     let (statements, rest) = statements(alloc, source, depth, tokens)?;
-    let (end, rest) = loop_end(alloc, source, rest)?;
+    let (end, rest) = read_or_drop!(loop_end(alloc, source, rest), statements);
     Ok((statements, end, rest))
 }
 
@@ -407,8 +416,8 @@ fn while_loop<'a>(
     ensures { Gives (λ x. loop_tokens (loop_seen x.0)) (λ x. lexemes source.now x.1.now) result (labelled symbols.While (place_label opening) ∷ lexemes source.now tokens.now) (reading depth while_rule (lexemes source.now tokens.now)) }
 {
     let (condition, rest) = expression(alloc, source, depth, tokens)?;
-    let (body, rest) = word_at(source, rest, Symbol::Loop)?;
-    let (statements, end, rest) = loop_body(alloc, source, depth, rest)?;
+    let (body, rest) = read_or_drop!(word_at(source, rest, Symbol::Loop), condition);
+    let (statements, end, rest) = read_or_drop!(loop_body(alloc, source, depth, rest), condition);
     Ok((
         LoopStatement::while_loop(opening, condition, body, statements, end),
         rest,
@@ -427,11 +436,14 @@ fn for_loop<'a>(
     ensures { Gives (λ x. loop_tokens (loop_seen x.0)) (λ x. lexemes source.now x.1.now) result (labelled symbols.For (place_label opening) ∷ lexemes source.now tokens.now) (reading depth for_rule (lexemes source.now tokens.now)) }
 {
     let (parameter, rest) = identifier(alloc, source, tokens)?;
-    let rest = expect(source, rest, Symbol::In)?;
+    let rest = read_or_drop!(expect(source, rest, Symbol::In), parameter);
     let (is_reverse, rest) = flag(source, rest, Symbol::Reverse);
-    let (range, rest) = discrete_range(alloc, source, depth, rest)?;
-    let (body, rest) = word_at(source, rest, Symbol::Loop)?;
-    let (statements, end, rest) = loop_body(alloc, source, depth, rest)?;
+    let (range, rest) = read_or_drop!(discrete_range(alloc, source, depth, rest), parameter);
+    let (body, rest) = read_or_drop!(word_at(source, rest, Symbol::Loop), (parameter, range));
+    let (statements, end, rest) = read_or_drop!(
+        loop_body(alloc, source, depth, rest),
+        (parameter, range)
+    );
     Ok((
         LoopStatement::for_loop(opening, parameter, is_reverse, range, body, statements, end),
         rest,
@@ -471,7 +483,7 @@ fn plain_block<'a>(
     ensures { Gives (λ x. statements_tokens (statements_seen x.0) ++ named_end_tokens (named_end_seen x.1)) (λ x. lexemes source.now x.2.now) result (lexemes source.now tokens.now) (reading depth plain_block_rule (lexemes source.now tokens.now)) }
 {
     let (statements, rest) = statements(alloc, source, depth, tokens)?;
-    let (end, rest) = named_end(alloc, source, rest)?;
+    let (end, rest) = read_or_drop!(named_end(alloc, source, rest), statements);
     Ok((statements, end, rest))
 }
 
@@ -487,8 +499,8 @@ fn declared_statements<'a>(
     ensures { Gives (λ x. handled_tokens (handled_seen x.0)) (λ x. lexemes source.now x.1.now) result (lexemes source.now tokens.now) (reading depth declare_rule (lexemes source.now tokens.now)) }
 {
     let (items, rest) = items(alloc, source, depth, tokens)?;
-    let (begin, rest) = word_at(source, rest, Symbol::Begin)?;
-    let (statements, end, rest) = plain_block(alloc, source, depth, rest)?;
+    let (begin, rest) = read_or_drop!(word_at(source, rest, Symbol::Begin), items);
+    let (statements, end, rest) = read_or_drop!(plain_block(alloc, source, depth, rest), items);
     Ok((DeclaredStatements::new(items, begin, statements, end), rest))
 }
 
@@ -596,7 +608,7 @@ fn opened_body<'a>(
         let rest = expect(source, rest, Symbol::Semicolon)?;
         return Ok((Item::stub(specification, separate), rest));
     }
-    let (body, rest) = subprogram_body(alloc, source, inner, rest)?;
+    let (body, rest) = read_or_drop!(subprogram_body(alloc, source, inner, rest), specification);
     Ok((Item::body(specification, body), rest))
 }
 
@@ -612,9 +624,9 @@ pub(crate) fn subprogram_body<'a>(
     ensures { Gives (λ x. body_tokens (body_seen x.0)) (λ x. lexemes source.now x.1.now) result (lexemes source.now tokens.now) (reading depth subprogram_body_rule (lexemes source.now tokens.now)) }
 {
     let (items, rest) = items(alloc, source, depth, tokens)?;
-    let (begin, rest) = word_at(source, rest, Symbol::Begin)?;
-    let (statements, rest) = statements(alloc, source, depth, rest)?;
-    let (end, rest) = compound_end(alloc, source, rest)?;
+    let (begin, rest) = read_or_drop!(word_at(source, rest, Symbol::Begin), items);
+    let (statements, rest) = read_or_drop!(statements(alloc, source, depth, rest), items);
+    let (end, rest) = read_or_drop!(compound_end(alloc, source, rest), (items, statements));
     Ok((SubprogramBody::new(items, begin, statements, end), rest))
 }
 
@@ -657,8 +669,8 @@ fn task_body<'a>(
     ensures { Gives (λ x. identifier_token (identifier_label x.0) ∷ word symbols.Is ∷ handled_tokens (handled_seen x.1)) (λ x. lexemes source.now x.2.now) result (lexemes source.now tokens.now) (reading depth (grammar (place constructs.TaskBody)) (lexemes source.now tokens.now)) }
 {
     let (name, rest) = identifier(alloc, source, tokens)?;
-    let rest = expect(source, rest, Symbol::Is)?;
-    let (statements, rest) = declared_statements(alloc, source, depth, rest)?;
+    let rest = read_or_drop!(expect(source, rest, Symbol::Is), name);
+    let (statements, rest) = read_or_drop!(declared_statements(alloc, source, depth, rest), name);
     Ok((name, statements, rest))
 }
 
@@ -695,9 +707,9 @@ fn protected_body<'a>(
     ensures { Gives (λ x. identifier_token (identifier_label x.0) ∷ word symbols.Is ∷ (each (λ y. operation_body_tokens (operation_body_seen y)) x.1.items ++ named_end_tokens (named_end_seen x.2))) (λ x. lexemes source.now x.3.now) result (lexemes source.now tokens.now) (reading depth protected_body_rule (lexemes source.now tokens.now)) }
 {
     let (name, rest) = identifier(alloc, source, tokens)?;
-    let rest = expect(source, rest, Symbol::Is)?;
-    let (operations, rest) = operation_bodies(alloc, source, depth, rest)?;
-    let (end, rest) = named_end(alloc, source, rest)?;
+    let rest = read_or_drop!(expect(source, rest, Symbol::Is), name);
+    let (operations, rest) = read_or_drop!(operation_bodies(alloc, source, depth, rest), name);
+    let (end, rest) = read_or_drop!(named_end(alloc, source, rest), (name, operations));
     Ok((name, operations, end, rest))
 }
 
@@ -770,8 +782,8 @@ pub(crate) fn proper_body<'a>(
     ensures { Gives (λ x. specification_tokens (specification_seen x.0) ++ word symbols.Is ∷ body_tokens (body_seen x.1)) (λ x. lexemes source.now x.2.now) result (lexemes source.now tokens.now) (reading depth (specification_rule ⨾ opens symbols.Is constructs.SubprogramBody) (lexemes source.now tokens.now)) }
 {
     let (specification, rest) = specification(alloc, source, depth, tokens)?;
-    let (inner, rest) = enter(source, depth, rest, Symbol::Is)?;
-    let (body, rest) = subprogram_body(alloc, source, inner, rest)?;
+    let (inner, rest) = read_or_drop!(enter(source, depth, rest, Symbol::Is), specification);
+    let (body, rest) = read_or_drop!(subprogram_body(alloc, source, inner, rest), specification);
     Ok((specification, body, rest))
 }
 
@@ -788,10 +800,13 @@ fn entry_body<'a>(
     ensures { Gives (λ x. operation_body_tokens (operation_body_seen x.0)) (λ x. lexemes source.now x.1.now) result (labelled symbols.Entry (place_label opening) ∷ lexemes source.now tokens.now) (reading depth (grammar (place constructs.EntryBody)) (lexemes source.now tokens.now)) }
 {
     let (name, rest) = identifier(alloc, source, tokens)?;
-    let rest = expect(source, rest, Symbol::When)?;
-    let (barrier, rest) = expression(alloc, source, depth, rest)?;
-    let rest = expect(source, rest, Symbol::Is)?;
-    let (statements, rest) = declared_statements(alloc, source, depth, rest)?;
+    let rest = read_or_drop!(expect(source, rest, Symbol::When), name);
+    let (barrier, rest) = read_or_drop!(expression(alloc, source, depth, rest), name);
+    let rest = read_or_drop!(expect(source, rest, Symbol::Is), (name, barrier));
+    let (statements, rest) = read_or_drop!(
+        declared_statements(alloc, source, depth, rest),
+        (name, barrier)
+    );
     Ok((
         OperationBody::entry(opening, name, barrier, statements),
         rest,

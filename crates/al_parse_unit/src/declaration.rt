@@ -62,7 +62,7 @@ pub(crate) fn subtype_indication<'a>(
     ensures { Gives (λ x. subtype_indication_tokens (indication_seen x.0)) (λ x. lexemes source.now x.1.now) result (lexemes source.now tokens.now) (reading depth subtype_indication_rule (lexemes source.now tokens.now)) }
 {
     let (mark, rest) = compound_name(alloc, source, tokens)?;
-    let (constraint, rest) = constraint(alloc, source, depth, rest)?;
+    let (constraint, rest) = read_or_drop!(constraint(alloc, source, depth, rest), mark);
     Ok((SubtypeIndication { mark, constraint }, rest))
 }
 
@@ -93,8 +93,8 @@ fn array_of<'a>(
     let rest = expect(source, tokens, Symbol::Array)?;
     let (inner, opening, rest) = enter_at(source, depth, rest, Symbol::LeftParenthesis)?;
     let (index, rest) = array_index(alloc, source, inner, rest)?;
-    let rest = expect(source, rest, Symbol::Of)?;
-    let (component, rest) = subtype_indication(alloc, source, depth, rest)?;
+    let rest = read_or_drop!(expect(source, rest, Symbol::Of), index);
+    let (component, rest) = read_or_drop!(subtype_indication(alloc, source, depth, rest), index);
     Ok((
         ArrayDefinition {
             opening,
@@ -207,9 +207,9 @@ fn object_declaration<'a>(
     ensures { Gives (λ x. object_tokens (object_seen x.0)) (λ x. lexemes source.now x.1.now) result (lexemes source.now tokens.now) (reading depth object_rule (lexemes source.now tokens.now)) }
 {
     let (names, rest) = identifiers(alloc, source, tokens)?;
-    let rest = expect(source, rest, Symbol::Colon)?;
-    let (form, rest) = object_form(alloc, source, depth, rest)?;
-    let rest = expect(source, rest, Symbol::Semicolon)?;
+    let rest = read_or_drop!(expect(source, rest, Symbol::Colon), names);
+    let (form, rest) = read_or_drop!(object_form(alloc, source, depth, rest), names);
+    let rest = read_or_drop!(expect(source, rest, Symbol::Semicolon), (names, form));
     Ok((ObjectDeclaration { names, form }, rest))
 }
 
@@ -224,9 +224,9 @@ fn component<'a>(
     ensures { Gives (λ x. component_tokens (component_seen x.0)) (λ x. lexemes source.now x.1.now) result (lexemes source.now tokens.now) (reading depth component_rule (lexemes source.now tokens.now)) }
 {
     let (names, rest) = identifiers(alloc, source, tokens)?;
-    let rest = expect(source, rest, Symbol::Colon)?;
-    let (indication, rest) = subtype_indication(alloc, source, depth, rest)?;
-    let rest = read_or_drop!(expect(source, rest, Symbol::Semicolon), indication);
+    let rest = read_or_drop!(expect(source, rest, Symbol::Colon), names);
+    let (indication, rest) = read_or_drop!(subtype_indication(alloc, source, depth, rest), names);
+    let rest = read_or_drop!(expect(source, rest, Symbol::Semicolon), (names, indication));
     Ok((ComponentDeclaration { names, indication }, rest))
 }
 
@@ -296,7 +296,7 @@ fn enumeration_literals<'a>(
     ensures { Gives (λ x. identifiers_tokens (identifiers_seen x.0) ++ word symbols.RightParenthesis ∷ []) (λ x. lexemes source.now x.1.now) result (lexemes source.now tokens.now) (reading depth (grammar (place constructs.EnumerationLiterals)) (lexemes source.now tokens.now)) }
 {
     let (literals, rest) = identifiers(alloc, source, tokens)?;
-    let rest = expect(source, rest, Symbol::RightParenthesis)?;
+    let rest = read_or_drop!(expect(source, rest, Symbol::RightParenthesis), literals);
     Ok((literals, rest))
 }
 
@@ -344,9 +344,9 @@ fn type_declaration<'a>(
 {
     let rest = expect(source, tokens, Symbol::Type)?;
     let (name, rest) = identifier(alloc, source, rest)?;
-    let rest = expect(source, rest, Symbol::Is)?;
-    let (definition, rest) = type_definition(alloc, source, depth, rest)?;
-    let rest = expect(source, rest, Symbol::Semicolon)?;
+    let rest = read_or_drop!(expect(source, rest, Symbol::Is), name);
+    let (definition, rest) = read_or_drop!(type_definition(alloc, source, depth, rest), name);
+    let rest = read_or_drop!(expect(source, rest, Symbol::Semicolon), (name, definition));
     Ok((TypeDeclaration { name, definition }, rest))
 }
 
@@ -362,9 +362,9 @@ fn subtype_declaration<'a>(
 {
     let rest = expect(source, tokens, Symbol::Subtype)?;
     let (name, rest) = identifier(alloc, source, rest)?;
-    let rest = expect(source, rest, Symbol::Is)?;
-    let (indication, rest) = subtype_indication(alloc, source, depth, rest)?;
-    let rest = read_or_drop!(expect(source, rest, Symbol::Semicolon), indication);
+    let rest = read_or_drop!(expect(source, rest, Symbol::Is), name);
+    let (indication, rest) = read_or_drop!(subtype_indication(alloc, source, depth, rest), name);
+    let rest = read_or_drop!(expect(source, rest, Symbol::Semicolon), (name, indication));
     Ok((SubtypeDeclaration { name, indication }, rest))
 }
 
@@ -380,7 +380,7 @@ pub(crate) fn use_clause<'a>(
     let rest = expect(source, tokens, Symbol::Use)?;
     let (of_type, rest) = flag(source, rest, Symbol::Type);
     let (names, rest) = compound_names(alloc, source, rest)?;
-    let rest = expect(source, rest, Symbol::Semicolon)?;
+    let rest = read_or_drop!(expect(source, rest, Symbol::Semicolon), names);
     Ok((UseClause { of_type, names }, rest))
 }
 
@@ -395,7 +395,7 @@ fn argument_names<'a>(
     ensures { Gives (λ x. compounds_tokens (compounds_seen x.0) ++ word symbols.RightParenthesis ∷ []) (λ x. lexemes source.now x.1.now) result (lexemes source.now tokens.now) (reading depth (grammar (place constructs.PragmaArguments)) (lexemes source.now tokens.now)) }
 {
     let (names, rest) = compound_names(alloc, source, tokens)?;
-    let rest = expect(source, rest, Symbol::RightParenthesis)?;
+    let rest = read_or_drop!(expect(source, rest, Symbol::RightParenthesis), names);
     Ok((names, rest))
 }
 
@@ -428,8 +428,8 @@ pub(crate) fn pragma<'a>(
 {
     let rest = expect(source, tokens, Symbol::Pragma)?;
     let (name, rest) = identifier(alloc, source, rest)?;
-    let (arguments, rest) = pragma_arguments(alloc, source, depth, rest)?;
-    let rest = expect(source, rest, Symbol::Semicolon)?;
+    let (arguments, rest) = read_or_drop!(pragma_arguments(alloc, source, depth, rest), name);
+    let rest = read_or_drop!(expect(source, rest, Symbol::Semicolon), (name, arguments));
     Ok((Pragma { name, arguments }, rest))
 }
 

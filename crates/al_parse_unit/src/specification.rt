@@ -44,10 +44,10 @@ fn formal<'a>(
     ensures { Gives (λ x. formal_tokens (formal_seen x.0)) (λ x. lexemes source.now x.1.now) result (lexemes source.now tokens.now) (reading 0 formal_rule (lexemes source.now tokens.now)) }
 {
     let (names, rest) = identifiers(alloc, source, tokens)?;
-    let rest = expect(source, rest, Symbol::Colon)?;
+    let rest = read_or_drop!(expect(source, rest, Symbol::Colon), names);
     let (is_in, rest) = flag(source, rest, Symbol::In);
     let (is_out, rest) = flag(source, rest, Symbol::Out);
-    let (mark, rest) = compound_name(alloc, source, rest)?;
+    let (mark, rest) = read_or_drop!(compound_name(alloc, source, rest), names);
     Ok((
         Formal {
             names,
@@ -88,8 +88,11 @@ fn formals<'a>(
     ensures { Gives (λ x. formal_tokens (formal_seen x.0) ++ (each (λ f. word symbols.Semicolon ∷ formal_tokens f) (map formal_seen x.1.items) ++ word symbols.RightParenthesis ∷ [])) (λ x. lexemes source.now x.2.now) result (lexemes source.now tokens.now) (reading depth (grammar (place constructs.FormalPart)) (lexemes source.now tokens.now)) }
 {
     let (first, rest) = formal(alloc, source, tokens)?;
-    let (others, rest) = more_formals(alloc, source, rest)?;
-    let rest = expect(source, rest, Symbol::RightParenthesis)?;
+    let (others, rest) = read_or_drop!(more_formals(alloc, source, rest), first);
+    let rest = read_or_drop!(
+        expect(source, rest, Symbol::RightParenthesis),
+        (first, others)
+    );
     Ok((first, others, rest))
 }
 
@@ -130,14 +133,14 @@ pub(crate) fn specification<'a>(
 {
     if let Some((opening, rest)) = skip_at(source, tokens, Symbol::Procedure) {
         let (name, rest) = compound_name(alloc, source, rest)?;
-        let (formals, rest) = formal_part(alloc, source, depth, rest)?;
+        let (formals, rest) = read_or_drop!(formal_part(alloc, source, depth, rest), name);
         return Ok((Specification::Procedure(opening, name, formals), rest));
     }
     let (opening, rest) = word_at(source, tokens, Symbol::Function)?;
     let (name, rest) = compound_name(alloc, source, rest)?;
-    let (formals, rest) = formal_part(alloc, source, depth, rest)?;
-    let (closing, rest) = read_or_drop!(word_at(source, rest, Symbol::Return), formals);
-    let (mark, rest) = read_or_drop!(compound_name(alloc, source, rest), formals);
+    let (formals, rest) = read_or_drop!(formal_part(alloc, source, depth, rest), name);
+    let (closing, rest) = read_or_drop!(word_at(source, rest, Symbol::Return), (name, formals));
+    let (mark, rest) = read_or_drop!(compound_name(alloc, source, rest), (name, formals));
     Ok((
         Specification::Function(opening, name, formals, closing, mark),
         rest,
@@ -158,8 +161,8 @@ fn aspect<'a>(
         None => Ok((None, tokens)),
         Some(rest) => {
             let (name, rest) = identifier(alloc, source, rest)?;
-            let rest = expect(source, rest, Symbol::Arrow)?;
-            let (value, rest) = expression(alloc, source, depth, rest)?;
+            let rest = read_or_drop!(expect(source, rest, Symbol::Arrow), name);
+            let (value, rest) = read_or_drop!(expression(alloc, source, depth, rest), name);
             Ok((Some(Aspect { name, value }), rest))
         }
     }
@@ -176,8 +179,8 @@ pub(crate) fn task_declaration<'a>(
     ensures { Gives (λ x. identifier_token (identifier_label x.0) ∷ (maybe aspect_tokens (option_map aspect_seen x.1) ++ word symbols.Semicolon ∷ [])) (λ x. lexemes source.now x.2.now) result (lexemes source.now tokens.now) (reading depth task_rule (lexemes source.now tokens.now)) }
 {
     let (name, rest) = identifier(alloc, source, tokens)?;
-    let (aspect, rest) = aspect(alloc, source, depth, rest)?;
-    let rest = read_or_drop!(expect(source, rest, Symbol::Semicolon), aspect);
+    let (aspect, rest) = read_or_drop!(aspect(alloc, source, depth, rest), name);
+    let rest = read_or_drop!(expect(source, rest, Symbol::Semicolon), (name, aspect));
     Ok((name, aspect, rest))
 }
 
@@ -198,7 +201,7 @@ fn operation<'a>(
     }
     let (opening, rest) = word_at(source, tokens, Symbol::Entry)?;
     let (name, rest) = identifier(alloc, source, rest)?;
-    let rest = expect(source, rest, Symbol::Semicolon)?;
+    let rest = read_or_drop!(expect(source, rest, Symbol::Semicolon), name);
     Ok((ProtectedOperation::Entry(opening, name), rest))
 }
 
@@ -232,10 +235,13 @@ fn protected_component<'a>(
     ensures { Gives (λ x. protected_component_tokens (protected_component_seen x.0)) (λ x. lexemes source.now x.1.now) result (lexemes source.now tokens.now) (reading depth element_rule (lexemes source.now tokens.now)) }
 {
     let (names, rest) = identifiers(alloc, source, tokens)?;
-    let rest = expect(source, rest, Symbol::Colon)?;
-    let (indication, rest) = subtype_indication(alloc, source, depth, rest)?;
-    let (initial, rest) = initial(alloc, source, depth, rest)?;
-    let rest = expect(source, rest, Symbol::Semicolon)?;
+    let rest = read_or_drop!(expect(source, rest, Symbol::Colon), names);
+    let (indication, rest) = read_or_drop!(subtype_indication(alloc, source, depth, rest), names);
+    let (initial, rest) = read_or_drop!(initial(alloc, source, depth, rest), (names, indication));
+    let rest = read_or_drop!(
+        expect(source, rest, Symbol::Semicolon),
+        (names, indication, initial)
+    );
     Ok((
         ProtectedComponent {
             names,
@@ -316,7 +322,7 @@ pub(crate) fn named_end<'a>(
 {
     let (end, rest) = word_at(source, tokens, Symbol::End)?;
     let (end_name, rest) = end_name(alloc, source, rest)?;
-    let rest = expect(source, rest, Symbol::Semicolon)?;
+    let rest = read_or_drop!(expect(source, rest, Symbol::Semicolon), end_name);
     Ok((NamedEnd { end, end_name }, rest))
 }
 
@@ -339,8 +345,11 @@ fn protected_parts<'a>(
     ensures { Gives (λ x. each protected_operation_tokens (map protected_operation_seen x.0.items) ++ (maybe protected_private_tokens (option_map protected_private_seen x.1) ++ named_end_tokens (named_end_seen x.2))) (λ x. lexemes source.now x.3.now) result (lexemes source.now tokens.now) (reading depth (Many operation_rule ⨾ Opt (any symbols.Private ⨾ Many element_rule) ⨾ any symbols.End ⨾ Opt identifier_rule ⨾ the symbols.Semicolon) (lexemes source.now tokens.now)) }
 {
     let (operations, rest) = operations(alloc, source, depth, tokens)?;
-    let (private_part, rest) = protected_private_part(alloc, source, depth, rest)?;
-    let (end, rest) = named_end(alloc, source, rest)?;
+    let (private_part, rest) = read_or_drop!(
+        protected_private_part(alloc, source, depth, rest),
+        operations
+    );
+    let (end, rest) = read_or_drop!(named_end(alloc, source, rest), (operations, private_part));
     Ok((operations, private_part, end, rest))
 }
 
@@ -355,11 +364,12 @@ pub(crate) fn protected_definition<'a>(
     ensures { Gives (λ x. protected_tokens (protected_seen x.0)) (λ x. lexemes source.now x.1.now) result (lexemes source.now tokens.now) (reading depth protected_rule (lexemes source.now tokens.now)) }
 {
     let (name, rest) = identifier(alloc, source, tokens)?;
-    let (aspect, rest) = aspect(alloc, source, depth, rest)?;
-    let rest = expect(source, rest, Symbol::Is)?;
-    let (operations, private_part, NamedEnd { end, end_name }, rest) = protected_parts(
-        alloc, source, depth, rest,
-    )?;
+    let (aspect, rest) = read_or_drop!(aspect(alloc, source, depth, rest), name);
+    let rest = read_or_drop!(expect(source, rest, Symbol::Is), (name, aspect));
+    let (operations, private_part, NamedEnd { end, end_name }, rest) = read_or_drop!(
+        protected_parts(alloc, source, depth, rest),
+        (name, aspect)
+    );
     Ok((
         ProtectedDefinition {
             name,

@@ -135,8 +135,8 @@ pub(crate) fn exit_statement<'a>(
 {
     let (opening, rest) = word_at(source, tokens, Symbol::Exit)?;
     let (name, rest) = end_name(alloc, source, rest)?;
-    let (condition, rest) = exit_condition(alloc, source, depth, rest)?;
-    let rest = read_or_drop!(expect(source, rest, Symbol::Semicolon), condition);
+    let (condition, rest) = read_or_drop!(exit_condition(alloc, source, depth, rest), name);
+    let rest = read_or_drop!(expect(source, rest, Symbol::Semicolon), (name, condition));
     let statement = ExitStatement {
         opening,
         name,
@@ -225,7 +225,7 @@ pub(crate) fn loop_end<'a>(
     let (end, rest) = word_at(source, tokens, Symbol::End)?;
     let (closing, rest) = word_at(source, rest, Symbol::Loop)?;
     let (end_name, rest) = end_name(alloc, source, rest)?;
-    let rest = expect(source, rest, Symbol::Semicolon)?;
+    let rest = read_or_drop!(expect(source, rest, Symbol::Semicolon), end_name);
     Ok((
         LoopEnd {
             end,
@@ -247,7 +247,7 @@ pub(crate) fn compound_end<'a>(
 {
     let (end, rest) = word_at(source, tokens, Symbol::End)?;
     let (end_name, rest) = end_compound(alloc, source, rest)?;
-    let rest = expect(source, rest, Symbol::Semicolon)?;
+    let rest = read_or_drop!(expect(source, rest, Symbol::Semicolon), end_name);
     Ok((CompoundEnd { end, end_name }, rest))
 }
 

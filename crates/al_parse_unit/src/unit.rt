@@ -52,7 +52,7 @@ fn context_item<'a>(
 {
     if let Some(rest) = skip(source, tokens, Symbol::With) {
         let (names, rest) = compound_names(alloc, source, rest)?;
-        let rest = expect(source, rest, Symbol::Semicolon)?;
+        let rest = read_or_drop!(expect(source, rest, Symbol::Semicolon), names);
         return Ok((ContextItem::With(names), rest));
     }
     if is_use_next(source, tokens) {
@@ -125,8 +125,8 @@ fn package_parts<'a>(
     ensures { Gives (λ x. each declaration_tokens (map declaration_seen x.0.items) ++ (maybe private_part_tokens (option_map private_part_seen x.1) ++ compound_end_tokens (compound_end_seen x.2))) (λ x. lexemes source.now x.3.now) result (lexemes source.now tokens.now) (reading depth (Many declaration_rule ⨾ Opt (any symbols.Private ⨾ Many declaration_rule) ⨾ any symbols.End ⨾ Opt compound_name_rule ⨾ the symbols.Semicolon) (lexemes source.now tokens.now)) }
 {
     let (visible, rest) = declarations(alloc, source, depth, tokens)?;
-    let (private_part, rest) = private_part(alloc, source, depth, rest)?;
-    let (end, rest) = compound_end(alloc, source, rest)?;
+    let (private_part, rest) = read_or_drop!(private_part(alloc, source, depth, rest), visible);
+    let (end, rest) = read_or_drop!(compound_end(alloc, source, rest), (visible, private_part));
     Ok((visible, private_part, end, rest))
 }
 
@@ -198,8 +198,8 @@ fn package_body_parts<'a>(
 {
     let rest = expect(source, tokens, Symbol::Is)?;
     let (items, rest) = items(alloc, source, depth, rest)?;
-    let (statements, rest) = package_statements(alloc, source, depth, rest)?;
-    let (end, rest) = compound_end(alloc, source, rest)?;
+    let (statements, rest) = read_or_drop!(package_statements(alloc, source, depth, rest), items);
+    let (end, rest) = read_or_drop!(compound_end(alloc, source, rest), (items, statements));
     Ok((items, statements, end, rest))
 }
 
@@ -229,7 +229,7 @@ fn parent_name<'a>(
     ensures { Gives (λ x. compound_tokens (compound_seen x.0) ++ word symbols.RightParenthesis ∷ []) (λ x. lexemes source.now x.1.now) result (lexemes source.now tokens.now) (reading depth (grammar (place constructs.ParentName)) (lexemes source.now tokens.now)) }
 {
     let (name, rest) = compound_name(alloc, source, tokens)?;
-    let rest = expect(source, rest, Symbol::RightParenthesis)?;
+    let rest = read_or_drop!(expect(source, rest, Symbol::RightParenthesis), name);
     Ok((name, rest))
 }
 
@@ -271,8 +271,8 @@ fn subprogram_item<'a>(
     if let Some(rest) = skip(source, rest, Symbol::Semicolon) {
         return Ok((LibraryItem::Subprogram(None, specification), rest));
     }
-    let (inner, rest) = enter(source, depth, rest, Symbol::Is)?;
-    let (body, rest) = subprogram_body(alloc, source, inner, rest)?;
+    let (inner, rest) = read_or_drop!(enter(source, depth, rest, Symbol::Is), specification);
+    let (body, rest) = read_or_drop!(subprogram_body(alloc, source, inner, rest), specification);
     Ok((LibraryItem::Body(specification, body), rest))
 }
 
@@ -309,7 +309,10 @@ fn subunit<'a>(
     let (opening, rest) = word_at(source, tokens, Symbol::Separate)?;
     let (inner, parenthesis, rest) = enter_at(source, depth, rest, Symbol::LeftParenthesis)?;
     let (parent, rest) = parent_name(alloc, source, inner, rest)?;
-    let (specification, body, rest) = proper_body(alloc, source, depth, rest)?;
+    let (specification, body, rest) = read_or_drop!(
+        proper_body(alloc, source, depth, rest),
+        parent
+    );
     Ok((
         LibraryItem::Subunit(opening, parenthesis, parent, specification, body),
         rest,
@@ -353,7 +356,7 @@ fn parts_of_unit<'a>(
     ensures { Gives (λ x. tokens_of (unit_seen x.0)) (λ x. lexemes source.now x.1.now) result (lexemes source.now tokens.now) (reading depth (Many context_rule ⨾ library_item_rule) (lexemes source.now tokens.now)) }
 {
     let (context, rest) = context_items(alloc, source, depth, tokens)?;
-    let (item, rest) = library_item(alloc, source, depth, rest)?;
+    let (item, rest) = read_or_drop!(library_item(alloc, source, depth, rest), context);
     Ok((CompilationUnit::new(context, item), rest))
 }
 
