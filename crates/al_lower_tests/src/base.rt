@@ -1,66 +1,156 @@
 use al_base::laws::{delete_changes_one, put_changes_one, rename_moves_one};
 use al_base::{
-    FileKey, Files, Name, Refusal, ReservedWord, Rule, UnitKey, UnitKind, file_name_of, folded,
-    is_file_name, is_identifier, is_unit_name, reserved_word,
+    FileKey, Files, Name, NoMemory, Refusal, ReservedWord, Rule, UnitKey, UnitKind, file_name_of,
+    folded, is_file_name, is_identifier, is_unit_name, reserved_word,
 };
+use std::alloc::Global;
 use std::collections::BTreeMap;
 use std::test::Fail;
 
-#[test]
-fn files_are_kept_by_name(rt: HostRuntime) -> Result<(), Fail> {
-    let alloc = rt.alloc();
+/// `b.adb` and `a.ads`, in this order.
+fn two_files(alloc: Global) -> Result<Files, Fail> {
     let mut files = Files::new(alloc);
     files.put(b"b.adb", Vec::from_slice(alloc, b"two")?)?;
     files.put(b"a.ads", Vec::from_slice(alloc, b"one")?)?;
-    let copy = files.copy()?;
+    Ok(files)
+}
+
+/// `b.adb` and `c.ads`, which was `a.ads`.
+fn renamed_files(alloc: Global) -> Result<Files, Fail> {
+    let mut files = two_files(alloc)?;
     files.rename(b"a.ads", b"c.ads")?;
+    Ok(files)
+}
+
+#[test]
+fn files_have_their_new_names(rt: HostRuntime) -> Result<(), Fail> {
+    let files = renamed_files(rt.alloc())?;
     assert_eq!(rt; files.get(b"c.ads"), Some(b"one".as_slice()));
     assert_eq!(rt; files.get(b"a.ads"), None);
-    assert_eq!(rt; files.delete(b"a.ads"), Err(Refusal::NoFile));
-    assert_eq!(rt; files.rename(b"c.ads", b"b.adb"), Err(Refusal::FileExists));
-    assert_eq!(rt; files.put(b"c.txt", Vec::new(alloc)), Err(Refusal::BadName));
-    files.delete(b"b.adb")?;
-    assert_eq!(rt; files.len(), 1);
-    assert_eq!(rt; copy.at(0), Some((b"a.ads".as_slice(), b"one".as_slice())));
-    assert_eq!(rt; copy.at(1), Some((b"b.adb".as_slice(), b"two".as_slice())));
-    assert_eq!(rt; copy.at(2), None);
-    assert_eq!(rt; copy.list()?.len(), 2);
-    put_changes_one();
-    delete_changes_one();
-    rename_moves_one();
     Ok(())
 }
 
 #[test]
-fn words_and_names(rt: HostRuntime) -> Result<(), Fail> {
-    assert_eq!(rt; reserved_word(b"ElsIf"), Some(ReservedWord::Elsif));
-    assert_eq!(rt; reserved_word(b"xor"), Some(ReservedWord::Xor));
-    assert_eq!(rt; reserved_word(b"parallel"), None, "of Ada 2022");
-    for word in [b"Put_Line".as_slice(), b"x", b"A1_2"] {
-        assert_eq!(rt; is_identifier(word), true);
+fn changes_of_files_are_refused(rt: HostRuntime) -> Result<(), Fail> {
+    let alloc = rt.alloc();
+    let mut files = renamed_files(alloc)?;
+    let found = [
+        files.delete(b"a.ads"),
+        files.rename(b"c.ads", b"b.adb"),
+        files.put(b"c.txt", Vec::new(alloc)),
+    ];
+    let wanted = [
+        Err(Refusal::NoFile),
+        Err(Refusal::FileExists),
+        Err(Refusal::BadName),
+    ];
+    assert_eq!(rt; found, wanted);
+    Ok(())
+}
+
+#[test]
+fn files_are_deleted(rt: HostRuntime) -> Result<(), Fail> {
+    let mut files = renamed_files(rt.alloc())?;
+    files.delete(b"b.adb")?;
+    assert_eq!(rt; files.len(), 1);
+    Ok(())
+}
+
+/// A copy of two files, of which the original is changed afterwards.
+fn copied_files(alloc: Global) -> Result<Files, Fail> {
+    let mut files = two_files(alloc)?;
+    let copy = files.copy();
+    files.rename(b"a.ads", b"c.ads")?;
+    files.delete(b"b.adb")?;
+    Ok(copy?)
+}
+
+#[test]
+fn copies_of_files_stay(rt: HostRuntime) -> Result<(), Fail> {
+    let copy = copied_files(rt.alloc())?;
+    assert_eq!(rt; copy.at(0), Some((b"a.ads".as_slice(), b"one".as_slice())));
+    assert_eq!(rt; copy.at(1), Some((b"b.adb".as_slice(), b"two".as_slice())));
+    assert_eq!(rt; copy.at(2), None);
+    Ok(())
+}
+
+#[test]
+fn copies_of_files_are_listed(rt: HostRuntime) -> Result<(), Fail> {
+    let copy = copied_files(rt.alloc())?;
+    let list = copy.list()?;
+    assert_eq!(rt; list.len(), 2);
+    Ok(())
+}
+
+#[test]
+fn laws_of_files() {
+    put_changes_one();
+    delete_changes_one();
+    rename_moves_one();
+}
+
+#[test]
+fn reserved_words(rt: HostRuntime) {
+    let found = [
+        reserved_word(b"ElsIf"),
+        reserved_word(b"xor"),
+        reserved_word(b"parallel"), // of Ada 2022
+    ];
+    let wanted = [Some(ReservedWord::Elsif), Some(ReservedWord::Xor), None];
+    assert_eq!(rt; found, wanted);
+}
+
+#[test]
+fn identifiers(rt: HostRuntime) {
+    let words = [
+        (b"Put_Line".as_slice(), true),
+        (b"x", true),
+        (b"A1_2", true),
+        (b"a__b", false),
+        (b"a_", false),
+        (b"_a", false),
+        (b"1a", false),
+        (b"", false),
+        (b"Loop", false),
+        (b"a.b", false),
+        (b"\xe4", false),
+    ];
+    for (word, wanted) in words {
+        assert_eq!(rt; is_identifier(word), wanted);
     }
-    for word in [
-        b"a__b".as_slice(),
-        b"a_",
-        b"_a",
-        b"1a",
-        b"",
-        b"Loop",
-        b"a.b",
-        b"\xe4",
-    ] {
-        assert_eq!(rt; is_identifier(word), false);
+}
+
+#[test]
+fn names_of_units(rt: HostRuntime) {
+    let names = [
+        (b"Ada.Text_IO".as_slice(), true),
+        (b"a..b", false),
+        (b"a.", false),
+        (b"", false),
+        (b"a.in", false),
+    ];
+    for (name, wanted) in names {
+        assert_eq!(rt; is_unit_name(name), wanted);
     }
-    assert_eq!(rt; is_unit_name(b"Ada.Text_IO"), true);
-    for name in [b"a..b".as_slice(), b"a.", b"", b"a.in"] {
-        assert_eq!(rt; is_unit_name(name), false);
+}
+
+#[test]
+fn names_of_files(rt: HostRuntime) {
+    let names = [
+        (b"a.ads".as_slice(), true),
+        (b"a~b-c.adb", true),
+        (b"A.ads", false),
+        (b".adb", false),
+        (b"a.ali", false),
+        (b"a b.adb", false),
+    ];
+    for (name, wanted) in names {
+        assert_eq!(rt; is_file_name(name), wanted);
     }
-    for name in [b"a.ads".as_slice(), b"a~b-c.adb"] {
-        assert_eq!(rt; is_file_name(name), true);
-    }
-    for name in [b"A.ads".as_slice(), b".adb", b"a.ali", b"a b.adb"] {
-        assert_eq!(rt; is_file_name(name), false);
-    }
+}
+
+#[test]
+fn names_are_folded(rt: HostRuntime) -> Result<(), Fail> {
     let name = folded(rt.alloc(), b"Ada.Text_IO")?;
     assert_eq!(rt; name.as_slice(), b"ada.text_io".as_slice());
     Ok(())
@@ -77,19 +167,26 @@ fn files_of_units(rt: HostRuntime) -> Result<(), Fail> {
         (b"i", UnitKind::Body, b"i.adb"),
     ];
     for (unit, kind, file) in units {
-        let key = UnitKey {
-            name: Name::from_slice(rt.alloc(), unit)?,
-            kind,
-        };
-        let name = file_name_of(rt.alloc(), &key)?;
+        let name = name_of_file(rt.alloc(), unit, kind)?;
         assert_eq!(rt; name.as_slice(), file);
         let short = FileKey::of(unit, kind).expect(&rt, "it is short");
         assert_eq!(rt; short.as_slice(), file);
     }
-    let long = [b'a'; 252];
-    assert_eq!(rt; FileKey::of(&long, UnitKind::Decl).is_none(), true);
-    assert_eq!(rt; FileKey::of(&long[1..], UnitKind::Decl).is_some(), true);
     Ok(())
+}
+
+fn name_of_file(alloc: Global, unit: &[u8], kind: UnitKind) -> Result<Name, NoMemory> {
+    let name = Name::from_slice(alloc, unit)?;
+    let key = UnitKey { name, kind };
+    let file = file_name_of(alloc, &key)?;
+    Ok(file)
+}
+
+#[test]
+fn names_of_files_are_short(rt: HostRuntime) {
+    let long = [b'a'; 252];
+    let found = [&long[..], &long[1..]].map(|name| FileKey::of(name, UnitKind::Decl).is_some());
+    assert_eq!(rt; found, [false, true]);
 }
 
 #[test]

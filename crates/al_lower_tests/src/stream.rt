@@ -2,6 +2,7 @@ use al_stream::{
     Buffer, Counted, Device, KeptLine, Text, cut_is_first, emit, emit_hex, emit_number, finish,
     read_line, read_text, write_all,
 };
+use std::alloc::Global;
 use std::io;
 use std::io::{BufWriter, ErrorKind, Read, Write};
 use std::test::Fail;
@@ -77,41 +78,47 @@ fn lines_and_a_text(rt: HostRuntime) -> Result<(), Fail> {
         most: 1,
     });
     let mut buffer = Buffer::new(99);
-    let mut line = KeptLine::new();
-    assert_eq!(rt; read_line(&mut source, &mut buffer, &mut line)?, true);
-    assert_eq!(rt; line.as_slice(), b"put a 3".as_slice());
+    let mut first = KeptLine::new();
     let mut text = Text::new(rt.alloc(), true);
-    assert_eq!(rt; read_text(&mut source, &mut buffer, 3, &mut text)?, true);
-    assert_eq!(rt; text.kept, true);
-    assert_eq!(rt; text.bytes.as_slice(), b"x\ny".as_slice());
-    let mut line = KeptLine::new();
-    assert_eq!(rt; read_line(&mut source, &mut buffer, &mut line)?, false);
-    assert_eq!(rt; line.as_slice(), b"last".as_slice());
+    let mut last = KeptLine::new();
+    let whole = [
+        read_line(&mut source, &mut buffer, &mut first)?,
+        read_text(&mut source, &mut buffer, 3, &mut text)?,
+        read_line(&mut source, &mut buffer, &mut last)?,
+    ];
+    assert_eq!(rt; (whole, text.kept), ([true, true, false], true));
+    let found = [first.as_slice(), text.bytes.as_slice(), last.as_slice()];
+    assert_eq!(rt; found, [b"put a 3".as_slice(), b"x\ny", b"last"]);
     Ok(())
+}
+
+/// A text of 150,000 bytes, and the beginning of another.
+fn long_input(alloc: Global) -> Result<Vec<u8>, Fail> {
+    let mut input = Vec::new(alloc);
+    input.resize(150000, b'x')?;
+    input.extend_from_slice(b"\nab")?;
+    Ok(input)
 }
 
 #[test]
 fn texts_longer_than_the_buffer(rt: HostRuntime) -> Result<(), Fail> {
-    let mut input = Vec::new(rt.alloc());
-    input.resize(150000, b'x')?;
-    input.extend_from_slice(b"\nab")?;
+    let input = long_input(rt.alloc())?;
     for kept in [true, false] {
         let mut source = Counted::new(input.as_slice());
         let mut buffer = Buffer::new(99);
         let mut text = Text::new(rt.alloc(), kept);
-        assert_eq!(rt;
-            read_text(&mut source, &mut buffer, 150000, &mut text)?,
-            true
-        );
-        assert_eq!(rt; text.kept, kept);
-        assert_eq!(rt; text.bytes.len(), if kept { 150000 } else { 0 });
-        assert_eq!(rt; read_text(&mut source, &mut buffer, 3, &mut text)?, false);
+        let read = read_text(&mut source, &mut buffer, 150000, &mut text);
+        assert_eq!(rt; read, Ok(true));
+        let found = (text.kept, text.bytes.len());
+        assert_eq!(rt; found, (kept, if kept { 150000 } else { 0 }));
+        let read = read_text(&mut source, &mut buffer, 3, &mut text);
+        assert_eq!(rt; read, Ok(false));
     }
     Ok(())
 }
 
 #[test]
-fn readers_that_fail(rt: HostRuntime) -> Result<(), Fail> {
+fn readers_that_fail(rt: HostRuntime) {
     for before in 0..4 {
         let mut source = Counted::new(Failing {
             inner: Short {
@@ -125,12 +132,15 @@ fn readers_that_fail(rt: HostRuntime) -> Result<(), Fail> {
         let read = read_line(&mut source, &mut buffer, &mut line);
         assert_eq!(rt; read.err(), Some(Device::Read), "at read {before}");
     }
+}
+
+#[test]
+fn readers_with_one_pull_left(rt: HostRuntime) {
     let mut source = Counted::new(b"abc".as_slice());
     let mut buffer = Buffer::new(1);
     let mut line = KeptLine::new();
     let read = read_line(&mut source, &mut buffer, &mut line);
-    assert_eq!(rt; read.err(), Some(Device::Read), "one pull is left");
-    Ok(())
+    assert_eq!(rt; read.err(), Some(Device::Read));
 }
 
 #[test]
@@ -149,7 +159,7 @@ fn pieces_that_are_written(rt: HostRuntime) -> Result<(), Fail> {
 }
 
 #[test]
-fn writers_that_fail(rt: HostRuntime) -> Result<(), Fail> {
+fn writers_that_fail(rt: HostRuntime) {
     for before in 0..3 {
         let mut sink = Counted::new(Failing {
             inner: Vec::new(rt.alloc()),
@@ -163,13 +173,16 @@ fn writers_that_fail(rt: HostRuntime) -> Result<(), Fail> {
         let Failing { inner, before: _ } = sink.into_inner();
         assert!(rt; b"abc".starts_with(inner.as_slice()), "at write {before}");
     }
+}
+
+#[test]
+fn writers_that_take_nothing(rt: HostRuntime) {
     let mut sink = Counted::new(Short {
         inner: Vec::new(rt.alloc()),
         most: 0,
     });
-    assert_eq!(rt; write_all(&mut sink, b"").err(), None);
-    assert_eq!(rt; write_all(&mut sink, b"a").err(), Some(Device::Write));
-    Ok(())
+    let found = [write_all(&mut sink, b""), write_all(&mut sink, b"a")];
+    assert_eq!(rt; found, [Ok(()), Err(Device::Write)]);
 }
 
 #[test]
@@ -181,14 +194,18 @@ fn what_is_held_back(rt: HostRuntime) -> Result<(), Fail> {
     let (written, held) = sink.into_inner().into_parts();
     assert_eq!(rt; written.as_slice(), b"ok".as_slice());
     assert!(rt; held.is_empty());
+    Ok(())
+}
+
+#[test]
+fn what_is_held_back_and_lost(rt: HostRuntime) -> Result<(), Fail> {
     let failing = Failing {
         inner: Vec::new(rt.alloc()),
         before: 0,
     };
     let mut sink = Counted::new(BufWriter::new(rt.alloc(), failing)?);
     let so_far = emit(Ok(()), &mut sink, b"ok");
-    assert_eq!(rt; so_far, Ok(()));
     let ended = finish(so_far, &mut sink);
-    assert_eq!(rt; ended.err(), Some(Device::Write));
+    assert_eq!(rt; (so_far, ended.err()), (Ok(()), Some(Device::Write)));
     Ok(())
 }
