@@ -1,14 +1,11 @@
 // The tokens of a text.
-ghost use Rattle.std.specs.Prelude.{◌≡◌, ◌≤◌, ◌<◌, ◌+◌, ◌^◌, ◌++◌, [], length, Ok, IfOk, IfErr, OnOk, IfSome, IfNone};
+ghost use Rattle.std.specs.Prelude.{◌≡◌, ◌≤◌, ◌<◌, ◌+◌, ◌^◌, ◌++◌, [], length, Ok, IfOk, IfErr, OnOk};
 ghost use Rattle.al_lex.specs.Tokens.{FaultOf, behind, end_place_of, lexed, mark_len, with_token};
 
 use crate::pieces::front_piece;
 use crate::token::{LexError, LexFault, Piece, Sort, Token};
 use al_base::{Place, Span};
 use std::alloc::{AllocError, Global};
-
-/// The most bytes of a text whose places have room: all numbers of lines and columns are below 2^32.
-const MOST_BYTES: usize = 4_294_967_294;
 
 /// Where a text begins.
 const FIRST_PLACE: Place = Place { line: 1, col: 1 };
@@ -74,19 +71,18 @@ fn note(
 /// The lexemes of the text, or its first fault (ARM 2.1 to 2.9).
 ///
 /// Each lexeme is the longest that begins where the one before and the separators behind it end. The mark EF BB BF is
-/// skipped at the front. Lines and columns count from 1, columns in bytes, the mark uncounted.
+/// skipped at the front. Lines and columns count from 1, columns in bytes, the mark uncounted. So many bytes have places whose
+/// numbers are below 2^32.
 ///
 /// # Errors
 ///
 /// `Fault` names the first lexeme that is malformed, or the first byte that begins none; `NoMemory` that there was no
-/// room for the tokens, or the text has more than 4,294,967,294 bytes, whose places have no room in a token.
+/// room for the tokens.
 pub fn lex(alloc: Global, text: &[u8]) -> Result<Vec<Token>, LexError>
+    requires { length text.now ≤ 4294967294 }
     ensures tokens { IfOk result (λ tokens. lexed text.now ≡ Ok tokens.items) }
     ensures fault { IfErr result (λ e. FaultOf e text.now) }
 {
-    if text.len() > MOST_BYTES {
-        return Err(LexError::NoMemory);
-    }
     let mut tokens = Vec::new(alloc);
     let mut place = FIRST_PLACE;
     let mut start = mark_len(text);
@@ -103,22 +99,19 @@ pub fn lex(alloc: Global, text: &[u8]) -> Result<Vec<Token>, LexError>
     Ok(tokens)
 }
 
-/// The place behind the last byte of a text, or of its first lexical fault; none of a text of more than 4,294,967,294 bytes.
-pub fn end_place(text: &[u8]) -> Option<Place>
-    ensures place { IfSome result (λ place. place ≡ end_place_of text.now) }
-    ensures none { IfNone result (4294967294 < length text.now) }
+/// The place behind the last byte of a text, or of its first lexical fault.
+pub fn end_place(text: &[u8]) -> Place
+    requires { length text.now ≤ 4294967294 }
+    ensures { result ≡ end_place_of text.now }
 {
-    if text.len() > MOST_BYTES {
-        return None;
-    }
     let mut place = FIRST_PLACE;
     let (_, mut rest) = text.split_at(mark_len(text));
     while !rest.is_empty() {
         let Ok(piece) = front_piece(rest) else {
-            return Some(place);
+            return place;
         };
         place = behind(place, piece);
         (_, rest) = rest.split_at(piece.len);
     }
-    Some(place)
+    place
 }

@@ -1,3 +1,5 @@
+ghost use Rattle.std.specs.Prelude.{◌<◌, length};
+
 use al_lex::{Token, lex};
 use al_parse_expr::{Stop, expression, identifier, name_from};
 use al_tree::{AddingOperator, Expression, InfixOperator, LogicalOperator, NamePart};
@@ -6,7 +8,9 @@ use std::test::Fail;
 
 const MOST_OPEN: u32 = 64;
 
-fn tokens_of(alloc: Global, source: &[u8]) -> Result<Vec<Token>, Fail> {
+fn tokens_of(alloc: Global, source: &[u8]) -> Result<Vec<Token>, Fail>
+    requires { length source.now < 1000 }
+{
     match lex(alloc, source) {
         Ok(tokens) => Ok(tokens),
         Err(_) => Err(Fail::from("no tokens")),
@@ -14,7 +18,9 @@ fn tokens_of(alloc: Global, source: &[u8]) -> Result<Vec<Token>, Fail> {
 }
 
 /// How many tokens are before the end of the expression, or before its fault.
-fn read(alloc: Global, depth: u32, source: &[u8]) -> Result<Result<usize, usize>, Fail> {
+fn read(alloc: Global, depth: u32, source: &[u8]) -> Result<Result<usize, usize>, Fail>
+    requires { length source.now < 1000 }
+{
     let tokens = tokens_of(alloc, source)?;
     let count = tokens.len();
     match expression(alloc, source, depth, tokens.as_slice()) {

@@ -103,6 +103,7 @@ fn source_with(alloc: Global, text: &Rc<Vec<u8>>, reading: &Reading) -> Result<R
 
 /// Reads the text of a file.
 fn held_anew(alloc: Global, text: &Rc<Vec<u8>>) -> Result<Held, NoMemory>
+    requires { length text.now.value.items ≤ 1048576 }
     ensures source { IfOk result (λ held. source_seen held.source.value ≡ source_of text.now.value.items) }
     ensures reading { IfOk result (λ held. reading_seen held.reading.value ≡ reading_of text.now.value.items) }
 {
@@ -122,6 +123,7 @@ fn held_after(
     file: &[u8],
     text: &Rc<Vec<u8>>,
 ) -> Result<Held, NoMemory>
+    requires { length text.now.value.items ≤ 1048576 }
     ensures source { IfOk result (λ held. source_seen held.source.value ≡ source_of text.now.value.items) }
     ensures reading { IfOk result (λ held. reading_seen held.reading.value ≡ reading_of text.now.value.items) }
 {
@@ -142,7 +144,8 @@ fn add_file(
     sources: &mut Sources,
     readings: &mut BTreeMap<Vec<u8>, Rc<Reading>>,
 ) -> Result<(), NoMemory>
-    requires { length file.now ≤ 255 }
+    requires name { length file.now ≤ 255 }
+    requires text { length text.now.value.items ≤ 1048576 }
     ensures source { OnOk result (sources.new ≡ insert_entry name_cmp sources.old file.now (source_of text.now.value.items)) }
     ensures reading { OnOk result (readings_seen readings.new.entries ≡ insert_entry name_cmp (readings_seen readings.old.entries) file.now (reading_of text.now.value.items)) }
 {

@@ -1,5 +1,5 @@
 // What the text of a file is.
-ghost use Rattle.std.specs.Prelude.{◌≡◌, ◌≤◌, IfOk, IfSome, length};
+ghost use Rattle.std.specs.Prelude.{◌≡◌, ◌≤◌, IfOk, length};
 ghost use Rattle.al_lex.specs.Tokens.{lexed};
 ghost use Rattle.al_unit.specs.Readings.{reading_of, token_place};
 ghost use Rattle.al_unit.specs.ReadingSeen.{reading_seen};
@@ -33,9 +33,10 @@ impl Drop for Reading {
 ///
 /// # Errors
 ///
-/// `NoMemory` where memory is wanted, or the text is too long for places to have room (4,294,967,294 bytes). A text that is no compilation unit is no error.
+/// `NoMemory` where memory is wanted. A text that is no compilation unit is no error.
 #[tactic(auto, using(crate::proofs::Faults::fault_has_no_unit, crate::proofs::Faults::tree_is_found), unfolding(crate::specs::Readings::reading_of))]
 pub fn read(alloc: Global, text: &[u8]) -> Result<Reading, NoMemory>
+    requires { length text.now ≤ 4294967294 }
     ensures { IfOk result (λ reading. reading_seen reading ≡ reading_of text.now) }
 {
     trees_are_found();
@@ -51,20 +52,21 @@ pub fn read(alloc: Global, text: &[u8]) -> Result<Reading, NoMemory>
     };
     match parse(alloc, text, tokens.as_slice()) {
         Ok(unit) => Ok(Reading::Sentence(unit)),
-        Err(ParseError::Syntax(fault)) => match token_place(text, tokens.as_slice(), fault.at) {
-            Some(place) => Ok(Reading::Fails(place, 101)),
-            None => Err(NoMemory),
-        },
+        Err(ParseError::Syntax(fault)) => {
+            let place = token_place(text, tokens.as_slice(), fault.at);
+            Ok(Reading::Fails(place, 101))
+        }
         Err(ParseError::NoMemory) => Err(NoMemory),
     }
 }
 
 // Where a token stands; behind the last one, the end of the text.
-fn token_place(text: &[u8], tokens: &[Token], at: usize) -> Option<Place>
-    ensures { IfSome result (λ place. place ≡ token_place text.now tokens.now at) }
+fn token_place(text: &[u8], tokens: &[Token], at: usize) -> Place
+    requires { length text.now ≤ 4294967294 }
+    ensures { result ≡ token_place text.now tokens.now at }
 {
     match tokens.get(at) {
-        Some(token) => Some(token.span.place),
+        Some(token) => token.span.place,
         None => end_place(text),
     }
 }

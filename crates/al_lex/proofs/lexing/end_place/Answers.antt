@@ -47,12 +47,12 @@ loop-rest-preserved c =
       );
     }
 
-pub returns-clause-place : goal.returns-clause-place
-returns-clause-place c =
+pub returns : goal.returns
+returns c =
     let no_more : length c.loop-rest.rest.now ≡ 0 = eqb-true (length c.loop-rest.rest.now) 0 (sym c.is_empty.ensures ∙ c.loop-rest-test.false) in
     sym (end_place_lem c.args.text.now _ (is_over (length c.args.text.now - length c.loop-rest.rest.now) c.loop-rest.place c.loop-rest.rest.now c.loop-rest.invariant.cut.0 c.args.text.now c.loop-rest.invariant.cut.1 no_more))
 
-pub returns-in_default-clause-place : goal.returns-in_default-clause-place
-returns-in_default-clause-place c =
+pub returns-in_default : goal.returns-in_default
+returns-in_default c =
     let some : 0 < length c.loop-rest.rest.now = omega (arith, eqb-false (length c.loop-rest.rest.now) 0 (sym c.is_empty.ensures ∙ c.loop-rest-test.true)) in
     sym (end_place_lem c.args.text.now _ (is_fault (length c.args.text.now - length c.loop-rest.rest.now) c.loop-rest.place c.loop-rest.rest.now c.loop-rest.invariant.cut.0 c.args.text.now c.in_default.field-0 c.loop-rest.invariant.cut.1 some (sym c.in_default.is ∙ c.front_piece.ensures.exact)))

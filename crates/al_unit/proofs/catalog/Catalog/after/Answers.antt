@@ -34,7 +34,12 @@ returns c =
     ∙ ap (map (λ f. (f.0.now, f.1.now.value.items))) (take_all c.loop-name.name-index c.deref-name-items.result.now c.loop-name-test.false ∙ c.deref-name-items.ensures.value)
     ∙ c.in_ok-list.ensures.list
 
-pub add_file-requires : goal.add_file-requires
-add_file-requires c =
+pub add_file-requires-clause-name : goal.add_file-requires-clause-name
+add_file-requires-clause-name c =
     let files : AllByRecursion IsFile (map (λ f. (f.0.now, f.1.now.value.items)) c.deref-name-items.result.now) = rw (c.deref-name-items.ensures.value, c.in_ok-list.ensures.list) c.in_ok-list.ensures.files.each in
     short_name c.loop-name-item.result.0.now (held_at (λ f. (f.0.now, f.1.now.value.items)) c.deref-name-items.result.now c.loop-name.name-index c.loop-name-item.result files c.loop-name-test.true c.loop-name-item.is).0
+
+pub add_file-requires-clause-text : goal.add_file-requires-clause-text
+add_file-requires-clause-text c =
+    let files : AllByRecursion IsFile (map (λ f. (f.0.now, f.1.now.value.items)) c.deref-name-items.result.now) = rw (c.deref-name-items.ensures.value, c.in_ok-list.ensures.list) c.in_ok-list.ensures.files.each in
+    (held_at (λ f. (f.0.now, f.1.now.value.items)) c.deref-name-items.result.now c.loop-name.name-index c.loop-name-item.result files c.loop-name-test.true c.loop-name-item.is).1
