@@ -7,4 +7,4 @@ mod text;
 
 pub use laws::first_faults_are_told;
 pub use range::{RangeTerm, bounds_of, range_of};
-pub use text::{mark_of_text, term_of};
+pub use text::{mark_of_text, one_range, read, read_identifier, term_of};

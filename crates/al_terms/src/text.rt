@@ -55,7 +55,8 @@ fn string(alloc: Global, literal: &StringLiteral) -> Result<Term, NoMemory>
     Ok(Term::text(literal.place, bytes))
 }
 
-fn identifier(
+/// What an identifier alone may be; E401 where nothing is visible under it.
+pub fn read_identifier(
     alloc: Global,
     names: &Names,
     identifier: &Identifier,
@@ -161,10 +162,10 @@ fn as_range(
     Ok(unless(unless_range(expression), judged))
 }
 
-/// What an expression may be.
+/// What an expression may be, until what stands round it is known; E401 or E404 where a name in it has one.
 #[cycle(text)]
 #[tactic(auto, using(crate::proofs::ReadLemmas::number_read, crate::proofs::ReadLemmas::text_read, crate::proofs::ReadLemmas::name_read, crate::proofs::ReadLemmas::longer_read, crate::proofs::ReadLemmas::prefix_read, crate::proofs::ReadLemmas::infix_read, crate::proofs::ReadLemmas::group_read, al_tree::proofs::ExpressionsMade::expression_numeric_seen, al_tree::proofs::ExpressionsMade::expression_text_seen, al_tree::proofs::ExpressionsMade::expression_name_seen, al_tree::proofs::ExpressionsMade::expression_longer_seen, al_tree::proofs::ExpressionsMade::expression_prefixed_seen, al_tree::proofs::ExpressionsMade::expression_infix_seen, al_tree::proofs::ExpressionsMade::expression_member_seen, al_tree::proofs::ExpressionsMade::expression_group_seen))]
-fn read(
+pub fn read(
     alloc: Global,
     standard: &StandardTypes,
     names: &Names,
@@ -178,7 +179,7 @@ fn read(
             let term = string(alloc, literal)?;
             Ok(Ok(Reading::Value(term)))
         }
-        Expression::Name(name) => identifier(alloc, names, name),
+        Expression::Name(name) => read_identifier(alloc, names, name),
         Expression::Longer(longer) => {
             let name = read(alloc, standard, names, &longer.prefix)?;
             read_part(alloc, standard, names, name, &longer.part)
@@ -229,9 +230,9 @@ fn read_member(
     }
 }
 
-/// What may be a mark or a Range attribute alone.
+/// The subtype of a mark or a Range attribute alone; E404 at the first token of what is neither.
 #[cycle(text)]
-pub(crate) fn one_range(
+pub fn one_range(
     alloc: Global,
     standard: &StandardTypes,
     names: &Names,
