@@ -7,7 +7,8 @@ use Rattle.al_syntax.specs.ExpressionTrees.{ExpressionTree}
 use Rattle.al_typed.specs.ExpressionTrees.{TypedTree}
 use Rattle.al_walk.specs.Readings.{Reading}
 use Rattle.al_typed.specs.StatementTrees.{StatementTree}
-use Rattle.al_walk.specs.Walking.{Walked, alone_at, assigned_at, assignment_walked}
+use Rattle.al_walk.specs.Steps.{Walked}
+use Rattle.al_walk.specs.Walking.{alone_at, assigned_at, assignment_walked}
 
 pub alone_by : {H A : Type 0} (make : A → Result StatementTree Fault) (here : H) (seen : A) (read : H × A) (made : Result StatementTree Fault) → (here, seen) ≡ read → made ≡ make seen → alone_at here made ≡ alone_at read.0 (make read.1)
 alone_by {H} {A} make here seen read made e f = ap (alone_at here) f ∙ ap (λ (p : H × A). alone_at p.0 (make p.1)) e
@@ -16,7 +17,7 @@ pub alone_as : {H : Type 0} (here : H) (made told : Result StatementTree Fault) 
 alone_as here made told e = ap (alone_at here) e
 
 -- what goes on with what was read
-pub goes_on : {H A : Type 0} (next : H → A → Walked H) (here : H) (seen : A) (read : H × A) → (here, seen) ≡ read → next here seen ≡ next read.0 read.1
+pub goes_on : {H A : Type 0} (next : H → A → H × Walked) (here : H) (seen : A) (read : H × A) → (here, seen) ≡ read → next here seen ≡ next read.0 read.1
 goes_on {H} {A} next here seen read e = ap (λ (p : H × A). next p.0 p.1) e
 
 -- what follows from a value follows from a result that may have it

@@ -13,7 +13,8 @@ ghost use Rattle.al_typed.specs.StatementViews.{statement_seen};
 ghost use Rattle.al_stmts.specs.Simple.{returned, target_of, target_seen};
 ghost use Rattle.al_loops.specs.Exits.{LoopsRound};
 ghost use Rattle.al_reader.specs.PerformedViews.{performed_seen};
-ghost use Rattle.al_walk.specs.Walking.{Around, alone_at, assigned_at, is_function, performed, result_at, return_walked, statement_walked};
+ghost use Rattle.al_walk.specs.Steps.{Around};
+ghost use Rattle.al_walk.specs.Walking.{alone_at, assigned_at, is_function, performed, result_at, return_walked, statement_walked};
 
 use crate::reader::{Performed, Reader};
 use al_base::{NoMemory, Place, Rule};
@@ -29,7 +30,8 @@ pub fn check_delay<R: Reader>(
     reader: &mut R,
     statement: &DelayStatement,
 ) -> Result<Judged<TypedStatement>, NoMemory>
-    ensures { IfOk result (λ judged. Told (R.log reader.old) (R.log reader.new) (λ t. (around : Around) → alone_at (R.here reader.new) (seen_by statement_seen judged) ≡ statement_walked (R.reading t) around (R.here reader.old) (DelayTree (place_label statement.now.opening) (expression_seen statement.now.moment)))) }
+    ensures asked { R.asked reader.new ≡ R.asked reader.old }
+    ensures told { IfOk result (λ judged. Told (R.log reader.old) (R.log reader.new) (λ t. (around : Around) → alone_at (R.here reader.new) (seen_by statement_seen judged) ≡ statement_walked (R.reading t) around (R.here reader.old) (DelayTree (place_label statement.now.opening) (expression_seen statement.now.moment)))) }
 {
     let moment = reader.moment(&statement.moment)?;
     Ok(delay(statement.opening.line as usize, moment))
@@ -51,7 +53,8 @@ pub fn check_call<R: Reader>(
     reader: &mut R,
     name: &Expression,
 ) -> Result<Judged<TypedStatement>, NoMemory>
-    ensures { IfOk result (λ judged. Told (R.log reader.old) (R.log reader.new) (λ t. (around : Around) → alone_at (R.here reader.new) (seen_by statement_seen judged) ≡ statement_walked (R.reading t) around (R.here reader.old) (CallStatement (expression_seen name.now)))) }
+    ensures asked { R.asked reader.new ≡ R.asked reader.old }
+    ensures told { IfOk result (λ judged. Told (R.log reader.old) (R.log reader.new) (λ t. (around : Around) → alone_at (R.here reader.new) (seen_by statement_seen judged) ≡ statement_walked (R.reading t) around (R.here reader.old) (CallStatement (expression_seen name.now)))) }
 {
     let done = reader.performed(name)?;
     Ok(performing(first_place(name).line as usize, done))
@@ -63,7 +66,8 @@ fn assign<R: Reader>(
     target: Target,
     statement: &Assignment,
 ) -> Result<Judged<TypedStatement>, NoMemory>
-    ensures { IfOk result (λ judged. Told (R.log reader.old) (R.log reader.new) (λ t. alone_at (R.here reader.new) (seen_by statement_seen judged) ≡ assigned_at (R.reading t) (R.here reader.old) (expression_seen statement.now.target) (expression_seen statement.now.value) (Ok (target_seen target)))) }
+    ensures asked { R.asked reader.new ≡ R.asked reader.old }
+    ensures told { IfOk result (λ judged. Told (R.log reader.old) (R.log reader.new) (λ t. alone_at (R.here reader.new) (seen_by statement_seen judged) ≡ assigned_at (R.reading t) (R.here reader.old) (expression_seen statement.now.target) (expression_seen statement.now.value) (Ok (target_seen target)))) }
 {
     let value = reader.source(&statement.target, &statement.value)?;
     let line = first_place(&statement.target).line as usize;
@@ -85,7 +89,8 @@ pub fn check_assignment<R: Reader>(
     reader: &mut R,
     statement: &Assignment,
 ) -> Result<Judged<TypedStatement>, NoMemory>
-    ensures { IfOk result (λ judged. Told (R.log reader.old) (R.log reader.new) (λ t. (around : Around) → alone_at (R.here reader.new) (seen_by statement_seen judged) ≡ statement_walked (R.reading t) around (R.here reader.old) (AssignmentTree (expression_seen statement.now.target) (expression_seen statement.now.value)))) }
+    ensures asked { R.asked reader.new ≡ R.asked reader.old }
+    ensures told { IfOk result (λ judged. Told (R.log reader.old) (R.log reader.new) (λ t. (around : Around) → alone_at (R.here reader.new) (seen_by statement_seen judged) ≡ statement_walked (R.reading t) around (R.here reader.old) (AssignmentTree (expression_seen statement.now.target) (expression_seen statement.now.value)))) }
 {
     match found_target(reader.target(&statement.target)?) {
         Ok(target) => assign(reader, target, statement),
@@ -100,7 +105,8 @@ fn value_returned<R: Reader>(
     context: ReturnContext,
     value: &Expression,
 ) -> Result<Judged<TypedStatement>, NoMemory>
-    ensures { IfOk result (λ judged. Told (R.log reader.old) (R.log reader.new) (λ t. (loops : LoopsRound) → alone_at (R.here reader.new) (seen_by statement_seen judged) ≡ result_at (R.reading t) context (R.here reader.old) place (expression_seen value.now))) }
+    ensures asked { R.asked reader.new ≡ R.asked reader.old }
+    ensures told { IfOk result (λ judged. Told (R.log reader.old) (R.log reader.new) (λ t. (loops : LoopsRound) → alone_at (R.here reader.new) (seen_by statement_seen judged) ≡ result_at (R.reading t) context (R.here reader.old) place (expression_seen value.now))) }
 {
     let value = reader.result_value(value)?;
     Ok(return_statement(place, context, Some(value)))
@@ -133,7 +139,8 @@ fn any_value_returned<R: Reader>(
     context: ReturnContext,
     value: &Expression,
 ) -> Result<Judged<TypedStatement>, NoMemory>
-    ensures { IfOk result (λ judged. Told (R.log reader.old) (R.log reader.new) (λ t. (loops : LoopsRound) → alone_at (R.here reader.new) (seen_by statement_seen judged) ≡ return_walked (R.reading t) (record { returns = context; loops = loops }) (R.here reader.old) place (Some (expression_seen value.now)))) }
+    ensures asked { R.asked reader.new ≡ R.asked reader.old }
+    ensures told { IfOk result (λ judged. Told (R.log reader.old) (R.log reader.new) (λ t. (loops : LoopsRound) → alone_at (R.here reader.new) (seen_by statement_seen judged) ≡ return_walked (R.reading t) (record { returns = context; loops = loops }) (R.here reader.old) place (Some (expression_seen value.now)))) }
 {
     if is_function(context.body) {
         return value_returned(reader, place, context, value);
@@ -147,7 +154,8 @@ pub fn check_return<R: Reader>(
     statement: &ReturnStatement,
     context: ReturnContext,
 ) -> Result<Judged<TypedStatement>, NoMemory>
-    ensures { IfOk result (λ judged. Told (R.log reader.old) (R.log reader.new) (λ t. (loops : LoopsRound) → alone_at (R.here reader.new) (seen_by statement_seen judged) ≡ statement_walked (R.reading t) (record { returns = context; loops = loops }) (R.here reader.old) (ReturnTree (place_label statement.now.opening) (option_map expression_seen statement.now.value)))) }
+    ensures asked { R.asked reader.new ≡ R.asked reader.old }
+    ensures told { IfOk result (λ judged. Told (R.log reader.old) (R.log reader.new) (λ t. (loops : LoopsRound) → alone_at (R.here reader.new) (seen_by statement_seen judged) ≡ statement_walked (R.reading t) (record { returns = context; loops = loops }) (R.here reader.old) (ReturnTree (place_label statement.now.opening) (option_map expression_seen statement.now.value)))) }
 {
     match &statement.value {
         Some(value) => any_value_returned(reader, statement.opening, context, value),

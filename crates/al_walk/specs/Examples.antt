@@ -46,7 +46,8 @@ use Rattle.al_typed.specs.UnitTrees.{BodyTree as LabelledBody}
 use Rattle.al_stmts.specs.LoopForms.{RangeTree}
 use Rattle.al_stmts.specs.declared.simple.ReturnContext.{ReturnContext}
 use Rattle.al_walk.specs.Readings.{Put, Read, Reading}
-use Rattle.al_walk.specs.Walking.{Around, items_walked, statements_walked}
+use Rattle.al_walk.specs.Steps.{Around, in_body}
+use Rattle.al_walk.specs.Walking.{items_walked, statements_walked}
 
 -- ---- the reading
 
@@ -95,13 +96,37 @@ abbrev pub context_of : SpecificationTree → ReturnContext
 context_of (ProcedureSpecification l n f) = record { body = bodies.Procedure; words = 0; bounds = None }
 context_of (FunctionSpecification l n f r m) = record { body = bodies.Function; words = 1; bounds = None }
 
--- where any name waits
-abbrev pub waiting : List (List ℕ) → Label → Option Fault
-waiting [] l = None
-waiting (n ∷ ns) l = Some (fault_at (place_of l) 302)
+-- how far the check has come: of the bodies round the place, the innermost first, the names that wait for a body in it and what returns in it
+-- stand in
+abbrev pub Bodies : Type 0
+Bodies = List (List (List ℕ) × ReturnContext)
 
--- how far the check has come: the names that wait for a body. Case statements are never right.
-abbrev pub toy : (LabelledBody) → Reading (List (List ℕ))
+abbrev pub with_waiting : Bodies → List ℕ → Bodies
+with_waiting [] name = []
+with_waiting (b ∷ bs) name = (name ∷ b.0, b.1) ∷ bs
+
+-- where any name waits
+abbrev pub waiting_fault : List (List ℕ) → Label → Option Fault
+waiting_fault [] l = None
+waiting_fault (n ∷ ns) l = Some (fault_at (place_of l) 302)
+
+abbrev pub waiting : Bodies → Label → Option Fault
+waiting [] l = None
+waiting (b ∷ bs) l = waiting_fault b.0 l
+
+abbrev pub in_procedure : ReturnContext
+in_procedure = record { body = bodies.Procedure; words = 0; bounds = None }
+
+abbrev pub innermost : Bodies → ReturnContext
+innermost [] = in_procedure
+innermost (b ∷ bs) = b.1
+
+abbrev pub round_innermost : Bodies → Bodies
+round_innermost [] = []
+round_innermost (b ∷ bs) = bs
+
+-- case statements are never right
+abbrev pub toy : LabelledBody → Reading Bodies
 toy some_body = record {
   condition = read;
   moment = read;
@@ -121,16 +146,15 @@ toy some_body = record {
   block_entered = λ h. h;
   left = λ h. h;
   declared = λ h d. (h, declaration_found d);
-  subprogram = λ h s. (name_in s ∷ h, Ok []);
+  subprogram = λ h s. (with_waiting h (name_in s), Ok []);
   stub = λ h s l. (h, Ok []);
-  not_yet = λ h i. fault_at (record { line = 1; col = 1 }) 700;
+  not_yet = λ h. fault_at (record { line = 1; col = 1 }) 700;
   missing = waiting;
-  head = λ h s. ([], Ok []);
-  name = name_in;
-  returns = λ h s. context_of s;
-  body_entered = λ h s. [];
-  body = λ h s after ds ss. some_body;
-  body_left = λ h after. h;
+  head = λ h s. (h, Ok []);
+  body_entered = λ h s. ([], context_of s) ∷ h;
+  returns = innermost;
+  body = λ h s ds ss. some_body;
+  body_left = round_innermost;
   private_entered = λ h. h;
   statements_entered = λ h. h;
 }
@@ -173,13 +197,13 @@ abbrev pub block_with : ItemsTree → StatementTree
 block_with is = BlockStatement None (DeclareBlock (at 30) (Handled is (at 48) (one NullStatement) (record { end = at 60; end_name = None })))
 
 abbrev pub around : Around
-around = record { returns = record { body = bodies.Procedure; words = 0; bounds = None }; loops = [] }
+around = in_body in_procedure
 
 abbrev pub told : LabelledBody → StatementsTree → List Fault
-told b ss = all_faults (statements_walked (toy b) around [] ss).checked.faults
+told b ss = all_faults (statements_walked (toy b) around (([], in_procedure) ∷ []) ss).1.checked.faults
 
 abbrev pub told_of_items : LabelledBody → ItemsTree → List Fault
-told_of_items b is = all_faults (items_walked (toy b) [] is).faults
+told_of_items b is = all_faults (items_walked (toy b) (([], in_procedure) ∷ []) is).1.faults
 
 -- foo := x; foo := x;
 abbrev pub FaultyStatementsEndNoList : Type 0

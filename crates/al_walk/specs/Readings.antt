@@ -6,7 +6,7 @@ use Rattle.al_judged.specs.declared.fault.Fault.{Fault}
 use Rattle.al_grammar.specs.Grammar.{Label}
 use Rattle.al_syntax.specs.DeclarationTrees.{CommonTree, DiscreteRangeTree, SpecificationTree}
 use Rattle.al_syntax.specs.ExpressionTrees.{ExpressionTree}
-use Rattle.al_syntax.specs.StatementTrees.{ChoiceTree, ItemTree}
+use Rattle.al_syntax.specs.StatementTrees.{ChoiceTree}
 use Rattle.al_choices.specs.declared.choice.Choice.{Choice}
 use Rattle.al_choices.specs.declared.choice.Selector.{Selector}
 use Rattle.al_typed.specs.DeclarationTrees.{DeclarationTree}
@@ -27,6 +27,10 @@ pub data Performed : Type 0 where
 -- a walk that goes on, with what was judged
 abbrev pub Read : Type 0 → Type 0 → Type 0
 Read H A = H × Result A Fault
+
+-- how far a check has come, with what is given there
+abbrev pub giving : {H A : Type 0} → H → A → H × A
+giving h a = (h, a)
 
 pub record Reading (H : Type 0) : Type 0 where
   -- ---- expressions, each with its labels and with the words of its temporaries in the order of the text
@@ -51,7 +55,7 @@ pub record Reading (H : Type 0) : Type 0 where
   pub loop_entered : H → Label → H
   pub loop_range : H → DiscreteRangeTree → Read H RangeTree
   -- the parameter is declared, where its range is right
-  pub with_parameter : H → Label → Result RangeTree Fault → LoopWords → H
+  pub with_parameter : H → Label → RangeTree → LoopWords → H
   pub block_entered : H → H
   pub left : H → H
   -- ---- declarations: what they do where they stand, or their fault
@@ -59,19 +63,18 @@ pub record Reading (H : Type 0) : Type 0 where
   pub subprogram : H → SpecificationTree → Read H (List DeclarationTree)
   pub stub : H → SpecificationTree → Label → Read H (List DeclarationTree)
   -- what isn't compiled yet
-  pub not_yet : H → ItemTree → Fault
+  pub not_yet : H → Fault
   -- what waits for its body at the end of a part
   pub missing : H → Label → Option Fault
   -- ---- bodies: what stands before `is`, with what the body does where it stands
   pub head : H → SpecificationTree → Read H (List DeclarationTree)
-  -- its name with dots between the identifiers, and what its return statements stand in
-  pub name : SpecificationTree → List ℕ
-  pub returns : H → SpecificationTree → ReturnContext
   -- its region with the formals, one deeper, where the words of the frame begin behind theirs
   pub body_entered : H → SpecificationTree → H
-  -- behind its head and what stood inside: the body as it is labelled, and how far the check has come behind it
-  pub body : H → SpecificationTree → H → List DeclarationTree → List StatementTree → BodyTree
-  pub body_left : H → H → H
+  -- what its return statements stand in
+  pub returns : H → ReturnContext
+  -- behind what stood inside: the body as it is labelled; and how far the check has come behind it, in what stands round it
+  pub body : H → SpecificationTree → List DeclarationTree → List StatementTree → BodyTree
+  pub body_left : H → H
   -- ---- units
   -- from here on the ancestors' private parts are seen (ARM 8.2(5))
   pub private_entered : H → H

@@ -1,5 +1,6 @@
--- The walk over statements, blocks and bodies: what is wrong with them, and what they are with their labels.
-use Rattle.std.specs.Prelude.{ℕ, Bool, true, false, List, [], ◌∷◌, ◌++◌, fold, Option, Some, None, option_map, is_some, is_ok, Result, Ok, Err, if◌then◌else◌}
+-- The walk over statements, blocks and bodies: what is wrong with them, and what they are with their labels. What was walked over stands in a
+-- pair: how far the check has come behind it, and what it gives.
+use Rattle.std.specs.Prelude.{ℕ, Bool, true, false, List, ◌∷◌, ◌++◌, fold, Option, Some, None, option_map, is_some, is_ok, Result, Ok, Err, if◌then◌else◌}
 use Rattle.al_base.specs.Rules.{number_of}
 use Rattle.al_base.specs.declared.place.Place.{Place}
 use Rattle.al_base.specs.declared.rule.Rule.TheVariants.{BadReturn}
@@ -7,9 +8,10 @@ use Rattle.al_judged.specs.Faults.{fault_at}
 use Rattle.al_judged.specs.Judging.{next}
 use Rattle.al_judged.specs.declared.fault.Fault.{Fault}
 use Rattle.al_grammar.specs.Grammar.{Label}
-use Rattle.al_syntax.specs.DeclarationTrees.{CompoundNameTree, SpecificationTree}
+use Rattle.al_syntax.specs.DeclarationTrees.{CompoundNameTree, DiscreteRangeTree, SpecificationTree}
+use Rattle.al_syntax.specs.DeclarationTrees.SpecificationTree.{FunctionSpecification, ProcedureSpecification}
 use Rattle.al_syntax.specs.ExpressionTrees.{ExpressionTree}
-use Rattle.al_syntax.specs.StatementTrees.{AlternativeTree, AlternativesTree, BlockTree, BodyTree, BranchTree, ElseTree, ElsifsTree, HandledTree, ItemTree, ItemsTree, LoopTree, MoreStatementsTree, StatementTree, StatementsTree}
+use Rattle.al_syntax.specs.StatementTrees.{AlternativeTree, AlternativesTree, BlockTree, BodyTree, BranchTree, CompoundEndTree, ElseTree, ElsifsTree, HandledTree, ItemTree, ItemsTree, LoopTree, MoreStatementsTree, StatementTree, StatementsTree}
 use Rattle.al_syntax.specs.StatementTrees.StatementsTree.{Statements}
 use Rattle.al_syntax.specs.StatementTrees.MoreStatementsTree.{NoStatement, MoreStatements}
 use Rattle.al_syntax.specs.StatementTrees.StatementTree.{NullStatement, Assignment, CallStatement, ReturnStatement, ExitStatement, DelayStatement, IfStatement, CaseStatement, LoopStatement, BlockStatement}
@@ -25,97 +27,36 @@ use Rattle.al_syntax.specs.StatementTrees.BodyTree.{Body}
 use Rattle.al_syntax.specs.StatementTrees.ItemsTree.{NoItem, MoreItems}
 use Rattle.al_syntax.specs.StatementTrees.ItemTree.{CommonItem, SubprogramItem, StubItem, BodyItem, TaskItem, TaskBodyItem, ProtectedItem, ProtectedBodyItem}
 use Rattle.al_keys.specs.Places.{first_place, place_of}
-use Rattle.al_choices.specs.declared.choice.Choice.{Choice}
 use Rattle.al_choices.specs.declared.choice.Selector.{Selector}
 use Rattle.al_loops.specs.Ends.{end_fault}
-use Rattle.al_loops.specs.Exits.{LoopsRound}
 use Rattle.al_loops.specs.Returns.{no_return_fault}
 use Rattle.al_loops.specs.declared.returns.BodyRound.{BodyRound}
 use Rattle.al_loops.specs.declared.returns.BodyRound.TheVariants as bodies
-use Rattle.al_faults.specs.FaultLists.{followed, no_fault, of_declaration, of_statement}
-use Rattle.al_faults.specs.declared.fault_list.FaultList.{FaultList}
 use Rattle.al_typed.specs.DeclarationTrees.{DeclarationTree}
 use Rattle.al_typed.specs.ExpressionTrees.{TypedTree}
 use Rattle.al_typed.specs.StatementTrees.{SchemeTree, StatementTree as Labelled, StatementFormTree as forms, SchemeTree as schemes}
 use Rattle.al_typed.specs.StatementTrees.StatementTree.{Numbered}
-use Rattle.al_typed.specs.UnitTrees.{BodyTree as LabelledBody}
-use Rattle.al_stmts.specs.Branches.{Branched, branched, no_branch, with_branch, with_otherwise}
-use Rattle.al_stmts.specs.Cases.{Alternatives, cased, chosen_by, held_by, no_alternative, no_choice, none_chosen, selected, with_alternative, with_choice, with_choices}
-use Rattle.al_stmts.specs.Checking.{Checked, alone, broken_off}
-use Rattle.al_stmts.specs.LoopForms.{RangeTree, blocked, for_scheme, looped, while_scheme}
+use Rattle.al_stmts.specs.Cases.{held_by, no_alternative, no_choice, selected, with_choice, with_choices}
+use Rattle.al_stmts.specs.LoopForms.{RangeTree, for_scheme, while_scheme}
 use Rattle.al_stmts.specs.Simple.{assigned, called, delayed, exited, put, returned, target_of, TargetTree}
 use Rattle.al_stmts.specs.declared.choices.CaseChoices.{CaseChoices}
 use Rattle.al_stmts.specs.declared.loops.LoopWords.{LoopWords}
 use Rattle.al_stmts.specs.declared.simple.ReturnContext.{ReturnContext}
 use Rattle.al_returns.specs.Returning.{has_return}
 use Rattle.al_walk.specs.Readings.{Performed, Called, Put, Read, Reading}
+use Rattle.al_walk.specs.Steps.{Around, Branching, Choosing, Inside, Part, Walked, alone_of, block_of, body_of, broken_by, case_of, choosing, closed_by, if_of, in_body, in_loop, inside_of, joined, loop_of, name_of, no_branching, no_part, nothing, one_alternative, one_branch, one_otherwise, part_of, parts_joined}
 
--- what stands round statements: the innermost body, and the loops in it
-pub record Around : Type 0 where
-  pub returns : ReturnContext
-  pub loops : LoopsRound
-
-abbrev pub name_of : Option Label → Option (List ℕ)
-name_of name = option_map (λ l. l.text) name
-
--- one more loop, with its name where it has one
-abbrev pub in_loop : Around → Option Label → Around
-in_loop r name = record { returns = r.returns; loops = name_of name ∷ r.loops }
-
--- statements that were walked over: how far the check has come, what is wrong, the statements, and the bodies inside them in the order of
--- their first tokens
-pub record Walked (H : Type 0) : Type 0 where
-  pub here : H
-  pub checked : Checked
-  pub bodies : List LabelledBody
-
--- the same of declarations
-pub record Part (H : Type 0) : Type 0 where
-  pub here : H
-  pub faults : FaultList
-  pub declarations : List DeclarationTree
-  pub bodies : List LabelledBody
-
-abbrev pub alone_at : {H : Type 0} → H → Result Labelled Fault → Walked H
-alone_at here judged = record { here = here; checked = alone judged; bodies = [] }
-
--- what was walked over first, and then what stands behind it: nothing, where the list of faults has ended
-abbrev pub walked_behind : {H : Type 0} → Walked H → Walked H → Walked H
-walked_behind {H} a b = behind a.checked.faults.end
-  where
-    behind : Option Fault → Walked H
-    behind (Some f) = a
-    behind None = record {
-      here = b.here;
-      checked = record { faults = followed a.checked.faults b.checked.faults; statements = a.checked.statements ++ b.checked.statements };
-      bodies = a.bodies ++ b.bodies;
-    }
-
-abbrev pub part_behind : {H : Type 0} → Part H → Part H → Part H
-part_behind {H} a b = behind a.faults.end
-  where
-    behind : Option Fault → Part H
-    behind (Some f) = a
-    behind None = record { here = b.here; faults = followed a.faults b.faults; declarations = a.declarations ++ b.declarations; bodies = a.bodies ++ b.bodies }
-
-abbrev pub no_part : {H : Type 0} → H → Part H
-no_part here = record { here = here; faults = no_fault; declarations = []; bodies = [] }
-
--- a declaration by what it does, or by its fault, which ends the list
-abbrev pub declared_part : {H : Type 0} → Read H (List DeclarationTree) → Part H
-declared_part {H} read = made read.1
-  where
-    made : Result (List DeclarationTree) Fault → Part H
-    made (Ok effects) = record { here = read.0; faults = no_fault; declarations = effects; bodies = [] }
-    made (Err f) = record { here = read.0; faults = of_declaration (Some f); declarations = []; bodies = [] }
+-- a statement with nothing inside it
+abbrev pub alone_at : {H : Type 0} → H → Result Labelled Fault → H × Walked
+alone_at here judged = (here, alone_of judged)
 
 -- ---- statements without statements inside them
 
-abbrev pub assigned_at : {H : Type 0} → Reading H → H → ExpressionTree → ExpressionTree → Result TargetTree Fault → Walked H
+abbrev pub assigned_at : {H : Type 0} → Reading H → H → ExpressionTree → ExpressionTree → Result TargetTree Fault → H × Walked
 assigned_at R h n e (Err f) = alone_at h (Err f)
 assigned_at R h n e (Ok target) = let value = R.source h n e in alone_at value.0 (assigned (first_place n).line target value.1)
 
-abbrev pub assignment_walked : {H : Type 0} → Reading H → H → ExpressionTree → ExpressionTree → Walked H
+abbrev pub assignment_walked : {H : Type 0} → Reading H → H → ExpressionTree → ExpressionTree → H × Walked
 assignment_walked R h n e = let found = R.target h n in assigned_at R found.0 n e (next found.1 target_of)
 
 abbrev pub performed : ℕ → Result Performed Fault → Result Labelled Fault
@@ -128,11 +69,11 @@ is_function bodies.Function = true
 is_function _ = false
 
 -- the value of a function
-abbrev pub result_at : {H : Type 0} → Reading H → ReturnContext → H → Place → ExpressionTree → Walked H
+abbrev pub result_at : {H : Type 0} → Reading H → ReturnContext → H → Place → ExpressionTree → H × Walked
 result_at R context h place e = let value = R.result h e in alone_at value.0 (returned place context (Some value.1))
 
 -- a value that isn't wanted isn't looked at
-abbrev pub return_walked : {H : Type 0} → Reading H → Around → H → Place → Option ExpressionTree → Walked H
+abbrev pub return_walked : {H : Type 0} → Reading H → Around → H → Place → Option ExpressionTree → H × Walked
 return_walked R r h place None = alone_at h (returned place r.returns None)
 return_walked R r h place (Some e) =
     if is_function r.returns.body then result_at R r.returns h place e
@@ -163,81 +104,39 @@ right_choices R h e selector choices = held (held_by selector (R.whole h e))
     held None = true
     held (Some s) = R.are_right s choices.alternatives
 
--- those of the next alternative, and the rest
-abbrev pub next_choices : List (List Choice) → List Choice
-next_choices [] = []
-next_choices (c ∷ cs) = c
+-- ---- what stands before the statements inside a statement
 
-abbrev pub rest_of : List (List Choice) → List (List Choice)
-rest_of [] = []
-rest_of (c ∷ cs) = cs
+-- a selector that was read, with its choices
+abbrev pub case_behind : {H : Type 0} → Reading H → H → Place → ℕ → ExpressionTree → Result TypedTree Fault → AlternativeTree → AlternativesTree → H × Choosing
+case_behind R h place slot e selector first more =
+    let choices = all_choices R h e (is_ok selector) first more in
+    (h, choosing slot (selected place selector choices.fault (right_choices R h e selector choices)) choices.alternatives)
 
--- ---- statements with statements inside them
+-- a case statement up to its alternatives: the word that keeps its selector is taken first
+abbrev pub case_head : {H : Type 0} → Reading H → H → Place → ExpressionTree → AlternativeTree → AlternativesTree → H × Choosing
+case_head R h place e first more = let selector = R.selector (R.with_word h) e in case_behind R selector.0 place (R.word h) e selector.1 first more
 
--- the branches, and the alternatives, so far
-pub record Branching (H : Type 0) : Type 0 where
-  pub here : H
-  pub so_far : Branched
-  pub bodies : List LabelledBody
-
-pub record Choosing (H : Type 0) : Type 0 where
-  pub here : H
-  pub so_far : Alternatives
-  pub bodies : List LabelledBody
-
--- one more branch, by its condition and its statements
-abbrev pub one_branch : {H : Type 0} → Branching H → ℕ → Result TypedTree Fault → Walked H → Branching H
-one_branch b line condition inner = record { here = inner.here; so_far = with_branch b.so_far line condition inner.checked; bodies = b.bodies ++ inner.bodies }
-
-abbrev pub one_otherwise : {H : Type 0} → Branching H → Walked H → Branching H
-one_otherwise b inner = record { here = inner.here; so_far = with_otherwise b.so_far inner.checked; bodies = b.bodies ++ inner.bodies }
-
-abbrev pub if_walked : {H : Type 0} → ℕ → Branching H → Walked H
-if_walked line b = record { here = b.here; checked = branched line b.so_far; bodies = b.bodies }
-
-abbrev pub one_alternative : {H : Type 0} → Choosing H → List Choice → Walked H → Choosing H
-one_alternative a choices inner = record { here = inner.here; so_far = with_alternative a.so_far (chosen_by choices) inner.checked; bodies = a.bodies ++ inner.bodies }
-
-abbrev pub case_walked : {H : Type 0} → ℕ → ℕ → Result TypedTree Fault → Choosing H → Walked H
-case_walked line slot selector a = record { here = a.here; checked = cased line slot selector a.so_far; bodies = a.bodies }
-
--- a name at an end that is one identifier
-abbrev pub name_at_end : Option Label → Option (Place × List ℕ)
-name_at_end end = option_map (λ l. (place_of l, l.text)) end
-
-abbrev pub loop_walked : {H : Type 0} → ℕ → Result SchemeTree Fault → Option Label → Option Label → Walked H → Walked H
-loop_walked line scheme name end inner =
-    record { here = inner.here; checked = looped line scheme (end_fault (name_of name) (name_at_end end)) inner.checked; bodies = inner.bodies }
+abbrev pub while_walked : {H : Type 0} → Read H TypedTree → H × Result SchemeTree Fault
+while_walked condition = (condition.0, while_scheme condition.1)
 
 -- the words of a loop's parameter and of its last value
 abbrev pub loop_words : {H : Type 0} → Reading H → H → LoopWords
 loop_words R h = record { parameter = R.word h; last = R.word (R.with_word h) }
 
--- a for loop, whose region is left; its range is a declaration, behind whose fault nothing is looked at
-abbrev pub for_walked : {H : Type 0} → Reading H → ℕ → Bool → LoopWords → Read H RangeTree → Option Label → Option Label → Walked H → Walked H
-for_walked {H} R line is_reverse words range name end inner = made range.1
-  where
-    made : Result RangeTree Fault → Walked H
-    made (Err f) = record { here = R.left range.0; checked = broken_off (of_declaration (Some f)); bodies = [] }
-    made (Ok r) = record {
-      here = R.left inner.here;
-      checked = looped line (Ok (for_scheme is_reverse r words)) (end_fault (name_of name) (name_at_end end)) inner.checked;
-      bodies = inner.bodies;
-    }
+-- a for loop up to its statements: both words are taken first; where its range is right the parameter is declared
+abbrev pub parameter_declared : {H : Type 0} → Reading H → H → Label → Bool → LoopWords → Result RangeTree Fault → H × Result SchemeTree Fault
+parameter_declared R h i is_reverse words (Ok range) = (R.with_parameter h i range words, Ok (for_scheme is_reverse range words))
+parameter_declared R h i is_reverse words (Err f) = (h, Err f)
 
--- the statements behind a part, with what is wrong with both in one list: E302 where a declaration of the part still waits stands before them
-abbrev pub behind_part : {H : Type 0} → Reading H → Part H → Label → Checked → Checked
-behind_part R part begin inner = record {
-  faults = followed (followed part.faults (of_declaration (R.missing part.here begin))) inner.faults;
-  statements = inner.statements;
-}
+abbrev pub for_head : {H : Type 0} → Reading H → H → Label → Bool → DiscreteRangeTree → H × Result SchemeTree Fault
+for_head R h i is_reverse d =
+    let range = R.loop_range (R.loop_entered (R.with_word (R.with_word h)) i) d in parameter_declared R range.0 i is_reverse (loop_words R h) range.1
 
-abbrev pub block_walked : {H : Type 0} → Reading H → ℕ → Part H → Label → Option Label → Option Label → Walked H → Walked H
-block_walked R line part begin name end inner = record {
-  here = R.left inner.here;
-  checked = blocked line part.declarations (end_fault (name_of name) (name_at_end end)) (behind_part R part begin inner.checked);
-  bodies = part.bodies ++ inner.bodies;
-}
+-- ---- names at ends
+
+-- one identifier
+abbrev pub name_at_end : Option Label → Option (Place × List ℕ)
+name_at_end end = option_map (λ l. (place_of l, l.text)) end
 
 -- a compound name with dots between its identifiers, at its first one
 abbrev pub dotted : Label → List Label → List ℕ
@@ -246,34 +145,81 @@ dotted first selectors = fold (λ name l. name ++ 46 ∷ l.text) first.text sele
 abbrev pub compound_at_end : Option CompoundNameTree → Option (Place × List ℕ)
 compound_at_end end = option_map (λ n. (place_of n.first, dotted n.first n.selectors)) end
 
--- what is wrong with a body behind its head: E504 at its `end` counts as a statement, E308 as a declaration
-abbrev pub body_faults : FaultList → Option Fault → Option Fault → FaultList
-body_faults inside no_return end = followed (followed inside (of_statement no_return)) (of_declaration end)
+abbrev pub specified_name : SpecificationTree → CompoundNameTree
+specified_name (ProcedureSpecification l n formals) = n
+specified_name (FunctionSpecification l n formals r mark) = n
 
--- a body, by its head; where that is faulty nothing behind it is looked at
-abbrev pub body_part : {H : Type 0} → Reading H → H → SpecificationTree → Part H → Label → Bool → Label → Option CompoundNameTree → Walked H → Part H
-body_part {H} R h s part begin has_return end end_name inner = made (R.head h s).1
+-- E308 of what has a name that is one identifier, and of a subprogram
+abbrev pub end_of : Option Label → Option Label → Option Fault
+end_of name end = end_fault (name_of name) (name_at_end end)
+
+abbrev pub end_of_compound : CompoundNameTree → Option CompoundNameTree → Option Fault
+end_of_compound n end = end_fault (Some (dotted n.first n.selectors)) (compound_at_end end)
+
+-- ---- one text, and then what stands behind it: nothing, where the list of faults has ended
+
+abbrev pub walked_behind : {H : Type 0} → H × Walked → H × Walked → H × Walked
+walked_behind a b = if is_some a.1.checked.faults.end then a else (b.0, joined a.1 b.1)
+
+abbrev pub part_behind : {H : Type 0} → H × Part → H × Part → H × Part
+part_behind a b = if is_some a.1.faults.end then a else (b.0, parts_joined a.1 b.1)
+
+-- ---- parts of statements
+
+abbrev pub declared_part : {H : Type 0} → Read H (List DeclarationTree) → H × Part
+declared_part read = (read.0, part_of read.1)
+
+-- a part up to `begin`: E302 there where a declaration of the part still waits
+abbrev pub closed : {H : Type 0} → Reading H → H × Part → Label → H × Part
+closed R part begin = (part.0, closed_by part.1 (R.missing part.0 begin))
+
+-- the statements behind a part, which aren't looked at where its list of faults has ended
+abbrev pub inside_behind : {H : Type 0} → H × Part → H × Walked → H × Inside
+inside_behind part inner = if is_some part.1.faults.end then (part.0, inside_of part.1 nothing) else (inner.0, inside_of part.1 inner.1)
+
+-- a loop
+abbrev pub loop_walked : {H : Type 0} → ℕ → Result SchemeTree Fault → Option Fault → H × Walked → H × Walked
+loop_walked line scheme end inner = (inner.0, loop_of line scheme end inner.1)
+
+abbrev pub region_left : {H : Type 0} → Reading H → H × Walked → H × Walked
+region_left R inner = (R.left inner.0, inner.1)
+
+-- the range of a for loop is a declaration, behind whose fault nothing is looked at
+abbrev pub for_walked : {H : Type 0} → Reading H → H → ℕ → Result SchemeTree Fault → Option Fault → H × Walked → H × Walked
+for_walked R h line (Ok scheme) end inner = region_left R (loop_walked line (Ok scheme) end inner)
+for_walked R h line (Err f) end inner = region_left R (h, broken_by f)
+
+-- the region of a body, and what its statements stand in
+abbrev pub body_entered : {H : Type 0} → Reading H → H → SpecificationTree → H × Around
+body_entered R h s = let inner = R.body_entered h s in (inner, in_body (R.returns inner))
+
+-- a body behind what stands inside it, by the faults at its end
+abbrev pub body_ended : {H : Type 0} → Reading H → SpecificationTree → List DeclarationTree → Option Fault → Option Fault → H × Inside → H × Part
+body_ended R s effects no_return end inside =
+    (R.body_left inside.0, body_of effects no_return end (R.body inside.0 s inside.1.declarations inside.1.statements) inside.1)
+
+abbrev pub body_made : {H : Type 0} → Reading H → SpecificationTree → List DeclarationTree → Option Fault → CompoundEndTree → H × Inside → H × Part
+body_made R s effects no_return end inside = body_ended R s effects no_return (end_of_compound (specified_name s) end.end_name) inside
+
+-- behind its head a body; where that is faulty nothing behind it is looked at
+abbrev pub body_behind : {H : Type 0} → Reading H → Read H (List DeclarationTree) → SpecificationTree → Option Fault → CompoundEndTree → H × Inside → H × Part
+body_behind {H} R head s no_return end inside = made head.1
   where
-    made : Result (List DeclarationTree) Fault → Part H
-    made (Err f) = record { here = (R.head h s).0; faults = of_declaration (Some f); declarations = []; bodies = [] }
-    made (Ok effects) = record {
-      here = R.body_left (R.head h s).0 inner.here;
-      faults = body_faults (behind_part R part begin inner.checked).faults (no_return_fault (place_of end) (R.returns h s).body has_return) (end_fault (Some (R.name s)) (compound_at_end end_name));
-      declarations = effects;
-      bodies = R.body h s inner.here part.declarations inner.checked.statements ∷ (part.bodies ++ inner.bodies);
-    }
+    made : Result (List DeclarationTree) Fault → H × Part
+    made (Err f) = (head.0, part_of (Err f))
+    made (Ok effects) = body_made R s effects no_return end inside
 
 -- ---- the walk
 
 abbrev mutual
-  pub statements_walked : {H : Type 0} → Reading H → Around → H → StatementsTree → Walked H
-  statements_walked R r h (Statements s more) = let one = statement_walked R r h s in walked_behind one (more_walked R r one.here more)
+  pub statements_walked : {H : Type 0} → Reading H → Around → H → StatementsTree → H × Walked
+  statements_walked R r h (Statements s more) = let one = statement_walked R r h s in walked_behind one (more_walked R r one.0 more)
 
-  pub more_walked : {H : Type 0} → Reading H → Around → H → MoreStatementsTree → Walked H
-  more_walked R r h NoStatement = record { here = h; checked = broken_off no_fault; bodies = [] }
-  more_walked R r h (MoreStatements s more) = let one = statement_walked R r h s in walked_behind one (more_walked R r one.here more)
+  pub more_walked : {H : Type 0} → Reading H → Around → H → MoreStatementsTree → H × Walked
+  more_walked R r h NoStatement = (h, nothing)
+  more_walked R r h (MoreStatements s more) = let one = statement_walked R r h s in walked_behind one (more_walked R r one.0 more)
 
-  pub statement_walked : {H : Type 0} → Reading H → Around → H → StatementTree → Walked H
+  pub statement_walked : {H : Type 0} → Reading H → Around → H → StatementTree → H × Walked
   -- its line is never seen, as it has no code
   statement_walked R r h NullStatement = alone_at h (Ok (Numbered 0 forms.NullStatement))
   statement_walked R r h (Assignment n e) = assignment_walked R h n e
@@ -283,69 +229,67 @@ abbrev mutual
       let condition = maybe_condition R h c in alone_at condition.0 (exited (place_of l) r.loops (name_of n) condition.1)
   statement_walked R r h (DelayStatement l e) = let read = R.moment h e in alone_at read.0 (delayed l.line read.1)
   statement_walked R r h (IfStatement l b bs e m c) =
-      if_walked l.line (else_walked R r (elsifs_walked R r (branch_walked R r (record { here = h; so_far = no_branch; bodies = [] }) l.line b) bs) e)
+      let whole = else_walked R r (elsifs_walked R r (branch_walked R r (h, no_branching) l.line b) bs) e in (whole.0, if_of l.line whole.1)
   statement_walked R r h (CaseStatement l e a more m c) =
-      let selector = R.selector (R.with_word h) e in
-      let choices = all_choices R selector.0 e (is_ok selector.1) a more in
-      let judged = selected (place_of l) selector.1 choices.fault (right_choices R selector.0 e selector.1 choices) in
-      let first = alternative_walked R r (record { here = selector.0; so_far = none_chosen; bodies = [] }) (next_choices choices.alternatives) a in
-      case_walked l.line (R.word h) judged (alternatives_walked R r first (rest_of choices.alternatives) more)
+      let whole = alternatives_walked R r (alternative_walked R r (case_head R h (place_of l) e a more) a) more in (whole.0, case_of l.line whole.1)
   statement_walked R r h (LoopStatement n l) = inner_loop_walked R r h n l
   statement_walked R r h (BlockStatement n b) = inner_block_walked R r h n b
 
-  pub branch_walked : {H : Type 0} → Reading H → Around → Branching H → ℕ → BranchTree → Branching H
-  branch_walked R r so_far line (Branch c ss) = let condition = R.condition so_far.here c in one_branch so_far line condition.1 (statements_walked R r condition.0 ss)
+  pub branch_walked : {H : Type 0} → Reading H → Around → H × Branching → ℕ → BranchTree → H × Branching
+  branch_walked R r so_far line (Branch c ss) =
+      let condition = R.condition so_far.0 c in let inner = statements_walked R r condition.0 ss in (inner.0, one_branch so_far.1 line condition.1 inner.1)
 
-  pub elsifs_walked : {H : Type 0} → Reading H → Around → Branching H → ElsifsTree → Branching H
+  pub elsifs_walked : {H : Type 0} → Reading H → Around → H × Branching → ElsifsTree → H × Branching
   elsifs_walked R r so_far NoElsif = so_far
-  elsifs_walked R r so_far (MoreElsifs l b bs) = if is_some so_far.so_far.faults.end then so_far else elsifs_walked R r (branch_walked R r so_far l.line b) bs
+  elsifs_walked R r so_far (MoreElsifs l b bs) = if is_some so_far.1.so_far.faults.end then so_far else elsifs_walked R r (branch_walked R r so_far l.line b) bs
 
-  pub else_walked : {H : Type 0} → Reading H → Around → Branching H → ElseTree → Branching H
+  pub else_walked : {H : Type 0} → Reading H → Around → H × Branching → ElseTree → H × Branching
   else_walked R r so_far NoElse = so_far
-  else_walked R r so_far (Else ss) = if is_some so_far.so_far.faults.end then so_far else one_otherwise so_far (statements_walked R r so_far.here ss)
+  else_walked R r so_far (Else ss) =
+      if is_some so_far.1.so_far.faults.end then so_far else (let inner = statements_walked R r so_far.0 ss in (inner.0, one_otherwise so_far.1 inner.1))
 
-  pub alternative_walked : {H : Type 0} → Reading H → Around → Choosing H → List Choice → AlternativeTree → Choosing H
-  alternative_walked R r so_far choices (Alternative first others ss) = one_alternative so_far choices (statements_walked R r so_far.here ss)
+  pub alternative_walked : {H : Type 0} → Reading H → Around → H × Choosing → AlternativeTree → H × Choosing
+  alternative_walked R r so_far (Alternative first others ss) = let inner = statements_walked R r so_far.0 ss in (inner.0, one_alternative so_far.1 inner.1)
 
-  pub alternatives_walked : {H : Type 0} → Reading H → Around → Choosing H → List (List Choice) → AlternativesTree → Choosing H
-  alternatives_walked R r so_far choices NoAlternative = so_far
-  alternatives_walked R r so_far choices (MoreAlternatives a more) =
-      if is_some so_far.so_far.faults.end then so_far else alternatives_walked R r (alternative_walked R r so_far (next_choices choices) a) (rest_of choices) more
+  pub alternatives_walked : {H : Type 0} → Reading H → Around → H × Choosing → AlternativesTree → H × Choosing
+  alternatives_walked R r so_far NoAlternative = so_far
+  alternatives_walked R r so_far (MoreAlternatives a more) =
+      if is_some so_far.1.so_far.faults.end then so_far else alternatives_walked R r (alternative_walked R r so_far a) more
 
-  pub inner_loop_walked : {H : Type 0} → Reading H → Around → H → Option Label → LoopTree → Walked H
-  inner_loop_walked R r h n (PlainLoop l ss e) = loop_walked l.line (Ok schemes.ForeverScheme) n e.end_name (statements_walked R (in_loop r n) h ss)
+  pub inner_loop_walked : {H : Type 0} → Reading H → Around → H → Option Label → LoopTree → H × Walked
+  inner_loop_walked R r h n (PlainLoop l ss e) = loop_walked l.line (Ok schemes.ForeverScheme) (end_of n e.end_name) (statements_walked R (in_loop r n) h ss)
   inner_loop_walked R r h n (WhileLoop w c l ss e) =
-      let condition = R.condition h c in loop_walked w.line (while_scheme condition.1) n e.end_name (statements_walked R (in_loop r n) condition.0 ss)
+      let head = while_walked (R.condition h c) in loop_walked w.line head.1 (end_of n e.end_name) (statements_walked R (in_loop r n) head.0 ss)
   inner_loop_walked R r h n (ForLoop f i is_reverse d l ss e) =
-      let words = loop_words R h in
-      let range = R.loop_range (R.loop_entered (R.with_word (R.with_word h)) i) d in
-      for_walked R f.line is_reverse words range n e.end_name (statements_walked R (in_loop r n) (R.with_parameter range.0 i range.1 words) ss)
+      let head = for_head R h i is_reverse d in for_walked R head.0 f.line head.1 (end_of n e.end_name) (statements_walked R (in_loop r n) head.0 ss)
 
-  pub inner_block_walked : {H : Type 0} → Reading H → Around → H → Option Label → BlockTree → Walked H
+  pub inner_block_walked : {H : Type 0} → Reading H → Around → H → Option Label → BlockTree → H × Walked
   inner_block_walked R r h n (PlainBlock l ss e) =
-      let inner = statements_walked R r h ss in
-      record { here = inner.here; checked = blocked l.line [] (end_fault (name_of n) (name_at_end e.end_name)) inner.checked; bodies = inner.bodies }
+      let inner = statements_walked R r h ss in (inner.0, block_of l.line (end_of n e.end_name) (inside_of no_part inner.1))
   inner_block_walked R r h n (DeclareBlock l inner) = handled_walked R r h n l.line inner
 
-  pub handled_walked : {H : Type 0} → Reading H → Around → H → Option Label → ℕ → HandledTree → Walked H
+  pub handled_walked : {H : Type 0} → Reading H → Around → H → Option Label → ℕ → HandledTree → H × Walked
   handled_walked R r h n line (Handled is b ss e) =
-      let part = items_walked R (R.block_entered h) is in block_walked R line part b n e.end_name (statements_walked R r part.here ss)
+      let part = closed R (items_walked R (R.block_entered h) is) b in
+      let inside = inside_behind part (statements_walked R r part.0 ss) in (R.left inside.0, block_of line (end_of n e.end_name) inside.1)
 
-  pub items_walked : {H : Type 0} → Reading H → H → ItemsTree → Part H
-  items_walked R h NoItem = no_part h
-  items_walked R h (MoreItems i is) = let one = item_walked R h i in part_behind one (items_walked R one.here is)
+  pub items_walked : {H : Type 0} → Reading H → H → ItemsTree → H × Part
+  items_walked R h NoItem = (h, no_part)
+  items_walked R h (MoreItems i is) = let one = item_walked R h i in part_behind one (items_walked R one.0 is)
 
-  pub item_walked : {H : Type 0} → Reading H → H → ItemTree → Part H
+  pub item_walked : {H : Type 0} → Reading H → H → ItemTree → H × Part
   item_walked R h (CommonItem c) = declared_part (R.declared h c)
   item_walked R h (SubprogramItem s) = declared_part (R.subprogram h s)
   item_walked R h (StubItem s l) = declared_part (R.stub h s l)
   item_walked R h (BodyItem s b) = body_walked R h s b
-  item_walked R h (TaskItem t) = declared_part (h, Err (R.not_yet h (TaskItem t)))
-  item_walked R h (TaskBodyItem l n inner) = declared_part (h, Err (R.not_yet h (TaskBodyItem l n inner)))
-  item_walked R h (ProtectedItem l p) = declared_part (h, Err (R.not_yet h (ProtectedItem l p)))
-  item_walked R h (ProtectedBodyItem l n os e) = declared_part (h, Err (R.not_yet h (ProtectedBodyItem l n os e)))
+  item_walked R h (TaskItem t) = declared_part (h, Err (R.not_yet h))
+  item_walked R h (TaskBodyItem l n inner) = declared_part (h, Err (R.not_yet h))
+  item_walked R h (ProtectedItem l p) = declared_part (h, Err (R.not_yet h))
+  item_walked R h (ProtectedBodyItem l n os e) = declared_part (h, Err (R.not_yet h))
 
-  pub body_walked : {H : Type 0} → Reading H → H → SpecificationTree → BodyTree → Part H
+  pub body_walked : {H : Type 0} → Reading H → H → SpecificationTree → BodyTree → H × Part
   body_walked R h s (Body is l ss e) =
-      let part = items_walked R (R.body_entered (R.head h s).0 s) is in
-      body_part R h s part l (has_return ss) e.end e.end_name (statements_walked R (record { returns = R.returns h s; loops = [] }) part.here ss)
+      let head = R.head h s in
+      let inner = body_entered R head.0 s in
+      let part = closed R (items_walked R inner.0 is) l in
+      body_behind R head s (no_return_fault (place_of e.end) inner.1.returns.body (has_return ss)) e (inside_behind part (statements_walked R inner.1 part.0 ss))

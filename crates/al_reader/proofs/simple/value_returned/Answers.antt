@@ -5,7 +5,7 @@ use Rattle.al_typed.specs.ExpressionTrees.{TypedTree}
 use Rattle.al_reader.proofs.MadeOfRead.{alone_by}
 use Rattle.al_reader.proofs.simple.value_returned.Goals as goal
 
-pub returns : goal.returns
-returns g c = λ t h.
-    let read = c.in_ok-value.ensures t h in
+pub returns-clause-told : goal.returns-clause-told
+returns-clause-told g c = λ t h.
+    let read = c.in_ok-value.ensures.told t h in
     (read.0, λ loops. alone_by (λ (v : Result TypedTree Fault). returned c.args.place c.args.context (Some v)) _ _ _ _ read.1 c.return_statement.ensures)
