@@ -301,6 +301,19 @@ impl Scope {
         Ok(true)
     }
 
+    /// One more declaration in the innermost region, whatever it has of the name: it asks nothing.
+    pub fn add(&mut self, name: &[u8], view: View) -> Result<(), NoMemory>
+        requires { 0 < length self.old.regions }
+        ensures new { self.new.regions ≡ (if is_ok result then in_last (with_declared name.now view) self.old.regions else self.old.regions) }
+        ensures depth { length self.new.regions ≡ length self.old.regions }
+        ensures mentioned { self.new.mentioned ≡ self.old.mentioned }
+    {
+        let last = self.regions.len() - 1;
+        let region = &mut self.regions[last];
+        region.declare(name, view)?;
+        Ok(())
+    }
+
     /// What is visible by selection of a name in a construct that encloses the place (ARM 4.1.3(4, 13), 8.3(8)): what
     /// the parts that its region continues declare, and what is declared in it so far. None where the construct doesn't
     /// enclose the place, so that it is no prefix of an expanded name.

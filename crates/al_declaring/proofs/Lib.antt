@@ -1,0 +1,3 @@
+pub mod Folds
+pub mod Innermost
+pub mod Named

@@ -1,0 +1,3 @@
+pub mod Declaring
+pub mod Inner
+pub mod Laws

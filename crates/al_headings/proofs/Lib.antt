@@ -1,0 +1,2 @@
+pub mod FormalLists
+pub mod Outcomes

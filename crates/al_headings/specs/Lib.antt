@@ -1,0 +1,2 @@
+pub mod Formals
+pub mod Heads
