@@ -1,1 +1,4 @@
 pub mod Examples
+pub mod LabelledUnits
+pub mod NominalSubtypes
+pub mod Stubs
