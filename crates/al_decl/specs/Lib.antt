@@ -1,0 +1,3 @@
+pub mod Checking
+pub mod Effects
+pub mod Forms

@@ -1,0 +1,60 @@
+// The words of temporaries in what a declaration does.
+ghost use Rattle.std.specs.Prelude.{◌≡◌, option_map};
+ghost use Rattle.al_decl.specs.Effects.{after_effect, effect_behind, effect_numbered, form_behind, form_numbered, optional_behind};
+ghost use Rattle.al_slots.specs.Slots.{value_behind, value_numbered};
+ghost use Rattle.al_typed.specs.DeclarationTrees.{declaration_seen, form_seen};
+ghost use Rattle.al_typed.specs.ExpressionViews.{value_seen};
+
+use al_declared::Progress;
+use al_slots::number_slots;
+use al_typed::{CheckedValue, DeclarationForm, TypedDeclaration};
+
+/// A value takes words from this one on: the next word behind them.
+#[tactic(auto, using(al_slots::proofs::Layers::value_layers, al_typed::proofs::ExpressionsMade::value_made))]
+fn number_value(value: &mut CheckedValue, word: u32) -> u32
+    ensures tree { value_seen value.new ≡ value_numbered word (value_seen value.old) }
+    ensures word { result ≡ value_behind word (value_seen value.old) }
+{
+    number_slots(&mut value.value, word)
+}
+
+fn number_optional(value: &mut Option<CheckedValue>, word: u32) -> u32
+    ensures tree { option_map value_seen value.new ≡ option_map (value_numbered word) (option_map value_seen value.old) }
+    ensures word { result ≡ optional_behind word (option_map value_seen value.old) }
+{
+    match value {
+        Some(value) => number_value(value, word),
+        None => word,
+    }
+}
+
+fn number_form(form: &mut DeclarationForm, word: u32) -> u32
+    ensures tree { form_seen form.new ≡ form_numbered word (form_seen form.old) }
+    ensures word { result ≡ form_behind word (form_seen form.old) }
+{
+    match form {
+        DeclarationForm::Objects { value, .. } => number_optional(value, word),
+        DeclarationForm::Subprogram(_) => word,
+        DeclarationForm::Elaborated(_) => word,
+        DeclarationForm::Task { .. } => word,
+        DeclarationForm::Protected { .. } => word,
+    }
+}
+
+fn number_effect(effect: &mut Option<TypedDeclaration>, word: u32) -> u32
+    ensures tree { option_map declaration_seen effect.new ≡ effect_numbered word (option_map declaration_seen effect.old) }
+    ensures word { result ≡ effect_behind word (option_map declaration_seen effect.old) }
+{
+    match effect {
+        Some(done) => number_form(&mut done.form, word),
+        None => word,
+    }
+}
+
+/// What a declaration does takes its temporaries' words of the innermost frame.
+pub(crate) fn take_slots(progress: &mut Progress, effect: &mut Option<TypedDeclaration>)
+    ensures tree { option_map declaration_seen effect.new ≡ effect_numbered progress.old.words.frame (option_map declaration_seen effect.old) }
+    ensures taken { progress.new ≡ after_effect progress.old (option_map declaration_seen effect.old) }
+{
+    progress.words.frame = number_effect(effect, progress.words.frame);
+}

@@ -1,0 +1,8 @@
+//! Blocks and bodies of subprograms at a place: their regions with the formals, and what stands round them.
+#![tactic(auto)]
+
+mod block;
+mod body;
+
+pub use block::{Outside, enter_block, leave_block};
+pub use body::{OuterFrame, declare_all_formals, enter_subprogram, leave_subprogram};
