@@ -1,9 +1,10 @@
 // The regions round a place, and what they make visible.
-ghost use Rattle.std.specs.Prelude.{◌≡◌, ◌<◌, ◌≤◌, List, [], ◌∷◌, ◌++◌, ◌↔◌, IfOk, OnErr, OnOk, IsTrue, length, not, is_ok, if◌then◌else◌};
+ghost use Rattle.std.specs.Prelude.{◌≡◌, ◌<◌, ◌≤◌, List, [], ◌∷◌, ◌++◌, ◌↔◌, IfOk, OnErr, OnOk, IsTrue, length, not, true, None, is_ok, if◌then◌else◌};
 ghost use Rattle.std.specs.List.{list_any};
 ghost use Rattle.std.specs.Option.{option_copied};
 ghost use Rattle.al_view.specs.declared.view.ViewKind.{ViewKind};
 ghost use Rattle.al_view.specs.Homographs.{homographs};
+ghost use Rattle.al_view.specs.Interfaces.{views_of};
 ghost use Rattle.al_query.specs.Asked.{AsksOf, by_name};
 ghost use Rattle.al_query.specs.Reads.{HoldsBy, Told};
 ghost use Rattle.al_scope.specs.declared.region.Region.{Region};
@@ -99,10 +100,11 @@ impl Scope {
 
     /// The library unit of that full name, in lower case, is mentioned (ARM 10.1.2(6)), with its view: from here on it
     /// counts as declared in its parent's visible part, a root unit in Standard's (ARM 8.1(9), 10.1.2(8)). The unit that
-    /// the place is in and its ancestors are mentioned too.
+    /// the place is in and its ancestors are mentioned too. A unit that is mentioned already takes no memory.
     pub fn mention(&mut self, unit_name: &[u8], view: View) -> Result<(), NoMemory>
         ensures mentioned { self.new.mentioned ≡ (if is_ok result then with_mentioned unit_name.now view self.old.mentioned else self.old.mentioned) }
         ensures regions { self.new.regions ≡ self.old.regions }
+        ensures takes_none { 0 < length (views_of self.old.mentioned unit_name.now) → is_ok result ≡ true }
     {
         if self.mentioned.views(unit_name).is_empty() {
             self.mentioned.declare(unit_name, view)?;
@@ -179,12 +181,14 @@ impl Scope {
     }
 
     /// From here on the outermost region of the construct continues this part too: where the private part of a library
-    /// package or the body of a library subprogram begins, the private parts of its ancestors are seen (ARM 8.2(5)).
+    /// package or the body of a library subprogram begins, the private parts of its ancestors are seen (ARM 8.2(5)). Where there is
+    /// no such region it takes no memory.
     pub fn add_part(&mut self, construct: &Symbol, part: UnitPart) -> Result<(), NoMemory>
         ensures ok { OnOk result (self.new.regions ≡ with_part construct.now part self.old.regions) }
         ensures err { OnErr result (self.new.regions ≡ self.old.regions) }
         ensures depth { length self.new.regions ≡ length self.old.regions }
         ensures mentioned { self.new.mentioned ≡ self.old.mentioned }
+        ensures takes_none { place_of construct.now self.old.regions ≡ length self.old.regions → is_ok result ≡ true }
     {
         let at = place_of(self.regions.as_slice(), construct);
         if at < self.regions.len() {
@@ -195,12 +199,13 @@ impl Scope {
     }
 
     /// A use clause that names the package, in the innermost region (ARM 8.4(3)). It has no effect where the package
-    /// encloses the place: all that it opens is directly visible there, or hidden.
+    /// encloses the place: all that it opens is directly visible there, or hidden. Then it takes no memory.
     pub fn use_package(&mut self, unit: &UnitKey) -> Result<(), NoMemory>
         requires { 0 < length self.old.regions }
         ensures new { self.new.regions ≡ (if is_ok result then with_use unit.now self.old.regions else self.old.regions) }
         ensures depth { length self.new.regions ≡ length self.old.regions }
         ensures mentioned { self.new.mentioned ≡ self.old.mentioned }
+        ensures takes_none { encloses unit.now self.old.regions ≡ true → is_ok result ≡ true }
     {
         if self.is_in(unit) {
             return Ok(());
@@ -219,12 +224,13 @@ impl Scope {
     }
 
     /// A use type clause that names the type, in the innermost region (ARM 8.4(4)). It has no effect where the type is declared
-    /// round the place: its operators are declared beside it (ARM 3.2.3(6)).
+    /// round the place: its operators are declared beside it (ARM 3.2.3(6)). Then it takes no memory.
     pub fn use_type(&mut self, symbol: Symbol) -> Result<(), NoMemory>
         requires { 0 < length self.old.regions }
         ensures new { self.new.regions ≡ (if is_ok result then with_use_type symbol self.old.regions else self.old.regions) }
         ensures depth { length self.new.regions ≡ length self.old.regions }
         ensures mentioned { self.new.mentioned ≡ self.old.mentioned }
+        ensures takes_none { is_declared_round symbol self.old.regions ≡ true → is_ok result ≡ true }
     {
         if self.is_declared_round(&symbol) {
             return Ok(());
@@ -316,7 +322,7 @@ impl Scope {
 
     /// What is visible by selection of a name in a construct that encloses the place (ARM 4.1.3(4, 13), 8.3(8)): what
     /// the parts that its region continues declare, and what is declared in it so far. None where the construct doesn't
-    /// enclose the place, so that it is no prefix of an expanded name.
+    /// enclose the place, so that it is no prefix of an expanded name; then it takes no memory.
     pub fn selected_within<A: Answers>(
         &self,
         construct: &Symbol,
@@ -327,6 +333,7 @@ impl Scope {
         ensures told { IfOk result (λ views. Told recorder.old.log recorder.new.log (λ t. views ≡ within t self.now.mentioned name.now construct.now self.now.regions)) }
         ensures asks { IfOk result (λ _. AsksOf (part_units (within_parts construct.now self.now)) (by_name (name.now ∷ [])) recorder.old.log recorder.new.log) }
         ensures selected { IfOk result (λ views. HoldsBy recorder.new.log (λ t. IsSelected t self.now.mentioned name.now construct.now self.now.regions views)) }
+        ensures takes_none { region_of construct.now self.now.regions ≡ None → is_ok result ≡ true }
     {
         match region_of(self.regions.as_slice(), construct) {
             Some(region) => {
