@@ -1,0 +1,11 @@
+use Rattle.std.proofs.Common.{ap, ◌∙◌}
+use Rattle.al_keys.specs.Keys.{denoted}
+use Rattle.al_keys.specs.declared.names.Names.{Names}
+use Rattle.al_terms.specs.Texts.{read}
+use Rattle.al_tree.specs.ExpressionViews.{expression_seen}
+use Rattle.al_terms_at.proofs.text.read_at.Goals as goal
+
+pub returns-clause-told : goal.returns-clause-told
+returns-clause-told g c t h =
+    let told = c.in_ok-names.ensures.told t h in
+    (told.0, c.in_ok-judged.ensures ∙ ap (λ (n : Names). read (denoted n) (expression_seen c.args.expression.now)) told.1)
