@@ -30,12 +30,13 @@ abbrev pub private_walked : {H : Type 0} → Reading H → H → Option PrivateP
 private_walked R h None = (h, no_part)
 private_walked R h (Some p) = declarations_walked R (R.private_entered h) p.declarations
 
+-- both parts of a package
+abbrev pub parts_walked : {H : Type 0} → Reading H → H → PackageTree → H × Part
+parts_walked R h k = let visible = declarations_walked R h k.visible in part_behind visible (private_walked R visible.0 k.private_part)
+
 -- a package: what waits at its end is left to its body; the name at its end, E308, counts as a declaration
 abbrev pub package_walked : {H : Type 0} → Reading H → H → PackageTree → H × Inside
-package_walked R h k =
-    let visible = declarations_walked R h k.visible in
-    let whole = part_behind visible (private_walked R visible.0 k.private_part) in
-    (whole.0, ended_by (inside_of whole.1 nothing) (end_of_compound k.name k.end.end_name))
+package_walked R h k = let whole = parts_walked R h k in (whole.0, ended_by (inside_of whole.1 nothing) (end_of_compound k.name k.end.end_name))
 
 -- the statements of a package's body, in which there is no return (ARM 6.5(5))
 abbrev pub around_package : Around
