@@ -1,6 +1,6 @@
 -- What the toy checker gives keeps the contract of checkers.
-use Rattle.std.proofs.Common.{◌≡◌, ◌+◌, ◌≤◌, ℕ, Bool, true, false, ◌||◌, ◌&&◌, not, List, [], ◌∷◌, ◌++◌, Option, Some, None, cond, refl, sym, ap, subst, ◌∙◌}
-use Rattle.std.specs.List.{Contains, list_all}
+use Rattle.std.proofs.Common.{◌≡◌, ◌+◌, ◌≤◌, Bool, true, false, ◌||◌, ◌&&◌, not, List, [], ◌∷◌, ◌++◌, Option, Some, None, cond, refl, sym, ap, subst, ◌∙◌}
+use Rattle.std.specs.List.{Contains}
 use Rattle.std.proofs.lemmas.List.Elements.{All-nil}
 use Rattle.std.proofs.lemmas.List.Elements.{Contains-append_left, Contains-append_right}
 use Rattle.std.specs.Option.{is_some}
@@ -17,10 +17,9 @@ use Rattle.al_view.specs.ViewUses.{view_uses}
 use Rattle.al_view.proofs.SymbolLemmas.{and_both}
 use Rattle.al_query.specs.Answers.{is_private_of, parent_of, units_named}
 use Rattle.al_query.specs.Known.{Grounded, has_unit, known_after, learned, predefined_units}
-use Rattle.al_query.specs.Reads.{Agrees, Log, Told, logged, recorded}
+use Rattle.al_query.specs.Reads.{Log, Told, logged, recorded}
 use Rattle.al_query.specs.declared.answer.AnswerKind.{AnswerKind}
 use Rattle.al_query.specs.declared.query.Property.TheVariants.{IsPrivate, Parent}
-use Rattle.al_query.specs.declared.query.Query.{Query}
 use Rattle.al_query.specs.declared.query.Query.TheVariants.{Of}
 use Rattle.al_typed.specs.Uses.{unit_defines, unit_uses}
 use Rattle.al_typed.specs.declared.unit.DataPlace.{DataPlace}

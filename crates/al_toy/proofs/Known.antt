@@ -1,5 +1,5 @@
 -- The units that are known to a check of the toy checker.
-use Rattle.std.proofs.Common.{◌≡◌, ℕ, Bool, true, false, ◌||◌, ◌&&◌, not, List, [], ◌∷◌, ◌++◌, Option, Some, None, map, cond, refl, sym, ap, subst, ◌∙◌}
+use Rattle.std.proofs.Common.{◌≡◌, ℕ, Bool, true, false, ◌||◌, not, List, [], ◌∷◌, ◌++◌, Option, Some, None, map, cond, refl, sym, ap, subst, ◌∙◌}
 use Rattle.std.specs.List.{Contains, flat_map}
 use Rattle.std.proofs.lemmas.List.Elements.{Contains-append_left, Contains-append_right}
 use Rattle.al_base.specs.declared.unit_key.UnitKey.{UnitKey}
@@ -8,14 +8,12 @@ use Rattle.al_unit_graph.specs.Headers.{Header, Mention}
 use Rattle.al_unit_graph.specs.Names.{ancestors, lineage}
 use Rattle.al_view.specs.Symbols.{same_unit}
 use Rattle.al_query.specs.Answers.{declaration, parent_of, units_named}
-use Rattle.al_query.specs.Known.{Grounded, has_unit, known_after, learned, predefined_units}
-use Rattle.al_query.specs.Reads.{Log}
+use Rattle.al_query.specs.Known.{has_unit, learned, predefined_units}
 use Rattle.al_query.specs.declared.answer.AnswerKind.{AnswerKind}
 use Rattle.al_query.specs.declared.answer.AnswerKind.TheVariants as answers
-use Rattle.al_query.specs.declared.query.Property.TheVariants.{IsPrivate, Parent}
+use Rattle.al_query.specs.declared.query.Property.TheVariants.{Parent}
 use Rattle.al_query.specs.declared.query.Query.TheVariants.{Of}
-use Rattle.al_outcome.specs.ReadsLaw.{AsksOthers, is_of_another, named_by, own_names}
-use Rattle.al_outcome.proofs.Members.{contains-has}
+use Rattle.al_outcome.specs.ReadsLaw.{named_by, own_names}
 use Rattle.al_toy.specs.Toys.{another, first_mentioned, first_named}
 
 -- who is another unit

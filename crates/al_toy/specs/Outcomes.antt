@@ -1,5 +1,5 @@
 -- The outcomes of the toy checker.
-use Rattle.std.specs.Prelude.{ℕ, Bool, true, false, List, [], ◌∷◌, Option, Some}
+use Rattle.std.specs.Prelude.{Bool, true, false, List, [], ◌∷◌, Option, Some}
 use Rattle.al_base.specs.Batch.{key_of}
 use Rattle.al_base.specs.FileNames.{file_name_of}
 use Rattle.al_base.specs.declared.unit_key.UnitKey.{UnitKey}
@@ -17,7 +17,7 @@ use Rattle.al_typed.specs.StatementTrees.{StatementTree}
 use Rattle.al_typed.specs.UnitTrees.{BodyTree, ElaborationTree, UnitTree}
 use Rattle.al_typed.specs.declared.unit.BodyKind.TheVariants.{Procedure}
 use Rattle.al_outcome.specs.Results.{Outcome, Faulty, Sound}
-use Rattle.al_outcome.specs.Tables.{interface_of, no_answer}
+use Rattle.al_outcome.specs.Tables.{interface_of}
 use Rattle.al_outcome.specs.declared.interface.Parts.{Parts}
 use Rattle.al_outcome.specs.declared.interface.Properties.{Properties}
 

@@ -1,13 +1,14 @@
--- The toy checker and its language. A text is a byte for what the unit is, a byte for whether it is marked, the letter that is its
--- name, and the letters of the units that it mentions. A unit's parent is the first unit that it mentions, and a unit is faulty
+-- The toy checker and its language. A text is a byte for what the unit is, a byte for whether it is marked, its name, and the names
+-- of the units that it mentions, with blanks between names. A unit's parent is the first unit that it mentions, and a unit is faulty
 -- where the parent of its parent is marked. So a check asks a unit of which its text says nothing.
-use Rattle.std.specs.Prelude.{ℕ, ◌≡◌, ◌==◌, Bool, true, false, List, [], ◌∷◌, map, Option, Some, None, if◌then◌else◌}
-use Rattle.std.specs.List.{All}
-use Rattle.std.specs.Map.{values_of}
+use Rattle.std.specs.Prelude.{ℕ, ◌≡◌, ◌==◌, Bool, true, false, List, [], ◌∷◌, ◌++◌, map, Option, Some, None, if◌then◌else◌}
+use Rattle.al_base.specs.Files.{Texts}
 use Rattle.al_base.specs.declared.unit_key.UnitKey.{UnitKey}
 use Rattle.al_unit_graph.specs.Headers.{Header, Headed, Library, Mention, Source}
+use Rattle.al_unit_graph.specs.Traces.{AreReadAlike}
 use Rattle.al_unit_graph.specs.declared.header.UnitForm.{UnitForm}
 use Rattle.al_unit_graph.specs.declared.header.UnitForm.TheVariants.{PackageDeclaration, SubprogramBody}
+use Rattle.al_unit_order.specs.Read.{AreHeaded, NameParentBodies}
 use Rattle.al_view.specs.Symbols.{same_unit}
 use Rattle.al_query.specs.Answers.{declaration, is_private_of, parent_of}
 use Rattle.al_query.specs.Known.{Grounded, known_after}
@@ -27,8 +28,8 @@ is_main b = b == 109
 abbrev pub form_of : ℕ → UnitForm
 form_of b = if is_main b then SubprogramBody else PackageDeclaration
 
-abbrev pub mention_of : ℕ → Mention
-mention_of b = record { name = b ∷ []; place = record { line = 1; col = 1 } }
+abbrev pub mention_of : List ℕ → Mention
+mention_of name = record { name = name; place = record { line = 1; col = 1 } }
 
 -- a header with this name and form and these mentions
 abbrev pub header_with : List ℕ → UnitForm → Bool → List Mention → Header
@@ -48,9 +49,19 @@ header_with name form main mentions = record {
   is_parameterless_procedure = main;
 }
 
+-- the words of a text behind the front of a word: what stands between blanks
+abbrev pub words_from : List ℕ → List ℕ → List (List ℕ)
+words_from word [] = word ∷ []
+words_from word (b ∷ bs) = if b == 32 then word ∷ words_from [] bs else words_from (word ++ b ∷ []) bs
+
+-- what a unit says of itself whose name is the first of these, and that mentions the others
+abbrev pub header_of : ℕ → List (List ℕ) → Header
+header_of form [] = header_with [] PackageDeclaration false []
+header_of form (name ∷ mentions) = header_with name (form_of form) (is_main form) (map mention_of mentions)
+
 -- what a text says of its unit
 abbrev pub header_in : List ℕ → Header
-header_in (form ∷ mark ∷ name ∷ mentions) = header_with (name ∷ []) (form_of form) (is_main form) (map mention_of mentions)
+header_in (form ∷ mark ∷ names) = header_of form (words_from [] names)
 header_in _ = header_with [] PackageDeclaration false []
 
 -- the second byte is an exclamation mark
@@ -62,13 +73,23 @@ is_marked _ = false
 abbrev pub source_of : List ℕ → Source
 source_of text = record { text = text; contents = Headed (header_in text) }
 
--- a file is that of its text
-abbrev pub IsToy : Source → Type 0
-IsToy source = source_of source.text ≡ source
+-- the library of the texts
+unfoldable pub toy_library : Texts → Library
+toy_library files = map (λ file. (file.0, source_of file.1)) files
 
--- each is
+-- the texts of a library
+abbrev pub texts_of : Library → Texts
+texts_of lib = map (λ file. (file.0, file.1.text)) lib
+
+-- a library is that of its texts
 abbrev pub AreToys : Library → Type 0
-AreToys lib = All IsToy (values_of lib)
+AreToys lib = lib ≡ toy_library (texts_of lib)
+
+-- equal texts are read alike in any two libraries; each unit's header is that of its text; none names a parent body
+pub record ToysAreRead : Type 0 where
+  pub headed : (files : Texts) → AreHeaded header_in (toy_library files)
+  pub bodies : (files : Texts) → NameParentBodies (toy_library files)
+  pub alike : (old new : Texts) → AreReadAlike (toy_library old) (toy_library new)
 
 -- the declaration of the first unit that is mentioned
 abbrev pub first_mentioned : List Mention → Option UnitKey

@@ -9,5 +9,5 @@ mod packages;
 mod reading;
 
 pub use checker::Toy;
-pub use files::sources_of;
+pub use files::{sources_after, sources_of, toys_are_read};
 pub use packages::Packages;

@@ -1,4 +1,4 @@
-use Rattle.std.proofs.Common.{◌≡◌, [], None, ap, sym, subst, ◌∙◌}
+use Rattle.std.proofs.Common.{◌≡◌, None, ap, sym, subst, ◌∙◌}
 use Rattle.al_query.specs.Reads.{Log}
 use Rattle.al_outcome.specs.Results.{checked_seen}
 use Rattle.al_toy.specs.Outcomes.{plain}

@@ -1,4 +1,3 @@
-use Rattle.std.proofs.Common.{◌≡◌}
 use Rattle.al_outcome.specs.Defines.{DefinesOwn, ShowsOnly}
 use Rattle.al_outcome.specs.ReadsLaw.{FaultsFit, HasCode, UsesOnly}
 use Rattle.al_outcome.specs.Results.{checked_seen}
