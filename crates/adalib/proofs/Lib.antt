@@ -1,0 +1,4 @@
+mod Walks
+mod WordKinds
+mod Readings
+mod Commands

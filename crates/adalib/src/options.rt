@@ -1,6 +1,10 @@
 // The words of the command line.
-ghost use Rattle.std.specs.Prelude.{◌≡◌, ◌≤◌, IfOk, IfSome, MatchOption, Some};
+ghost use Rattle.std.specs.Prelude.{◌≡◌, ◌≤◌, ℕ, List, Option, IfOk, IfErr, IfSome, MatchOption, Some, drop, map, option_map, string_bytes};
 ghost use Rattle.adalib.specs.Tick.{tick_of};
+ghost use Rattle.adalib.specs.Words.{AsksFor};
+ghost use Rattle.adalib.specs.declared.options.UsageError.TheVariants.{OutOfMemory, Usage};
+ghost use Rattle.clap.specs.Words.{kind_of};
+ghost use Rattle.clap.specs.declared.error.kind.ErrorKind.TheVariants as kind;
 
 use clap::error::ErrorKind;
 use clap::{Arg, ArgAction, Command};
@@ -22,12 +26,16 @@ pub enum UsageError {
 }
 
 impl From<AllocError> for UsageError {
+    ghost from_gives = { λ _ e. e ≡ OutOfMemory };
+
     fn from(_e: AllocError) -> UsageError {
         UsageError::OutOfMemory
     }
 }
 
 impl From<clap::Error> for UsageError {
+    ghost from_gives = { λ cause e. e ≡ Usage → kind_of cause ≡ kind.OutOfMemory → ⊥ };
+
     fn from(e: clap::Error) -> UsageError {
         match e.kind() {
             ErrorKind::OutOfMemory => UsageError::OutOfMemory,
@@ -53,7 +61,9 @@ impl<'a> Options<'a> {
     /// [`UsageError::Usage`] for words of another form: a `--tick` without a number of 1 to 10000, a second `--tick`
     /// or file, or another word that begins with `-`. [`UsageError::OutOfMemory`] where memory is refused.
     pub fn of(alloc: Global, words: &'a [String]) -> Result<Options<'a>, UsageError>
-        ensures { IfOk result (λ options. (1 ≤ options.tick) × (options.tick ≤ MAX_TICK)) }
+        ensures range { IfOk result (λ options. (1 ≤ options.tick) × (options.tick ≤ MAX_TICK)) }
+        ensures taken { IfOk result (λ options. AsksFor (drop 1 (map string_bytes words.now)) options.tick (option_map (λ name. name.now) options.file)) }
+        ensures refused { IfErr result (λ fault. fault ≡ Usage → (tick : ℕ) (file : Option (List ℕ)) → AsksFor (drop 1 (map string_bytes words.now)) tick file → ⊥) }
     {
         let tick = Arg::new(alloc, "tick").long("tick").action(ArgAction::Set);
         let file = Arg::new(alloc, "file").action(ArgAction::Set);
