@@ -1,1 +1,2 @@
 pub mod TermsAt
+pub mod CompoundNames

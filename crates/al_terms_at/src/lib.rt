@@ -2,7 +2,9 @@
 #![tactic(auto)]
 
 mod bounds;
+mod compound;
 mod text;
 
 pub use bounds::bounds_at;
+pub use compound::name_mark_at;
 pub use text::{mark_at, read_at, single_at, term_at};
