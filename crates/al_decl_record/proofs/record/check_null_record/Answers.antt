@@ -1,0 +1,24 @@
+use Rattle.std.proofs.Common.{List, Option, Result, Ok, [], ap, ◌∙◌}
+use Rattle.al_decl.specs.Checking.{finished, with_scope}
+use Rattle.al_decl_type.specs.declared.record.Part.{Part}
+use Rattle.al_declared.specs.TypeKinds.{record_declared}
+use Rattle.al_declaring.specs.Declaring.{begun_one}
+use Rattle.al_judged.specs.declared.fault.Fault.{Fault}
+use Rattle.al_scope.specs.Places.{Place}
+use Rattle.al_decl_record.proofs.Outcomes.{if_ok}
+use Rattle.al_decl_record.proofs.record.check_null_record.Goals as goal
+
+pub returns-clause-told : goal.returns-clause-told
+returns-clause-told g c =
+    let h = c.args.here.now in
+    let n = c.args.name.now in
+    if_ok c.check_record.result _ _
+    (λ judged made t agrees.
+    let homograph = c.in_ok-duplicate.ensures.told t agrees in (
+      homograph.0,
+      made
+          ∙ ap (λ (r : Result (List Part) Fault). finished (with_scope h c.begin_one.new.scope) (record_declared h.progress n c.in_ok-duplicate.duplicate r)) c.no_parts-parts.ensures
+          ∙ ap (λ (p : Place). finished (with_scope h p) (record_declared h.progress n c.in_ok-duplicate.duplicate (Ok []))) c.in_ok-begin_one.ensures.begun
+          ∙ ap (λ (d : Option Fault). finished (with_scope h (begun_one h.scope n)) (record_declared h.progress n d (Ok []))) homograph.1,
+    ))
+    c.check_record.ensures.made

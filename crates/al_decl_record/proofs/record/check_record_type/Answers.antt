@@ -1,0 +1,33 @@
+use Rattle.std.proofs.Common.{List, Option, Result, Ok, [], ap, ◌∙◌}
+use Rattle.al_decl.specs.Checking.{finished, with_scope}
+use Rattle.al_decl_type.specs.declared.record.Part.{Part}
+use Rattle.al_declared.specs.TypeKinds.{record_declared}
+use Rattle.al_declaring.specs.Inner.{in_region}
+use Rattle.al_declaring.specs.declared.here.Here.{Here}
+use Rattle.al_declaring.specs.Declaring.{begun_one, duplicate}
+use Rattle.al_view.specs.declared.view.ViewKind.TheVariants.{OfComponent}
+use Rattle.al_judged.specs.declared.fault.Fault.{Fault}
+use Rattle.al_scope.specs.Places.{Place}
+use Rattle.al_tree.specs.DeclarationViews.{components_seen}
+use Rattle.al_decl_record.specs.Components.{component_list, parts_after}
+use Rattle.al_decl_record.proofs.Outcomes.{if_ok}
+use Rattle.al_decl_record.proofs.record.check_record_type.Goals as goal
+
+pub returns-clause-told : goal.returns-clause-told
+returns-clause-told g c =
+    let h = c.args.here.now in
+    let n = c.args.name.now in
+    let cs = component_list (components_seen c.args.components.now) in
+    if_ok c.check_record.result _ _
+    (λ judged made t agrees.
+    let parts = c.in_ok-parts.ensures.told t agrees in
+    let homograph = c.in_ok-duplicate.ensures.told t parts.0 in
+    let R = g.R.PartReader.reading c.args.reader.now t in
+    let begun = c.in_ok-begin_one.ensures.begun in (
+      homograph.0,
+      made
+          ∙ ap (λ (p : Place). finished (with_scope h p) (record_declared h.progress n c.in_ok-duplicate.duplicate c.in_ok-parts.parts)) (c.in_ok-parts.ensures.scope ∙ begun)
+          ∙ ap (λ (d : Option Fault). finished (with_scope h (begun_one h.scope n)) (record_declared h.progress n d c.in_ok-parts.parts)) homograph.1
+          ∙ ap (λ (r : Result (List Part) Fault). finished (with_scope h (begun_one h.scope n)) (record_declared h.progress n (duplicate t h.scope OfComponent n) r)) (parts.1 ∙ ap (λ (p : Place). parts_after R t (in_region p) (Ok []) cs) begun),
+    ))
+    c.check_record.ensures.made

@@ -1,0 +1,3 @@
+pub mod Components
+pub mod Founds
+pub mod Records
