@@ -1,0 +1,20 @@
+-- What a build makes of a library.
+use Rattle.std.specs.Prelude.{ℕ, ◌≡◌, List, Some, length}
+use Rattle.al_base.specs.Files.{Texts}
+use Rattle.al_unit_graph.specs.Headers.{Header, Library}
+use Rattle.al_unit_map.specs.Units.{at_unit}
+use Rattle.al_query.specs.declared.answer.AnswerKind.{AnswerKind}
+use Rattle.al_query.specs.declared.query.Query.{Query}
+use Rattle.al_engine.specs.Builds.{raised}
+use Rattle.al_entries.specs.EntryLaw.{TextMeaning}
+use Rattle.al_rebuild.specs.Rebuilds.{IsRebuilt}
+use Rattle.al_library.specs.States.{Built, Held}
+
+-- the last build is of the files as they are and this main unit, over what was kept of the units; so many checks more were made
+pub record IsBuild {C P : Type 0} (meaning : TextMeaning) (header : List ℕ → Header) (count : C → ℕ) (predefined : Query → AnswerKind) (library : Texts → Library) (main : List ℕ) (old new : Held C P) : Type 0 where
+  pub last : Built
+  pub is_last : new.built ≡ Some last
+  pub files_are : last.files ≡ old.files
+  pub main_is : last.main ≡ main
+  pub rebuilt : IsRebuilt meaning header predefined (library old.files) main (at_unit old.kept.entries) (at_unit new.kept.entries) last.gave
+  pub counted : count new.kept.checker ≡ raised (count old.kept.checker) (length last.gave.checked)

@@ -1,0 +1,4 @@
+pub mod States
+pub mod Builds
+pub mod Reports
+pub mod Runs

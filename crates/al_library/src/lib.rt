@@ -1,0 +1,11 @@
+//! A library of compilation units, for every checker of units and every way of reading files: its files are edited and built again
+//! and again, and a build checks again only what an edit reaches.
+#![tactic(auto)]
+
+mod building;
+mod engine;
+mod last_build;
+mod read_files;
+
+pub use engine::Engine;
+pub use read_files::ReadFiles;

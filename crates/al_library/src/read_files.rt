@@ -1,0 +1,38 @@
+// Files with what they are read as.
+ghost use Rattle.std.specs.Prelude.{◌≡◌, IfOk};
+
+use al_base::{Files, NoMemory};
+use al_unit_graph::Sources;
+use std::alloc::Global;
+
+/// The files of a library with what they are read as.
+pub trait ReadFiles: Drop {
+    ghost use Rattle.al_base.specs.Files.{Texts};
+    ghost use Rattle.al_unit_graph.specs.Headers.{Library};
+
+    /// What files are read as.
+    ghost library: { Texts → Library };
+
+    /// The files that were read.
+    ghost files: { Self → Texts };
+
+    /// Reads files.
+    ///
+    /// # Errors
+    ///
+    /// `NoMemory` where memory was wanted and not given. What is wrong with the files is no error.
+    fn of(alloc: Global, now: &Files) -> Result<Self, NoMemory>
+        ensures { IfOk result (λ read. files read ≡ now.now) };
+
+    /// Reads files again. What is held of those that were read before with the same texts can be shared.
+    ///
+    /// # Errors
+    ///
+    /// `NoMemory` where memory was wanted and not given.
+    fn after(alloc: Global, now: &Files, before: &Self) -> Result<Self, NoMemory>
+        ensures { IfOk result (λ read. files read ≡ now.now) };
+
+    /// The files as the graph of units has them.
+    fn sources(&self) -> &Sources
+        ensures { result.now ≡ library (files self.now) };
+}
