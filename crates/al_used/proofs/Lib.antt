@@ -1,0 +1,4 @@
+pub mod Gained
+pub mod Layers
+pub mod Listed
+pub mod Same
