@@ -1,0 +1,4 @@
+pub mod Gathered
+pub mod PairMade
+pub mod TermKinds
+pub mod Wholes

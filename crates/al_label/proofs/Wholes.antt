@@ -1,0 +1,171 @@
+-- Whole terms whose operands are read one after another.
+use Rattle.std.proofs.Common.{◌≡◌, ℕ, Bool, ◌&&◌, List, map, Result, Ok, Err, IfOk, Option, Some, refl, sym, ap, subst, ◌∙◌, Vec, Box, Global}
+use Rattle.al_base.specs.declared.place.Place.{Place}
+use Rattle.al_base.specs.declared.refusal.NoMemory.{NoMemory}
+use Rattle.al_choice.specs.Labelling.{Label}
+use Rattle.al_term.proofs.TermsMade.{applied_made, infix_made, range_member_made, short_circuit_made}
+use Rattle.al_term.specs.Places.{first_place}
+use Rattle.al_term.specs.Terms.{TermTree, TermTree as t, TermsTree}
+use Rattle.al_term.specs.TermViews.{term_seen, terms_of}
+use Rattle.al_term.specs.declared.term.Term.{Term}
+use Rattle.al_term.specs.declared.term.Term.TheVariants.{Applied, Infix, RangeMember, ShortCircuit}
+use Rattle.al_typed.specs.declared.label.BinaryOperator.{BinaryOperator}
+use Rattle.al_typed.specs.declared.label.ShortCircuit.{ShortCircuit as ShortCircuitKind}
+use Rattle.al_view.specs.declared.symbol.Symbol.{Symbol}
+use Rattle.al_view.specs.declared.types.TypeView.{TypeView}
+use Rattle.al_view.specs.declared.view.ObjectView.{ObjectView}
+use Rattle.al_view.specs.declared.view.ViewKind.{ViewKind}
+use Rattle.al_heads.specs.Parts.{declared_under, part_of}
+use Rattle.al_heads.specs.Universal.{computes_two, is_universal}
+use Rattle.al_heads.specs.declared.everywhere.Predefined.{Predefined}
+use Rattle.al_heads.specs.declared.part.Nominal.{Nominal}
+use Rattle.al_nodes.specs.Gathering.{no_parts}
+use Rattle.al_nodes.specs.Names.{object_node}
+use Rattle.al_nodes.specs.Nodes.{ReadingTree, membership_node}
+use Rattle.al_nodes.specs.Operators.{Signature, binary_node, binary_signature, short_circuit_node}
+use Rattle.al_nodes.specs.Views.{reading_seen}
+use Rattle.al_nodes.specs.declared.node.Reading.{Reading}
+use Rattle.al_told.specs.Leaves.{Application, application, applied_node, indexed_node, signed}
+use Rattle.al_told.specs.Leaves.Application.{ElementOf, ElementOfPart}
+use Rattle.al_told.specs.Told.{test_type, types_in}
+use Rattle.al_label.specs.Pairs.{together}
+use Rattle.al_label.specs.Readings.{actuals_read, index_read, operand_read, range_member_read, reading}
+use Rattle.al_label.proofs.TermKinds.{read_by}
+
+-- two that each want memory, where both were made
+pub two_made : {A B : Type 0} (P : A → Type 0) (Q : B → Type 0) (one : Result A NoMemory) (two : Result B NoMemory) (r : Result (A × B) NoMemory) (x : A) (y : B)
+    → r ≡ together one two → r ≡ Ok (x, y) → IfOk one P → IfOk two Q → P x × Q y
+two_made {A} {B} P Q (Ok u) (Ok v) r x y made is p q = let f : Ok (u, v) ≡ Ok (x, y) = sym made ∙ is in let e : (u, v) ≡ (x, y) = cc in subst (λ (k : A × B). P k.0 × Q k.1) e (p, q)
+two_made P Q (Ok u) (Err k) r x y made is p q = absurd (cc)
+two_made P Q (Err k) two r x y made is p q = absurd (cc)
+
+known : {B C : Type 0} (r : Result (B × C) NoMemory) → IfOk r (λ (w : B × C). r ≡ Ok (w.0, w.1))
+known (Ok (b, c)) = refl
+known (Err k) = tt
+
+-- three in the same way
+pub three_made : {A B C : Type 0} (P : A → Type 0) (Q : B → Type 0) (R : C → Type 0) (one : Result A NoMemory) (two : Result B NoMemory) (three : Result C NoMemory) (r : Result (B × C) NoMemory) (s : Result (A × (B × C)) NoMemory) (x : A) (y : B) (z : C)
+    → r ≡ together two three → s ≡ together one r → s ≡ Ok (x, (y, z)) → IfOk one P → IfOk two Q → IfOk three R → P x × (Q y × R z)
+three_made {A} {B} {C} P Q R one two three r s x y z made all is p q h =
+    let k = two_made P (λ (w : B × C). r ≡ Ok (w.0, w.1)) one r s x (y, z) all is p (known r) in
+    (k.0, two_made Q R two three r y z made k.1 q h)
+
+-- ---- operators
+
+abbrev infix_by : Predefined → Option Symbol → Place → BinaryOperator → TermTree → TermTree → Label → Signature → ReadingTree
+infix_by p own place operator left right label s = binary_node p.root place operator s (operand_read p own place 0 left label s.types s.left) (operand_read p own place 1 right label s.types s.right)
+
+pub infix_is : (p : Predefined) (own : Option Symbol) (operator : BinaryOperator) (visible : List ViewKind) (left right : TermTree) (label : Label) (types : List TypeView) (at : Symbol) (place : Place) (n : Bool) (s : Signature) (a b : ReadingTree)
+    → place ≡ first_place left → n ≡ (computes_two operator && (is_universal left && is_universal right)) → Some s ≡ binary_signature p operator visible n label types at
+    → a ≡ operand_read p own place 0 left label s.types s.left → b ≡ operand_read p own place 1 right label s.types s.right
+    → binary_node p.root place operator s a b ≡ reading p own (t.InfixTerm operator visible left right) label types at
+infix_is p own operator visible left right label types at place n s a b here numbers found first second =
+    ap (λ (x : ReadingTree). binary_node p.root place operator s x b) first
+    ∙ ap (binary_node p.root place operator s (operand_read p own place 0 left label s.types s.left)) second
+    ∙ ap (λ (q : Place). infix_by p own q operator left right label s) here
+    ∙ ap (signed (first_place left) (infix_by p own (first_place left) operator left right label)) (found ∙ ap (λ (c : Bool). binary_signature p operator visible c label types at) numbers)
+
+pub infix_seen : {E : Type 0} (p : Predefined) (own : Option Symbol) (term : Term) (operator : BinaryOperator) (visible : List ViewKind) (left right : Box Term Global) (label : Label) (types : List TypeView) (at : Symbol) (place : Place) (n : Bool) (s : Signature) (a b : ReadingTree) (r : Result Reading E)
+    → term ≡ Infix operator visible left right → place ≡ first_place (term_seen left.value)
+    → n ≡ (computes_two operator && (is_universal (term_seen left.value) && is_universal (term_seen right.value))) → Some s ≡ binary_signature p operator visible n label types at
+    → a ≡ operand_read p own place 0 (term_seen left.value) label s.types s.left → b ≡ operand_read p own place 1 (term_seen right.value) label s.types s.right
+    → IfOk r (λ (x : Reading). reading_seen x ≡ binary_node p.root place operator s a b)
+    → IfOk r (λ (x : Reading). reading_seen x ≡ reading p own (term_seen term) label types at)
+infix_seen p own term operator visible left right label types at place n s a b r is here numbers found first second made =
+    read_by r (binary_node p.root place operator s a b) (reading p own (term_seen term) label types at)
+    (infix_is p own operator visible (term_seen left.value) (term_seen right.value) label types at place n s a b here numbers found first second
+    ∙ ap (λ (x : TermTree). reading p own x label types at) (sym (ap term_seen is ∙ infix_made operator visible left right))) made
+
+-- ---- components
+
+abbrev applied_by : Predefined → Option Symbol → TermTree → TermsTree → Label → List TypeView → Symbol → Application → ReadingTree
+applied_by p own n xs label types at a =
+    applied_node p.root own (first_place n) (λ s. actuals_read p own s label 0 no_parts xs) (operand_read p own (first_place n) 0 n label types at)
+    (λ k among of. index_read p own (first_place n) k label among of xs) a
+
+applied_seen : (p : Predefined) (own : Option Symbol) (term : Term) (name : Box Term Global) (arguments : Vec Term Global) (label : Label) (types : List TypeView) (at : Symbol) (a : Application)
+    → term ≡ Applied name arguments → a ≡ application (declared_under (term_seen name.value)) (part_of (term_seen name.value)) label
+    → applied_by p own (term_seen name.value) (terms_of (map term_seen arguments.items)) label types at a ≡ reading p own (term_seen term) label types at
+applied_seen p own term name arguments label types at a is found =
+    ap (applied_by p own (term_seen name.value) (terms_of (map term_seen arguments.items)) label types at) found
+    ∙ ap (λ (x : TermTree). reading p own x label types at) (sym (ap term_seen is ∙ applied_made name arguments))
+
+abbrev element_by : Predefined → Option Symbol → Place → ObjectView → List Term → Label → ReadingTree → ReadingTree
+element_by p own place o xs label w = indexed_node p.root place o.types o.subtype.base w (λ index. index_read p own place 0 label o.types index (terms_of (map term_seen xs)))
+
+pub element_seen : {E : Type 0} (p : Predefined) (own : Option Symbol) (term : Term) (name : Box Term Global) (arguments : Vec Term Global) (xs : List Term) (label : Label) (types : List TypeView) (at : Symbol) (place : Place) (o : ObjectView) (w : ReadingTree) (r : Result Reading E)
+    → term ≡ Applied name arguments → xs ≡ arguments.items → place ≡ first_place (term_seen name.value)
+    → ElementOf o ≡ application (declared_under (term_seen name.value)) (part_of (term_seen name.value)) label → w ≡ object_node p.root place o
+    → IfOk r (λ (x : Reading). reading_seen x ≡ element_by p own place o xs label w)
+    → IfOk r (λ (x : Reading). reading_seen x ≡ reading p own (term_seen term) label types at)
+element_seen p own term name arguments xs label types at place o w r is items here found whole made =
+    read_by r (element_by p own place o xs label w) (reading p own (term_seen term) label types at)
+    (ap (element_by p own place o xs label) whole
+    ∙ ap (λ (ys : List Term). element_by p own place o ys label (object_node p.root place o)) items
+    ∙ ap (λ (q : Place). element_by p own q o arguments.items label (object_node p.root q o)) here
+    ∙ applied_seen p own term name arguments label types at (ElementOf o) is found) made
+
+abbrev part_element_by : Predefined → Option Symbol → Place → Nominal → List Term → Label → ReadingTree → ReadingTree
+part_element_by p own place q xs label w = indexed_node p.root place q.types q.subtype.base w (λ index. index_read p own place 1 label q.types index (terms_of (map term_seen xs)))
+
+pub part_element_seen : {E : Type 0} (p : Predefined) (own : Option Symbol) (term : Term) (name : Box Term Global) (arguments : Vec Term Global) (xs : List Term) (label : Label) (types : List TypeView) (at : Symbol) (place : Place) (q : Nominal) (w : ReadingTree) (r : Result Reading E)
+    → term ≡ Applied name arguments → xs ≡ arguments.items → place ≡ first_place (term_seen name.value)
+    → ElementOfPart q ≡ application (declared_under (term_seen name.value)) (part_of (term_seen name.value)) label → w ≡ operand_read p own place 0 (term_seen name.value) label types at
+    → IfOk r (λ (x : Reading). reading_seen x ≡ part_element_by p own place q xs label w)
+    → IfOk r (λ (x : Reading). reading_seen x ≡ reading p own (term_seen term) label types at)
+part_element_seen p own term name arguments xs label types at place q w r is items here found whole made =
+    read_by r (part_element_by p own place q xs label w) (reading p own (term_seen term) label types at)
+    (ap (part_element_by p own place q xs label) whole
+    ∙ ap (λ (ys : List Term). part_element_by p own place q ys label (operand_read p own place 0 (term_seen name.value) label types at)) items
+    ∙ ap (λ (y : Place). part_element_by p own y q arguments.items label (operand_read p own y 0 (term_seen name.value) label types at)) here
+    ∙ applied_seen p own term name arguments label types at (ElementOfPart q) is found) made
+
+-- ---- membership tests
+
+abbrev tested : Predefined → Place → Bool → List TypeView → ReadingTree → ReadingTree → ReadingTree → ReadingTree
+tested p place is_negated types a b c = membership_node p.root place types p.types.boolean.symbol is_negated a b c
+
+abbrev tested_by : Predefined → Option Symbol → Place → TermTree → Bool → TermTree → TermTree → Label → List TypeView → List TypeView → Symbol → ReadingTree
+tested_by p own place value is_negated low high label types among of =
+    tested p place is_negated types (operand_read p own place 0 value label among of) (operand_read p own place 1 low label among of) (operand_read p own place 2 high label among of)
+
+pub range_member_is : (p : Predefined) (own : Option Symbol) (value : TermTree) (is_negated : Bool) (low high : TermTree) (label : Label) (types among : List TypeView) (of : Symbol) (place : Place) (a b c : ReadingTree)
+    → place ≡ first_place value → among ≡ types_in types (test_type p value low high label) → of ≡ (test_type p value low high label).of
+    → a ≡ operand_read p own place 0 value label among of → b ≡ operand_read p own place 1 low label among of → c ≡ operand_read p own place 2 high label among of
+    → membership_node p.root place types p.types.boolean.symbol is_negated a b c ≡ range_member_read p own value is_negated low high label types
+range_member_is p own value is_negated low high label types among of place a b c here kinds kind first second third =
+    ap (λ (x : ReadingTree). tested p place is_negated types x b c) first
+    ∙ ap (λ (x : ReadingTree). tested p place is_negated types (operand_read p own place 0 value label among of) x c) second
+    ∙ ap (λ (x : ReadingTree). tested p place is_negated types (operand_read p own place 0 value label among of) (operand_read p own place 1 low label among of) x) third
+    ∙ ap (λ (q : Place). tested_by p own q value is_negated low high label types among of) here
+    ∙ ap (λ (xs : List TypeView). tested_by p own (first_place value) value is_negated low high label types xs of) kinds
+    ∙ ap (tested_by p own (first_place value) value is_negated low high label types (types_in types (test_type p value low high label))) kind
+
+-- ---- short circuits
+
+abbrev shorted_by : Predefined → Option Symbol → Place → ShortCircuitKind → TermTree → TermTree → Label → List TypeView → ReadingTree
+shorted_by p own place form left right label types =
+    short_circuit_node p.root place types p.types.boolean.symbol form (operand_read p own place 0 left label types p.types.boolean.symbol) (operand_read p own place 1 right label types p.types.boolean.symbol)
+
+pub short_circuit_seen : {E : Type 0} (p : Predefined) (own : Option Symbol) (term : Term) (form : ShortCircuitKind) (left right : Box Term Global) (label : Label) (types : List TypeView) (at : Symbol) (place : Place) (a b : ReadingTree) (r : Result Reading E)
+    → term ≡ ShortCircuit form left right → place ≡ first_place (term_seen left.value)
+    → a ≡ operand_read p own place 0 (term_seen left.value) label types p.types.boolean.symbol → b ≡ operand_read p own place 1 (term_seen right.value) label types p.types.boolean.symbol
+    → IfOk r (λ (x : Reading). reading_seen x ≡ short_circuit_node p.root place types p.types.boolean.symbol form a b)
+    → IfOk r (λ (x : Reading). reading_seen x ≡ reading p own (term_seen term) label types at)
+short_circuit_seen p own term form left right label types at place a b r is here first second made =
+    read_by r (short_circuit_node p.root place types p.types.boolean.symbol form a b) (reading p own (term_seen term) label types at)
+    (ap (λ (x : ReadingTree). short_circuit_node p.root place types p.types.boolean.symbol form x b) first
+    ∙ ap (short_circuit_node p.root place types p.types.boolean.symbol form (operand_read p own place 0 (term_seen left.value) label types p.types.boolean.symbol)) second
+    ∙ ap (λ (q : Place). shorted_by p own q form (term_seen left.value) (term_seen right.value) label types) here
+    ∙ ap (λ (x : TermTree). reading p own x label types at) (sym (ap term_seen is ∙ short_circuit_made form left right))) made
+
+pub range_member_seen : {E : Type 0} (p : Predefined) (own : Option Symbol) (term : Term) (value : Box Term Global) (is_negated : Bool) (low high : Box Term Global) (label : Label) (types among : List TypeView) (at of : Symbol) (place : Place) (a b c : ReadingTree) (r : Result Reading E)
+    → term ≡ RangeMember value is_negated low high → place ≡ first_place (term_seen value.value)
+    → among ≡ types_in types (test_type p (term_seen value.value) (term_seen low.value) (term_seen high.value) label) → of ≡ (test_type p (term_seen value.value) (term_seen low.value) (term_seen high.value) label).of
+    → a ≡ operand_read p own place 0 (term_seen value.value) label among of → b ≡ operand_read p own place 1 (term_seen low.value) label among of → c ≡ operand_read p own place 2 (term_seen high.value) label among of
+    → IfOk r (λ (x : Reading). reading_seen x ≡ membership_node p.root place types p.types.boolean.symbol is_negated a b c)
+    → IfOk r (λ (x : Reading). reading_seen x ≡ reading p own (term_seen term) label types at)
+range_member_seen p own term value is_negated low high label types among at of place a b c r is here kinds kind first second third made =
+    read_by r (membership_node p.root place types p.types.boolean.symbol is_negated a b c) (reading p own (term_seen term) label types at)
+    (range_member_is p own (term_seen value.value) is_negated (term_seen low.value) (term_seen high.value) label types among of place a b c here kinds kind first second third
+    ∙ ap (λ (x : TermTree). reading p own x label types at) (sym (ap term_seen is ∙ range_member_made value is_negated low high))) made

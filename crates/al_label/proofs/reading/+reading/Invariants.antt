@@ -1,0 +1,17 @@
+use Rattle.std.proofs.Common.{◌≡◌, map, drop}
+use Rattle.al_choice.specs.Counts.{label_of}
+use Rattle.al_term.specs.TermViews.{term_seen, terms_of}
+use Rattle.al_nodes.specs.Gathering.{no_parts}
+use Rattle.al_nodes.specs.Views.{actuals_seen, values_seen}
+use Rattle.al_label.specs.Readings.{actuals_read, values_read}
+use Rattle.al_label.proofs.reading.+reading.Given as goal
+
+abbrev pub invariant-read_actuals-loop-position : goal.invariant-read_actuals-loop-position
+invariant-read_actuals-loop-position l =
+    actuals_read l.labeller.predefined l.labeller.own l.subprogram (label_of l.label) l.position (actuals_seen l.actuals) (terms_of (map term_seen (drop l.position l.arguments)))
+    ≡ actuals_read l.labeller.predefined l.labeller.own l.subprogram (label_of l.label) 0 no_parts (terms_of (map term_seen l.arguments))
+
+abbrev pub invariant-read_values-loop-position : goal.invariant-read_values-loop-position
+invariant-read_values-loop-position l =
+    values_read l.labeller.predefined l.labeller.own l.types l.at (label_of l.label) l.position (values_seen l.values) (terms_of (map term_seen (drop l.position l.components)))
+    ≡ values_read l.labeller.predefined l.labeller.own l.types l.at (label_of l.label) 0 no_parts (terms_of (map term_seen l.components))

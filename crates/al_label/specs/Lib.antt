@@ -1,0 +1,5 @@
+pub mod Pairs
+pub mod Readings
+pub mod Contexts
+pub mod Ranges
+pub mod RangesSeen

@@ -1,0 +1,189 @@
+// What the terms of complete contexts are (ARM 8.6).
+ghost use Rattle.std.specs.Prelude.{◌≡◌, IfOk, map};
+ghost use Rattle.al_choice.specs.Counts.{label_of};
+ghost use Rattle.al_judged.specs.Judging.{seen_by};
+ghost use Rattle.al_term.specs.Terms.{TermTree as terms};
+ghost use Rattle.al_term.specs.TermViews.{term_seen, terms_of};
+ghost use Rattle.al_typed.specs.ExpressionViews.{call_seen, typed_seen};
+ghost use Rattle.al_label.specs.Contexts.{call_judged, call_read, stands_at, statement_judged, target_judged, term_judged};
+ghost use Rattle.al_nodes.specs.Views.{actuals_seen};
+
+use crate::meaning::interpret;
+use crate::reading::{read, read_actuals, read_inner};
+use al_base::{NoMemory, Place};
+use al_choice::Labelled;
+use al_heads::{Nominal, Predefined, declared_under, interpret_term};
+use al_judged::{Judged, unless};
+use al_nodes::{
+    Actuals, Labeller, is_variable, judged, nothing_fits, picked_subprogram, unless_variable,
+};
+use al_overload::Context;
+use al_term::{Term, first_place};
+use al_typed::{Typed, TypedCall};
+use al_view::{SubprogramView, Symbol, Types, View};
+
+/// The type at which numbers alone stand in a context: that which it wants, or else the root type.
+pub(crate) fn stands_at<'a>(predefined: &'a Predefined, context: &'a Context) -> &'a Symbol
+    ensures { result.now ≡ stands_at predefined.now context.now }
+{
+    match context {
+        Context::InitialValue(of) => &of.symbol,
+        Context::NumberValue => &predefined.root,
+        Context::PairOfBounds => &predefined.types.integer.symbol,
+        Context::IntegerBound => &predefined.root,
+        Context::BoundOf(of) => &of.symbol,
+        Context::Condition => &predefined.types.boolean.symbol,
+        Context::Selector => &predefined.root,
+        Context::ChoiceOf(of) => &of.symbol,
+        Context::Moment => &predefined.types.time.symbol,
+        Context::PriorityValue => &predefined.types.integer.symbol,
+        Context::Target => &predefined.root,
+        Context::Source(of) => &of.symbol,
+        Context::ProcedureCall => &predefined.root,
+        Context::ReturnValue(of) => &of.symbol,
+        Context::PutArgument => &predefined.root,
+        Context::ImageArgument(of) => &of.symbol,
+        Context::ConversionOperand(_) => &predefined.root,
+        Context::QualifiedOperand(of) => &of.symbol,
+    }
+}
+
+/// The labelled tree of a context's term, or what is wrong with it: E402 or E403 at its first token where it has no interpretation,
+/// or several; the first fault of contexts inside it, and the first of E405 and E604 of the whole. An aggregate may stand where a
+/// nominal subtype is given for it. The type that the context wants is among `types` or one that every unit has.
+pub fn judge_term(
+    labeller: &Labeller,
+    context: &Context,
+    allowed: &Option<Nominal>,
+    types: &Types,
+    term: &Term,
+) -> Result<Judged<Typed>, NoMemory>
+    ensures { IfOk result (λ typed. seen_by typed_seen typed ≡ term_judged labeller.now.predefined labeller.now.own context.now allowed.now types.now (term_seen term.now)) }
+{
+    let at = stands_at(&labeller.predefined, context);
+    let meaning = interpret_term(labeller.alloc, &labeller.predefined, context, allowed, term)?;
+    let reading = read_inner(labeller, term, meaning, types, at)?;
+    Ok(judged(reading))
+}
+
+/// The target of an assignment: E406 at its first token where it is no name of a variable.
+pub fn judge_target(
+    labeller: &Labeller,
+    types: &Types,
+    term: &Term,
+) -> Result<Judged<Typed>, NoMemory>
+    ensures { IfOk result (λ typed. seen_by typed_seen typed ≡ target_judged labeller.now.predefined labeller.now.own types.now (term_seen term.now)) }
+{
+    match interpret(labeller, Context::Target, term)? {
+        Ok(label) => {
+            let reading = read(labeller, term, &label, types, &labeller.predefined.root);
+            drop(label);
+            let fault = unless_variable(is_variable(term), first_place(term));
+            Ok(unless(fault, judged(reading?)))
+        }
+        Err(fault) => Ok(Err(fault)),
+    }
+}
+
+fn call_judged(
+    labeller: &Labeller,
+    place: Place,
+    subprogram: &SubprogramView,
+    actuals: Actuals,
+) -> Result<Judged<TypedCall>, NoMemory>
+    ensures { IfOk result (λ call. seen_by call_seen call ≡ call_judged labeller.now.own place subprogram.now (actuals_seen actuals)) }
+{
+    let failure = actuals.failure;
+    let call = labeller.call_made(place, subprogram, actuals)?;
+    Ok(unless(failure, call))
+}
+
+fn read_call_of(
+    labeller: &Labeller,
+    name: &Term,
+    arguments: &[Term],
+    label: &Labelled,
+) -> Result<Judged<TypedCall>, NoMemory>
+    ensures { IfOk result (λ call. seen_by call_seen call ≡ call_read labeller.now.predefined labeller.now.own (terms.AppliedTerm (term_seen name.now) (terms_of (map term_seen arguments.now))) (label_of label.now)) }
+{
+    let place = first_place(name);
+    let Some(visible) = declared_under(name) else {
+        return Ok(Err(nothing_fits(place)));
+    };
+    let standard = &labeller.predefined.standard;
+    let Some(subprogram) = picked_subprogram(standard, visible, label) else {
+        return Ok(Err(nothing_fits(place)));
+    };
+    let actuals = read_actuals(labeller, arguments, subprogram, label)?;
+    call_judged(labeller, place, subprogram, actuals)
+}
+
+/// A call without actual parameters.
+fn read_named_call(
+    labeller: &Labeller,
+    place: Place,
+    visible: &[View],
+    label: &Labelled,
+) -> Result<Judged<TypedCall>, NoMemory>
+    ensures { IfOk result (λ call. seen_by call_seen call ≡ call_read labeller.now.predefined labeller.now.own (terms.NamedTerm place visible.now) (label_of label.now)) }
+{
+    let standard = &labeller.predefined.standard;
+    match picked_subprogram(standard, visible, label) {
+        Some(subprogram) => {
+            call_judged(labeller, place, subprogram, Actuals::none(labeller.alloc))
+        }
+        None => Ok(Err(nothing_fits(place))),
+    }
+}
+
+/// The call of a procedure or an entry with its labelling.
+#[tactic(auto, using(al_nodes::proofs::TermsSeen::terms_made))]
+pub fn read_call(
+    labeller: &Labeller,
+    term: &Term,
+    label: &Labelled,
+) -> Result<Judged<TypedCall>, NoMemory>
+    ensures { IfOk result (λ call. seen_by call_seen call ≡ call_read labeller.now.predefined labeller.now.own (term_seen term.now) (label_of label.now)) }
+{
+    match term {
+        Term::Named { place, views } => {
+            read_named_call(labeller, *place, views.as_slice(), label)
+        }
+        Term::Applied { name, arguments } => {
+            read_call_of(labeller, name, arguments.as_slice(), label)
+        }
+        Term::Number { .. } => Ok(Err(nothing_fits(first_place(term)))),
+        Term::Text { .. } => Ok(Err(nothing_fits(first_place(term)))),
+        Term::Selected { .. } => Ok(Err(nothing_fits(first_place(term)))),
+        Term::Bound { .. } => Ok(Err(nothing_fits(first_place(term)))),
+        Term::Length { .. } => Ok(Err(nothing_fits(first_place(term)))),
+        Term::Conversion { .. } => Ok(Err(nothing_fits(first_place(term)))),
+        Term::Qualified { .. } => Ok(Err(nothing_fits(first_place(term)))),
+        Term::Attribute { .. } => Ok(Err(nothing_fits(first_place(term)))),
+        Term::Image { .. } => Ok(Err(nothing_fits(first_place(term)))),
+        Term::Prefixed { .. } => Ok(Err(nothing_fits(first_place(term)))),
+        Term::Infix { .. } => Ok(Err(nothing_fits(first_place(term)))),
+        Term::Concatenation { .. } => Ok(Err(nothing_fits(first_place(term)))),
+        Term::ShortCircuit { .. } => Ok(Err(nothing_fits(first_place(term)))),
+        Term::Member { .. } => Ok(Err(nothing_fits(first_place(term)))),
+        Term::RangeMember { .. } => Ok(Err(nothing_fits(first_place(term)))),
+        Term::Group { .. } => Ok(Err(nothing_fits(first_place(term)))),
+        Term::Aggregate { .. } => Ok(Err(nothing_fits(first_place(term)))),
+        Term::Others { .. } => Ok(Err(nothing_fits(first_place(term)))),
+        Term::Nothing { .. } => Ok(Err(nothing_fits(first_place(term)))),
+    }
+}
+
+/// The call of a procedure or an entry as a statement, or what is wrong with it.
+pub fn judge_call(labeller: &Labeller, term: &Term) -> Result<Judged<TypedCall>, NoMemory>
+    ensures { IfOk result (λ call. seen_by call_seen call ≡ statement_judged labeller.now.predefined labeller.now.own (term_seen term.now)) }
+{
+    match interpret(labeller, Context::ProcedureCall, term)? {
+        Ok(label) => {
+            let call = read_call(labeller, term, &label);
+            drop(label);
+            call
+        }
+        Err(fault) => Ok(Err(fault)),
+    }
+}

@@ -1,0 +1,11 @@
+//! The labelled tree of a term and its labelling (ARM 8.6).
+#![tactic(auto)]
+
+mod context;
+mod meaning;
+mod pair;
+mod range;
+mod reading;
+
+pub use context::{judge_call, judge_target, judge_term, read_call};
+pub use range::{Found, FoundType, Pair, judge_bounds, judge_selector};

@@ -1,0 +1,483 @@
+// The labelled tree of a term with its labelling: what recurses.
+ghost use Rattle.std.specs.Prelude.{◌≡◌, IfOk, OnOk, map};
+ghost use Rattle.al_choice.specs.Counts.{label_of};
+ghost use Rattle.al_judged.specs.Judging.{seen_by};
+ghost use Rattle.al_term.specs.Terms.{TermTree as trees};
+ghost use Rattle.al_term.specs.TermViews.{term_seen, terms_of};
+ghost use Rattle.al_nodes.specs.Gathering.{no_parts};
+ghost use Rattle.al_label.specs.Readings.{actuals_read, conversion_read, index_read, member_read, operand_read, qualified_read, range_member_read, reading, short_circuit_read, values_read};
+ghost use Rattle.al_told.specs.Leaves.{actual_read, component_read, indexed_node, inner};
+ghost use Rattle.al_term.specs.Places.{first_place};
+ghost use Rattle.al_nodes.specs.Names.{is_variable};
+ghost use Rattle.al_nodes.specs.Views.{actuals_seen, reading_seen, values_seen};
+
+use crate::meaning::{interpret_conversion, interpret_qualified, types_of_test};
+use crate::pair::together;
+use al_base::{NoMemory, Place};
+use al_choice::Labelled;
+use al_heads::part_of;
+use al_judged::Judged;
+use al_nodes::{
+    Actuals, Labeller, Reading, Values, add_actual, faulty, grouped, is_variable, misfit,
+    nothing_fits,
+};
+use al_picks::{how_indexed, operand_label, range_in};
+use al_term::{Term, first_place};
+use al_told::{
+    Application, add_value, aggregate_reading, are_universal, argument_type, attribute_reading,
+    bound_reading, component_of_type, how_applied, in_mark_reading, is_computed, length_reading,
+    marked_reading, named_reading, others_reading,
+};
+use al_typed::{BinaryOperator, Conversion, ShortCircuit, UnaryOperator};
+use al_view::{SubprogramView, SubtypeView, Symbol, Types, View};
+
+/// What a term is with its labelling, where it stands at this type among these.
+#[cycle(reading)]
+#[tactic(auto, using(al_nodes::proofs::TermsSeen::terms_made))]
+pub(crate) fn read(
+    labeller: &Labeller,
+    term: &Term,
+    label: &Labelled,
+    types: &Types,
+    at: &Symbol,
+) -> Result<Reading, NoMemory>
+    ensures { IfOk result (λ r. reading_seen r ≡ reading labeller.now.predefined labeller.now.own (term_seen term.now) (label_of label.now) types.now at.now) }
+{
+    match term {
+        Term::Number { place, value } => labeller.literal(*place, types, at, *value),
+        Term::Text { place, .. } => Ok(misfit(*place)),
+        Term::Named { place, views } => {
+            named_reading(labeller, *place, views.as_slice(), label, types, at)
+        }
+        Term::Selected { prefix, name } => {
+            read_selected(labeller, prefix, name.as_slice(), label, types, at)
+        }
+        Term::Applied { name, arguments } => {
+            let place = first_place(name);
+            let arguments = arguments.as_slice();
+            match how_applied(&labeller.predefined.standard, name, label) {
+                Application::CallOf(subprogram) => {
+                    let actuals = read_actuals(labeller, arguments, subprogram, label)?;
+                    labeller.call(place, subprogram, actuals)
+                }
+                Application::ElementOf(object) => {
+                    let whole = labeller.object(place, object)?;
+                    let (types, of) = (&object.types, &object.subtype.base);
+                    read_element(labeller, arguments, place, 0, label, types, of, whole)
+                }
+                Application::ElementOfPart(subtype, part) => {
+                    let whole = read_operand(labeller, name, place, 0, label, types, at)?;
+                    let of = &subtype.base;
+                    read_element(labeller, arguments, place, 1, label, part, of, whole)
+                }
+                Application::Misapplied => Ok(misfit(place)),
+            }
+        }
+        Term::Bound {
+            place,
+            subtype,
+            is_last,
+        } => bound_reading(labeller, *place, subtype, *is_last),
+        Term::Length { place, bounds } => length_reading(labeller, *place, types, at, *bounds),
+        Term::Conversion {
+            place,
+            subtype,
+            operand,
+        } => read_conversion(labeller, *place, subtype, operand),
+        Term::Qualified {
+            place,
+            subtype,
+            operand,
+        } => read_qualified(labeller, *place, subtype, operand),
+        Term::Attribute {
+            place,
+            conversion,
+            subtype,
+            argument,
+        } => read_attribute(
+            labeller,
+            *place,
+            *conversion,
+            subtype,
+            argument,
+            label,
+            types,
+            at,
+        ),
+        Term::Image { place, .. } => Ok(misfit(*place)),
+        Term::Group { place, inner } => {
+            let inner = read(labeller, inner, label, types, at)?;
+            Ok(grouped(*place, inner))
+        }
+        Term::Aggregate { place, components } => {
+            let values = read_values(labeller, components.as_slice(), types, at, label)?;
+            aggregate_reading(labeller, *place, types, at, values)
+        }
+        Term::Others { place, component } => {
+            read_others(labeller, *place, component, label, types, at)
+        }
+        Term::Nothing { place } => Ok(misfit(*place)),
+        Term::Concatenation { left, .. } => Ok(misfit(first_place(left))),
+        Term::Prefixed {
+            place,
+            operator,
+            views,
+            operand,
+        } => read_prefixed(
+            labeller,
+            *place,
+            *operator,
+            views.as_slice(),
+            operand,
+            label,
+            types,
+            at,
+        ),
+        Term::Infix {
+            operator,
+            views,
+            left,
+            right,
+        } => {
+            let place = first_place(left);
+            let of_numbers = are_universal(*operator, left, right);
+            let views = views.as_slice();
+            let Some(of) = labeller.binary_signature(*operator, views, of_numbers, label, types, at)
+            else {
+                return Ok(misfit(place));
+            };
+            let first = read_operand(labeller, left, place, 0, label, of.types, of.left);
+            let second = read_operand(labeller, right, place, 1, label, of.types, of.right);
+            let (first, second) = together(first, second)?;
+            labeller.binary(place, *operator, &of, first, second)
+        }
+        Term::ShortCircuit { form, left, right } => {
+            let place = first_place(left);
+            let of = &labeller.predefined.types.boolean.symbol;
+            let first = read_operand(labeller, left, place, 0, label, types, of);
+            let second = read_operand(labeller, right, place, 1, label, types, of);
+            let (first, second) = together(first, second)?;
+            labeller.short_circuit(place, types, *form, first, second)
+        }
+        Term::Member {
+            value,
+            is_negated,
+            subtype,
+        } => read_member(labeller, value, *is_negated, subtype, label),
+        Term::RangeMember {
+            value,
+            is_negated,
+            low,
+            high,
+        } => {
+            let place = first_place(value);
+            let (among, of) = types_of_test(labeller, value, low, high, label, types);
+            let value = read_operand(labeller, value, place, 0, label, among, of);
+            let low = read_operand(labeller, low, place, 1, label, among, of);
+            let high = read_operand(labeller, high, place, 2, label, among, of);
+            let (value, (low, high)) = together(value, together(low, high))?;
+            labeller.membership(place, types, *is_negated, value, low, high)
+        }
+    }
+}
+
+/// A component by its name of what stands before the dot.
+#[cycle(reading)]
+fn read_selected(
+    labeller: &Labeller,
+    prefix: &Term,
+    name: &[u8],
+    label: &Labelled,
+    types: &Types,
+    at: &Symbol,
+) -> Result<Reading, NoMemory>
+    ensures { IfOk result (λ r. reading_seen r ≡ reading labeller.now.predefined labeller.now.own (trees.SelectedTerm (term_seen prefix.now) name.now) (label_of label.now) types.now at.now) }
+{
+    let place = first_place(prefix);
+    let whole = read_operand(labeller, prefix, place, 0, label, types, at)?;
+    let part = part_of(&labeller.predefined.standard, prefix);
+    labeller.selected(place, name, part, whole)
+}
+
+/// A conversion to this subtype, whose operand is a context by itself.
+#[cycle(reading)]
+fn read_conversion(
+    labeller: &Labeller,
+    place: Place,
+    subtype: &SubtypeView,
+    operand: &Term,
+) -> Result<Reading, NoMemory>
+    ensures { IfOk result (λ r. reading_seen r ≡ conversion_read labeller.now.predefined labeller.now.own place subtype.now (term_seen operand.now)) }
+{
+    let meaning = interpret_conversion(labeller, subtype, operand)?;
+    let root = &labeller.predefined.root;
+    let operand = read_inner(labeller, operand, meaning, &subtype.types, root)?;
+    marked_reading(labeller, place, Conversion::ToType, subtype, operand)
+}
+
+/// A qualified expression of this subtype, whose operand is a context by itself.
+#[cycle(reading)]
+fn read_qualified(
+    labeller: &Labeller,
+    place: Place,
+    subtype: &SubtypeView,
+    operand: &Term,
+) -> Result<Reading, NoMemory>
+    ensures { IfOk result (λ r. reading_seen r ≡ qualified_read labeller.now.predefined labeller.now.own place subtype.now (term_seen operand.now)) }
+{
+    let meaning = interpret_qualified(labeller, subtype, operand)?;
+    let base = &subtype.subtype.base;
+    let operand = read_inner(labeller, operand, meaning, &subtype.types, base)?;
+    marked_reading(labeller, place, Conversion::Qualification, subtype, operand)
+}
+
+/// `S'Pos (X)`, `S'Val (X)`, `S'Succ (X)` or `S'Pred (X)`.
+#[cycle(reading)]
+fn read_attribute(
+    labeller: &Labeller,
+    place: Place,
+    conversion: Conversion,
+    subtype: &SubtypeView,
+    argument: &Term,
+    label: &Labelled,
+    types: &Types,
+    at: &Symbol,
+) -> Result<Reading, NoMemory>
+    ensures { IfOk result (λ r. reading_seen r ≡ reading labeller.now.predefined labeller.now.own (trees.AttributeTerm place conversion subtype.now (term_seen argument.now)) (label_of label.now) types.now at.now) }
+{
+    let of = argument_type(&labeller.predefined.root, conversion, subtype);
+    let argument = read_operand(labeller, argument, place, 0, label, &subtype.types, of)?;
+    attribute_reading(labeller, place, conversion, subtype, types, at, argument)
+}
+
+/// `(others => component)`
+#[cycle(reading)]
+fn read_others(
+    labeller: &Labeller,
+    place: Place,
+    component: &Term,
+    label: &Labelled,
+    types: &Types,
+    at: &Symbol,
+) -> Result<Reading, NoMemory>
+    ensures { IfOk result (λ r. reading_seen r ≡ reading labeller.now.predefined labeller.now.own (trees.OthersTerm place (term_seen component.now)) (label_of label.now) types.now at.now) }
+{
+    let Some(by) = how_indexed(&labeller.predefined.standard, types, at) else {
+        return Ok(misfit(place));
+    };
+    let of = &by.component.base;
+    let value = read_operand(labeller, component, place, 0, label, types, of)?;
+    others_reading(labeller, place, types, at, by.bounds, by.component, value)
+}
+
+/// An operator in front of its operand.
+#[cycle(reading)]
+fn read_prefixed(
+    labeller: &Labeller,
+    place: Place,
+    operator: UnaryOperator,
+    visible: &[View],
+    operand: &Term,
+    label: &Labelled,
+    types: &Types,
+    at: &Symbol,
+) -> Result<Reading, NoMemory>
+    ensures { IfOk result (λ r. reading_seen r ≡ reading labeller.now.predefined labeller.now.own (trees.PrefixedTerm place operator visible.now (term_seen operand.now)) (label_of label.now) types.now at.now) }
+{
+    let of_numbers = is_computed(operator, operand);
+    let Some(of) = labeller.unary_signature(visible, of_numbers, label, types, at) else {
+        return Ok(misfit(place));
+    };
+    let operand = read_operand(labeller, operand, place, 0, label, of.types, of.left)?;
+    labeller.unary(place, operator, &of, operand)
+}
+
+/// `value [not] in subtype`
+#[cycle(reading)]
+fn read_member(
+    labeller: &Labeller,
+    value: &Term,
+    is_negated: bool,
+    subtype: &SubtypeView,
+    label: &Labelled,
+) -> Result<Reading, NoMemory>
+    ensures { IfOk result (λ r. reading_seen r ≡ member_read labeller.now.predefined labeller.now.own (term_seen value.now) is_negated subtype.now (label_of label.now)) }
+{
+    let place = first_place(value);
+    let of = &subtype.subtype.base;
+    let value = read_operand(labeller, value, place, 0, label, &subtype.types, of)?;
+    in_mark_reading(labeller, place, is_negated, subtype, value)
+}
+
+/// The operand of this position with its labelling.
+#[cycle(reading)]
+pub(crate) fn read_operand(
+    labeller: &Labeller,
+    term: &Term,
+    place: Place,
+    position: usize,
+    label: &Labelled,
+    types: &Types,
+    at: &Symbol,
+) -> Result<Reading, NoMemory>
+    ensures { IfOk result (λ r. reading_seen r ≡ operand_read labeller.now.predefined labeller.now.own place position (term_seen term.now) (label_of label.now) types.now at.now) }
+{
+    match operand_label(label, position) {
+        Some(label) => read(labeller, term, label, types, at),
+        None => Ok(misfit(place)),
+    }
+}
+
+/// A context by itself, whose meaning was found.
+#[cycle(reading)]
+pub(crate) fn read_inner(
+    labeller: &Labeller,
+    term: &Term,
+    meaning: Judged<Labelled>,
+    types: &Types,
+    at: &Symbol,
+) -> Result<Reading, NoMemory>
+    ensures { IfOk result (λ r. reading_seen r ≡ inner (λ l. reading labeller.now.predefined labeller.now.own (term_seen term.now) l types.now at.now) (seen_by label_of meaning)) }
+{
+    match meaning {
+        Ok(label) => {
+            let reading = read(labeller, term, &label, types, at);
+            drop(label);
+            reading
+        }
+        Err(fault) => Ok(faulty(fault)),
+    }
+}
+
+/// A component of an array, by what stands in parentheses behind it.
+#[cycle(reading)]
+fn read_element(
+    labeller: &Labeller,
+    arguments: &[Term],
+    place: Place,
+    position: usize,
+    label: &Labelled,
+    types: &Types,
+    of: &Symbol,
+    whole: Reading,
+) -> Result<Reading, NoMemory>
+    ensures { IfOk result (λ r. reading_seen r ≡ indexed_node labeller.now.predefined.root place types.now of.now (reading_seen whole) (λ index. index_read labeller.now.predefined labeller.now.own place position (label_of label.now) types.now index (terms_of (map term_seen arguments.now)))) }
+{
+    let Some(by) = how_indexed(&labeller.predefined.standard, types, of) else {
+        drop(whole);
+        return Ok(misfit(place));
+    };
+    let index = read_index(labeller, arguments, place, position, label, types, by.index);
+    let (whole, index) = together(Ok(whole), index)?;
+    labeller.element(place, types, &by, whole, index)
+}
+
+/// The only index.
+#[cycle(reading)]
+fn read_index(
+    labeller: &Labeller,
+    arguments: &[Term],
+    place: Place,
+    position: usize,
+    label: &Labelled,
+    types: &Types,
+    at: &Symbol,
+) -> Result<Reading, NoMemory>
+    ensures { IfOk result (λ r. reading_seen r ≡ index_read labeller.now.predefined labeller.now.own place position (label_of label.now) types.now at.now (terms_of (map term_seen arguments.now))) }
+{
+    match arguments {
+        [] => Ok(misfit(place)),
+        [index] => read_operand(labeller, index, place, position, label, types, at),
+        [_, _, ..] => Ok(misfit(place)),
+    }
+}
+
+/// The actual parameters of a call.
+#[cycle(reading)]
+pub(crate) fn read_actuals(
+    labeller: &Labeller,
+    arguments: &[Term],
+    subprogram: &SubprogramView,
+    label: &Labelled,
+) -> Result<Actuals, NoMemory>
+    ensures { IfOk result (λ a. actuals_seen a ≡ actuals_read labeller.now.predefined labeller.now.own subprogram.now (label_of label.now) 0 no_parts (terms_of (map term_seen arguments.now))) }
+{
+    let mut actuals = Actuals::none(labeller.alloc);
+    for (position, argument) in arguments.iter().enumerate() {
+        read_actual(
+            labeller,
+            argument,
+            position,
+            subprogram,
+            label,
+            &mut actuals,
+        )?;
+    }
+    Ok(actuals)
+}
+
+/// The actual parameter for the formal of this position.
+#[cycle(reading)]
+fn read_actual(
+    labeller: &Labeller,
+    argument: &Term,
+    position: usize,
+    subprogram: &SubprogramView,
+    label: &Labelled,
+    actuals: &mut Actuals,
+) -> Result<(), NoMemory>
+    ensures { OnOk result (actuals_seen actuals.new ≡ actual_read subprogram.now (label_of label.now) position (actuals_seen actuals.old) (first_place (term_seen argument.now)) (is_variable (term_seen argument.now)) (λ l of. reading labeller.now.predefined labeller.now.own (term_seen argument.now) l subprogram.now.types of)) }
+{
+    let place = first_place(argument);
+    let Some(parameter) = subprogram.profile.parameters.as_slice().get(position) else {
+        return actuals.add(None, Err(nothing_fits(place)));
+    };
+    let (types, subtype) = (&subprogram.types, &parameter.subtype);
+    let range = range_in(&labeller.predefined.standard, types, subtype);
+    let base = &subtype.base;
+    let value = read_operand(labeller, argument, place, position, label, types, base)?;
+    let is_variable = is_variable(argument);
+    add_actual(actuals, parameter.mode, range, place, is_variable, value)
+}
+
+/// The components of an aggregate of this type.
+#[cycle(reading)]
+fn read_values(
+    labeller: &Labeller,
+    components: &[Term],
+    types: &Types,
+    at: &Symbol,
+    label: &Labelled,
+) -> Result<Values, NoMemory>
+    ensures { IfOk result (λ v. values_seen v ≡ values_read labeller.now.predefined labeller.now.own types.now at.now (label_of label.now) 0 no_parts (terms_of (map term_seen components.now))) }
+{
+    let mut values = Values::none(labeller.alloc);
+    for (position, component) in components.iter().enumerate() {
+        read_value(labeller, component, position, types, at, label, &mut values)?;
+    }
+    Ok(values)
+}
+
+/// The component of this position.
+#[cycle(reading)]
+fn read_value(
+    labeller: &Labeller,
+    component: &Term,
+    position: usize,
+    types: &Types,
+    at: &Symbol,
+    label: &Labelled,
+    values: &mut Values,
+) -> Result<(), NoMemory>
+    ensures { OnOk result (values_seen values.new ≡ component_read types.now at.now (label_of label.now) position (values_seen values.old) (first_place (term_seen component.now)) (λ l of. reading labeller.now.predefined labeller.now.own (term_seen component.now) l types.now of)) }
+{
+    let place = first_place(component);
+    let standard = &labeller.predefined.standard;
+    let Some(subtype) = component_of_type(standard, types, at, position) else {
+        return values.add(None, Err(nothing_fits(place)));
+    };
+    let range = range_in(standard, types, subtype);
+    let base = &subtype.base;
+    let value = read_operand(labeller, component, place, position, label, types, base)?;
+    add_value(values, range, value)
+}
