@@ -1,0 +1,15 @@
+use Rattle.std.proofs.Common.{Result, ap, ◌∙◌}
+use Rattle.al_judged.specs.Judging.{next}
+use Rattle.al_judged.specs.declared.fault.Fault.{Fault}
+use Rattle.al_term.specs.Terms.{TermTree}
+use Rattle.al_terms_at.proofs.Composed.{if_ok}
+use Rattle.al_values_at.specs.ValuesAt.{target_part}
+use Rattle.al_values_at.proofs.assigned.target_part_at.Goals as goal
+
+pub returns-clause-told : goal.returns-clause-told
+returns-clause-told g c =
+    if_ok c.target_part.result _ _
+    (λ judged is t h.
+    let told = c.in_ok-term.ensures.told t h in
+    (told.0, is ∙ ap (λ (r : Result TermTree Fault). next r target_part) told.1))
+    c.target_part.ensures

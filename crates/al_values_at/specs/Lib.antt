@@ -1,0 +1,3 @@
+pub mod Surroundings
+pub mod Words
+pub mod ValuesAt

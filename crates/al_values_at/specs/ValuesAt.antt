@@ -1,0 +1,83 @@
+-- What expressions are where they stand (ARM 8.6): their labelled trees with the words of their temporaries, or the first rule that is
+-- broken in them. Their names are looked up by a table of answers.
+use Rattle.std.specs.Prelude.{ℕ, List, [], Option, Some, None, Result, Ok, Err}
+use Rattle.std.specs.Option.{option_map_or}
+use Rattle.al_heads.specs.Parts.{part_of}
+use Rattle.al_heads.specs.declared.part.Nominal.{Nominal}
+use Rattle.al_judged.specs.Judging.{next}
+use Rattle.al_judged.specs.declared.fault.Fault.{Fault}
+use Rattle.al_label.specs.Contexts.{target_judged, term_judged}
+use Rattle.al_label.specs.Ranges.{FoundTree, PairTree, bounds_judged, selector_judged}
+use Rattle.al_name.specs.Types.{value_type}
+use Rattle.al_overload.specs.Meanings.{nothing_fits}
+use Rattle.al_overload.specs.declared.context.Context.{Context}
+use Rattle.al_overload.specs.declared.context.Context.TheVariants as contexts
+use Rattle.al_query.specs.Reads.{Table}
+use Rattle.al_syntax.specs.DeclarationTrees.{RangeTree}
+use Rattle.al_syntax.specs.ExpressionTrees.{ExpressionTree}
+use Rattle.al_term.specs.Places.{first_place}
+use Rattle.al_term.specs.Terms.{TermTree}
+use Rattle.al_terms_at.specs.TermsAt.{bounds_at, term_at}
+use Rattle.al_told.specs.Leaves.{mark_type}
+use Rattle.al_typed.specs.ExpressionTrees.{TypedTree}
+use Rattle.al_values_at.specs.Surroundings.{Surroundings}
+use Rattle.al_values_at.specs.Words.{Worded, found_with_words, pair_with_words, with_words}
+use Rattle.al_view.specs.declared.types.TypeView.{TypeView}
+use Rattle.al_view.specs.declared.view.SubtypeView.{SubtypeView}
+
+-- ---- any context
+
+-- An expression in its context, whose types are among these: E401 and E404 of its names; else E402, E403, E405, E604. An aggregate may
+-- stand where a nominal subtype is given.
+abbrev pub judged_at : Table → Surroundings → Context → Option Nominal → List TypeView → ExpressionTree → Result TypedTree Fault
+judged_at t s context allowed types x = next (term_at t s.place s.packages x) (term_judged s.predefined s.own context allowed types)
+
+-- the same with its words
+abbrev pub value_at : Table → Surroundings → Context → Option Nominal → List TypeView → ExpressionTree → ℕ → Worded TypedTree
+value_at t s context allowed types x word = with_words word (judged_at t s context allowed types x)
+
+-- two bounds as one context
+abbrev pub pair_judged_at : Table → Surroundings → Context → List TypeView → RangeTree → Result PairTree Fault
+pair_judged_at t s context types r =
+    next (bounds_at t s.place s.packages r) (λ (b : TermTree × TermTree). bounds_judged s.predefined s.own context types b.0 b.1)
+
+abbrev pub pair_at : Table → Surroundings → Context → List TypeView → RangeTree → ℕ → Worded PairTree
+pair_at t s context types r word = pair_with_words word (pair_judged_at t s context types r)
+
+-- ---- the contexts of statements, whose types every unit has
+
+abbrev pub condition_at : Table → Surroundings → ExpressionTree → ℕ → Worded TypedTree
+condition_at t s x word = value_at t s contexts.Condition None [] x word
+
+abbrev pub moment_at : Table → Surroundings → ExpressionTree → ℕ → Worded TypedTree
+moment_at t s x word = value_at t s contexts.Moment None [] x word
+
+-- what a function with this result returns
+abbrev pub result_at : Table → Surroundings → SubtypeView → ExpressionTree → ℕ → Worded TypedTree
+result_at t s of x word = value_at t s (contexts.ReturnValue (mark_type of)) None of.types x word
+
+-- ---- assignments
+
+-- what is assigned to
+abbrev pub target_at : Table → Surroundings → ExpressionTree → ℕ → Worded TypedTree
+target_at t s x word = with_words word (next (term_at t s.place s.packages x) (target_judged s.predefined s.own []))
+
+-- what is assigned to a target of this nominal subtype; an aggregate may stand there
+abbrev pub source_judged : Table → Surroundings → ExpressionTree → Nominal → Result TypedTree Fault
+source_judged t s x of = judged_at t s (contexts.Source (value_type of.types of.subtype.base)) (Some of) of.types x
+
+-- the nominal subtype of a target; a term that is no part of an object is none
+unfoldable pub target_part : TermTree → Result Nominal Fault
+target_part term = option_map_or (λ (of : Nominal). Ok of) (part_of term) (Err (nothing_fits (first_place term)))
+
+abbrev pub source_at : Table → Surroundings → ExpressionTree → ExpressionTree → ℕ → Worded TypedTree
+source_at t s target x word = with_words word (next (next (term_at t s.place s.packages target) target_part) (source_judged t s x))
+
+-- ---- selectors
+
+-- the selector of a case statement, with its type; the same with its words
+abbrev pub selector_judged_at : Table → Surroundings → ExpressionTree → Result FoundTree Fault
+selector_judged_at t s x = next (term_at t s.place s.packages x) (selector_judged s.predefined s.own)
+
+abbrev pub selector_at : Table → Surroundings → ExpressionTree → ℕ → Worded FoundTree
+selector_at t s x word = found_with_words word (selector_judged_at t s x)
