@@ -1,0 +1,15 @@
+//! The steps of a walk over a text that ask something, each by itself.
+#![tactic(auto)]
+
+mod bodies;
+mod choices;
+mod heads;
+mod items;
+mod regions;
+mod simple;
+
+pub use bodies::{enter_body, finish_body};
+pub use heads::{case_head, for_head, while_head};
+pub use items::{declared_item, item_not_yet, stub_item, subprogram_item};
+pub use regions::{broken_loop, close_part, finish_block, left_region};
+pub use simple::{walk_assignment, walk_call, walk_delay, walk_exit, walk_null, walk_return};
