@@ -1,0 +1,56 @@
+// Files of the small language as a library reads them.
+ghost use Rattle.al_library.specs.States.{AreReadFor};
+ghost use Rattle.al_toy.specs.Toys.{header_in, toy_library};
+
+use al_base::{Files, NoMemory};
+use al_library::ReadFiles;
+use al_toy::{sources_after, sources_of, toys_are_read};
+use al_unit_graph::Sources;
+use std::alloc::Global;
+use std::marker::Model;
+
+/// Files with the units that are read in their texts.
+#[derive(Drop)]
+pub(crate) struct ToyFiles {
+    sources: Sources,
+}
+
+impl Model for ToyFiles {
+    ghost use Rattle.al_base.specs.Files.{Texts};
+    ghost use Rattle.al_toy.specs.Toys.{AreToys, texts_of};
+
+    ghost Value = { Texts };
+
+    ghost view = { λ f. texts_of f.sources };
+
+    ghost invariant = { λ f. AreToys f.sources };
+}
+
+impl ToyFiles {
+    /// What a library asks of how its files are read. It does nothing.
+    pub fn are_read()
+        ensures { AreReadFor header_in toy_library }
+    {
+        toys_are_read();
+    }
+}
+
+impl ReadFiles for ToyFiles {
+    ghost library = { toy_library };
+
+    ghost files = { λ f. f };
+
+    fn of(alloc: Global, now: &Files) -> Result<Self, NoMemory> {
+        let sources = sources_of(alloc, now)?;
+        Ok(ToyFiles { sources })
+    }
+
+    fn after(alloc: Global, now: &Files, before: &Self) -> Result<Self, NoMemory> {
+        let sources = sources_after(alloc, now, &before.sources)?;
+        Ok(ToyFiles { sources })
+    }
+
+    fn sources(&self) -> &Sources {
+        &self.sources
+    }
+}

@@ -1,0 +1,149 @@
+// A library of the small language.
+ghost use Rattle.std.specs.Prelude.{◌≡◌};
+
+use crate::files::ToyFiles;
+use crate::told::{push_gave, push_keys, push_number, push_ran};
+use al_base::{NoMemory, Refusal, UnitKey};
+use al_library::Engine;
+use al_run::Ran;
+use al_toy::{Packages, Toy};
+use std::alloc::Global;
+
+/// A library, and the allocator of what it tells.
+#[derive(Drop)]
+pub(crate) struct Library {
+    alloc: Global,
+    engine: Engine<ToyFiles, Toy, Packages>,
+}
+
+/// What was done at a command, and is to be told.
+#[derive(Clone, Copy)]
+pub(crate) enum Done {
+    Edited,
+    Refused,
+    /// A build that made so many checks.
+    Built(u64),
+    Obsolete,
+    /// A run of at most so many events.
+    Run(u64),
+}
+
+/// What a command gave where it isn't refused.
+fn given<T>(answer: Result<T, Refusal>) -> Result<Option<T>, NoMemory> {
+    match answer {
+        Ok(given) => Ok(Some(given)),
+        Err(Refusal::NoMemory) => Err(NoMemory),
+        Err(_) => Ok(None),
+    }
+}
+
+impl Library {
+    pub fn new(alloc: Global) -> Library {
+        ToyFiles::are_read();
+        Packages::are_predefined();
+        Library {
+            alloc,
+            engine: Engine::new(alloc, Toy::new(), Packages { alloc }),
+        }
+    }
+
+    /// Carries out a command. Where memory was wanted and not given nothing but the count of checks is changed.
+    pub fn act(&mut self, word: &str, rest: &str) -> Result<Done, NoMemory> {
+        if word == "build" {
+            self.build(rest)
+        } else if word == "run" {
+            Ok(Done::Run(rest.parse::<u64>().unwrap_or(0)))
+        } else if word == "obsolete" {
+            Ok(Done::Obsolete)
+        } else {
+            self.edit(word, rest)
+        }
+    }
+
+    /// Edits the files.
+    fn edit(&mut self, word: &str, rest: &str) -> Result<Done, NoMemory> {
+        let (file, text) = rest.split_once(' ').unwrap_or((rest, ""));
+        let name = file.as_bytes();
+        let edited = if word == "put" {
+            let bytes = Vec::from_slice(self.alloc, text.as_bytes())?;
+            self.engine.put(name, bytes)
+        } else if word == "delete" {
+            self.engine.delete(name)
+        } else if word == "rename" {
+            self.engine.rename(name, text.as_bytes())
+        } else {
+            Err(Refusal::BadCommand)
+        };
+        match given(edited)? {
+            Some(()) => Ok(Done::Edited),
+            None => Ok(Done::Refused),
+        }
+    }
+
+    /// Builds a main unit.
+    fn build(&mut self, main: &str) -> Result<Done, NoMemory> {
+        let before = self.engine.checks();
+        self.engine.build(main.as_bytes())?;
+        Ok(Done::Built(self.engine.checks().saturating_sub(before)))
+    }
+
+    /// Tells what was done. Nothing is changed, so it may be told again.
+    pub fn tell(&self, done: Done) -> Result<String, NoMemory> {
+        match done {
+            Done::Edited => self.text(b""),
+            Done::Refused => self.text(b"refused\n"),
+            Done::Built(more) => self.tell_build(more),
+            Done::Obsolete => self.tell_obsolete(),
+            Done::Run(events) => self.tell_run(events),
+        }
+    }
+
+    fn text(&self, bytes: &[u8]) -> Result<String, NoMemory> {
+        let text = String::from_utf8_lossy(self.alloc, bytes)?;
+        Ok(text)
+    }
+
+    /// What the last build gave, the units that it checked, and by how much the count of checks rose.
+    fn tell_build(&self, more: u64) -> Result<String, NoMemory> {
+        let mut text = Vec::new(self.alloc);
+        if let Some((main, compiled)) = self.engine.last() {
+            push_gave(self.alloc, &mut text, main, compiled)?;
+        }
+        text.extend_from_slice(b"checked")?;
+        push_keys(&mut text, self.engine.last_checked())?;
+        text.extend_from_slice(b", ")?;
+        push_number(self.alloc, &mut text, more)?;
+        text.extend_from_slice(b" more checks\n")?;
+        self.text(text.as_slice())
+    }
+
+    /// The units that are obsolete since the last build.
+    fn tell_obsolete(&self) -> Result<String, NoMemory> {
+        match given(self.engine.obsolete())? {
+            Some(units) => self.tell_units(units.as_slice()),
+            None => self.text(b"not built\n"),
+        }
+    }
+
+    fn tell_units(&self, units: &[UnitKey]) -> Result<String, NoMemory> {
+        let mut text = Vec::new(self.alloc);
+        text.extend_from_slice(b"obsolete")?;
+        push_keys(&mut text, units)?;
+        text.push(b'\n')?;
+        self.text(text.as_slice())
+    }
+
+    /// A run of the last build's image, if there is one.
+    fn tell_run(&self, events: u64) -> Result<String, NoMemory> {
+        match given(self.engine.run(100, events))? {
+            Some(ran) => self.tell_ran(&ran),
+            None => self.text(b"no image\n"),
+        }
+    }
+
+    fn tell_ran(&self, ran: &Ran) -> Result<String, NoMemory> {
+        let mut text = Vec::new(self.alloc);
+        push_ran(&mut text, ran)?;
+        self.text(text.as_slice())
+    }
+}
