@@ -143,6 +143,13 @@ impl<A: Answers> Recorder<A> {
         let _log = &self.log;
     }
 
+    /// Who is asked.
+    pub fn source(&self) -> &A
+        ensures { result.now ≡ self.now.asked }
+    {
+        &self.asked
+    }
+
     /// What was asked. It takes no memory.
     pub fn into_log(self) -> ReadLog
     where

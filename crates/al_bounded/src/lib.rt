@@ -1,0 +1,8 @@
+//! Who may be asked while a unit is walked: a table with bounds, and what was asked within them asked of a recorder.
+#![tactic(auto)]
+
+mod bounds;
+mod replayed;
+
+pub use bounds::{Bounded, Bounds};
+pub use replayed::replay;
