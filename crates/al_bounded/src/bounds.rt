@@ -40,11 +40,21 @@ impl Bounds {
 }
 
 /// Who is asked, within bounds: a question that may not be asked has the answer of a unit that isn't there, and isn't asked.
-#[derive(Drop)]
 pub struct Bounded<'a, A: Answers> {
     pub alloc: Global,
     pub asked: &'a A,
     pub bounds: &'a Bounds,
+}
+
+// Written out, as a derive would want that who is asked may be let go, of whom it holds a reference alone.
+impl<A: Answers> Drop for Bounded<'_, A> {
+    fn drop(self) {
+        let Bounded {
+            alloc: _,
+            asked: _,
+            bounds: _,
+        } = self;
+    }
 }
 
 impl<A: Answers> Answers for Bounded<'_, A> {

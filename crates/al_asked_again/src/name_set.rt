@@ -1,0 +1,57 @@
+// Sets of names.
+ghost use Rattle.std.specs.Prelude.{◌≡◌, [], OnOk};
+ghost use Rattle.std.specs.List.{list_any};
+ghost use Rattle.std.specs.Str.{bytes_eq};
+ghost use Rattle.indexmap.specs.IndexSet.{insert_key};
+
+use al_base::{Name, NoMemory};
+use indexmap::IndexSet;
+use std::alloc::Global;
+use std::marker::Model;
+
+/// Names, each once, in the order in which they came. A name is found without a walk.
+#[derive(Drop)]
+pub struct NameSet {
+    names: IndexSet<Name>,
+}
+
+impl Model for NameSet {
+    ghost use Rattle.std.specs.Prelude.{List, ℕ};
+
+    ghost Value = { List (List ℕ) };
+
+    ghost view = { λ s. s.names.keys };
+}
+
+impl NameSet {
+    /// No names. It takes no memory.
+    pub fn new(alloc: Global) -> Self
+        ensures { result ≡ [] }
+    {
+        NameSet {
+            names: IndexSet::new(alloc),
+        }
+    }
+
+    /// The names, in their order.
+    pub fn as_slice(&self) -> &[Name]
+        ensures { result.now ≡ self.now }
+    {
+        self.names.as_slice()
+    }
+
+    /// Whether the name is there.
+    pub fn contains(&self, name: &Name) -> bool
+        ensures { result ≡ list_any (bytes_eq name.now) self.now }
+    {
+        self.names.contains(name)
+    }
+
+    /// One more name, unless it is there.
+    pub fn insert(&mut self, name: Name) -> Result<(), NoMemory>
+        ensures { OnOk result (self.new ≡ insert_key bytes_eq self.old name) }
+    {
+        self.names.insert(name)?;
+        Ok(())
+    }
+}

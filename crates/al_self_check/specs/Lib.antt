@@ -1,0 +1,5 @@
+pub mod Parts
+pub mod SelfChecks
+pub mod Shown
+pub mod Tests
+pub mod Laws

@@ -1,0 +1,4 @@
+pub mod Bounding
+pub mod Grounds
+pub mod WereShown
+pub mod WordLemmas

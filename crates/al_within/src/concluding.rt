@@ -1,0 +1,79 @@
+// What the check of a unit gives.
+ghost use Rattle.std.specs.Prelude.{◌≡◌, ◌≤◌, List, length, IfOk, OnOk};
+ghost use Rattle.al_base.specs.declared.unit_key.UnitKey.{UnitKey};
+ghost use Rattle.al_typed.specs.UnitTrees.{unit_seen};
+ghost use Rattle.al_query.specs.Asked.{AsksOf};
+ghost use Rattle.al_query.specs.Known.{AreAmong, known_after};
+ghost use Rattle.al_query.specs.Reads.{Agrees, HoldsBy, Told};
+ghost use Rattle.al_outcome.specs.ReadsLaw.{AsksOthers};
+ghost use Rattle.al_outcome.specs.Results.{checked_seen};
+ghost use Rattle.al_bounded.specs.Bounding.{allowed, bounded};
+ghost use Rattle.al_self_check.specs.Laws.{Promised};
+ghost use Rattle.al_within.specs.Verdicts.{sound_of, verdict_of};
+ghost use Rattle.al_within.specs.Within.{concluded};
+
+use crate::finding::{Finding, Found};
+use crate::shown::{shown_views, wanted_of};
+use al_asked_again::shown_views_are_answered;
+use al_base::NoMemory;
+use al_bounded::Bounds;
+use al_outcome::Checked;
+use al_query::{Answers, ReadLog, Recorder};
+use al_self_check::laws::{faults_are_told, what_is_tested_keeps};
+use al_self_check::{SoundUnit, checked_faults, self_checked};
+use std::alloc::Global;
+
+/// What the check of a unit gives in which no fault was found.
+fn sound_within<A: Answers>(
+    alloc: Global,
+    bounds: &Bounds,
+    text: &[u8],
+    sound: SoundUnit,
+    log: &ReadLog,
+    recorder: &mut Recorder<A>,
+) -> Result<Checked, NoMemory>
+    requires text { length text.now ≤ 4294967294 }
+    requires agrees { HoldsBy recorder.old.log (λ t. Agrees (bounded bounds.now t) log.now) }
+    ensures asked { recorder.new.asked ≡ recorder.old.asked }
+    ensures told { IfOk result (λ checked. Told recorder.old.log recorder.new.log (λ t. checked_seen checked ≡ concluded bounds.now text.now (sound_of sound) (bounded bounds.now t))) }
+    ensures asks { OnOk result (AsksOf bounds.now.known (allowed bounds.now) recorder.old.log recorder.new.log) }
+    ensures others { OnOk result (AsksOthers bounds.now.unit recorder.old.log → AsksOthers bounds.now.unit recorder.new.log) }
+    ensures promised { IfOk result (λ checked. (first : List UnitKey) → AreAmong bounds.now.known (known_after first recorder.new.log) → Promised bounds.now.unit first recorder.new.log (checked_seen checked)) }
+{
+    what_is_tested_keeps();
+    shown_views_are_answered();
+    let wanted = wanted_of(alloc, bounds, text)?;
+    let shown = shown_views(alloc, bounds, &wanted, log, &sound, recorder)?;
+    recorder.agrees();
+    self_checked(
+        alloc,
+        &bounds.unit,
+        bounds.known.as_slice(),
+        shown.as_slice(),
+        sound,
+    )
+}
+
+/// What the check of a unit gives with what was found, behind what was asked for it.
+pub(crate) fn concluded_within<A: Answers>(
+    alloc: Global,
+    bounds: &Bounds,
+    text: &[u8],
+    found: Found,
+    recorder: &mut Recorder<A>,
+) -> Result<Checked, NoMemory>
+    requires text { length text.now ≤ 4294967294 }
+    requires agrees { HoldsBy recorder.old.log (λ t. Agrees (bounded bounds.now t) found.log) }
+    ensures asked { recorder.new.asked ≡ recorder.old.asked }
+    ensures told { IfOk result (λ checked. Told recorder.old.log recorder.new.log (λ t. checked_seen checked ≡ concluded bounds.now text.now (verdict_of found.finding) (bounded bounds.now t))) }
+    ensures asks { OnOk result (AsksOf bounds.now.known (allowed bounds.now) recorder.old.log recorder.new.log) }
+    ensures others { OnOk result (AsksOthers bounds.now.unit recorder.old.log → AsksOthers bounds.now.unit recorder.new.log) }
+    ensures promised { IfOk result (λ checked. (first : List UnitKey) → AreAmong bounds.now.known (known_after first recorder.new.log) → Promised bounds.now.unit first recorder.new.log (checked_seen checked)) }
+{
+    faults_are_told();
+    let Found { finding, log } = found;
+    match finding {
+        Finding::Faulty(faults) => checked_faults(alloc, &bounds.unit, faults),
+        Finding::Sound(sound) => sound_within(alloc, bounds, text, sound, &log, recorder),
+    }
+}
