@@ -1,0 +1,15 @@
+// Who answers alike for all values of a type.
+use al_query::Answers;
+
+/// Answers that are the same for all values of a type, so that what rests on them goes by types alone.
+pub trait FixedAnswers: Answers {
+    ghost use Rattle.std.specs.Prelude.{◌≡◌};
+    ghost use Rattle.al_query.specs.declared.query.Query.{Query};
+    ghost use Rattle.al_query.specs.declared.answer.AnswerKind.{AnswerKind};
+
+    /// The answers.
+    ghost answers: { Query → AnswerKind };
+
+    // Every value gives these.
+    ghost alike: { (one : Self) → Self.table one ≡ answers };
+}
