@@ -1,0 +1,7 @@
+pub mod Stacks
+pub mod Standings
+pub mod RegionsHere
+pub mod BodiesHere
+pub mod Faulty
+pub mod PartsHere
+pub mod Ends

@@ -1,0 +1,45 @@
+-- Parts of a unit, its stubs and its use clauses (ARM 7.1, 8.4, 10.1.3).
+use Rattle.std.specs.Prelude.{ℕ, List, [], ◌∷◌, ◌++◌, fold, length, if◌then◌else◌}
+use Rattle.al_outcome.specs.declared.interface.StubDeclarations.{StubDeclarations}
+use Rattle.al_query.specs.declared.answer.UseClause.{UseClause}
+use Rattle.al_view.specs.Interfaces.{with_view}
+use Rattle.al_view.specs.Named.{Declarations}
+use Rattle.al_view.specs.declared.part.Part.TheVariants as part
+use Rattle.al_view.specs.declared.symbol.Symbol.{Symbol}
+use Rattle.al_view.specs.declared.view.ViewKind.{ViewKind}
+use Rattle.al_ada_here.specs.Standings.{is_immediate, with_progress}
+use Rattle.al_ada_here.specs.declared.standing.Standing.{Standing}
+use Rattle.al_ada_here.specs.declared.standing.UseHere.{UseHere}
+
+-- the private part of a package's declaration begins: what stands before it is its visible part
+abbrev pub private_begun : Standing → Standing
+private_begun h = record h { here = record h.here { declared = [] }; part = part.Private; visible = h.here.declared }
+
+-- the statements of a package's body stand in the frame of the unit's elaboration
+abbrev pub in_statements : Standing → Standing
+in_statements h = with_progress h (record h.here.progress { depth = 1 })
+
+-- ---- what is declared before a stub is told name by name
+
+abbrev pub with_views : Declarations → List ℕ × List ViewKind → Declarations
+with_views told named = fold (λ (d : Declarations) (v : ViewKind). with_view d named.0 v) told named.1
+
+abbrev pub told_again : Declarations → Declarations
+told_again declared = fold with_views [] declared
+
+abbrev pub stub_here : Standing → List ℕ → Symbol → StubDeclarations
+stub_here h name symbol = record { stub = name; symbol = symbol; before = told_again h.here.declared }
+
+abbrev pub with_stub : Standing → List ℕ → Symbol → Standing
+with_stub h name symbol = record h { stubs = h.stubs ++ stub_here h name symbol ∷ [] }
+
+-- ---- use clauses that stand immediately in a part
+
+abbrev pub use_here : Standing → UseClause → UseHere
+use_here h clause = record { part = h.part; clause = clause; stubs = length h.stubs }
+
+abbrev pub with_use : Standing → UseClause → Standing
+with_use h clause = record h { uses = h.uses ++ use_here h clause ∷ [] }
+
+abbrev pub with_uses : Standing → List UseClause → Standing
+with_uses h clauses = if is_immediate h then fold with_use h clauses else h

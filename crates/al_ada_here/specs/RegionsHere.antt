@@ -1,0 +1,73 @@
+-- Loops and blocks at a place (ARM 5.5, 5.6, 8.1).
+use Rattle.std.specs.Prelude.{ℕ, true, List, [], ◌∷◌, ◌++◌, Option, Some, None, if◌then◌else◌}
+use Rattle.al_decl_body.specs.Regions.{block_entered, outside_of, taken_back}
+use Rattle.al_decl_body.specs.declared.block.Outside.{Outside}
+use Rattle.al_decl_type.specs.Objects.{object_view}
+use Rattle.al_decl_type.specs.TypeDeclarations.{declared_as}
+use Rattle.al_decl_type.specs.declared.declaration.Declaration.{Declaration}
+use Rattle.al_declared.specs.Progressing.{with_counted}
+use Rattle.al_declaring.specs.Declaring.{begun_one, with_declarations}
+use Rattle.al_declaring.specs.declared.here.Here.{Here}
+use Rattle.al_defining.specs.Defining.{defined}
+use Rattle.al_grammar.specs.Grammar.{Label}
+use Rattle.al_scope.specs.Places.{Place}
+use Rattle.al_stmts.specs.LoopForms.{RangeTree, parameter_bounds}
+use Rattle.al_stmts.specs.declared.loops.LoopWords.{LoopWords}
+use Rattle.al_view.specs.declared.types.Bounds.{Bounds}
+use Rattle.al_view.specs.declared.view.ObjectPlace.TheVariants.{Frame}
+use Rattle.al_view.specs.declared.view.SubtypeView.{SubtypeView}
+use Rattle.al_ada_here.specs.Stacks.{innermost, without_innermost}
+use Rattle.al_ada_here.specs.Standings.{is_nowhere, with_here}
+use Rattle.al_ada_here.specs.declared.standing.LoopType.{LoopType}
+use Rattle.al_ada_here.specs.declared.standing.Standing.{Standing}
+
+-- the regions round the innermost one
+abbrev pub region_left : Place → Place
+region_left place = record { mentioned = place.mentioned; regions = without_innermost place.regions }
+
+-- ---- blocks and loops are entered and left
+
+abbrev pub in_block : Standing → Standing
+in_block h = record h { here = block_entered h.here; blocks = h.blocks ++ outside_of h.here ∷ [] }
+
+-- a place in which a name is begun
+abbrev pub with_begun : Here → Label → Here
+with_begun here i = record here { scope = begun_one here.scope (defined i) }
+
+-- in its region a loop's parameter is begun, so that it is hidden from its own range (ARM 8.3(16))
+abbrev pub in_loop : Standing → Label → Standing
+in_loop h i = let inner = in_block h in with_here inner (with_begun inner.here i)
+
+-- outside of the innermost region, where this waited and was declared
+abbrev pub left_to : Here → Outside → Here
+left_to here o = taken_back (record here { scope = region_left here.scope }) o
+
+abbrev pub out_of : Standing → Option Outside → Standing
+out_of h None = h
+out_of h (Some o) = record h { here = left_to h.here o; blocks = without_innermost h.blocks }
+
+-- where no loop and no block is open, nothing is left
+abbrev pub out_of_block : Standing → Standing
+out_of_block h = out_of h (innermost h.blocks)
+
+-- ---- the parameter of a loop (ARM 5.5(9))
+
+abbrev pub parameter_subtype : LoopType → Option Bounds → SubtypeView
+parameter_subtype f bounds = record { subtype = record { base = f.of; bounds = bounds }; types = f.types; literals = [] }
+
+-- a constant without a value in that word of the frame
+abbrev pub parameter_declaration : Here → List ℕ → LoopType → Option Bounds → ℕ → Declaration
+parameter_declaration here name f bounds word =
+    declared_as name (object_view (parameter_subtype f bounds) true None (Frame here.progress.depth word))
+
+abbrev pub parameter_declared : Here → List ℕ → LoopType → Option Bounds → ℕ → Here
+parameter_declared here name f bounds word =
+    with_declarations (record here { progress = with_counted here.progress name }) (parameter_declaration here name f bounds word ∷ [])
+
+-- of the type of its range; where none was read it isn't declared
+abbrev pub with_found : Standing → Label → Option Bounds → ℕ → Option LoopType → Standing
+with_found h i bounds word None = h
+with_found h i bounds word (Some f) = with_here h (parameter_declared h.here (defined i).name f bounds word)
+
+abbrev pub with_parameter : Standing → Label → RangeTree → LoopWords → Standing
+with_parameter h i r w = if is_nowhere h then h else with_found h i (parameter_bounds r) w.parameter h.parameter

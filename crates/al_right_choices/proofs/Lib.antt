@@ -1,0 +1,5 @@
+pub mod Tests
+pub mod Times
+pub mod Onces
+pub mod Covering
+pub mod Deciding

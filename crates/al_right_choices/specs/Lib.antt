@@ -1,0 +1,2 @@
+pub mod ChoicesTest
+pub mod Laws
