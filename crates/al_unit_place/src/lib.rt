@@ -8,6 +8,7 @@ mod parts;
 mod private_part;
 mod unit_place;
 
+pub use clauses::use_each;
 pub use mentions::mentioned;
 pub use own::OwnText;
 pub use private_part::enter_private_part;

@@ -1,0 +1,78 @@
+-- One unit, one name and one item more.
+use Rattle.std.proofs.Common.{◌≡◌, ℕ, ◌+◌, ◌<◌, List, [], ◌∷◌, ◌++◌, Option, Some, None, Result, Ok, Err, map, drop, length, get_or, refl, sym, ◌∙◌, ap}
+use Rattle.std.specs.Prelude.{IfOk, fold}
+use Rattle.std.proofs.lemmas.List.{at_drop_more}
+use Rattle.al_base.specs.declared.unit_key.UnitKey.{UnitKey}
+use Rattle.al_judged.specs.Judging.{fault_in, next, seen_by, unless}
+use Rattle.al_judged.specs.declared.fault.Fault.{Fault}
+use Rattle.al_query.specs.Reads.{Table}
+use Rattle.al_query.specs.declared.answer.UseClause.{UseClause}
+use Rattle.al_scope.specs.Places.{Place}
+use Rattle.al_scope.specs.declared.region.Region.{Region}
+use Rattle.al_tree.specs.UnitViews.{context_seen}
+use Rattle.al_tree.specs.declared.unit.ContextItem.{ContextItem}
+use Rattle.al_unit_place.specs.UnitPlaces.{with_clauses}
+use Rattle.al_view.specs.declared.view.ViewKind.{ViewKind}
+use Rattle.al_context_at.specs.Contexts.{more_uses, with_item, with_items, with_uses}
+use Rattle.al_context_at.specs.declared.context.Context.{Context}
+use Rattle.al_uses_at.specs.UsesAt.{used_in}
+
+pub first-of : {X : Type 0} (xs : List X) (i : ℕ) (x : X) → i < length xs → x ≡ get_or xs i x → drop i xs ≡ x ∷ drop (i + 1) xs
+first-of xs i x h e = at_drop_more (λ l. l) xs i x h ∙ ap (λ y. y ∷ drop (i + 1) xs) (sym e)
+
+pub if_ok : {X E : Type 0} (r : Result X E) (P Q : X → Type 0) → ((x : X) → P x → Q x) → IfOk r P → IfOk r Q
+if_ok (Ok x) P Q f h = f x h
+if_ok (Err e) P Q f h = h
+
+-- one more of a fold, of what is left
+pub fold-step : {X Y : Type 0} (f : Y → X → Y) (xs : List X) (i : ℕ) (x : X) (before after whole : Y) → i < length xs → x ≡ get_or xs i x
+    → after ≡ f before x → fold f before (drop i xs) ≡ whole → fold f after (drop (i + 1) xs) ≡ whole
+fold-step f xs i x before after whole h e a b =
+    ap (λ y. fold f y (drop (i + 1) xs)) a ∙ ap (fold f before) (sym (first-of xs i x h e)) ∙ b
+
+pub fold-map_step : {X Y Z : Type 0} (f : Y → Z → Y) (see : X → Z) (xs : List X) (i : ℕ) (x : X) (before after whole : Y) → i < length xs → x ≡ get_or xs i x
+    → after ≡ f before (see x) → fold f before (map see (drop i xs)) ≡ whole → fold f after (map see (drop (i + 1) xs)) ≡ whole
+fold-map_step f see xs i x before after whole h e a b =
+    ap (λ y. fold f y (map see (drop (i + 1) xs))) a ∙ ap (λ l. fold f before (map see l)) (sym (first-of xs i x h e)) ∙ b
+
+-- two equations as one
+pub pair-is : {X Y : Type 0} (a b : X) (c d : Y) → a ≡ b → c ≡ d → ◌≡◌ {A = X × Y} (a, c) (b, d)
+pair-is {X = X} {Y = Y} a b c d e f = ap (λ (x : X). let p : X × Y = (x, c) in p) e ∙ ap (λ (y : Y). let p : X × Y = (b, y) in p) f
+
+-- a use clause that was judged
+pub used-item : (c : Context) (scope : Place) (uses : List UseClause) (clauses : Result (List UseClause) Fault) (fault : Option Fault)
+    → scope.regions ≡ used_in clauses c.scope.regions → scope.mentioned ≡ c.scope.mentioned → uses ≡ more_uses c.uses clauses → fault ≡ fault_in clauses
+    → unless fault (Ok (record c { scope = scope; uses = uses })) ≡ seen_by (with_uses c) clauses
+used-item c scope uses (Ok cs) fault r m u f =
+    ap (λ (o : Option Fault). unless o (Ok (record c { scope = scope; uses = uses }))) f
+    ∙ ap (λ (rs : List Region). Ok (record c { scope = record scope { regions = rs }; uses = uses })) r
+    ∙ ap (λ (x : List UseClause). Ok (record c { scope = record scope { regions = with_clauses cs c.scope.regions }; uses = x })) u
+    ∙ ap (λ (ms : List (List ℕ × List ViewKind)). Ok (record c { scope = record scope { mentioned = ms; regions = with_clauses cs c.scope.regions }; uses = c.uses ++ cs })) m
+used-item c scope uses (Err g) fault r m u f = ap (λ (o : Option Fault). unless o (Ok (record c { scope = scope; uses = uses }))) f
+
+-- one item more
+items-step : (t : Table) (items : List ContextItem) (i : ℕ) (item : ContextItem) (c d : Context) (fault : Option Fault) → i < length items → item ≡ get_or items i item
+    → unless fault (Ok d) ≡ with_item t c (context_seen item)
+    → with_items t c (map context_seen (drop i items)) ≡ next (unless fault (Ok d)) (λ (x : Context). with_items t x (map context_seen (drop (i + 1) items)))
+items-step t items i item c d fault h e is =
+    let rest = map context_seen (drop (i + 1) items) in
+    ap (λ (xs : List ContextItem). with_items t c (map context_seen xs)) (first-of items i item h e)
+    ∙ ap (λ (r : Result Context Fault). next r (λ (x : Context). with_items t x rest)) (sym is)
+
+pub items-more : (t : Table) (items : List ContextItem) (i : ℕ) (item : ContextItem) (c d : Context) (fault : Option Fault) (whole : Result Context Fault) → i < length items → item ≡ get_or items i item
+    → unless fault (Ok d) ≡ with_item t c (context_seen item) → fault ≡ None
+    → with_items t c (map context_seen (drop i items)) ≡ whole
+    → with_items t d (map context_seen (drop (i + 1) items)) ≡ whole
+items-more t items i item c d fault whole h e is none b =
+    let rest = map context_seen (drop (i + 1) items) in
+    ap (λ (o : Option Fault). next (unless o (Ok d)) (λ (x : Context). with_items t x rest)) (sym none)
+    ∙ sym (items-step t items i item c d fault h e is) ∙ b
+
+pub items-fault : (t : Table) (items : List ContextItem) (i : ℕ) (item : ContextItem) (c d : Context) (fault : Option Fault) (one : Fault) (whole : Result Context Fault) → i < length items → item ≡ get_or items i item
+    → unless fault (Ok d) ≡ with_item t c (context_seen item) → fault ≡ Some one
+    → with_items t c (map context_seen (drop i items)) ≡ whole
+    → Err one ≡ whole
+items-fault t items i item c d fault one whole h e is some b =
+    let rest = map context_seen (drop (i + 1) items) in
+    ap (λ (o : Option Fault). next (unless o (Ok d)) (λ (x : Context). with_items t x rest)) (sym some)
+    ∙ sym (items-step t items i item c d fault h e is) ∙ b

@@ -1,0 +1,2 @@
+pub mod ContextPragmas
+pub mod Contexts

@@ -1,0 +1,10 @@
+//! Context clauses, each in a place of its own, and the library units that are mentioned at a place (ARM 10.1.2, 10.1.6).
+#![tactic(auto)]
+
+mod context;
+mod mention;
+mod pragma;
+
+pub use context::{Context, context_at};
+pub use mention::{library_view, mention_all, mention_view, shared, view_of};
+pub use pragma::full_name;

@@ -1,0 +1,2 @@
+pub mod UsesAt
+pub mod Pragmas
