@@ -1,1 +1,1 @@
-mod Replies
+pub mod Replies

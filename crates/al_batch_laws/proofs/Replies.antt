@@ -37,7 +37,7 @@ behind lib _ _ _ (item {subunits = subunits} {placed = rest} are more) = record 
 none_behind : (lib : Library) (placed : List Key) → ArePlaced lib [] placed → placed ≡ []
 none_behind lib _ nothing = refl
 
-one_placed : (lib : Library) (items one two : List Key) → ArePlaced lib items one → ArePlaced lib items two → one ≡ two
+pub one_placed : (lib : Library) (items one two : List Key) → ArePlaced lib items one → ArePlaced lib items two → one ≡ two
 one_placed lib [] one two x y = none_behind lib one x ∙ sym (none_behind lib two y)
 one_placed lib (k ∷ items) one two x y =
     let a = behind lib k items one x in
