@@ -1,0 +1,6 @@
+pub mod Constants
+pub mod Ended
+pub mod Lines
+pub mod Made
+pub mod Said
+pub mod Uncompiled
