@@ -3,6 +3,7 @@
 use Rattle.std.specs.Prelude.{ℕ, Bool, ◌&&◌, List, [], ◌∷◌, Option, Some, None, option_map, if◌then◌else◌}
 use Rattle.std.specs.Option.{option_and_then}
 use Rattle.al_choice.specs.Fitting.{is_discrete}
+use Rattle.al_choice.specs.declared.types.ValueType.{ValueType}
 use Rattle.al_choice.specs.Labelling.{Tree, Node, Trees, NoTree, MoreTrees}
 use Rattle.al_choice.specs.Ranges.{alike}
 use Rattle.al_choice.specs.declared.term.Candidate.{Candidate}
@@ -143,6 +144,6 @@ abbrev mutual
 abbrev pub plain_head : Predefined → TermTree → Tree
 plain_head p x = head_of p None x
 
--- a pair of bounds, which have one type: Integer, where both are numbers alone
-abbrev pub bounds_head : Predefined → TermTree → TermTree → Tree
-bounds_head p low high = alike p.root p.types.integer None (two (head_of p None low) (head_of p None high))
+-- a pair of bounds, which have one type: this one, where both are numbers alone
+abbrev pub bounds_head : Predefined → ValueType → TermTree → TermTree → Tree
+bounds_head p numbers low high = alike p.root numbers None (two (head_of p None low) (head_of p None high))

@@ -17,7 +17,7 @@ use crate::everywhere::Predefined;
 use crate::operands::gathered;
 use crate::part::{Nominal, declared_under, part_of};
 use al_base::NoMemory;
-use al_choice::{Expression, Operands};
+use al_choice::{Expression, Operands, ValueType};
 use al_name::all_of;
 use al_term::Term;
 use std::alloc::Global;
@@ -237,16 +237,16 @@ pub fn head_of(
     Ok(built.expression)
 }
 
-/// A pair of bounds as a head with two operands of one type.
+/// A pair of bounds as a head with two operands of one type, which is this one where both are numbers alone.
 pub fn bounds_head(
     alloc: Global,
     predefined: &Predefined,
+    numbers: &ValueType,
     low: &Term,
     high: &Term,
 ) -> Result<Expression, NoMemory>
-    ensures { IfOk result (λ head. plain head ≡ bounds_head predefined.now (term_seen low.now) (term_seen high.now)) }
+    ensures { IfOk result (λ head. plain head ≡ bounds_head predefined.now numbers.now (term_seen low.now) (term_seen high.now)) }
 {
     let bounds = before(alloc, predefined, low, one(alloc, predefined, high)?)?;
-    let integer = &predefined.types.integer;
-    Expression::alike(alloc, bounds.operands, &None, integer, &predefined.root)
+    Expression::alike(alloc, bounds.operands, &None, numbers, &predefined.root)
 }
