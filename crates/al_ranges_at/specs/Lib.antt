@@ -1,0 +1,2 @@
+pub mod LoopsAt
+pub mod ChoicesAt

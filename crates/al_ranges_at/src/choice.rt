@@ -1,0 +1,373 @@
+// Choices of case statements (ARM 3.8.1, 5.4).
+ghost use Rattle.std.specs.Prelude.{◌≡◌, ◌++◌, IfOk, None, option_map};
+ghost use Rattle.al_declared.specs.StaticPieces.{static_of};
+ghost use Rattle.al_judged.specs.Judging.{both, next, seen_by};
+ghost use Rattle.al_keys.specs.Places.{first_place};
+ghost use Rattle.al_label.specs.Contexts.{term_judged};
+ghost use Rattle.al_query.specs.Asked.{AsksOf, by_name};
+ghost use Rattle.al_query.specs.Reads.{Told};
+ghost use Rattle.al_ranges_at.specs.ChoicesAt.{bounds_choice, choice_at, choice_context, choice_names, discrete_choice, fitted_choice, mark_choice, marked_choice, one_value, range_choice, range_part, read_choice, static_choice, value_choice};
+ghost use Rattle.al_readings.specs.ReadingViews.{reading_seen};
+ghost use Rattle.al_subtypes_at.specs.SubtypesAt.{discrete_names};
+ghost use Rattle.al_term.specs.TermViews.{term_seen};
+ghost use Rattle.al_terms_at.specs.TermsAt.{mark_at, range_names, read_at, text_names};
+ghost use Rattle.al_tree.specs.DeclarationViews.{discrete_range_seen, range_seen};
+ghost use Rattle.al_tree.specs.ExpressionViews.{expression_seen};
+ghost use Rattle.al_tree.specs.StatementViews.{choice_seen};
+ghost use Rattle.al_typed.specs.ExpressionViews.{typed_seen};
+ghost use Rattle.al_values_at.specs.Surroundings.{site_seen, site_units};
+
+use al_base::{NoMemory, Place};
+use al_choices::Choice;
+use al_decl_type::{StaticRange, subtype_of};
+use al_declared::static_of;
+use al_judged::{Judged, both};
+use al_keys::first_place;
+use al_label::{FoundType, judge_term};
+use al_name::value_type;
+use al_nodes::Labeller;
+use al_overload::Context;
+use al_picks::range_in;
+use al_predefined::StandardTypes;
+use al_query::{Answers, Recorder};
+use al_readings::{Reading, as_value, mark_in};
+use al_subtypes_at::static_at;
+use al_term::Term;
+use al_terms_at::{mark_at, read_at};
+use al_tree::{Choice as ChoiceText, DiscreteRange, Expression, Range};
+use al_typed::Typed;
+use al_values_at::Site;
+use al_view::{Bounds, SubtypeView};
+
+fn choice_context(labeller: &Labeller, found: &FoundType) -> Result<Context, NoMemory>
+    ensures { IfOk result (λ context. context ≡ choice_context found.now) }
+{
+    let standard = &labeller.predefined.standard;
+    let of = value_type(labeller.alloc, standard, &found.types, &found.of)?;
+    Ok(Context::ChoiceOf(of))
+}
+
+fn judge_value(
+    labeller: &Labeller,
+    found: &FoundType,
+    term: &Term,
+) -> Result<Judged<Typed>, NoMemory>
+    ensures { IfOk result (λ value. seen_by typed_seen value ≡ term_judged labeller.now.predefined labeller.now.own (choice_context found.now) None found.now.types (term_seen term.now)) }
+{
+    let context = choice_context(labeller, found)?;
+    judge_term(labeller, &context, &None, &found.types, term)
+}
+
+/// One value, which must be static.
+fn one_value(judged: &Judged<Typed>) -> Judged<Choice>
+    ensures { result ≡ next (seen_by typed_seen judged.now) (λ x. seen_by one_value (static_of x)) }
+{
+    match judged {
+        Ok(value) => match static_of(value) {
+            Ok(value) => Ok(Choice::Range(Bounds {
+                low: value.word,
+                high: value.word,
+            })),
+            Err(fault) => Err(fault),
+        },
+        Err(fault) => Err(*fault),
+    }
+}
+
+fn value_choice(
+    labeller: &Labeller,
+    found: &FoundType,
+    term: &Term,
+) -> Result<Judged<Choice>, NoMemory>
+    ensures { IfOk result (λ choice. choice ≡ value_choice labeller.now.predefined labeller.now.own found.now (term_seen term.now)) }
+{
+    let value = judge_value(labeller, found, term)?;
+    Ok(one_value(&value))
+}
+
+fn any_value_choice(
+    labeller: &Labeller,
+    found: &FoundType,
+    term: Judged<Term>,
+) -> Result<Judged<Choice>, NoMemory>
+    ensures { IfOk result (λ choice. choice ≡ next (seen_by term_seen term) (value_choice labeller.now.predefined labeller.now.own found.now)) }
+{
+    match term {
+        Ok(term) => {
+            let choice = value_choice(labeller, found, &term);
+            drop(term);
+            choice
+        }
+        Err(fault) => Ok(Err(fault)),
+    }
+}
+
+fn bounds_choice(bounds: Option<Bounds>) -> Choice
+    ensures { result ≡ bounds_choice bounds }
+{
+    match bounds {
+        Some(bounds) => Choice::Range(bounds),
+        None => Choice::OfOtherType,
+    }
+}
+
+/// A subtype; one of another type than the selector's is none of its choices.
+#[tactic(auto, unfolding(crate::specs::ChoicesAt::mark_choice))]
+fn mark_choice(standard: &StandardTypes, found: &FoundType, mark: &SubtypeView) -> Choice
+    ensures { result ≡ mark_choice found.now mark.now }
+{
+    if mark.subtype.base.is(&found.of) {
+        bounds_choice(range_in(standard, &mark.types, &mark.subtype))
+    } else {
+        Choice::OfOtherType
+    }
+}
+
+fn optional_choice(
+    standard: &StandardTypes,
+    found: &FoundType,
+    mark: &Option<SubtypeView>,
+) -> Option<Choice>
+    ensures { result ≡ option_map (mark_choice found.now) mark.now }
+{
+    match mark {
+        Some(mark) => Some(mark_choice(standard, found, mark)),
+        None => None,
+    }
+}
+
+/// What a mark or a Range attribute chooses.
+#[tactic(auto, unfolding(al_readings::specs::Readings::range_read))]
+fn range_part(
+    labeller: &Labeller,
+    found: &FoundType,
+    reading: &Reading,
+) -> Result<Option<Choice>, NoMemory>
+    ensures { IfOk result (λ choice. choice ≡ range_part found.now (reading_seen reading.now)) }
+{
+    let standard = &labeller.predefined.standard;
+    match reading {
+        Reading::Name(_, _, views) => {
+            let mark = mark_in(labeller.alloc, views.as_slice())?;
+            Ok(optional_choice(standard, found, &mark))
+        }
+        Reading::Range(_, subtype) => Ok(Some(mark_choice(standard, found, subtype))),
+        Reading::Value(_) => Ok(None),
+        Reading::Function(_, _, _) => Ok(None),
+        Reading::Image(_, _) => Ok(None),
+    }
+}
+
+/// What stands alone: a mark or a Range attribute, or else a value.
+fn read_choice(
+    labeller: &Labeller,
+    found: &FoundType,
+    reading: Reading,
+) -> Result<Judged<Choice>, NoMemory>
+    ensures { IfOk result (λ choice. choice ≡ read_choice labeller.now.predefined labeller.now.own found.now (reading_seen reading)) }
+{
+    match range_part(labeller, found, &reading) {
+        Ok(Some(choice)) => {
+            drop(reading);
+            Ok(Ok(choice))
+        }
+        Ok(None) => any_value_choice(labeller, found, as_value(Ok(reading))),
+        Err(lack) => {
+            drop(reading);
+            Err(lack)
+        }
+    }
+}
+
+fn any_read_choice(
+    labeller: &Labeller,
+    found: &FoundType,
+    reading: Judged<Reading>,
+) -> Result<Judged<Choice>, NoMemory>
+    ensures { IfOk result (λ choice. choice ≡ next (seen_by reading_seen reading) (read_choice labeller.now.predefined labeller.now.own found.now)) }
+{
+    match reading {
+        Ok(reading) => read_choice(labeller, found, reading),
+        Err(fault) => Ok(Err(fault)),
+    }
+}
+
+fn single_choice<A: Answers>(
+    site: &Site<'_>,
+    found: &FoundType,
+    expression: &Expression,
+    recorder: &mut Recorder<A>,
+) -> Result<Judged<Choice>, NoMemory>
+    ensures asked { recorder.new.asked ≡ recorder.old.asked }
+    ensures told { IfOk result (λ choice. Told recorder.old.log recorder.new.log (λ t. choice ≡ next (read_at t (site_seen site.now).place (site_seen site.now).packages (expression_seen expression.now)) (read_choice (site_seen site.now).predefined (site_seen site.now).own found.now))) }
+    ensures asks { IfOk result (λ _. AsksOf (site_units (site_seen site.now)) (by_name (text_names (expression_seen expression.now))) recorder.old.log recorder.new.log) }
+{
+    let labeller = site.labeller;
+    let standard = &labeller.predefined.standard;
+    let (scope, packages) = (site.scope, site.packages);
+    let reading = read_at(
+        labeller.alloc,
+        standard,
+        scope,
+        packages,
+        expression,
+        recorder,
+    )?;
+    let choice = any_read_choice(labeller, found, reading)?;
+    Ok(choice)
+}
+
+/// Two bounds, which must be static.
+fn static_choice<A: Answers>(
+    site: &Site<'_>,
+    found: &FoundType,
+    range: &Range,
+    recorder: &mut Recorder<A>,
+) -> Result<Judged<StaticRange>, NoMemory>
+    ensures asked { recorder.new.asked ≡ recorder.old.asked }
+    ensures told { IfOk result (λ bounds. Told recorder.old.log recorder.new.log (λ t. bounds ≡ static_choice t (site_seen site.now) found.now (range_seen range.now))) }
+    ensures asks { IfOk result (λ _. AsksOf (site_units (site_seen site.now)) (by_name (range_names (range_seen range.now))) recorder.old.log recorder.new.log) }
+{
+    let context = choice_context(site.labeller, found)?;
+    static_at(site, &context, &found.types, range, recorder)
+}
+
+fn range_choice(range: Judged<StaticRange>) -> Judged<Choice>
+    ensures { result ≡ seen_by range_choice range }
+{
+    match range {
+        Ok(range) => Ok(Choice::Range(range.bounds)),
+        Err(fault) => Err(fault),
+    }
+}
+
+fn bounds_chosen<A: Answers>(
+    site: &Site<'_>,
+    found: &FoundType,
+    range: &Range,
+    recorder: &mut Recorder<A>,
+) -> Result<Judged<Choice>, NoMemory>
+    ensures asked { recorder.new.asked ≡ recorder.old.asked }
+    ensures told { IfOk result (λ choice. Told recorder.old.log recorder.new.log (λ t. choice ≡ seen_by range_choice (static_choice t (site_seen site.now) found.now (range_seen range.now)))) }
+    ensures asks { IfOk result (λ _. AsksOf (site_units (site_seen site.now)) (by_name (range_names (range_seen range.now))) recorder.old.log recorder.new.log) }
+{
+    let range = static_choice(site, found, range, recorder)?;
+    Ok(range_choice(range))
+}
+
+fn fitted_choice(subtype: &Judged<SubtypeView>) -> Judged<Choice>
+    ensures { result ≡ fitted_choice subtype.now }
+{
+    match subtype {
+        Ok(subtype) => Ok(bounds_choice(subtype.subtype.bounds)),
+        Err(fault) => Err(*fault),
+    }
+}
+
+/// Two bounds behind a mark: E305 where they don't lie in it.
+#[tactic(auto, unfolding(crate::specs::ChoicesAt::marked_choice))]
+fn marked_choice(
+    labeller: &Labeller,
+    found: &FoundType,
+    place: Place,
+    mark: &SubtypeView,
+    range: StaticRange,
+) -> Result<Judged<Choice>, NoMemory>
+    ensures { IfOk result (λ choice. choice ≡ marked_choice found.now place (mark.now, range)) }
+{
+    if mark.subtype.base.is(&found.of) {
+        let standard = &labeller.predefined.standard;
+        let subtype = subtype_of(labeller.alloc, standard, mark, place, Some(range))?;
+        return Ok(fitted_choice(&subtype));
+    }
+    Ok(Ok(Choice::OfOtherType))
+}
+
+fn any_marked_choice(
+    labeller: &Labeller,
+    found: &FoundType,
+    place: Place,
+    judged: Judged<(SubtypeView, StaticRange)>,
+) -> Result<Judged<Choice>, NoMemory>
+    ensures { IfOk result (λ choice. choice ≡ next judged (marked_choice found.now place)) }
+{
+    match judged {
+        Ok((mark, range)) => {
+            let choice = marked_choice(labeller, found, place, &mark, range);
+            drop(mark);
+            choice
+        }
+        Err(fault) => Ok(Err(fault)),
+    }
+}
+
+/// A mark and the bounds behind it, each by itself.
+fn marked_parts<A: Answers>(
+    site: &Site<'_>,
+    found: &FoundType,
+    mark: &Expression,
+    range: &Range,
+    recorder: &mut Recorder<A>,
+) -> Result<Judged<(SubtypeView, StaticRange)>, NoMemory>
+    ensures asked { recorder.new.asked ≡ recorder.old.asked }
+    ensures told { IfOk result (λ parts. Told recorder.old.log recorder.new.log (λ t. parts ≡ both (mark_at t (site_seen site.now).place (site_seen site.now).packages (expression_seen mark.now)) (static_choice t (site_seen site.now) found.now (range_seen range.now)))) }
+    ensures asks { IfOk result (λ _. AsksOf (site_units (site_seen site.now)) (by_name (text_names (expression_seen mark.now) ++ range_names (range_seen range.now))) recorder.old.log recorder.new.log) }
+{
+    let labeller = site.labeller;
+    let standard = &labeller.predefined.standard;
+    let (scope, packages) = (site.scope, site.packages);
+    let mark = mark_at(labeller.alloc, standard, scope, packages, mark, recorder)?;
+    let range = static_choice(site, found, range, recorder)?;
+    Ok(both(mark, range))
+}
+
+fn marked_chosen<A: Answers>(
+    site: &Site<'_>,
+    found: &FoundType,
+    mark: &Expression,
+    range: &Range,
+    recorder: &mut Recorder<A>,
+) -> Result<Judged<Choice>, NoMemory>
+    ensures asked { recorder.new.asked ≡ recorder.old.asked }
+    ensures told { IfOk result (λ choice. Told recorder.old.log recorder.new.log (λ t. choice ≡ next (both (mark_at t (site_seen site.now).place (site_seen site.now).packages (expression_seen mark.now)) (static_choice t (site_seen site.now) found.now (range_seen range.now))) (marked_choice found.now (first_place (expression_seen mark.now))))) }
+    ensures asks { IfOk result (λ _. AsksOf (site_units (site_seen site.now)) (by_name (text_names (expression_seen mark.now) ++ range_names (range_seen range.now))) recorder.old.log recorder.new.log) }
+{
+    let parts = marked_parts(site, found, mark, range, recorder)?;
+    let choice = any_marked_choice(site.labeller, found, first_place(mark), parts)?;
+    Ok(choice)
+}
+
+fn discrete_choice<A: Answers>(
+    site: &Site<'_>,
+    found: &FoundType,
+    range: &DiscreteRange,
+    recorder: &mut Recorder<A>,
+) -> Result<Judged<Choice>, NoMemory>
+    ensures asked { recorder.new.asked ≡ recorder.old.asked }
+    ensures told { IfOk result (λ choice. Told recorder.old.log recorder.new.log (λ t. choice ≡ discrete_choice t (site_seen site.now) found.now (discrete_range_seen range.now))) }
+    ensures asks { IfOk result (λ _. AsksOf (site_units (site_seen site.now)) (by_name (discrete_names (discrete_range_seen range.now))) recorder.old.log recorder.new.log) }
+{
+    match range {
+        DiscreteRange::Mark(expression) => single_choice(site, found, expression, recorder),
+        DiscreteRange::Bounds(range) => bounds_chosen(site, found, range, recorder),
+        DiscreteRange::MarkRange(mark, range) => marked_chosen(site, found, mark, range, recorder),
+    }
+}
+
+/// A choice of a case statement at a place, whose selector has this type (ARM 5.4), or the first rule that is broken: E401 or E404 of a name
+/// in it, what is wrong with its values, E304 at one that isn't static, E305 at one that lies outside of the mark's.
+pub fn choice_at<A: Answers>(
+    site: &Site<'_>,
+    found: &FoundType,
+    choice: &ChoiceText,
+    recorder: &mut Recorder<A>,
+) -> Result<Judged<Choice>, NoMemory>
+    ensures asked { recorder.new.asked ≡ recorder.old.asked }
+    ensures told { IfOk result (λ judged. Told recorder.old.log recorder.new.log (λ t. judged ≡ choice_at t (site_seen site.now) found.now (choice_seen choice.now))) }
+    ensures asks { IfOk result (λ _. AsksOf (site_units (site_seen site.now)) (by_name (choice_names (choice_seen choice.now))) recorder.old.log recorder.new.log) }
+{
+    match choice {
+        ChoiceText::Others => Ok(Ok(Choice::Others)),
+        ChoiceText::Range(range) => discrete_choice(site, found, range, recorder),
+    }
+}

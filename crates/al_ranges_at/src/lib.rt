@@ -1,0 +1,10 @@
+//! Ranges of loops and choices of case statements where they stand (ARM 3.6.1, 3.8.1, 5.4, 5.5).
+#![tactic(auto)]
+
+mod choice;
+mod loop_range;
+mod selected;
+
+pub use choice::choice_at;
+pub use loop_range::{FoundRange, loop_range_at};
+pub use selected::{selected_at, whole_at};
