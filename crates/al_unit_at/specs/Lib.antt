@@ -1,0 +1,2 @@
+pub mod Subunits
+pub mod UnitsAt
