@@ -30,14 +30,14 @@ begin
    Put_Line (Integer'Image (Total) & Integer'Image (Found));
 
    Outer : declare
-      Total : Integer := 5;
+      Sum : Integer := 5;
    begin
       for Total in reverse 1 .. 3 loop
-         Put (Integer'Image (Total) & Integer'Image (Outer.Total));
-         Outer.Total := Outer.Total + Total;
+         Put (Integer'Image (Total) & Integer'Image (Sum));
+         Sum := Sum + Total;
       end loop;
       New_Line;
-      Nested_Loops.Total := Total;
+      Total := Sum;
    end Outer;
    Put_Line (Integer'Image (Total));
 
