@@ -1,5 +1,5 @@
 -- What is read as a unit, and what isn't.
-use Rattle.std.proofs.Common.{◌≡◌, ◌∙◌, ◌≤◌, ◌<◌, ◌+◌, ℕ, Bool, true, false, List, [], length, nat_le, refl, sym, ap, subst, if◌then◌else◌, arith}
+use Rattle.std.proofs.Common.{◌≡◌, ◌∙◌, ◌≤◌, ℕ, Bool, true, false, List, [], length, nat_le, sym, ap, subst, if◌then◌else◌, arith}
 use Rattle.std.proofs.lemmas.Bool.Decides.{nat_tests}
 use Rattle.al_base.specs.declared.place.Place.{Place}
 use Rattle.al_base.specs.declared.unit_key.UnitKey.{UnitKey}
@@ -10,7 +10,7 @@ use Rattle.al_unit.specs.Readings.{Reading, reading_of}
 use Rattle.al_unit.specs.Readings.Reading.{Sentence, Fails}
 use Rattle.al_query.specs.Known.{Grounded}
 use Rattle.al_query.specs.Reads.{Log, Table}
-use Rattle.al_outcome.specs.ReadsLaw.{AsksOthers, named_by}
+use Rattle.al_outcome.specs.ReadsLaw.{named_by}
 use Rattle.al_outcome.specs.Results.{Outcome}
 use Rattle.al_self_check.specs.Laws.{FaultsAreTold, Promised}
 use Rattle.al_self_check.specs.SelfChecks.{checked_faults}

@@ -1,6 +1,5 @@
 -- What a checker makes of a text, by whoever finds what it says.
 use Rattle.std.specs.Prelude.{◌≡◌, ℕ, false, List, [], None, length, nat_le, if◌then◌else◌}
-use Rattle.al_base.specs.declared.place.Place.{Place}
 use Rattle.al_base.specs.declared.unit_key.UnitKey.{UnitKey}
 use Rattle.al_syntax.specs.UnitTrees.{CompilationUnitTree}
 use Rattle.al_header.specs.Units.{header_of}

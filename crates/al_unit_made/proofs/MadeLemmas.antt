@@ -1,5 +1,5 @@
 -- What was walked is what the walk's record tells.
-use Rattle.std.proofs.Common.{◌≡◌, ◌∙◌, ℕ, Bool, true, false, List, [], ◌∷◌, Option, Some, None, length, refl, sym, ap, if◌then◌else◌}
+use Rattle.std.proofs.Common.{◌≡◌, ◌∙◌, Bool, true, false, List, [], ◌∷◌, Option, Some, None, length, refl, ap, if◌then◌else◌}
 use Rattle.std.specs.Option.{option_map}
 use Rattle.al_base.specs.declared.diagnostic.Diagnostic.{Diagnostic}
 use Rattle.al_base.specs.declared.unit_key.UnitKind.TheVariants.{Sub}
@@ -15,7 +15,7 @@ use Rattle.al_outcome.specs.Tables.{interface_of}
 use Rattle.al_within.specs.Verdicts.{Verdict, sound_of}
 use Rattle.al_within.specs.Verdicts.Verdict.{Wrong, Right}
 use Rattle.al_unit_made.specs.Ended.{viewed, walked_unit}
-use Rattle.al_unit_made.specs.Made.{elaboration_of, finding_of, made, unless_wrong}
+use Rattle.al_unit_made.specs.Made.{finding_of, made, unless_wrong}
 use Rattle.al_unit_made.specs.declared.behind.EndedText.{EndedText}
 use Rattle.al_unit_made.specs.declared.behind.Round.{Round}
 use Rattle.al_unit_made.specs.declared.made.WalkedUnit.{WalkedUnit}

@@ -1,5 +1,5 @@
 -- What is found in the text of a unit behind its end.
-use Rattle.std.specs.Prelude.{ℕ, ◌-◌, List, [], ◌∷◌, Option, Some, None, if◌then◌else◌}
+use Rattle.std.specs.Prelude.{ℕ, ◌-◌, [], Option, Some, None, if◌then◌else◌}
 use Rattle.std.specs.Global.{Vec}
 use Rattle.al_base.specs.declared.unit_key.UnitKind.TheVariants.{Sub}
 use Rattle.al_view.specs.Symbols.{same_kind}

@@ -1,5 +1,5 @@
 -- What is found in the text of a unit, by what was walked.
-use Rattle.std.specs.Prelude.{List, [], ◌∷◌, map, Option, Some, None, if◌then◌else◌}
+use Rattle.std.specs.Prelude.{List, [], ◌∷◌, map, Some, None, if◌then◌else◌}
 use Rattle.al_base.specs.Batch.{key_of}
 use Rattle.al_base.specs.FileNames.{file_name_of}
 use Rattle.al_base.specs.declared.diagnostic.Diagnostic.{Diagnostic}

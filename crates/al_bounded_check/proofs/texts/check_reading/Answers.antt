@@ -1,4 +1,4 @@
-use Rattle.std.proofs.Common.{List, [], ap, refl, subst, sym, ◌∙◌}
+use Rattle.std.proofs.Common.{ap, refl, subst, sym, ◌∙◌}
 use Rattle.std.proofs.lemmas.Result.{IfOk-weaker}
 use Rattle.al_tree.specs.UnitViews.{unit_seen}
 use Rattle.al_unit.specs.ReadingSeen.{reading_seen}

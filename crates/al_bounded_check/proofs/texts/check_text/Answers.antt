@@ -1,4 +1,4 @@
-use Rattle.std.proofs.Common.{List, [], length, refl, subst, sym, ◌∙◌}
+use Rattle.std.proofs.Common.{length, refl, subst, sym, ◌∙◌}
 use Rattle.std.proofs.lemmas.Result.{IfOk-weaker}
 use Rattle.al_query.specs.Reads.{Log}
 use Rattle.al_outcome.specs.ReadsLaw.{AsksOthers}
