@@ -1,5 +1,5 @@
 -- Bounds, and what a check means within them.
-use Rattle.std.proofs.Common.{◌≡◌, ◌∙◌, ℕ, Bool, true, List, [], refl, sym, ap, subst}
+use Rattle.std.proofs.Common.{◌≡◌, ◌∙◌, ℕ, Bool, true, List, sym, ap}
 use Rattle.al_base.specs.declared.unit_key.UnitKey.{UnitKey}
 use Rattle.al_syntax.specs.UnitTrees.{CompilationUnitTree}
 use Rattle.al_header.specs.Units.{header_of}
@@ -13,7 +13,7 @@ use Rattle.al_bounded.specs.Bounding.{bounded}
 use Rattle.al_bounded.specs.declared.bounds.Bounds.{Bounds}
 use Rattle.al_self_check.specs.SelfChecks.{is_kept, self_checked}
 use Rattle.al_within.specs.Verdicts.{Verdict}
-use Rattle.al_within.specs.Within.{concluded, concluded_in, meaning_within}
+use Rattle.al_within.specs.Within.{concluded, meaning_within}
 
 unfoldable pub made : UnitKey → List UnitKey → Bounds
 made unit known = record { unit = unit; known = known }

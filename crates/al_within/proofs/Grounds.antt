@@ -1,5 +1,5 @@
 -- What is asked within bounds is asked of units that are known.
-use Rattle.std.proofs.Common.{◌≡◌, Bool, true, List, [], ◌++◌, refl, sym, subst}
+use Rattle.std.proofs.Common.{◌≡◌, Bool, true, List, [], refl, sym, subst}
 use Rattle.al_base.specs.declared.unit_key.UnitKey.{UnitKey}
 use Rattle.al_query.specs.Asked.{AsksOf, OfKnown}
 use Rattle.al_query.specs.Known.{AreAmong, AreKnown, Grounded, has_unit, known_after}

@@ -1,5 +1,5 @@
 -- Views that every table shows which agrees with a log were shown by its recorded answers.
-use Rattle.std.proofs.Common.{◌≡◌, Bool, true, false, ◌⊎◌, inl, inr, List, [], ◌∷◌, map, refl, sym, subst, if◌then◌else◌}
+use Rattle.std.proofs.Common.{◌≡◌, Bool, true, false, inl, inr, List, [], ◌∷◌, map, sym, subst, if◌then◌else◌}
 use Rattle.std.specs.List.{Contains, flat_map}
 use Rattle.al_base.specs.declared.unit_key.UnitKey.{UnitKey}
 use Rattle.al_graph.proofs.Members.{first, first_or_later, from_flat_map, into_flat_map, later, nowhere, the_one}

@@ -1,5 +1,3 @@
-use Rattle.std.proofs.Common.{◌≡◌, ◌∙◌, sym, subst}
-use Rattle.al_query.specs.Reads.{Agrees, Table}
 use Rattle.al_bounded.specs.Bounding.{bounded}
 use Rattle.al_within.proofs.checking.found_within.Goals as goal
 
