@@ -44,9 +44,6 @@ private_made {H} R h entered so_far done p goes entered_is is =
     ∙ moved h entered so_far (declarations_walked R entered p.declarations) goes
     ∙ ap (λ (k : H). part_behind (giving h so_far) (declarations_walked R k p.declarations)) entered_is
 
-pub private_stops : {H : Type 0} (R : Reading H) (h : H) (so_far : Part) (p : PrivatePartTree) → is_some so_far.faults.end ≡ true → giving h so_far ≡ part_behind (giving h so_far) (private_walked R h (Some p))
-private_stops R h so_far p ended = rw ended refl
-
 pub no_private : {H : Type 0} (R : Reading H) (h : H) (so_far : Part) → giving h so_far ≡ part_behind (giving h so_far) (private_walked R h None)
 no_private R h so_far = sym (last_part h so_far)
 
