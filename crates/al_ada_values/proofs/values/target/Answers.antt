@@ -1,0 +1,18 @@
+use Rattle.std.proofs.Common.{ℕ, ap, ◌∙◌}
+use Rattle.al_tree.specs.ExpressionViews.{expression_seen}
+use Rattle.al_values_at.specs.ValuesAt.{target_at}
+use Rattle.al_values_at.specs.Surroundings.{Surroundings}
+use Rattle.al_ada_values.specs.ValuesHere.{surroundings}
+use Rattle.al_ada_values.proofs.Composed.{worded-is}
+use Rattle.al_ada_values.proofs.values.target.Goals as goal
+
+pub returns-clause-told : goal.returns-clause-told
+returns-clause-told g c t h =
+    let told = c.in_ok-judged.ensures.told t h in
+    let standing = c.args.standing.now in (
+      told.0,
+      worded-is standing c.set_word.new.self c.target_at.new.word _ _ c.set_word.ensures
+          (told.1
+          ∙ ap (λ (s : Surroundings). target_at t s (expression_seen c.args.expression.now) c.word-word.result) c.site.ensures
+          ∙ ap (λ (w : ℕ). target_at t (surroundings standing) (expression_seen c.args.expression.now) w) c.word-word.ensures),
+    )
