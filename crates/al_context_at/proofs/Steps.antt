@@ -1,8 +1,7 @@
 -- One unit, one name and one item more.
-use Rattle.std.proofs.Common.{◌≡◌, ℕ, ◌+◌, ◌<◌, List, [], ◌∷◌, ◌++◌, Option, Some, None, Result, Ok, Err, map, drop, length, get_or, refl, sym, ◌∙◌, ap}
+use Rattle.std.proofs.Common.{◌≡◌, ℕ, ◌+◌, ◌<◌, List, ◌∷◌, ◌++◌, Option, Some, None, Result, Ok, Err, map, drop, length, get_or, sym, ◌∙◌, ap}
 use Rattle.std.specs.Prelude.{IfOk, fold}
 use Rattle.std.proofs.lemmas.List.{at_drop_more}
-use Rattle.al_base.specs.declared.unit_key.UnitKey.{UnitKey}
 use Rattle.al_judged.specs.Judging.{fault_in, next, seen_by, unless}
 use Rattle.al_judged.specs.declared.fault.Fault.{Fault}
 use Rattle.al_query.specs.Reads.{Table}

@@ -4,7 +4,6 @@ use Rattle.std.specs.Prelude.{IfOk}
 use Rattle.std.proofs.lemmas.List.{at_drop_more}
 use Rattle.al_base.specs.declared.place.Place.{Place as TextPlace}
 use Rattle.al_base.specs.declared.unit_key.UnitKey.{UnitKey}
-use Rattle.al_grammar.specs.Grammar.{Label}
 use Rattle.al_judged.specs.Judging.{fault_in, next}
 use Rattle.al_judged.specs.declared.fault.Fault.{Fault}
 use Rattle.al_keys.specs.Keys.{Denotations, dotted}

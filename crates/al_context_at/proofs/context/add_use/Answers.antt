@@ -1,4 +1,4 @@
-use Rattle.std.proofs.Common.{◌∙◌, Option, Ok, ap}
+use Rattle.std.proofs.Common.{◌∙◌, ap}
 use Rattle.al_tree.specs.DeclarationViews.{use_seen}
 use Rattle.al_base.specs.declared.unit_key.UnitKey.{UnitKey}
 use Rattle.std.proofs.Common.{List, Result}

@@ -1,9 +1,8 @@
-use Rattle.std.proofs.Common.{◌≡◌, ◌∙◌, ◌<◌, [], ℕ, List, length, drop, map, ap, sym, subst, refl, arith}
+use Rattle.std.proofs.Common.{◌≡◌, ◌∙◌, ◌<◌, [], ℕ, List, drop, map, ap, sym, subst, arith}
 use Rattle.std.proofs.lemmas.List.{drop_all}
 use Rattle.al_tree.specs.UnitViews.{context_seen}
 use Rattle.al_tree.specs.declared.unit.ContextItem.{ContextItem}
 use Rattle.al_context_at.specs.Contexts.{with_items}
-use Rattle.al_context_at.specs.declared.context.Context.{Context}
 use Rattle.al_context_at.proofs.Steps.{items-fault, items-more}
 use Rattle.al_context_at.proofs.context.context_at.Goals as goal
 

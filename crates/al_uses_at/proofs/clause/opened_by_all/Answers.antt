@@ -1,4 +1,4 @@
-use Rattle.std.proofs.Common.{◌≡◌, ◌∙◌, List, map, ap, sym}
+use Rattle.std.proofs.Common.{◌∙◌, List, map, ap}
 use Rattle.al_tree.specs.DeclarationViews.{compound_seen}
 use Rattle.al_tree.specs.declared.names.CompoundName.{CompoundName}
 use Rattle.al_uses_at.specs.UsesAt.{added, opened_from, uses_at}

@@ -1,6 +1,5 @@
-use Rattle.std.proofs.Common.{◌≡◌, ◌∙◌, [], ℕ, List, Option, map, drop, ap, sym, arith}
+use Rattle.std.proofs.Common.{◌≡◌, ◌∙◌, [], ℕ, List, map, drop, ap, sym, arith}
 use Rattle.std.proofs.lemmas.List.{drop_all}
-use Rattle.al_judged.specs.declared.fault.Fault.{Fault}
 use Rattle.al_keys.specs.Keys.{denoted, dotted}
 use Rattle.al_tree.specs.Lexemes.{identifier_label}
 use Rattle.al_tree.specs.declared.names.Identifier.{Identifier}
