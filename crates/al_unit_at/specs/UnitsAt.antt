@@ -1,6 +1,6 @@
 -- How the check of a unit begins: what its text says of its place, the place, what waits there, and whether its name is taken (ARM 10.1, 10.2), told from
 -- answers.
-use Rattle.std.specs.Prelude.{ℕ, Bool, true, false, ◌&&◌, ◌||◌, List, [], ◌∷◌, ◌++◌, codes, not, Option, Some, None, Result, Ok, if◌then◌else◌}
+use Rattle.std.specs.Prelude.{ℕ, Bool, true, false, ◌&&◌, ◌||◌, List, [], ◌∷◌, not, Option, Some, None, Result, Ok, if◌then◌else◌}
 use Rattle.std.specs.Option.{is_none, option_map, unwrap_or}
 use Rattle.al_base.specs.Rules.{number_of}
 use Rattle.al_base.specs.declared.rule.Rule.TheVariants.{Duplicate}

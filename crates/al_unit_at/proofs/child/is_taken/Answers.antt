@@ -1,5 +1,4 @@
 use Rattle.std.proofs.Common.{◌∙◌, ℕ, List, Option, Some, None, ap}
-use Rattle.al_unit_graph.specs.Names as names
 use Rattle.al_unit_at.specs.Subunits.{last_of}
 use Rattle.al_unit_at.specs.UnitsAt.{taken_in}
 use Rattle.al_unit_at.proofs.Steps.{if_ok}

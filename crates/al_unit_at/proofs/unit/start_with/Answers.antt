@@ -1,11 +1,10 @@
-use Rattle.std.proofs.Common.{◌∙◌, List, Option, ap}
+use Rattle.std.proofs.Common.{◌∙◌, List, ap}
 use Rattle.al_base.specs.declared.unit_key.UnitKey.{UnitKey}
 use Rattle.al_declared.specs.declared.progress.Progress.{Progress}
 use Rattle.al_query.specs.declared.answer.Completion.{Completion}
 use Rattle.al_scope.specs.Places.{Place}
 use Rattle.al_tree.specs.UnitViews.{library_item_seen}
 use Rattle.al_unit_place.specs.declared.own.OwnText.{OwnText}
-use Rattle.al_view.specs.declared.view.ViewKind.{ViewKind}
 use Rattle.al_unit_at.specs.UnitsAt.{depth_of, own_text, own_view, place_at, progress_at}
 use Rattle.al_unit_at.specs.declared.unit.UnitStart.{UnitStart}
 use Rattle.al_unit_at.proofs.unit.start_with.Goals as goal
