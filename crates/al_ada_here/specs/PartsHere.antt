@@ -1,7 +1,9 @@
 -- Parts of a unit, its stubs and its use clauses (ARM 7.1, 8.4, 10.1.3).
-use Rattle.std.specs.Prelude.{ℕ, List, [], ◌∷◌, ◌++◌, fold, length, if◌then◌else◌}
+use Rattle.std.specs.Prelude.{ℕ, List, [], ◌∷◌, ◌++◌, None, codes, fold, length, if◌then◌else◌}
 use Rattle.al_outcome.specs.declared.interface.StubDeclarations.{StubDeclarations}
 use Rattle.al_query.specs.declared.answer.UseClause.{UseClause}
+use Rattle.al_subprogram.specs.Subprograms.{subprogram_view}
+use Rattle.al_subprogram.specs.declared.heading.Heading.{Heading}
 use Rattle.al_view.specs.Interfaces.{with_view}
 use Rattle.al_view.specs.Named.{Declarations}
 use Rattle.al_view.specs.declared.part.Part.TheVariants as part
@@ -27,11 +29,19 @@ with_views told named = fold (λ (d : Declarations) (v : ViewKind). with_view d 
 abbrev pub told_again : Declarations → Declarations
 told_again declared = fold with_views [] declared
 
-abbrev pub stub_here : Standing → List ℕ → Symbol → StubDeclarations
-stub_here h name symbol = record { stub = name; symbol = symbol; before = told_again h.here.declared }
+-- the stub's own subprogram; whether that is elaborated is of no account in its body
+abbrev pub stub_view : Standing → Heading → Symbol → ViewKind
+stub_view h head symbol = subprogram_view symbol h.here.progress.depth None head
 
-abbrev pub with_stub : Standing → List ℕ → Symbol → Standing
-with_stub h name symbol = record h { stubs = h.stubs ++ stub_here h name symbol ∷ [] }
+-- that subprogram is told beside it, under the reserved word, which no text can name: there a subunit finds what it completes
+abbrev pub before_stub : Standing → Heading → Symbol → Declarations
+before_stub h head symbol = with_view (told_again h.here.declared) (codes "separate") (stub_view h head symbol)
+
+abbrev pub stub_here : Standing → Heading → Symbol → StubDeclarations
+stub_here h head symbol = record { stub = head.name.name; symbol = symbol; before = before_stub h head symbol }
+
+abbrev pub with_stub : Standing → Heading → Symbol → Standing
+with_stub h head symbol = record h { stubs = h.stubs ++ stub_here h head symbol ∷ [] }
 
 -- ---- use clauses that stand immediately in a part
 

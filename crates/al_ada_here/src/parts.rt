@@ -2,12 +2,13 @@
 ghost use Rattle.std.specs.Prelude.{◌≡◌, ◌<◌, ℕ, List, Some, fold, length, slice_get, IfOk, OnOk};
 ghost use Rattle.al_view.specs.Interfaces.{with_view};
 ghost use Rattle.al_view.specs.declared.view.ViewKind.{ViewKind};
-ghost use Rattle.al_ada_here.specs.PartsHere.{in_statements, private_begun, stub_here, told_again, use_here, with_stub, with_use, with_uses, with_views};
+ghost use Rattle.al_ada_here.specs.PartsHere.{before_stub, in_statements, private_begun, stub_here, stub_view, told_again, use_here, with_stub, with_use, with_uses, with_views};
 
 use crate::standing::{Standing, UseHere};
 use al_base::{Name, NoMemory};
 use al_outcome::StubDeclarations;
 use al_query::UseClause;
+use al_subprogram::{Heading, subprogram_view};
 use al_view::{Interface, Part, Symbol, View, copied_unit};
 use std::alloc::Global;
 use std::mem;
@@ -68,17 +69,46 @@ pub fn copied_interface(alloc: Global, declared: &Interface) -> Result<Interface
     Ok(told)
 }
 
+/// The subprogram that a stub with that head stands for.
+fn stub_view(
+    alloc: Global,
+    standing: &Standing,
+    heading: &Heading,
+    symbol: &Symbol,
+) -> Result<View, NoMemory>
+    ensures { IfOk result (λ view. view ≡ stub_view standing.now heading.now symbol.now) }
+{
+    let standard = &standing.unit.labeller.predefined.standard;
+    let depth = standing.here.progress.depth;
+    subprogram_view(alloc, standard, symbol, depth, None, heading)
+}
+
+/// What stands before a stub, and its own subprogram under the reserved word `separate`, which no text can name: there a subunit finds what it completes.
+fn before_stub(
+    alloc: Global,
+    standing: &Standing,
+    heading: &Heading,
+    symbol: &Symbol,
+) -> Result<Interface, NoMemory>
+    ensures { IfOk result (λ before. before ≡ before_stub standing.now heading.now symbol.now) }
+{
+    let mut before = copied_interface(alloc, &standing.here.declared)?;
+    let view = stub_view(alloc, standing, heading, symbol)?;
+    before.declare(b"separate", view)?;
+    Ok(before)
+}
+
 fn stub_here(
     alloc: Global,
     standing: &Standing,
-    name: &[u8],
+    heading: &Heading,
     symbol: &Symbol,
 ) -> Result<StubDeclarations, NoMemory>
-    ensures { IfOk result (λ stub. stub ≡ stub_here standing.now name.now symbol.now) }
+    ensures { IfOk result (λ stub. stub ≡ stub_here standing.now heading.now symbol.now) }
 {
-    let before = copied_interface(alloc, &standing.here.declared)?;
+    let before = before_stub(alloc, standing, heading, symbol)?;
     let symbol = symbol.copy(alloc)?;
-    let stub = Name::from_slice(alloc, name)?;
+    let stub = Name::from_slice(alloc, heading.name.name.as_slice())?;
     Ok(StubDeclarations {
         stub,
         symbol,
@@ -86,16 +116,16 @@ fn stub_here(
     })
 }
 
-/// A stub stands here (ARM 10.1.3).
+/// A stub with that head stands here (ARM 10.1.3).
 pub fn add_stub(
     alloc: Global,
     standing: &mut Standing,
-    name: &[u8],
+    heading: &Heading,
     symbol: &Symbol,
 ) -> Result<(), NoMemory>
-    ensures { OnOk result (standing.new ≡ with_stub standing.old name.now symbol.now) }
+    ensures { OnOk result (standing.new ≡ with_stub standing.old heading.now symbol.now) }
 {
-    let stub = stub_here(alloc, standing, name, symbol)?;
+    let stub = stub_here(alloc, standing, heading, symbol)?;
     standing.stubs.push(stub)?;
     Ok(())
 }
