@@ -1,5 +1,5 @@
 -- Parts that are read one after another.
-use Rattle.std.proofs.Common.{◌≡◌, ℕ, suc, ◌+◌, ◌<◌, ◌≤◌, List, [], ◌∷◌, map, length, get_or, drop, Option, refl, sym, ap, ◌∙◌, add-one, arith}
+use Rattle.std.proofs.Common.{◌≡◌, ℕ, suc, ◌+◌, ◌<◌, ◌≤◌, List, ◌∷◌, map, length, get_or, drop, Option, sym, ap, ◌∙◌, add-one}
 use Rattle.std.proofs.Math.Seq.{drop-cons}
 use Rattle.std.proofs.lemmas.List.{drop_all}
 use Rattle.al_choice.specs.Labelling.{Label}
@@ -11,7 +11,7 @@ use Rattle.al_typed.specs.ExpressionTrees.{ActualTree, ValueTree}
 use Rattle.al_view.specs.declared.symbol.Symbol.{Symbol}
 use Rattle.al_view.specs.declared.types.TypeView.{TypeView}
 use Rattle.al_view.specs.declared.view.SubprogramView.{SubprogramView}
-use Rattle.al_nodes.specs.Gathering.{Parts, no_parts}
+use Rattle.al_nodes.specs.Gathering.{Parts}
 use Rattle.al_nodes.specs.Names.{is_variable}
 use Rattle.al_label.specs.Readings.{actuals_read, reading, values_read}
 use Rattle.al_told.specs.Leaves.{actual_read, component_read}

@@ -1,5 +1,5 @@
 -- Pairs of bounds by what their bounds are.
-use Rattle.std.proofs.Common.{◌≡◌, List, Result, Option, sym, ap, ◌∙◌}
+use Rattle.std.proofs.Common.{◌≡◌, List, Result, Option, ap, ◌∙◌}
 use Rattle.al_choice.specs.Labelling.{Label}
 use Rattle.al_judged.specs.Judging.{both, seen_by}
 use Rattle.al_judged.specs.declared.fault.Fault.{Fault}

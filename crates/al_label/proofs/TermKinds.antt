@@ -1,5 +1,5 @@
 -- What terms of each kind are by what their operands are.
-use Rattle.std.proofs.Common.{◌≡◌, ℕ, ◌≤◌, Bool, List, [], ◌∷◌, map, length, Result, IfOk, Option, refl, sym, ap, subst, ◌∙◌, arith, Vec, Box, Global}
+use Rattle.std.proofs.Common.{◌≡◌, ℕ, ◌≤◌, Bool, List, [], ◌∷◌, map, length, Result, Ok, Err, IfOk, Option, sym, ap, subst, ◌∙◌, arith, Vec, Box, Global}
 use Rattle.al_base.specs.declared.place.Place.{Place}
 use Rattle.al_choice.specs.Labelling.{Label}
 use Rattle.al_judged.specs.Judging.{seen_by}
@@ -31,6 +31,16 @@ use Rattle.al_label.specs.Readings.{index_read, member_read, operand_read, readi
 -- a fact of what was read, by an equation
 pub read_by : {E : Type 0} (r : Result Reading E) (a b : ReadingTree) → a ≡ b → IfOk r (λ (x : Reading). reading_seen x ≡ a) → IfOk r (λ (x : Reading). reading_seen x ≡ b)
 read_by r a b e h = let P : ReadingTree → Type 0 = λ z. IfOk r (λ (x : Reading). reading_seen x ≡ z) in subst P e h
+
+-- the same of what is on the heap
+pub kept_by : {E : Type 0} (r : Result (Box Reading Global) E) (a b : ReadingTree) → a ≡ b → IfOk r (λ (x : Box Reading Global). reading_seen x.value ≡ a) → IfOk r (λ (x : Box Reading Global). reading_seen x.value ≡ b)
+kept_by r a b e h = let P : ReadingTree → Type 0 = λ z. IfOk r (λ (x : Box Reading Global). reading_seen x.value ≡ z) in subst P e h
+
+-- what is known of a reading is known of it on the heap
+pub kept_is : {D E : Type 0} (a : ReadingTree) (made : Result Reading D) (r : Result (Box Reading Global) E) → IfOk made (λ (x : Reading). reading_seen x ≡ a)
+    → IfOk r (λ (b : Box Reading Global). made ≡ Ok b.value) → IfOk r (λ (b : Box Reading Global). reading_seen b.value ≡ a)
+kept_is {D} a made (Ok b) h e = let P : Result Reading D → Type 0 = λ m. IfOk m (λ (x : Reading). reading_seen x ≡ a) in subst P e h
+kept_is a made (Err k) h e = tt
 
 -- a fact of a call, by an equation
 pub call_by : {E : Type 0} (r : Result (Result TypedCall Fault) E) (a b : Result CallTree Fault) → a ≡ b → IfOk r (λ (x : Result TypedCall Fault). seen_by call_seen x ≡ a) → IfOk r (λ (x : Result TypedCall Fault). seen_by call_seen x ≡ b)

@@ -1,5 +1,5 @@
 -- Whole terms whose operands are read one after another.
-use Rattle.std.proofs.Common.{◌≡◌, ℕ, Bool, ◌&&◌, List, map, Result, Ok, Err, IfOk, Option, Some, refl, sym, ap, subst, ◌∙◌, Vec, Box, Global}
+use Rattle.std.proofs.Common.{◌≡◌, Bool, ◌&&◌, List, map, Result, Ok, Err, IfOk, Option, Some, refl, sym, ap, subst, ◌∙◌, Vec, Box, Global}
 use Rattle.al_base.specs.declared.place.Place.{Place}
 use Rattle.al_base.specs.declared.refusal.NoMemory.{NoMemory}
 use Rattle.al_choice.specs.Labelling.{Label}
@@ -14,11 +14,13 @@ use Rattle.al_typed.specs.declared.label.ShortCircuit.{ShortCircuit as ShortCirc
 use Rattle.al_view.specs.declared.symbol.Symbol.{Symbol}
 use Rattle.al_view.specs.declared.types.TypeView.{TypeView}
 use Rattle.al_view.specs.declared.view.ObjectView.{ObjectView}
+use Rattle.al_view.specs.declared.view.SubprogramView.{SubprogramView}
 use Rattle.al_view.specs.declared.view.ViewKind.{ViewKind}
 use Rattle.al_heads.specs.Parts.{declared_under, part_of}
 use Rattle.al_heads.specs.Universal.{computes_two, is_universal}
 use Rattle.al_heads.specs.declared.everywhere.Predefined.{Predefined}
 use Rattle.al_heads.specs.declared.part.Nominal.{Nominal}
+use Rattle.al_nodes.specs.Calls.{call_node}
 use Rattle.al_nodes.specs.Gathering.{no_parts}
 use Rattle.al_nodes.specs.Names.{object_node}
 use Rattle.al_nodes.specs.Nodes.{ReadingTree, membership_node}
@@ -26,7 +28,7 @@ use Rattle.al_nodes.specs.Operators.{Signature, binary_node, binary_signature, s
 use Rattle.al_nodes.specs.Views.{reading_seen}
 use Rattle.al_nodes.specs.declared.node.Reading.{Reading}
 use Rattle.al_told.specs.Leaves.{Application, application, applied_node, indexed_node, signed}
-use Rattle.al_told.specs.Leaves.Application.{ElementOf, ElementOfPart}
+use Rattle.al_told.specs.Leaves.Application.{CallOf, ElementOf, ElementOfPart}
 use Rattle.al_told.specs.Told.{test_type, types_in}
 use Rattle.al_label.specs.Pairs.{together}
 use Rattle.al_label.specs.Readings.{actuals_read, index_read, operand_read, range_member_read, reading}
@@ -65,16 +67,21 @@ infix_is p own operator visible left right label types at place n s a b here num
     ∙ ap (λ (q : Place). infix_by p own q operator left right label s) here
     ∙ ap (signed (first_place left) (infix_by p own (first_place left) operator left right label)) (found ∙ ap (λ (c : Bool). binary_signature p operator visible c label types at) numbers)
 
-pub infix_seen : {E : Type 0} (p : Predefined) (own : Option Symbol) (term : Term) (operator : BinaryOperator) (visible : List ViewKind) (left right : Box Term Global) (label : Label) (types : List TypeView) (at : Symbol) (place : Place) (n : Bool) (s : Signature) (a b : ReadingTree) (r : Result Reading E)
-    → term ≡ Infix operator visible left right → place ≡ first_place (term_seen left.value)
-    → n ≡ (computes_two operator && (is_universal (term_seen left.value) && is_universal (term_seen right.value))) → Some s ≡ binary_signature p operator visible n label types at
-    → a ≡ operand_read p own place 0 (term_seen left.value) label s.types s.left → b ≡ operand_read p own place 1 (term_seen right.value) label s.types s.right
-    → IfOk r (λ (x : Reading). reading_seen x ≡ binary_node p.root place operator s a b)
-    → IfOk r (λ (x : Reading). reading_seen x ≡ reading p own (term_seen term) label types at)
-infix_seen p own term operator visible left right label types at place n s a b r is here numbers found first second made =
-    read_by r (binary_node p.root place operator s a b) (reading p own (term_seen term) label types at)
-    (infix_is p own operator visible (term_seen left.value) (term_seen right.value) label types at place n s a b here numbers found first second
-    ∙ ap (λ (x : TermTree). reading p own x label types at) (sym (ap term_seen is ∙ infix_made operator visible left right))) made
+pub infix_seen : (p : Predefined) (own : Option Symbol) (term : Term) (operator : BinaryOperator) (visible : List ViewKind) (left right : Box Term Global) (label : Label) (types : List TypeView) (at : Symbol) (vs : List ViewKind) (k l m n o : Term) (place : Place) (s : Signature) (a b : ReadingTree)
+    → term ≡ Infix operator visible left right → vs ≡ visible → k ≡ left.value → l ≡ left.value → m ≡ right.value → n ≡ left.value → o ≡ right.value
+    → place ≡ first_place (term_seen k)
+    → Some s ≡ binary_signature p operator vs (computes_two operator && (is_universal (term_seen l) && is_universal (term_seen m))) label types at
+    → a ≡ operand_read p own place 0 (term_seen n) label s.types s.left → b ≡ operand_read p own place 1 (term_seen o) label s.types s.right
+    → binary_node p.root place operator s a b ≡ reading p own (term_seen term) label types at
+infix_seen p own term operator visible left right label types at vs k l m n o place s a b is views begins one two first_is second_is here found first second =
+    infix_is p own operator visible (term_seen left.value) (term_seen right.value) label types at place (computes_two operator && (is_universal (term_seen left.value) && is_universal (term_seen right.value))) s a b
+    (here ∙ ap (λ (x : Term). first_place (term_seen x)) begins) refl
+    (found ∙ ap (λ (x : Term). binary_signature p operator vs (computes_two operator && (is_universal (term_seen x) && is_universal (term_seen m))) label types at) one
+    ∙ ap (λ (x : Term). binary_signature p operator vs (computes_two operator && (is_universal (term_seen left.value) && is_universal (term_seen x))) label types at) two
+    ∙ ap (λ (x : List ViewKind). binary_signature p operator x (computes_two operator && (is_universal (term_seen left.value) && is_universal (term_seen right.value))) label types at) views)
+    (first ∙ ap (λ (x : Term). operand_read p own place 0 (term_seen x) label s.types s.left) first_is)
+    (second ∙ ap (λ (x : Term). operand_read p own place 1 (term_seen x) label s.types s.right) second_is)
+    ∙ ap (λ (x : TermTree). reading p own x label types at) (sym (ap term_seen is ∙ infix_made operator visible left right))
 
 -- ---- components
 
@@ -89,6 +96,20 @@ applied_seen : (p : Predefined) (own : Option Symbol) (term : Term) (name : Box 
 applied_seen p own term name arguments label types at a is found =
     ap (applied_by p own (term_seen name.value) (terms_of (map term_seen arguments.items)) label types at) found
     ∙ ap (λ (x : TermTree). reading p own x label types at) (sym (ap term_seen is ∙ applied_made name arguments))
+
+abbrev called_by : Predefined → Option Symbol → Place → SubprogramView → List Term → Label → ReadingTree
+called_by p own place s xs label = call_node p.root own place s (actuals_read p own s label 0 no_parts (terms_of (map term_seen xs)))
+
+pub applied_call_seen : {E : Type 0} (p : Predefined) (own : Option Symbol) (term : Term) (name : Box Term Global) (arguments : Vec Term Global) (xs : List Term) (label : Label) (types : List TypeView) (at : Symbol) (place : Place) (s : SubprogramView) (r : Result Reading E)
+    → term ≡ Applied name arguments → xs ≡ arguments.items → place ≡ first_place (term_seen name.value)
+    → CallOf s ≡ application (declared_under (term_seen name.value)) (part_of (term_seen name.value)) label
+    → IfOk r (λ (x : Reading). reading_seen x ≡ called_by p own place s xs label)
+    → IfOk r (λ (x : Reading). reading_seen x ≡ reading p own (term_seen term) label types at)
+applied_call_seen p own term name arguments xs label types at place s r is items here found made =
+    read_by r (called_by p own place s xs label) (reading p own (term_seen term) label types at)
+    (ap (λ (ys : List Term). called_by p own place s ys label) items
+    ∙ ap (λ (q : Place). called_by p own q s arguments.items label) here
+    ∙ applied_seen p own term name arguments label types at (CallOf s) is found) made
 
 abbrev element_by : Predefined → Option Symbol → Place → ObjectView → List Term → Label → ReadingTree → ReadingTree
 element_by p own place o xs label w = indexed_node p.root place o.types o.subtype.base w (λ index. index_read p own place 0 label o.types index (terms_of (map term_seen xs)))
@@ -105,6 +126,13 @@ element_seen p own term name arguments xs label types at place o w r is items he
     ∙ ap (λ (q : Place). element_by p own q o arguments.items label (object_node p.root q o)) here
     ∙ applied_seen p own term name arguments label types at (ElementOf o) is found) made
 
+-- the same by what the object's own node is
+pub object_element_is : {E : Type 0} (p : Predefined) (own : Option Symbol) (place : Place) (o : ObjectView) (xs : List Term) (label : Label) (w : ReadingTree) (r : Result Reading E)
+    → w ≡ object_node p.root place o → IfOk r (λ (x : Reading). reading_seen x ≡ element_by p own place o xs label w)
+    → IfOk r (λ (x : Reading). reading_seen x ≡ element_by p own place o xs label (object_node p.root place o))
+object_element_is p own place o xs label w r whole made =
+    read_by r (element_by p own place o xs label w) (element_by p own place o xs label (object_node p.root place o)) (ap (element_by p own place o xs label) whole) made
+
 abbrev part_element_by : Predefined → Option Symbol → Place → Nominal → List Term → Label → ReadingTree → ReadingTree
 part_element_by p own place q xs label w = indexed_node p.root place q.types q.subtype.base w (λ index. index_read p own place 1 label q.types index (terms_of (map term_seen xs)))
 
@@ -119,6 +147,15 @@ part_element_seen p own term name arguments xs label types at place q w r is ite
     ∙ ap (λ (ys : List Term). part_element_by p own place q ys label (operand_read p own place 0 (term_seen name.value) label types at)) items
     ∙ ap (λ (y : Place). part_element_by p own y q arguments.items label (operand_read p own y 0 (term_seen name.value) label types at)) here
     ∙ applied_seen p own term name arguments label types at (ElementOfPart q) is found) made
+
+abbrev indexed_by : Predefined → Option Symbol → Place → List TypeView → Symbol → List Term → Label → Reading → ReadingTree
+indexed_by p own place types of xs label w = indexed_node p.root place types of (reading_seen w) (λ index. index_read p own place 1 label types index (terms_of (map term_seen xs)))
+
+pub part_element_is : {E : Type 0} (p : Predefined) (own : Option Symbol) (place : Place) (types : List TypeView) (of : Symbol) (xs : List Term) (label : Label) (v w : Reading) (r : Result Reading E)
+    → v ≡ w → IfOk r (λ (x : Reading). reading_seen x ≡ indexed_by p own place types of xs label v)
+    → IfOk r (λ (x : Reading). reading_seen x ≡ indexed_by p own place types of xs label w)
+part_element_is p own place types of xs label v w r same made =
+    read_by r (indexed_by p own place types of xs label v) (indexed_by p own place types of xs label w) (ap (indexed_by p own place types of xs label) same) made
 
 -- ---- membership tests
 
@@ -147,17 +184,15 @@ abbrev shorted_by : Predefined → Option Symbol → Place → ShortCircuitKind 
 shorted_by p own place form left right label types =
     short_circuit_node p.root place types p.types.boolean.symbol form (operand_read p own place 0 left label types p.types.boolean.symbol) (operand_read p own place 1 right label types p.types.boolean.symbol)
 
-pub short_circuit_seen : {E : Type 0} (p : Predefined) (own : Option Symbol) (term : Term) (form : ShortCircuitKind) (left right : Box Term Global) (label : Label) (types : List TypeView) (at : Symbol) (place : Place) (a b : ReadingTree) (r : Result Reading E)
-    → term ≡ ShortCircuit form left right → place ≡ first_place (term_seen left.value)
-    → a ≡ operand_read p own place 0 (term_seen left.value) label types p.types.boolean.symbol → b ≡ operand_read p own place 1 (term_seen right.value) label types p.types.boolean.symbol
-    → IfOk r (λ (x : Reading). reading_seen x ≡ short_circuit_node p.root place types p.types.boolean.symbol form a b)
-    → IfOk r (λ (x : Reading). reading_seen x ≡ reading p own (term_seen term) label types at)
-short_circuit_seen p own term form left right label types at place a b r is here first second made =
-    read_by r (short_circuit_node p.root place types p.types.boolean.symbol form a b) (reading p own (term_seen term) label types at)
-    (ap (λ (x : ReadingTree). short_circuit_node p.root place types p.types.boolean.symbol form x b) first
-    ∙ ap (short_circuit_node p.root place types p.types.boolean.symbol form (operand_read p own place 0 (term_seen left.value) label types p.types.boolean.symbol)) second
-    ∙ ap (λ (q : Place). shorted_by p own q form (term_seen left.value) (term_seen right.value) label types) here
-    ∙ ap (λ (x : TermTree). reading p own x label types at) (sym (ap term_seen is ∙ short_circuit_made form left right))) made
+pub short_circuit_seen : (p : Predefined) (own : Option Symbol) (term : Term) (form : ShortCircuitKind) (left right : Box Term Global) (label : Label) (types : List TypeView) (at : Symbol) (k n o : Term) (place : Place) (a b : ReadingTree)
+    → term ≡ ShortCircuit form left right → k ≡ left.value → n ≡ left.value → o ≡ right.value → place ≡ first_place (term_seen k)
+    → a ≡ operand_read p own place 0 (term_seen n) label types p.types.boolean.symbol → b ≡ operand_read p own place 1 (term_seen o) label types p.types.boolean.symbol
+    → short_circuit_node p.root place types p.types.boolean.symbol form a b ≡ reading p own (term_seen term) label types at
+short_circuit_seen p own term form left right label types at k n o place a b is begins first_is second_is here first second =
+    ap (λ (x : ReadingTree). short_circuit_node p.root place types p.types.boolean.symbol form x b) (first ∙ ap (λ (x : Term). operand_read p own place 0 (term_seen x) label types p.types.boolean.symbol) first_is)
+    ∙ ap (short_circuit_node p.root place types p.types.boolean.symbol form (operand_read p own place 0 (term_seen left.value) label types p.types.boolean.symbol)) (second ∙ ap (λ (x : Term). operand_read p own place 1 (term_seen x) label types p.types.boolean.symbol) second_is)
+    ∙ ap (λ (q : Place). shorted_by p own q form (term_seen left.value) (term_seen right.value) label types) (here ∙ ap (λ (x : Term). first_place (term_seen x)) begins)
+    ∙ ap (λ (x : TermTree). reading p own x label types at) (sym (ap term_seen is ∙ short_circuit_made form left right))
 
 pub range_member_seen : {E : Type 0} (p : Predefined) (own : Option Symbol) (term : Term) (value : Box Term Global) (is_negated : Bool) (low high : Box Term Global) (label : Label) (types among : List TypeView) (at of : Symbol) (place : Place) (a b c : ReadingTree) (r : Result Reading E)
     → term ≡ RangeMember value is_negated low high → place ≡ first_place (term_seen value.value)

@@ -2,6 +2,7 @@
 #![tactic(auto)]
 
 mod context;
+mod made;
 mod meaning;
 mod pair;
 mod range;

@@ -5,12 +5,17 @@ ghost use Rattle.al_judged.specs.Judging.{seen_by};
 ghost use Rattle.al_term.specs.Terms.{TermTree as trees};
 ghost use Rattle.al_term.specs.TermViews.{term_seen, terms_of};
 ghost use Rattle.al_nodes.specs.Gathering.{no_parts};
-ghost use Rattle.al_label.specs.Readings.{actuals_read, conversion_read, index_read, member_read, operand_read, qualified_read, range_member_read, reading, short_circuit_read, values_read};
+ghost use Rattle.al_label.specs.Readings.{actuals_read, conversion_read, index_read, member_read, operand_read, qualified_read, reading, values_read};
 ghost use Rattle.al_told.specs.Leaves.{actual_read, component_read, indexed_node, inner};
 ghost use Rattle.al_term.specs.Places.{first_place};
-ghost use Rattle.al_nodes.specs.Names.{is_variable};
+ghost use Rattle.al_nodes.specs.Calls.{call_node};
+ghost use Rattle.al_nodes.specs.Names.{is_variable, object_node};
 ghost use Rattle.al_nodes.specs.Views.{actuals_seen, reading_seen, values_seen};
 
+use crate::made::{
+    binary_of, infix_signature, kept, kept_binary, kept_short_circuit, kept_unfit, membership_of,
+    read_bound, read_length, read_number, short_circuit_of, unfit,
+};
 use crate::meaning::{interpret_conversion, interpret_qualified, types_of_test};
 use crate::pair::together;
 use al_base::{NoMemory, Place};
@@ -24,12 +29,11 @@ use al_nodes::{
 use al_picks::{how_indexed, operand_label, range_in};
 use al_term::{Term, first_place};
 use al_told::{
-    Application, add_value, aggregate_reading, are_universal, argument_type, attribute_reading,
-    bound_reading, component_of_type, how_applied, in_mark_reading, is_computed, length_reading,
-    marked_reading, named_reading, others_reading,
+    Application, add_value, aggregate_reading, argument_type, attribute_reading, component_of_type,
+    how_applied, in_mark_reading, is_computed, marked_reading, named_reading, others_reading,
 };
-use al_typed::{BinaryOperator, Conversion, ShortCircuit, UnaryOperator};
-use al_view::{SubprogramView, SubtypeView, Symbol, Types, View};
+use al_typed::{Conversion, UnaryOperator};
+use al_view::{ObjectView, SubprogramView, SubtypeView, Symbol, Types, View};
 
 /// What a term is with its labelling, where it stands at this type among these.
 #[cycle(reading)]
@@ -44,8 +48,8 @@ pub(crate) fn read(
     ensures { IfOk result (λ r. reading_seen r ≡ reading labeller.now.predefined labeller.now.own (term_seen term.now) (label_of label.now) types.now at.now) }
 {
     match term {
-        Term::Number { place, value } => labeller.literal(*place, types, at, *value),
-        Term::Text { place, .. } => Ok(misfit(*place)),
+        Term::Number { place, value } => read_number(labeller, *place, types, at, *value),
+        Term::Text { place, .. } => unfit(*place),
         Term::Named { place, views } => {
             named_reading(labeller, *place, views.as_slice(), label, types, at)
         }
@@ -57,28 +61,25 @@ pub(crate) fn read(
             let arguments = arguments.as_slice();
             match how_applied(&labeller.predefined.standard, name, label) {
                 Application::CallOf(subprogram) => {
-                    let actuals = read_actuals(labeller, arguments, subprogram, label)?;
-                    labeller.call(place, subprogram, actuals)
+                    read_call(labeller, arguments, place, subprogram, label)
                 }
                 Application::ElementOf(object) => {
-                    let whole = labeller.object(place, object)?;
-                    let (types, of) = (&object.types, &object.subtype.base);
-                    read_element(labeller, arguments, place, 0, label, types, of, whole)
+                    read_object_element(labeller, arguments, place, object, label)
                 }
                 Application::ElementOfPart(subtype, part) => {
-                    let whole = read_operand(labeller, name, place, 0, label, types, at)?;
+                    let whole = read_kept(labeller, name, place, 0, label, types, at)?;
                     let of = &subtype.base;
-                    read_element(labeller, arguments, place, 1, label, part, of, whole)
+                    read_part_element(labeller, arguments, place, label, part, of, whole)
                 }
-                Application::Misapplied => Ok(misfit(place)),
+                Application::Misapplied => unfit(place),
             }
         }
         Term::Bound {
             place,
             subtype,
             is_last,
-        } => bound_reading(labeller, *place, subtype, *is_last),
-        Term::Length { place, bounds } => length_reading(labeller, *place, types, at, *bounds),
+        } => read_bound(labeller, *place, subtype, *is_last),
+        Term::Length { place, bounds } => read_length(labeller, *place, types, at, *bounds),
         Term::Conversion {
             place,
             subtype,
@@ -104,20 +105,16 @@ pub(crate) fn read(
             types,
             at,
         ),
-        Term::Image { place, .. } => Ok(misfit(*place)),
-        Term::Group { place, inner } => {
-            let inner = read(labeller, inner, label, types, at)?;
-            Ok(grouped(*place, inner))
-        }
+        Term::Image { place, .. } => unfit(*place),
+        Term::Group { place, inner } => read_group(labeller, *place, inner, label, types, at),
         Term::Aggregate { place, components } => {
-            let values = read_values(labeller, components.as_slice(), types, at, label)?;
-            aggregate_reading(labeller, *place, types, at, values)
+            read_aggregate(labeller, *place, components.as_slice(), label, types, at)
         }
         Term::Others { place, component } => {
             read_others(labeller, *place, component, label, types, at)
         }
-        Term::Nothing { place } => Ok(misfit(*place)),
-        Term::Concatenation { left, .. } => Ok(misfit(first_place(left))),
+        Term::Nothing { place } => unfit(*place),
+        Term::Concatenation { left, .. } => unfit(first_place(left)),
         Term::Prefixed {
             place,
             operator,
@@ -140,24 +137,24 @@ pub(crate) fn read(
             right,
         } => {
             let place = first_place(left);
-            let of_numbers = are_universal(*operator, left, right);
-            let views = views.as_slice();
-            let Some(of) = labeller.binary_signature(*operator, views, of_numbers, label, types, at)
-            else {
-                return Ok(misfit(place));
+            let visible = views.as_slice();
+            let Some(of) = infix_signature(
+                labeller, *operator, visible, left, right, label, types, at,
+            ) else {
+                return unfit(place);
             };
-            let first = read_operand(labeller, left, place, 0, label, of.types, of.left);
-            let second = read_operand(labeller, right, place, 1, label, of.types, of.right);
+            let first = read_kept(labeller, left, place, 0, label, of.types, of.left);
+            let second = read_kept(labeller, right, place, 1, label, of.types, of.right);
             let (first, second) = together(first, second)?;
-            labeller.binary(place, *operator, &of, first, second)
+            binary_of(labeller, place, *operator, &of, first, second)
         }
         Term::ShortCircuit { form, left, right } => {
             let place = first_place(left);
             let of = &labeller.predefined.types.boolean.symbol;
-            let first = read_operand(labeller, left, place, 0, label, types, of);
-            let second = read_operand(labeller, right, place, 1, label, types, of);
+            let first = read_kept(labeller, left, place, 0, label, types, of);
+            let second = read_kept(labeller, right, place, 1, label, types, of);
             let (first, second) = together(first, second)?;
-            labeller.short_circuit(place, types, *form, first, second)
+            short_circuit_of(labeller, place, types, *form, first, second)
         }
         Term::Member {
             value,
@@ -172,17 +169,183 @@ pub(crate) fn read(
         } => {
             let place = first_place(value);
             let (among, of) = types_of_test(labeller, value, low, high, label, types);
-            let value = read_operand(labeller, value, place, 0, label, among, of);
-            let low = read_operand(labeller, low, place, 1, label, among, of);
-            let high = read_operand(labeller, high, place, 2, label, among, of);
+            let value = read_kept(labeller, value, place, 0, label, among, of);
+            let low = read_kept(labeller, low, place, 1, label, among, of);
+            let high = read_kept(labeller, high, place, 2, label, among, of);
             let (value, (low, high)) = together(value, together(low, high))?;
-            labeller.membership(place, types, *is_negated, value, low, high)
+            membership_of(labeller, place, types, *is_negated, value, low, high)
         }
     }
 }
 
+/// The same on the heap. Chains of operators lean to the left: so each operator of one takes little of the stack.
+#[cycle(reading)]
+#[inline(never)]
+#[tactic(auto, using(al_nodes::proofs::TermsSeen::terms_made))]
+fn read_boxed(
+    labeller: &Labeller,
+    term: &Term,
+    label: &Labelled,
+    types: &Types,
+    at: &Symbol,
+) -> Result<Box<Reading>, NoMemory>
+    ensures { IfOk result (λ r. reading_seen r.value ≡ reading labeller.now.predefined labeller.now.own (term_seen term.now) (label_of label.now) types.now at.now) }
+{
+    match term {
+        Term::Infix {
+            operator,
+            views,
+            left,
+            right,
+        } => {
+            let place = first_place(left);
+            let visible = views.as_slice();
+            let Some(of) = infix_signature(
+                labeller, *operator, visible, left, right, label, types, at,
+            ) else {
+                return kept_unfit(labeller.alloc, place);
+            };
+            let first = read_kept(labeller, left, place, 0, label, of.types, of.left);
+            let second = read_kept(labeller, right, place, 1, label, of.types, of.right);
+            let (first, second) = together(first, second)?;
+            kept_binary(labeller, place, *operator, &of, first, second)
+        }
+        Term::ShortCircuit { form, left, right } => {
+            let place = first_place(left);
+            let of = &labeller.predefined.types.boolean.symbol;
+            let first = read_kept(labeller, left, place, 0, label, types, of);
+            let second = read_kept(labeller, right, place, 1, label, types, of);
+            let (first, second) = together(first, second)?;
+            kept_short_circuit(labeller, place, types, *form, first, second)
+        }
+        _ => read_other(labeller, term, label, types, at),
+    }
+}
+
+/// What is no chain, on the heap.
+#[cycle(reading)]
+#[inline(never)]
+fn read_other(
+    labeller: &Labeller,
+    term: &Term,
+    label: &Labelled,
+    types: &Types,
+    at: &Symbol,
+) -> Result<Box<Reading>, NoMemory>
+    ensures { IfOk result (λ r. reading_seen r.value ≡ reading labeller.now.predefined labeller.now.own (term_seen term.now) (label_of label.now) types.now at.now) }
+{
+    let reading = read(labeller, term, label, types, at);
+    kept(labeller.alloc, reading)
+}
+
+/// The operand of this position with its labelling, on the heap.
+#[cycle(reading)]
+#[inline(never)]
+fn read_kept(
+    labeller: &Labeller,
+    term: &Term,
+    place: Place,
+    position: usize,
+    label: &Labelled,
+    types: &Types,
+    at: &Symbol,
+) -> Result<Box<Reading>, NoMemory>
+    ensures { IfOk result (λ r. reading_seen r.value ≡ operand_read labeller.now.predefined labeller.now.own place position (term_seen term.now) (label_of label.now) types.now at.now) }
+{
+    match operand_label(label, position) {
+        Some(label) => read_boxed(labeller, term, label, types, at),
+        None => kept_unfit(labeller.alloc, place),
+    }
+}
+
+/// A call with its actual parameters.
+#[cycle(reading)]
+#[inline(never)]
+fn read_call(
+    labeller: &Labeller,
+    arguments: &[Term],
+    place: Place,
+    subprogram: &SubprogramView,
+    label: &Labelled,
+) -> Result<Reading, NoMemory>
+    ensures { IfOk result (λ r. reading_seen r ≡ call_node labeller.now.predefined.root labeller.now.own place subprogram.now (actuals_read labeller.now.predefined labeller.now.own subprogram.now (label_of label.now) 0 no_parts (terms_of (map term_seen arguments.now)))) }
+{
+    let actuals = read_actuals(labeller, arguments, subprogram, label)?;
+    labeller.call(place, subprogram, actuals)
+}
+
+/// A component of an object of an array type.
+#[cycle(reading)]
+#[inline(never)]
+fn read_object_element(
+    labeller: &Labeller,
+    arguments: &[Term],
+    place: Place,
+    object: &ObjectView,
+    label: &Labelled,
+) -> Result<Reading, NoMemory>
+    ensures { IfOk result (λ r. reading_seen r ≡ indexed_node labeller.now.predefined.root place object.now.types object.now.subtype.base (object_node labeller.now.predefined.root place object.now) (λ index. index_read labeller.now.predefined labeller.now.own place 0 (label_of label.now) object.now.types index (terms_of (map term_seen arguments.now)))) }
+{
+    let whole = labeller.object(place, object)?;
+    let (types, of) = (&object.types, &object.subtype.base);
+    read_element(labeller, arguments, place, 0, label, types, of, whole)
+}
+
+/// A component of a part of an object.
+#[cycle(reading)]
+#[inline(never)]
+fn read_part_element(
+    labeller: &Labeller,
+    arguments: &[Term],
+    place: Place,
+    label: &Labelled,
+    types: &Types,
+    of: &Symbol,
+    whole: Box<Reading>,
+) -> Result<Reading, NoMemory>
+    ensures { IfOk result (λ r. reading_seen r ≡ indexed_node labeller.now.predefined.root place types.now of.now (reading_seen whole.value) (λ index. index_read labeller.now.predefined labeller.now.own place 1 (label_of label.now) types.now index (terms_of (map term_seen arguments.now)))) }
+{
+    let whole = Box::into_inner(whole);
+    read_element(labeller, arguments, place, 1, label, types, of, whole)
+}
+
+/// What stands in parentheses.
+#[cycle(reading)]
+#[inline(never)]
+fn read_group(
+    labeller: &Labeller,
+    place: Place,
+    inner: &Term,
+    label: &Labelled,
+    types: &Types,
+    at: &Symbol,
+) -> Result<Reading, NoMemory>
+    ensures { IfOk result (λ r. reading_seen r ≡ reading labeller.now.predefined labeller.now.own (trees.GroupTerm place (term_seen inner.now)) (label_of label.now) types.now at.now) }
+{
+    let inner = read(labeller, inner, label, types, at)?;
+    Ok(grouped(place, inner))
+}
+
+/// An aggregate with a component for each place.
+#[cycle(reading)]
+#[inline(never)]
+fn read_aggregate(
+    labeller: &Labeller,
+    place: Place,
+    components: &[Term],
+    label: &Labelled,
+    types: &Types,
+    at: &Symbol,
+) -> Result<Reading, NoMemory>
+    ensures { IfOk result (λ r. reading_seen r ≡ reading labeller.now.predefined labeller.now.own (trees.AggregateTerm place (terms_of (map term_seen components.now))) (label_of label.now) types.now at.now) }
+{
+    let values = read_values(labeller, components, types, at, label)?;
+    aggregate_reading(labeller, place, types, at, values)
+}
+
 /// A component by its name of what stands before the dot.
 #[cycle(reading)]
+#[inline(never)]
 fn read_selected(
     labeller: &Labeller,
     prefix: &Term,
@@ -201,6 +364,7 @@ fn read_selected(
 
 /// A conversion to this subtype, whose operand is a context by itself.
 #[cycle(reading)]
+#[inline(never)]
 fn read_conversion(
     labeller: &Labeller,
     place: Place,
@@ -217,6 +381,7 @@ fn read_conversion(
 
 /// A qualified expression of this subtype, whose operand is a context by itself.
 #[cycle(reading)]
+#[inline(never)]
 fn read_qualified(
     labeller: &Labeller,
     place: Place,
@@ -233,6 +398,7 @@ fn read_qualified(
 
 /// `S'Pos (X)`, `S'Val (X)`, `S'Succ (X)` or `S'Pred (X)`.
 #[cycle(reading)]
+#[inline(never)]
 fn read_attribute(
     labeller: &Labeller,
     place: Place,
@@ -252,6 +418,7 @@ fn read_attribute(
 
 /// `(others => component)`
 #[cycle(reading)]
+#[inline(never)]
 fn read_others(
     labeller: &Labeller,
     place: Place,
@@ -272,6 +439,7 @@ fn read_others(
 
 /// An operator in front of its operand.
 #[cycle(reading)]
+#[inline(never)]
 fn read_prefixed(
     labeller: &Labeller,
     place: Place,
@@ -294,6 +462,7 @@ fn read_prefixed(
 
 /// `value [not] in subtype`
 #[cycle(reading)]
+#[inline(never)]
 fn read_member(
     labeller: &Labeller,
     value: &Term,

@@ -1,6 +1,6 @@
 use Rattle.std.proofs.Common.{◌≡◌, Result, sym, ap, ◌∙◌}
 use Rattle.al_choice.specs.Counts.{label_of}
-use Rattle.al_judged.specs.Judging.{both, seen_by}
+use Rattle.al_judged.specs.Judging.{seen_by}
 use Rattle.al_judged.specs.declared.fault.Fault.{Fault}
 use Rattle.al_term.specs.TermViews.{term_seen}
 use Rattle.al_typed.specs.ExpressionViews.{typed_seen}
@@ -9,7 +9,7 @@ use Rattle.al_nodes.proofs.Seen.{both_seen}
 use Rattle.al_nodes.specs.Nodes.{judged}
 use Rattle.al_nodes.specs.Views.{pair_seen as typed_pair_seen}
 use Rattle.al_told.specs.Seen.{told_seen}
-use Rattle.al_told.specs.Told.{TypeTold, pair_type, range_type}
+use Rattle.al_told.specs.Told.{TypeTold, pair_type}
 use Rattle.al_label.specs.Ranges.{bound_at, found_type, pair_of}
 use Rattle.al_label.specs.declared.range.FoundType.{FoundType}
 use Rattle.al_label.proofs.PairMade.{pair_is}
