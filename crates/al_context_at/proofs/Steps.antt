@@ -6,15 +6,10 @@ use Rattle.al_judged.specs.Judging.{fault_in, next, seen_by, unless}
 use Rattle.al_judged.specs.declared.fault.Fault.{Fault}
 use Rattle.al_query.specs.Reads.{Table}
 use Rattle.al_query.specs.declared.answer.UseClause.{UseClause}
-use Rattle.al_scope.specs.Places.{Place}
-use Rattle.al_scope.specs.declared.region.Region.{Region}
 use Rattle.al_tree.specs.UnitViews.{context_seen}
 use Rattle.al_tree.specs.declared.unit.ContextItem.{ContextItem}
-use Rattle.al_unit_place.specs.UnitPlaces.{with_clauses}
-use Rattle.al_view.specs.declared.view.ViewKind.{ViewKind}
 use Rattle.al_context_at.specs.Contexts.{more_uses, with_item, with_items, with_uses}
 use Rattle.al_context_at.specs.declared.context.Context.{Context}
-use Rattle.al_uses_at.specs.UsesAt.{used_in}
 
 pub first-of : {X : Type 0} (xs : List X) (i : ℕ) (x : X) → i < length xs → x ≡ get_or xs i x → drop i xs ≡ x ∷ drop (i + 1) xs
 first-of xs i x h e = at_drop_more (λ l. l) xs i x h ∙ ap (λ y. y ∷ drop (i + 1) xs) (sym e)
@@ -39,15 +34,13 @@ pub pair-is : {X Y : Type 0} (a b : X) (c d : Y) → a ≡ b → c ≡ d → ◌
 pair-is {X = X} {Y = Y} a b c d e f = ap (λ (x : X). let p : X × Y = (x, c) in p) e ∙ ap (λ (y : Y). let p : X × Y = (b, y) in p) f
 
 -- a use clause that was judged
-pub used-item : (c : Context) (scope : Place) (uses : List UseClause) (clauses : Result (List UseClause) Fault) (fault : Option Fault)
-    → scope.regions ≡ used_in clauses c.scope.regions → scope.mentioned ≡ c.scope.mentioned → uses ≡ more_uses c.uses clauses → fault ≡ fault_in clauses
-    → unless fault (Ok (record c { scope = scope; uses = uses })) ≡ seen_by (with_uses c) clauses
-used-item c scope uses (Ok cs) fault r m u f =
-    ap (λ (o : Option Fault). unless o (Ok (record c { scope = scope; uses = uses }))) f
-    ∙ ap (λ (rs : List Region). Ok (record c { scope = record scope { regions = rs }; uses = uses })) r
-    ∙ ap (λ (x : List UseClause). Ok (record c { scope = record scope { regions = with_clauses cs c.scope.regions }; uses = x })) u
-    ∙ ap (λ (ms : List (List ℕ × List ViewKind)). Ok (record c { scope = record scope { mentioned = ms; regions = with_clauses cs c.scope.regions }; uses = c.uses ++ cs })) m
-used-item c scope uses (Err g) fault r m u f = ap (λ (o : Option Fault). unless o (Ok (record c { scope = scope; uses = uses }))) f
+pub used-item : (c : Context) (uses : List UseClause) (clauses : Result (List UseClause) Fault) (fault : Option Fault)
+    → uses ≡ more_uses c.uses clauses → fault ≡ fault_in clauses
+    → unless fault (Ok (record c { uses = uses })) ≡ seen_by (with_uses c) clauses
+used-item c uses (Ok cs) fault u f =
+    ap (λ (o : Option Fault). unless o (Ok (record c { uses = uses }))) f
+    ∙ ap (λ (x : List UseClause). Ok (record c { uses = x })) u
+used-item c uses (Err g) fault u f = ap (λ (o : Option Fault). unless o (Ok (record c { uses = uses }))) f
 
 -- one item more
 items-step : (t : Table) (items : List ContextItem) (i : ℕ) (item : ContextItem) (c d : Context) (fault : Option Fault) → i < length items → item ≡ get_or items i item

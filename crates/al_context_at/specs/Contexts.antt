@@ -18,7 +18,7 @@ use Rattle.al_syntax.specs.DeclarationTrees.{CompoundNameTree}
 use Rattle.al_syntax.specs.UnitTrees.{ContextTree}
 use Rattle.al_syntax.specs.UnitTrees.ContextTree.{WithClause, ContextUse, ContextPragma}
 use Rattle.al_unit_graph.specs.Names.{lineage, parent_of}
-use Rattle.al_unit_place.specs.UnitPlaces.{is_package_view, with_clauses}
+use Rattle.al_unit_place.specs.UnitPlaces.{is_package_view}
 use Rattle.al_context_at.specs.ContextPragmas.{context_pragma_fault, full_name}
 use Rattle.al_uses_at.specs.UsesAt.{all_names, uses_at}
 use Rattle.al_context_at.specs.declared.context.Context.{Context}
@@ -83,8 +83,9 @@ with_named c name = record c { withs = c.withs ++ declaration name ∷ [] }
 abbrev pub withed : Table → Context → CompoundNameTree → Context
 withed t c n = with_named (fold (unit_mentioned t) c (lineage (full_name n))) (full_name n)
 
+-- what a use clause opens is opened in the unit, and not behind the clause in the context clause (ARM 8.4(6))
 abbrev pub with_uses : Context → List UseClause → Context
-with_uses c cs = record c { scope = record c.scope { regions = with_clauses cs c.scope.regions }; uses = c.uses ++ cs }
+with_uses c cs = record c { uses = c.uses ++ cs }
 
 abbrev pub more_uses : List UseClause → Result (List UseClause) Fault → List UseClause
 more_uses uses (Ok cs) = uses ++ cs

@@ -17,7 +17,7 @@ use al_query::{Answers, Recorder, UseClause};
 use al_scope::Scope;
 use al_tree::{CompoundName, CompoundNames, ContextItem};
 use al_unit_graph::{lineage, parent_of};
-use al_uses_at::use_at;
+use al_uses_at::uses_at;
 use al_view::{Row, View, copied_unit};
 use std::alloc::Global;
 
@@ -242,7 +242,7 @@ fn add_uses(
     }
 }
 
-/// A use clause.
+/// A use clause. What it opens is opened in the unit, and nowhere in the context clause (ARM 8.4(6)).
 fn add_use<A: Answers>(
     alloc: Global,
     context: &mut Context,
@@ -255,7 +255,7 @@ fn add_use<A: Answers>(
     ensures depth { length context.new.scope.regions ≡ length context.old.scope.regions }
 {
     let packages = context.packages.as_slice();
-    let clauses = use_at(alloc, &mut context.scope, packages, clause, recorder)?;
+    let clauses = uses_at(alloc, &context.scope, packages, clause, recorder)?;
     let fault = add_uses(alloc, &mut context.uses, clauses)?;
     Ok(fault)
 }
@@ -295,8 +295,8 @@ fn context_start(alloc: Global) -> Result<Context, NoMemory>
     })
 }
 
-/// What a context clause says: whom its with clauses name, and what its use clauses open. Each use clause and pragma sees what stands before it
-/// in the clause alone (ARM 8.4(6), 10.1.6, 10.2.1); the first that is faulty ends it.
+/// What a context clause says: whom its with clauses name, and what its use clauses open. Each use clause and pragma sees what the with clauses
+/// before it mention, and what is selected in that, alone (ARM 8.4(6), 10.1.6, 10.2.1); the first that is faulty ends it.
 pub fn context_at<A: Answers>(
     alloc: Global,
     items: &[ContextItem],

@@ -132,7 +132,7 @@ fn opened_from<A: Answers>(
 
 /// What a use clause opens at a place, where these packages are mentioned: E401 where a name isn't visible, E404 at what is no package, of a
 /// use type clause at what is no subtype (ARM 8.4(3, 4)).
-fn opened_by_all<A: Answers>(
+pub fn uses_at<A: Answers>(
     alloc: Global,
     scope: &Scope,
     packages: &[UnitKey],
@@ -191,7 +191,7 @@ pub fn use_at<A: Answers>(
     ensures depth { length scope.new.regions ≡ length scope.old.regions }
     ensures mentioned { scope.new.mentioned ≡ scope.old.mentioned }
 {
-    let clauses = opened_by_all(alloc, scope, packages, clause, recorder)?;
+    let clauses = uses_at(alloc, scope, packages, clause, recorder)?;
     use_judged(alloc, scope, &clauses)?;
     Ok(clauses)
 }

@@ -5,5 +5,5 @@ mod clause;
 mod opened_package;
 mod pragma;
 
-pub use clause::use_at;
+pub use clause::{use_at, uses_at};
 pub use pragma::{pragma_fault, unless_right};

@@ -16,6 +16,6 @@ returns-clause-told g c t h =
     let start = c.args.context.now in
     let packages = ap (λ (ps : List UnitKey). uses_at t start.scope ps (use_seen c.args.clause.now)) c.as_slice-packages.ensures in (
       told.0,
-      used-item start c.use_at.new.scope c.add_uses.new.uses c.in_ok-clauses.clauses c.in_ok-fault.fault c.in_ok-clauses.ensures.regions c.use_at.ensures.mentioned c.in_ok-fault.ensures.uses c.in_ok-fault.ensures.fault
+      used-item start c.add_uses.new.uses c.in_ok-clauses.clauses c.in_ok-fault.fault c.in_ok-fault.ensures.uses c.in_ok-fault.ensures.fault
           ∙ ap (λ (r : Result (List UseClause) Fault). seen_by (with_uses start) r) (told.1 ∙ packages),
     )

@@ -4,7 +4,7 @@ use Rattle.al_tree.specs.declared.names.CompoundName.{CompoundName}
 use Rattle.al_uses_at.specs.UsesAt.{added, opened_from, uses_at}
 use Rattle.al_query.specs.declared.answer.UseClause.{UseClause}
 use Rattle.al_uses_at.proofs.Steps.{opened-first, opened-wrong}
-use Rattle.al_uses_at.proofs.clause.opened_by_all.Goals as goal
+use Rattle.al_uses_at.proofs.clause.uses_at.Goals as goal
 
 pub returns-in-Some-clause-told : goal.returns-in-Some-clause-told
 unfolding uses_at
