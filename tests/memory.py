@@ -4,9 +4,12 @@
 Each session is run once for each growth, with that one refused (by refuse.c, built by the kit's clang and loaded before
 the program). It must then write what it always writes; or `refused 10 no-memory` to one put, rename, build, run, report
 of units or report of obsolete units that is not refused otherwise, and to all else what the session without that command
-writes; or, where the growth is outside the session, nothing, with exit status 1. Prints a line for each session, and last
-`N passed, M failed`.
+writes; or, where the growth is outside the session, nothing, with exit status 1. Those growths that come before the first
+command is read are the same in each session with the same words: they are refused in the session without a command alone. Prints
+a line for each session, and last `N passed, M failed`.
 """
+import concurrent.futures
+import os
 import pathlib
 import re
 import shutil
@@ -28,18 +31,27 @@ class Refuser:
 
     def __init__(self, program, folder):
         self.program = program
-        self.words = []
         self.shim = f"{folder}/refuse.so"
         clang = pathlib.Path(shutil.which("rt")).resolve().parents[1] / "toolchain/bin/clang"
         how = ["-shared", "-nostdlib", "-fPIC", "-O1", "-fuse-ld=lld"]
         subprocess.run([clang, *how, "-o", self.shim, TESTS / "refuse.c"], check=True)
 
-    def run(self, session, growth=0):
+    def growths_before(self, words):
+        """How many growths come before the first command is read: those of a session without a command."""
+        few, many = 0, 1
+        while self.run(b"", many, words)[1]:
+            few, many = many, 2 * many
+        while few + 1 < many:
+            middle = (few + many) // 2
+            few, many = (middle, many) if self.run(b"", middle, words)[1] else (few, middle)
+        return few
+
+    def run(self, session, growth=0, words=()):
         """The exit status, output and error output; and whether a growth was refused."""
         with tempfile.TemporaryFile() as told:
             env = {"LD_PRELOAD": self.shim, "REFUSE": str(growth), "TELL": str(told.fileno())}
             done = subprocess.run(
-                [self.program, *self.words],
+                [self.program, *words],
                 input=session,
                 capture_output=True,
                 env=env,
@@ -66,59 +78,57 @@ def may_lack_memory(command, reply):
     return command.startswith(WANT_MEMORY) and not reply.startswith(b"refused ")
 
 
-def replies_to(refuser, commands):
+def replies_to(refuser, words, commands):
     """The reply to each command, where no growth is refused."""
-    written = [refuser.run(b"".join(commands[:k]))[0][1] for k in range(len(commands) + 1)]
+    written = [refuser.run(b"".join(commands[:k]), 0, words)[0][1] for k in range(len(commands) + 1)]
     return [written[k + 1][len(written[k]) :] for k in range(len(commands))]
 
 
-def outcomes(refuser, session):
+def outcomes(refuser, words, session):
     """All that may come of a session where one growth is refused, each with a name."""
-    plain, _ = refuser.run(session)
+    plain, _ = refuser.run(session, 0, words)
     allowed = {(1, b"", b""): OUTSIDE, plain: UNSEEN}
     commands = list(commands_of(session))
-    for k, reply in enumerate(replies_to(refuser, commands)):
+    for k, reply in enumerate(replies_to(refuser, words, commands)):
         if may_lack_memory(commands[k], reply):
-            others = replies_to(refuser, commands[:k] + commands[k + 1 :])
+            others = replies_to(refuser, words, commands[:k] + commands[k + 1 :])
             others.insert(k, REFUSED)
             line = commands[k].split(b"\n")[0].decode()
             allowed.setdefault((plain[0], b"".join(others), plain[2]), f"at '{line[:20]}'")
     return allowed
 
 
-def sweep(refuser, name, count):
-    session = input_of(name)
-    refuser.words = words_of(name)
-    allowed = outcomes(refuser, session)
-    seen = {}
-    strange = []
-    growth = 1
-    got, refused = refuser.run(session, growth)
+def sweep(refuser, name):
+    """What is told of a session with each growth refused in turn, and whether all was as it may be."""
+    session, words = input_of(name), words_of(name)
+    allowed = outcomes(refuser, words, session)
+    seen, strange = {}, []
+    first = refuser.growths_before(words) + 1 if session else 1
+    growth = first
+    got, refused = refuser.run(session, growth, words)
     while refused:
         if got in allowed:
             seen[allowed[got]] = seen.get(allowed[got], 0) + 1
         else:
             strange.append((growth, got))
         growth += 1
-        got, refused = refuser.run(session, growth)
-    told = ", ".join(f"{times} {outcome}" for outcome, times in seen.items())
-    print(f"{name}: {growth - 1} growths refused: {told}")
-    for at, got in strange:
-        print(f"  failed at growth {at}: {got}")
-    if growth > 1 and not strange:
-        count.passed += 1
-    else:
-        count.failed += 1
+        got, refused = refuser.run(session, growth, words)
+    outcome = ", ".join(f"{times} {what}" for what, times in seen.items())
+    lines = [f"{name}: {growth - first} growths refused: {outcome}"]
+    lines += [f"  failed at growth {at}: {it}" for at, it in strange]
+    return lines, not strange and growth > 1
 
 
 def main():
     program = str(pathlib.Path(sys.argv[1]).resolve())
+    names = [it.stem for it in sorted(SESSIONS.glob("*.in")) if it.stat().st_size <= LONGEST]
     count = Count()
-    with tempfile.TemporaryDirectory() as folder:
+    with tempfile.TemporaryDirectory() as folder, concurrent.futures.ThreadPoolExecutor(os.cpu_count()) as pool:
         refuser = Refuser(program, folder)
-        for stored in sorted(SESSIONS.glob("*.in")):
-            if stored.stat().st_size <= LONGEST:
-                sweep(refuser, stored.stem, count)
+        for lines, passed in pool.map(lambda name: sweep(refuser, name), names):
+            print("\n".join(lines), flush=True)
+            count.passed += passed
+            count.failed += not passed
     print(f"{count.passed} passed, {count.failed} failed")
     return count.failed != 0
 
