@@ -1,0 +1,73 @@
+-- Declarations where the check of a unit stands (ARM 3.1, 6.1, 8.4), by a table of answers.
+use Rattle.std.specs.Prelude.{ℕ, Bool, ◌&&◌, List, [], Option, Some, None, Result, Ok, Err, if◌then◌else◌}
+use Rattle.al_ada_here.specs.BodiesHere.{first_line}
+use Rattle.al_ada_here.specs.Faulty.{effect_settled, ended}
+use Rattle.al_ada_here.specs.PartsHere.{with_uses}
+use Rattle.al_ada_here.specs.Stacks.{is_bare}
+use Rattle.al_ada_here.specs.Standings.{is_nowhere, with_here}
+use Rattle.al_ada_here.specs.declared.standing.Standing.{Standing}
+use Rattle.al_ada_parts.specs.AdaPartReading.{parts_read}
+use Rattle.al_ada_values.specs.ValuesHere.{not_yet_fault}
+use Rattle.al_base.specs.declared.unit_key.UnitKind.TheVariants.{Decl}
+use Rattle.al_decl_body.specs.Regions.{in_regions}
+use Rattle.al_decl_item.specs.Items.{object_checked, subtype_item_checked, type_checked}
+use Rattle.al_decl_subprogram.specs.Placing.{subprogram_checked}
+use Rattle.al_judged.specs.declared.fault.Fault.{Fault}
+use Rattle.al_part_reader.specs.PartReadings.{PartReading}
+use Rattle.al_query.specs.Reads.{Table}
+use Rattle.al_query.specs.declared.answer.UseClause.{UseClause}
+use Rattle.al_scope.specs.declared.region.Region.{Region}
+use Rattle.al_syntax.specs.DeclarationTrees.{CommonTree, PragmaTree, SpecificationTree, UseTree}
+use Rattle.al_syntax.specs.DeclarationTrees.CommonTree.{ObjectDeclaration, TypeDeclaration, SubtypeDeclaration, UseClause as UseItem, PragmaItem}
+use Rattle.al_typed.specs.DeclarationTrees.{DeclarationTree}
+use Rattle.al_uses_at.specs.Pragmas.{pragma_fault}
+use Rattle.al_uses_at.specs.UsesAt.{used_in, uses_at}
+use Rattle.al_view.specs.Symbols.{same_kind}
+use Rattle.al_walk.specs.Readings.{Read}
+
+-- what reads the parts of declarations there
+abbrev pub parts_here : Table → Standing → PartReading
+parts_here t h = parts_read t h.unit.packages h.unit.labeller.predefined h.unit.labeller.own
+
+abbrev pub with_regions : Standing → List Region → Standing
+with_regions h regions = with_here h (record h.here { scope = in_regions h.here.scope regions })
+
+-- ---- use clauses and pragmas, which declare nothing
+
+abbrev pub uses_settled : Standing → Result (List UseClause) Fault → Read Standing (List DeclarationTree)
+uses_settled h (Ok clauses) = (with_uses h clauses, Ok [])
+uses_settled h (Err f) = (ended h, Err f)
+
+abbrev pub uses_read : Standing → Result (List UseClause) Fault → Read Standing (List DeclarationTree)
+uses_read h clauses = uses_settled (with_regions h (used_in clauses h.here.scope.regions)) clauses
+
+-- the visible part of a package's declaration in which nothing is declared so far
+abbrev pub is_at_head : Standing → Bool
+is_at_head h = (h.unit.own.is_package && same_kind h.unit.own.unit.kind Decl) && (is_bare h.visible && is_bare h.here.declared)
+
+abbrev pub package_name : Standing → Option (List ℕ)
+package_name h = if is_at_head h then Some h.unit.own.symbol.name else None
+
+abbrev pub pragma_settled : Standing → Option Fault → Read Standing (List DeclarationTree)
+pragma_settled h None = (h, Ok [])
+pragma_settled h (Some f) = (ended h, Err f)
+
+-- ---- what packages and bodies declare alike
+
+abbrev pub open_declared : Table → Standing → CommonTree → Read Standing (List DeclarationTree)
+open_declared t h (ObjectDeclaration o) = effect_settled h (object_checked (parts_here t h) t h.here o)
+open_declared t h (TypeDeclaration d) = effect_settled h (type_checked (parts_here t h) t h.here d)
+open_declared t h (SubtypeDeclaration s) = effect_settled h (subtype_item_checked (parts_here t h) t h.here s)
+open_declared t h (UseItem u) = uses_read h (uses_at t h.here.scope h.unit.packages u)
+open_declared t h (PragmaItem p) = pragma_settled h (pragma_fault (package_name h) p)
+
+-- outside of all regions nothing is declared
+abbrev pub no_place : Standing → Read Standing (List DeclarationTree)
+no_place h = (ended h, Err not_yet_fault)
+
+abbrev pub declared_here : Table → Standing → CommonTree → Read Standing (List DeclarationTree)
+declared_here t h c = if is_nowhere h then no_place h else open_declared t h c
+
+-- a subprogram's declaration inside a unit
+abbrev pub nested_declared : Table → Standing → SpecificationTree → Read Standing (List DeclarationTree)
+nested_declared t h s = effect_settled h (subprogram_checked (parts_here t h) t h.here (first_line s) s)

@@ -1,0 +1,4 @@
+pub mod DeclarationsHere
+pub mod HeadsHere
+pub mod WholeHere
+pub mod EnteredHere
