@@ -32,11 +32,15 @@ parts_here t h = parts_read t h.unit.packages h.unit.labeller.predefined h.unit.
 abbrev pub with_regions : Standing → List Region → Standing
 with_regions h regions = with_here h (record h.here { scope = in_regions h.here.scope regions })
 
+-- behind a fault nothing of the place is looked at any more
+abbrev pub faulty_here : Standing → Fault → Read Standing (List DeclarationTree)
+faulty_here h f = (ended h, Err f)
+
 -- ---- use clauses and pragmas, which declare nothing
 
 abbrev pub uses_settled : Standing → Result (List UseClause) Fault → Read Standing (List DeclarationTree)
 uses_settled h (Ok clauses) = (with_uses h clauses, Ok [])
-uses_settled h (Err f) = (ended h, Err f)
+uses_settled h (Err f) = faulty_here h f
 
 abbrev pub uses_read : Standing → Result (List UseClause) Fault → Read Standing (List DeclarationTree)
 uses_read h clauses = uses_settled (with_regions h (used_in clauses h.here.scope.regions)) clauses
@@ -50,7 +54,7 @@ package_name h = if is_at_head h then Some h.unit.own.symbol.name else None
 
 abbrev pub pragma_settled : Standing → Option Fault → Read Standing (List DeclarationTree)
 pragma_settled h None = (h, Ok [])
-pragma_settled h (Some f) = (ended h, Err f)
+pragma_settled h (Some f) = faulty_here h f
 
 -- ---- what packages and bodies declare alike
 
@@ -63,7 +67,7 @@ open_declared t h (PragmaItem p) = pragma_settled h (pragma_fault (package_name 
 
 -- outside of all regions nothing is declared
 abbrev pub no_place : Standing → Read Standing (List DeclarationTree)
-no_place h = (ended h, Err not_yet_fault)
+no_place h = faulty_here h not_yet_fault
 
 abbrev pub declared_here : Table → Standing → CommonTree → Read Standing (List DeclarationTree)
 declared_here t h c = if is_nowhere h then no_place h else open_declared t h c

@@ -2,7 +2,7 @@
 use Rattle.std.specs.Prelude.{ℕ, List, Option, Some, None, Result, Ok, Err, is_some}
 use Rattle.al_ada_here.specs.BodiesHere.{first_line}
 use Rattle.al_ada_here.specs.Ends.{stub_names}
-use Rattle.al_ada_here.specs.Faulty.{effect_list, ended}
+use Rattle.al_ada_here.specs.Faulty.{effect_list}
 use Rattle.al_ada_here.specs.PartsHere.{with_stub}
 use Rattle.al_ada_here.specs.Standings.{is_immediate, with_here}
 use Rattle.al_ada_here.specs.declared.standing.Standing.{Standing}
@@ -19,7 +19,7 @@ use Rattle.al_syntax.specs.DeclarationTrees.{SpecificationTree}
 use Rattle.al_typed.specs.DeclarationTrees.{DeclarationTree}
 use Rattle.al_view.specs.declared.symbol.Symbol.{Symbol}
 use Rattle.al_walk.specs.Readings.{Read}
-use Rattle.al_ada_declared.specs.DeclarationsHere.{parts_here}
+use Rattle.al_ada_declared.specs.DeclarationsHere.{faulty_here, parts_here}
 
 -- what stands before the `is` of a body, or is a subprogram's declaration
 abbrev pub heading_here : Table → Standing → SpecificationTree → Heading
@@ -35,9 +35,13 @@ body_at t here line stub head =
 abbrev pub stub_wrong : Standing → Heading → Option Fault
 stub_wrong h head = stub_fault head.name.place (is_immediate h) (stub_names h.stubs) head.name.name
 
+-- one that is right stands there
+abbrev pub stub_kept : Standing → Heading → Option DeclarationTree × Symbol → Read Standing (List DeclarationTree)
+stub_kept h head x = (with_stub h head x.1, Ok (effect_list x.0))
+
 abbrev pub stub_settled : Standing → Heading → Result (Here × (Option DeclarationTree × Symbol)) Fault → Read Standing (List DeclarationTree)
-stub_settled h head (Ok x) = (with_stub (with_here h x.0) head x.1.1, Ok (effect_list x.1.0))
-stub_settled h head (Err f) = (ended h, Err f)
+stub_settled h head (Ok x) = stub_kept (with_here h x.0) head x.1
+stub_settled h head (Err f) = faulty_here h f
 
 abbrev pub stub_of : Table → Standing → ℕ → Heading → Read Standing (List DeclarationTree)
 stub_of t h line head = stub_settled h head (body_at t h.here line (stub_wrong h head) head)
@@ -52,7 +56,7 @@ with_head h here head symbol = record h { here = here; pending = Some (record { 
 
 abbrev pub head_settled : Standing → Heading → Result (Here × (Option DeclarationTree × Symbol)) Fault → Read Standing (List DeclarationTree)
 head_settled h head (Ok x) = (with_head h x.0 head x.1.1, Ok (effect_list x.1.0))
-head_settled h head (Err f) = (ended h, Err f)
+head_settled h head (Err f) = faulty_here h f
 
 abbrev pub head_of : Table → Standing → ℕ → Heading → Read Standing (List DeclarationTree)
 head_of t h line head = head_settled h head (body_at t h.here line None head)

@@ -1,7 +1,7 @@
 -- A unit that is one subprogram (ARM 10.1.1, 10.1.3): its declaration, and the head of its body, which completes its declaration or its stub.
 use Rattle.std.specs.Prelude.{ℕ, false, List, fold, Option, Some, None, Result, Ok, Err}
 use Rattle.al_ada_here.specs.BodiesHere.{first_line}
-use Rattle.al_ada_here.specs.Faulty.{effect_list, ended}
+use Rattle.al_ada_here.specs.Faulty.{effect_list}
 use Rattle.al_ada_here.specs.Standings.{with_here}
 use Rattle.al_ada_here.specs.declared.standing.Standing.{Standing}
 use Rattle.al_completes.specs.CompletingFound.{unit_completing}
@@ -21,6 +21,7 @@ use Rattle.al_syntax.specs.DeclarationTrees.{SpecificationTree}
 use Rattle.al_typed.specs.DeclarationTrees.{DeclarationTree}
 use Rattle.al_view.specs.declared.symbol.Symbol.{Symbol}
 use Rattle.al_walk.specs.Readings.{Read}
+use Rattle.al_ada_declared.specs.DeclarationsHere.{faulty_here}
 use Rattle.al_ada_declared.specs.HeadsHere.{heading_here}
 
 -- the name of a unit may have dots (ARM 10.1.1(8))
@@ -34,7 +35,7 @@ with_taken here p awaiting = record here { progress = p; awaiting = awaiting }
 
 abbrev pub own_settled : Standing → Result ((Progress × List Completion) × DeclaredTree) Fault → Read Standing (List DeclarationTree)
 own_settled h (Ok x) = (record h { here = with_taken h.here x.0.0 x.0.1; own = x.1.declarations }, Ok (effect_list x.1.effect))
-own_settled h (Err f) = (ended h, Err f)
+own_settled h (Err f) = faulty_here h f
 
 abbrev pub whole_of : Standing → ℕ → Heading → Read Standing (List DeclarationTree)
 whole_of h line head = own_settled h (subprogram_declared h.here.progress h.here.awaiting line None head)
@@ -64,7 +65,7 @@ whole_kept h head x = (with_whole h head x, Ok (effect_list x.0.effect))
 
 abbrev pub whole_settled : Standing → Heading → Result ((Progress × List Completion) × (DeclaredTree × Symbol)) Fault → Read Standing (List DeclarationTree)
 whole_settled h head (Ok x) = whole_kept (with_here h (with_taken h.here x.0.0 x.0.1)) head x.1
-whole_settled h head (Err f) = (ended h, Err f)
+whole_settled h head (Err f) = faulty_here h f
 
 abbrev pub whole_head_of : Standing → ℕ → Heading → Read Standing (List DeclarationTree)
 whole_head_of h line head =

@@ -1,7 +1,6 @@
 // Behind what was judged: the place goes on where it is right, else the list of faults ends there.
-ghost use Rattle.std.specs.Prelude.{◌≡◌, Ok, Err, option_map, IfOk, OnOk};
-ghost use Rattle.al_ada_here.specs.Faulty.{effect_list, ended};
-ghost use Rattle.al_ada_here.specs.PartsHere.{with_stub};
+ghost use Rattle.std.specs.Prelude.{◌≡◌, Ok, option_map, IfOk, OnOk};
+ghost use Rattle.al_ada_here.specs.Faulty.{effect_list};
 ghost use Rattle.al_decl.specs.Checking.{at_place};
 ghost use Rattle.al_decl_subprogram.specs.Bodies.{placed_seen};
 ghost use Rattle.al_declared.specs.Declaring.{declared_seen};
@@ -10,8 +9,8 @@ ghost use Rattle.al_subprogram.specs.Bodies.{new_body_seen};
 ghost use Rattle.al_subprogram.specs.Subprograms.{joined_waiting};
 ghost use Rattle.al_typed.specs.DeclarationTrees.{declaration_seen};
 ghost use Rattle.al_walk.specs.Views.{effects_seen};
-ghost use Rattle.al_ada_declared.specs.DeclarationsHere.{no_place, pragma_settled, uses_settled};
-ghost use Rattle.al_ada_declared.specs.HeadsHere.{head_settled, stub_settled, with_head};
+ghost use Rattle.al_ada_declared.specs.DeclarationsHere.{faulty_here, no_place, pragma_settled, uses_settled};
+ghost use Rattle.al_ada_declared.specs.HeadsHere.{head_settled, stub_kept, stub_settled, with_head};
 ghost use Rattle.al_ada_declared.specs.WholeHere.{own_mentioned, own_settled, whole_kept, whole_settled, with_own};
 
 use al_ada_here::{HeadRead, Standing, add_stub, add_uses, effect_list, end_list};
@@ -33,7 +32,7 @@ pub type Effects = Judged<Vec<TypedDeclaration>>;
 
 /// A fault, behind which nothing of the place is looked at any more.
 fn faulty(alloc: Global, standing: &mut Standing, fault: Fault) -> Result<Effects, NoMemory>
-    ensures { IfOk result (λ judged. (standing.new, seen_by effects_seen judged) ≡ (ended standing.old, Err fault)) }
+    ensures { IfOk result (λ judged. (standing.new, seen_by effects_seen judged) ≡ faulty_here standing.old fault) }
 {
     end_list(alloc, standing)?;
     Ok(Err(fault))
@@ -93,7 +92,7 @@ fn keep_stub(
     heading: &Heading,
     body: PlacedBody,
 ) -> Result<Effects, NoMemory>
-    ensures { IfOk result (λ effects. (standing.new, seen_by effects_seen effects) ≡ (with_stub standing.old heading.now body.symbol, Ok (effect_list (option_map declaration_seen body.effect)))) }
+    ensures { IfOk result (λ effects. (standing.new, seen_by effects_seen effects) ≡ stub_kept standing.old heading.now (placed_seen body)) }
 {
     let alloc = standing.unit.labeller.alloc;
     let PlacedBody { effect, symbol } = body;

@@ -18,6 +18,6 @@ returns-clause-told g c t h =
     let s = c.args.standing.now in
     let read = c.in_ok-open_ancestors.ensures.told t h in (
       read.0,
-      c.begin_private.ensures ∙ ap private_begun read.1
+      c.begin_private-2.ensures ∙ ap private_begun read.1
           ∙ ap (λ (b : Bool). private_begun (if b then s else with_regions s (private_regions t s.unit.own s.here.scope.regions))) (sym c.if-is_nowhere.false ∙ c.is_nowhere.ensures),
     )
