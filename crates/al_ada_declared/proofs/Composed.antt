@@ -1,5 +1,5 @@
 -- What follows from results; what changes of a place that is put in place of another one.
-use Rattle.std.proofs.Common.{◌≡◌, List, Bool, true, false, IfOk, OnOk, Option, Result, Ok, Err, refl, ap, ◌∙◌, rules}
+use Rattle.std.proofs.Common.{◌≡◌, List, IfOk, OnOk, Option, Result, Ok, Err, refl, ap, ◌∙◌, rules}
 use Rattle.al_ada_here.specs.Faulty.{effect_settled}
 use Rattle.al_ada_here.specs.Standings.{with_here}
 use Rattle.al_ada_here.specs.declared.standing.Standing.{Standing}

@@ -17,7 +17,7 @@ use Rattle.al_part_reader.specs.PartReadings.{PartReading}
 use Rattle.al_query.specs.Reads.{Table}
 use Rattle.al_query.specs.declared.answer.UseClause.{UseClause}
 use Rattle.al_scope.specs.declared.region.Region.{Region}
-use Rattle.al_syntax.specs.DeclarationTrees.{CommonTree, PragmaTree, SpecificationTree, UseTree}
+use Rattle.al_syntax.specs.DeclarationTrees.{CommonTree, SpecificationTree}
 use Rattle.al_syntax.specs.DeclarationTrees.CommonTree.{ObjectDeclaration, TypeDeclaration, SubtypeDeclaration, UseClause as UseItem, PragmaItem}
 use Rattle.al_typed.specs.DeclarationTrees.{DeclarationTree}
 use Rattle.al_uses_at.specs.Pragmas.{pragma_fault}

@@ -1,5 +1,5 @@
 -- A unit that is one subprogram (ARM 10.1.1, 10.1.3): its declaration, and the head of its body, which completes its declaration or its stub.
-use Rattle.std.specs.Prelude.{ℕ, false, List, fold, Option, Some, None, Result, Ok, Err}
+use Rattle.std.specs.Prelude.{ℕ, false, List, fold, Some, None, Result, Ok, Err}
 use Rattle.al_ada_here.specs.BodiesHere.{first_line}
 use Rattle.al_ada_here.specs.Faulty.{effect_list}
 use Rattle.al_ada_here.specs.Standings.{with_here}

@@ -1,6 +1,5 @@
 use Rattle.std.proofs.Common.{Bool, ap, sym, ◌∙◌, if◌then◌else◌}
 use Rattle.al_ada_here.specs.PartsHere.{private_begun}
-use Rattle.al_ada_here.specs.declared.standing.Standing.{Standing}
 use Rattle.al_unit_place.specs.UnitPlaces.{private_regions}
 use Rattle.al_ada_declared.specs.DeclarationsHere.{with_regions}
 use Rattle.al_ada_declared.proofs.bodies.enter_private.Goals as goal

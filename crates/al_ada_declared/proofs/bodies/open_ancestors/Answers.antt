@@ -1,4 +1,4 @@
-use Rattle.std.proofs.Common.{ap, ◌∙◌}
+use Rattle.std.proofs.Common.{ap}
 use Rattle.al_ada_here.specs.Standings.{with_here}
 use Rattle.al_decl_body.specs.Regions.{in_regions}
 use Rattle.al_scope.specs.Places.{Place}

@@ -1,5 +1,4 @@
 use Rattle.std.proofs.Common.{ℕ, List, ap, ◌∙◌}
-use Rattle.al_ada_here.specs.BodiesHere.{first_line}
 use Rattle.al_ada_here.specs.Faulty.{effect_settled}
 use Rattle.al_ada_parts.specs.AdaPartReading.{parts_read}
 use Rattle.al_base.specs.declared.unit_key.UnitKey.{UnitKey}
