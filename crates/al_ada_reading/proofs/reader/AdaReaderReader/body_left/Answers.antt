@@ -1,0 +1,4 @@
+use Rattle.al_ada_reading.proofs.reader.AdaReaderReader.body_left.Goals as goal
+
+pub returns-clause-told : goal.returns-clause-told
+returns-clause-told g c = λ t h. (h, c.leave_innermost.ensures)

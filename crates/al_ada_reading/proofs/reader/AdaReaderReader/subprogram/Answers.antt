@@ -1,0 +1,41 @@
+use Rattle.std.proofs.Common.{Bool, ap, sym, ◌∙◌, if◌then◌else◌}
+use Rattle.al_ada_declared.specs.DeclarationsHere.{nested_declared, no_place}
+use Rattle.al_ada_declared.specs.WholeHere.{whole_declared}
+use Rattle.al_ada_here.proofs.Lists.{if_ok}
+use Rattle.al_ada_here.specs.Standings.{is_whole}
+use Rattle.al_tree.specs.DeclarationViews.{specification_seen}
+use Rattle.al_ada_reading.proofs.reader.AdaReaderReader.subprogram.Goals as goal
+
+pub returns-then-is_nowhere-clause-told : goal.returns-then-is_nowhere-clause-told
+returns-then-is_nowhere-clause-told g c =
+    let s = c.args.self.now.standing in
+    if_ok c.no_place.result _ _
+    (λ judged gone t h.
+    (h, gone ∙ ap (λ (b : Bool). if b then no_place s else (if is_whole s then whole_declared t s (specification_seen c.args.specification.now) else nested_declared t s (specification_seen c.args.specification.now))) (sym c.if-is_nowhere.true ∙ c.is_nowhere.ensures)))
+    c.no_place.ensures
+
+pub returns-then-is_whole-clause-told : goal.returns-then-is_whole-clause-told
+returns-then-is_whole-clause-told g c =
+    let s = c.args.self.now.standing in
+    if_ok c.whole_subprogram.result _ _
+    (λ judged told t h.
+    let read = told t h in (
+      read.0,
+      read.1
+          ∙ ap (λ (b : Bool). if b then whole_declared t s (specification_seen c.args.specification.now) else nested_declared t s (specification_seen c.args.specification.now)) (sym c.if-is_whole.true ∙ c.is_whole.ensures)
+          ∙ ap (λ (b : Bool). if b then no_place s else (if is_whole s then whole_declared t s (specification_seen c.args.specification.now) else nested_declared t s (specification_seen c.args.specification.now))) (sym c.if-is_nowhere.false ∙ c.is_nowhere.ensures),
+    ))
+    c.whole_subprogram.ensures.told
+
+pub returns-clause-told : goal.returns-clause-told
+returns-clause-told g c =
+    let s = c.args.self.now.standing in
+    if_ok c.nested_subprogram.result _ _
+    (λ judged told t h.
+    let read = told t h in (
+      read.0,
+      read.1
+          ∙ ap (λ (b : Bool). if b then whole_declared t s (specification_seen c.args.specification.now) else nested_declared t s (specification_seen c.args.specification.now)) (sym c.if-is_whole.false ∙ c.is_whole.ensures)
+          ∙ ap (λ (b : Bool). if b then no_place s else (if is_whole s then whole_declared t s (specification_seen c.args.specification.now) else nested_declared t s (specification_seen c.args.specification.now))) (sym c.if-is_nowhere.false ∙ c.is_nowhere.ensures),
+    ))
+    c.nested_subprogram.ensures.told

@@ -1,0 +1,4 @@
+use Rattle.al_ada_reading.proofs.reader.AdaReaderReader.with_word.Goals as goal
+
+pub returns-clause-told : goal.returns-clause-told
+returns-clause-told g c = λ t h. (h, c.take_word.ensures)
