@@ -34,7 +34,7 @@ head_here t h s = where_open h (if is_whole h then whole_head t h s else nested_
 abbrev pub missing_here : Standing → Label → Option Fault
 missing_here h l = missing_fault (place_of l) h.here.awaiting
 
-abbrev pub ada : Table → Reading Standing
+unfoldable pub ada : Table → Reading Standing
 ada t = record {
   condition = condition_here t;
   moment = moment_here t;

@@ -45,6 +45,7 @@ impl<A: Answers> AdaReader<A> {
     }
 }
 
+#[tactic(auto, unfolding(crate::specs::Ada::ada))]
 impl<A: Answers> Reader for AdaReader<A> {
     ghost use Rattle.al_ada_reading.specs.Ada.{ada};
 

@@ -5,9 +5,11 @@ use Rattle.al_ada_declared.specs.WholeHere.{whole_head}
 use Rattle.al_ada_here.proofs.Lists.{if_ok}
 use Rattle.al_ada_here.specs.Standings.{is_whole}
 use Rattle.al_tree.specs.DeclarationViews.{specification_seen}
+use Rattle.al_ada_reading.specs.Ada.{ada}
 use Rattle.al_ada_reading.proofs.reader.AdaReaderReader.head.Goals as goal
 
 pub returns-then-is_nowhere-clause-told : goal.returns-then-is_nowhere-clause-told
+unfolding ada
 returns-then-is_nowhere-clause-told g c =
     let s = c.args.self.now.standing in
     if_ok c.no_place.result _ _
@@ -16,6 +18,7 @@ returns-then-is_nowhere-clause-told g c =
     c.no_place.ensures
 
 pub returns-then-is_whole-clause-told : goal.returns-then-is_whole-clause-told
+unfolding ada
 returns-then-is_whole-clause-told g c =
     let s = c.args.self.now.standing in
     if_ok c.whole_head.result _ _
@@ -29,6 +32,7 @@ returns-then-is_whole-clause-told g c =
     c.whole_head.ensures.told
 
 pub returns-clause-told : goal.returns-clause-told
+unfolding ada
 returns-clause-told g c =
     let s = c.args.self.now.standing in
     if_ok c.nested_head.result _ _

@@ -3,9 +3,11 @@ use Rattle.al_ada_declared.specs.DeclarationsHere.{no_place}
 use Rattle.al_ada_declared.specs.HeadsHere.{stub_here}
 use Rattle.al_ada_here.proofs.Lists.{if_ok}
 use Rattle.al_tree.specs.DeclarationViews.{specification_seen}
+use Rattle.al_ada_reading.specs.Ada.{ada}
 use Rattle.al_ada_reading.proofs.reader.AdaReaderReader.stub.Goals as goal
 
 pub returns-then-is_nowhere-clause-told : goal.returns-then-is_nowhere-clause-told
+unfolding ada
 returns-then-is_nowhere-clause-told g c =
     let s = c.args.self.now.standing in
     if_ok c.no_place.result _ _
@@ -14,6 +16,7 @@ returns-then-is_nowhere-clause-told g c =
     c.no_place.ensures
 
 pub returns-clause-told : goal.returns-clause-told
+unfolding ada
 returns-clause-told g c =
     let s = c.args.self.now.standing in
     if_ok c.open_stub.result _ _
