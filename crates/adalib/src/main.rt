@@ -9,12 +9,15 @@
 ghost use Rattle.std.specs.Prelude.{◌≤◌};
 
 mod options;
+mod serving;
 mod status;
 #[cfg(test)]
 mod tests;
 
-use al_session::{Counted, Library, serve};
+use al_ada_session::Counted;
+use al_base::NoMemory;
 use options::{MAX_TICK, Options, UsageError};
+use serving::serve_ada;
 use status::{Outcome, exit_code};
 use std::alloc::Global;
 use std::io;
@@ -70,10 +73,10 @@ fn session<D: io::Read + Drop, R: Print>(
 {
     let mut reader = Counted::new(input);
     let mut writer = Counted::new(BufWriter::new(alloc, io::writer(rt))?);
-    let mut library = Library::new(alloc);
-    let ended = serve(alloc, &mut reader, &mut writer, &mut library, tick);
-    // The system takes the memory back at the end of the process; to let go of each tree would take a tenth of a session's time.
-    std::mem::forget(library);
+    let came = serve_ada(alloc, &mut reader, &mut writer, tick);
     let _ = writer.into_inner().into_parts();
-    Ok(Outcome::Served(ended))
+    match came {
+        Ok(ended) => Ok(Outcome::Served(ended)),
+        Err(NoMemory) => Ok(Outcome::Failed),
+    }
 }

@@ -62,7 +62,7 @@ fn is_key(key: &UnitKey, wanted: &(&'static [u8], UnitKind)) -> bool {
     key.name.as_slice() == wanted.0 && key.kind == wanted.1
 }
 
-fn are_just(keys: &[UnitKey], wanted: &[(&'static [u8], UnitKind)]) -> bool {
+pub(crate) fn are_just(keys: &[UnitKey], wanted: &[(&'static [u8], UnitKind)]) -> bool {
     keys.len() == wanted.len() && wanted.iter().all(|w| keys.iter().any(|key| is_key(key, w)))
 }
 

@@ -1,11 +1,11 @@
-//! Tests of catalogs, of compiling and of the library by their public calls, in a crate of their own: a crate that has tests is proved
-//! twice, and one that lets trees go proves that anew.
+//! Tests of catalogs of files, of sessions and of what their builds check again, by public calls, in a crate of their own: a crate that has
+//! tests is proved twice.
 #![tactic(auto)]
 
 #[cfg(test)]
 mod catalogs;
 #[cfg(test)]
-mod compiling;
+mod rechecks;
 #[cfg(test)]
 mod sessions;
 #[cfg(test)]

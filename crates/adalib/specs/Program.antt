@@ -1,0 +1,9 @@
+-- What Ada files mean to the program.
+use Rattle.al_served.specs.Library.{LibraryMeaning}
+use Rattle.al_ada_session.specs.Meanings.{library_meaning}
+use Rattle.al_bounded_check.specs.Meanings.{header_in, text_meaning}
+use Rattle.al_check.specs.Ada.{ada_units, ada_verdict}
+
+-- compiling from nothing, with the check that asks these units for a unit and finds this in its text
+abbrev pub ada_meaning : LibraryMeaning
+ada_meaning = library_meaning (text_meaning ada_units ada_verdict) header_in

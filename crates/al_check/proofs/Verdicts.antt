@@ -1,0 +1,89 @@
+-- What is found of a unit, by whether it is compiled, by its start, and by the faults of its item.
+use Rattle.std.proofs.Common.{◌≡◌, ◌≢◌, ℕ, Bool, true, false, List, [], ◌∷◌, map, Option, Some, None, Result, Ok, Err, refl, ap, sym, ◌∙◌, if◌then◌else◌}
+use Rattle.al_base.specs.declared.diagnostic.Diagnostic.{Diagnostic}
+use Rattle.al_base.specs.declared.unit_key.UnitKey.{UnitKey}
+use Rattle.al_syntax.specs.UnitTrees.{CompilationUnitTree}
+use Rattle.al_query.specs.Reads.{Table}
+use Rattle.al_judged.specs.declared.fault.Fault.{Fault}
+use Rattle.al_faults.specs.FaultLists.{all_faults}
+use Rattle.al_typed.specs.UnitTrees.{UnitTree}
+use Rattle.al_view.specs.declared.view.ViewKind.{ViewKind}
+use Rattle.al_outcome.specs.declared.interface.UnitInterface.{UnitInterface}
+use Rattle.al_walk.specs.Steps.{Inside}
+use Rattle.al_within.specs.Verdicts.{Verdict}
+use Rattle.al_within.specs.Verdicts.Verdict.{Wrong, Right}
+use Rattle.al_ada_here.specs.Ends.{ends_of}
+use Rattle.al_unit_at.specs.UnitsAt.{unit_at}
+use Rattle.al_unit_at.specs.declared.unit.UnitStart.{UnitStart}
+use Rattle.al_unit_made.specs.Ended.{ended, right_at, viewed}
+use Rattle.al_unit_made.specs.Made.{fault_in, faults_in, unless_wrong}
+use Rattle.al_unit_made.specs.Said.{own_view}
+use Rattle.al_unit_made.specs.Uncompiled.{is_not_compiled}
+use Rattle.al_unit_made.specs.declared.behind.EndedText.{EndedText}
+use Rattle.al_unit_made.specs.declared.behind.Round.{Round}
+use Rattle.al_check.specs.Ada.{ada_verdict, ended_text, item_faults, item_walked, round_of, verdict_from}
+use Rattle.al_check.specs.Laws.{ItemFaultsAreTold, SoundUnitsHaveNoFault, StartFaultsAreTold, UncompiledIsRefused}
+
+-- ---- what is found behind an item
+
+none_in : (unit : UnitKey) (faults : List Fault) → map (fault_in unit) faults ≡ [] → faults ≡ []
+none_in unit [] h = refl
+none_in unit (f ∷ faults) h = cc
+
+unless_right : (wrong : List Diagnostic) (v : Verdict) (i : UnitInterface) (made : UnitTree) → unless_wrong wrong v ≡ Right i made → wrong ≡ []
+unless_right [] v i made h = refl
+unless_right (d ∷ wrong) v i made h = cc
+
+unless_some : (wrong : List Diagnostic) (v : Verdict) → wrong ≢ [] → unless_wrong wrong v ≡ Wrong wrong
+unless_some [] v h = absurd (h refl)
+unless_some (d ∷ wrong) v h = refl
+
+module _ (r : Round) (e : EndedText) (x : Inside) where
+  viewed_right : (view : Option ViewKind) (i : UnitInterface) (made : UnitTree) → viewed r view e x ≡ Right i made → all_faults x.faults ≡ []
+  viewed_right None i made h = cc
+  viewed_right (Some kind) i made h = none_in e.progress.unit (all_faults x.faults) (unless_right (faults_in e.progress.unit x.faults) (right_at r kind e x) i made h)
+
+  viewed_wrong : (view : Option ViewKind) → all_faults x.faults ≢ [] → viewed r view e x ≡ Wrong (faults_in e.progress.unit x.faults)
+  viewed_wrong None h = refl
+  viewed_wrong (Some kind) h = unless_some (faults_in e.progress.unit x.faults) (right_at r kind e x) (λ n. h (none_in e.progress.unit (all_faults x.faults) n))
+
+  ended_right : (i : UnitInterface) (made : UnitTree) → ended r e x ≡ Right i made → all_faults x.faults ≡ []
+  unfolding ended
+  ended_right i made h = viewed_right (own_view e.own e.declared r.view) i made h
+
+  ended_wrong : all_faults x.faults ≢ [] → ended r e x ≡ Wrong (faults_in e.progress.unit x.faults)
+  unfolding ended
+  ended_wrong h = viewed_wrong (own_view e.own e.declared r.view) h
+
+-- ---- what is found of a unit
+
+abbrev in_all : Table → UnitKey → CompilationUnitTree → Bool → Result UnitStart Fault → Verdict
+in_all t unit tree b start = if b then Wrong [] else verdict_from t unit tree start
+
+right_in : (t : Table) (unit : UnitKey) (tree : CompilationUnitTree) (b : Bool) (start : Result UnitStart Fault) (i : UnitInterface) (made : UnitTree) → in_all t unit tree b start ≡ Right i made
+    → (s : UnitStart) × (b ≡ false) × (start ≡ Ok s) × (all_faults (item_faults t tree s) ≡ [])
+right_in t unit tree true start i made h = absurd (cc)
+right_in t unit tree false (Err f) i made h = absurd (cc)
+right_in t unit tree false (Ok s) i made h = (s, refl, refl, ended_right (round_of tree s) (ended_text (ends_of (item_walked t tree s).0)) (item_walked t tree s).1 i made h)
+
+module _ (unit : UnitKey) (text : List ℕ) (tree : CompilationUnitTree) (t : Table) where
+  pub uncompiled_is : (b : Bool) → b ≡ is_not_compiled text tree → in_all t unit tree b (unit_at t unit tree) ≡ ada_verdict unit text tree t
+  unfolding ada_verdict
+  uncompiled_is b h = ap (λ (c : Bool). in_all t unit tree c (unit_at t unit tree)) h
+
+  started : (start : Result UnitStart Fault) → is_not_compiled text tree ≡ false → unit_at t unit tree ≡ start → ada_verdict unit text tree t ≡ verdict_from t unit tree start
+  started start c h = sym (uncompiled_is false (sym c)) ∙ ap (verdict_from t unit tree) h
+
+pub uncompiled_refused : UncompiledIsRefused
+uncompiled_refused unit text tree t h = sym (uncompiled_is unit text tree t true (sym h))
+
+pub start_told : StartFaultsAreTold
+start_told unit text tree t f c h = started unit text tree t (Err f) c h
+
+pub item_told : ItemFaultsAreTold
+item_told unit text tree t s c h some =
+    started unit text tree t (Ok s) c h ∙ ended_wrong (round_of tree s) (ended_text (ends_of (item_walked t tree s).0)) (item_walked t tree s).1 some
+
+pub sound_faultless : SoundUnitsHaveNoFault
+unfolding ada_verdict
+sound_faultless unit text tree t i made h = right_in t unit tree (is_not_compiled text tree) (unit_at t unit tree) i made h

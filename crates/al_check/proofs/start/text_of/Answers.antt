@@ -1,0 +1,17 @@
+use Rattle.std.proofs.Common.{◌≡◌, ℕ, List, None, ap, ◌∙◌}
+use Rattle.std.specs.Coded.{Unit-prop}
+use Rattle.std.specs.Global.{Global}
+use Rattle.al_heads.specs.declared.everywhere.Predefined.{Predefined}
+use Rattle.al_unit_made.specs.Constants.{predefined, the_memory}
+use Rattle.al_ada_here.specs.declared.standing.UnitText.{UnitText}
+use Rattle.al_check.proofs.start.text_of.Goals as goal
+
+one_memory : (alloc : Global) → alloc ≡ the_memory
+one_memory alloc = ap (λ (u : Unit {0}). let g : Global = record { memory = record { seal = u } } in g) (Unit-prop alloc.memory.seal tt)
+
+pub returns : goal.returns
+returns c =
+    let make = λ (alloc : Global) (p : Predefined) (ends : List ℕ). let text : UnitText = record { labeller = record { alloc = alloc; predefined = p; own = None }; packages = c.args.packages; own = c.args.own; ends = ends } in text in
+    ap (λ (a : Global). make a c.in_ok-predefined.predefined c.in_ok-ends.ends) (one_memory c.args.alloc)
+    ∙ ap (λ (p : Predefined). make the_memory p c.in_ok-ends.ends) c.in_ok-predefined.ensures
+    ∙ ap (make the_memory predefined) c.in_ok-ends.ensures

@@ -1,0 +1,2 @@
+pub mod Ada
+pub mod Laws

@@ -1,3 +1,0 @@
-pub mod LastBuilds
-pub mod Library
-pub mod Reports

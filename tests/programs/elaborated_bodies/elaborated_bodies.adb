@@ -1,0 +1,5 @@
+with Y;
+procedure Elaborated_Bodies is
+begin
+   Y.Go;
+end Elaborated_Bodies;

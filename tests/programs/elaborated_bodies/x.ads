@@ -1,0 +1,5 @@
+package X is
+   pragma Elaborate_Body;
+   N : Integer := 1;
+   function Next return Integer;
+end X;

@@ -1,0 +1,5 @@
+with X;
+package Y is
+   A : Integer := X.Next;
+   procedure Go;
+end Y;

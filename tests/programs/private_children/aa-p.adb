@@ -1,0 +1,6 @@
+package body Aa.P is
+   procedure Note (X : T) is
+   begin
+      Last := X;
+   end Note;
+end Aa.P;

@@ -1,0 +1,4 @@
+private package Aa.P is
+   Last : T := Hidden;
+   procedure Note (X : T);
+end Aa.P;
