@@ -5,7 +5,7 @@ package body Accounts is
    end record;
    type Ledger is array (Account_Number) of Account;
 
-   Book : Ledger;
+   Book : Ledger := (others => Account'(False, 0));
    Last_Opened : Integer range 0 .. 10 := 0;
 
    procedure Open (Number : out Account_Number; Is_Open : out Boolean) is

@@ -9,7 +9,7 @@ package body Tables is
    end record;
    type Places is array (Slot) of Place;
 
-   Table   : Places;
+   Table   : Places := (others => Place'(Free, 0, 0));
    Count   : Natural := 0;
    Looks   : Natural := 0;
 

@@ -2,7 +2,7 @@ with Ada.Text_IO;
 with Goods, Store;
 procedure Inventory is
    use Goods;
-   Wanted : Order;
+   Wanted : Order := (others => Line'(Bolt, 0, 0));
    How    : Answer;
    Bill   : Amount;
 
