@@ -1,5 +1,5 @@
 #!/usr/bin/env python3
-"""timings.py PROGRAM [ada | units | names]: times sessions of growing size (with a word that part alone). Each line is the least of three runs, in milliseconds; that of a text of Ada of twelve.
+"""timings.py PROGRAM [ada | units | names | edits]: times sessions of growing size (with a word that part alone). Each line is the least of three runs, in milliseconds; that of a text of Ada of twelve.
 
 Where an effort is linear, each doubling doubles the time beyond that of the empty session.
 """
@@ -132,7 +132,7 @@ def star(number):
 
 
 def layered(number):
-    """Layers of 20 units, each of which names all units of the layer below."""
+    """Layers of 20 units, each of which names all units of the layer before it; the first one names none."""
     below = number - number % 20 - 20
     return range(below, below + 20)
 
@@ -159,6 +159,50 @@ def graphs_of_units(program):
             row(program, f"{what}: and the units by file", count, stream + b"report units\n")
             row(program, f"{what}: put and build", count, stream + b"build u0\n")
             row(program, f"{what}: and an edit and obsolete units", count, stream + b"build u0\n" + touched + b"report obsolete\n")
+
+
+def declared(shape, count):
+    """So many packages of a shape, each of which declares a variable with the sum of those of the packages that it names, and a main procedure that names the first."""
+    stream = []
+    for number in range(count):
+        named = [it for it in shape(number) if 0 <= it < count and it != number]
+        stream.append(put(b"u%d.ads" % number, unit(number, named)))
+    return b"".join(stream) + put(b"m.adb", MAIN % b"1")
+
+
+MAIN = b"with Ada.Text_IO; with U0; procedure M is begin U0.X := U0.X + %s; Ada.Text_IO.Put_Line (Integer'Image (U0.X)); end M;"
+
+
+def unit(number, named, more=b""):
+    withs = b"".join(b"with U%d; " % it for it in named)
+    value = b" + ".join([b"1"] + [b"U%d.X" % it for it in named])
+    return withs + b"package U%d is X : Integer := %s;%s end U%d;" % (number, value, more, number)
+
+
+def processor(program, stream):
+    """The least processor time of three runs, in milliseconds."""
+    with tempfile.TemporaryDirectory() as folder:
+        return min(spent_by([program], stream, folder)[1] for _ in range(3))
+
+
+def edits_of_units(program, repeats=8):
+    """What a build takes of a processor after edits, each made and taken back in turn, and what the first build takes."""
+    for shape in (chain, star, layered):
+        for count in doubled(64, 1024):
+            base = count - 1 if shape is chain else 0
+            stream = declared(shape, count)
+            first = processor(program, stream)
+            built = processor(program, stream + b"build m\n")
+            print(f"{shape.__name__ + ': first build':<52} {count:>6} {built - first:>10.1f} ms")
+            for what, name, texts in (
+                ("no edit", None, (b"", b"")),
+                ("the main procedure", b"m.adb", (MAIN % b"2", MAIN % b"1")),
+                ("a declaration more that nobody names", b"u%d.ads" % base, (unit(base, [], b" Y : Integer;"), unit(base, []))),
+                ("another type of what is named", b"u%d.ads" % base, (unit(base, []).replace(b": Integer", b": Natural"), unit(base, []))),
+            ):
+                turns = b"".join((put(name, it) if name else b"") + b"build m\n" for it in texts)
+                spent = processor(program, stream + b"build m\n" + turns * repeats)
+                print(f"{shape.__name__ + ': ' + what:<52} {count:>6} {(spent - built) / (2 * repeats):>10.1f} ms a build")
 
 
 def peak_of(program, stream):
@@ -190,7 +234,7 @@ def dotted_names(program):
 
 def main():
     program = str(pathlib.Path(sys.argv[1]).resolve())
-    parts = {"ada": texts_of_ada, "units": graphs_of_units, "names": dotted_names}
+    parts = {"ada": texts_of_ada, "units": graphs_of_units, "names": dotted_names, "edits": edits_of_units}
     if sys.argv[2:]:
         parts[sys.argv[2]](program)
         return
@@ -208,6 +252,7 @@ def main():
     texts_of_ada(program)
     graphs_of_units(program)
     dotted_names(program)
+    edits_of_units(program)
     for count in doubled(1024, 65536):
         row(program, "session of so many refused commands", count, b"report order\n" * count)
         row(program, "session of so many puts over one file", count, put(b"hello.adb", HELLO) * count)

@@ -5,8 +5,8 @@ programs.py --gnat [NAME..]: the same through GNAT, where there is one.
 tests/programs/NAME holds the units of one Ada program, whose main unit is NAME, beside `stdout`, what it writes, and `outcome`, how its
 run ends where it doesn't end `finished`. Where the file `no-gnat` is there, GNAT's run differs, for the reason in it.
 
-Each program is put, its units are reported, it is built and run. As long as a build answers that a unit isn't compiled yet (E700), what is
-held against the files is that every unit is sound and that nothing else is wrong with it. The last line is `N passed, M failed`.
+Each program is put, its units are reported, it is built and run: every unit is sound, and the run's reply is held against the files. The last line
+is `N passed, M failed`.
 """
 import pathlib
 import re
@@ -48,11 +48,8 @@ def judged(folder, replies):
     if lines[: len(heads)] != heads:
         return f"units: {lines[: len(heads)]}"
     build = lines[len(heads)]
-    if build.startswith("failed "):
-        faults = lines[len(heads) + 1 : len(heads) + 1 + int(build.split()[1])]
-        return next((it for it in faults if not re.fullmatch(r"\S+:1:1: E700 not yet", it)), None)
     if not build.startswith("built "):
-        return build
+        return "\n  ".join(lines[len(heads) :])[:600]
     got = replies.split(build.encode() + b"\n", 1)[1].strip(b"\n")
     return None if got == wanted_run(folder).strip(b"\n") else f"{got[-300:]!r}"
 
