@@ -1,11 +1,9 @@
-//! Tests of catalogs of files, of sessions and of what their builds check again, by public calls, in a crate of their own: a crate that has
+//! Tests of catalogs of files and of sessions, by public calls, in a crate of their own: a crate that has
 //! tests is proved twice.
 #![tactic(auto)]
 
 #[cfg(test)]
 mod catalogs;
-#[cfg(test)]
-mod rechecks;
 #[cfg(test)]
 mod sessions;
 #[cfg(test)]
