@@ -1,5 +1,5 @@
 #!/usr/bin/env python3
-"""memory.py PROGRAM: refuses each growth of memory in turn, in the stored sessions.
+"""memory.py PROGRAM [NAME ..]: refuses each growth of memory in turn, in the stored sessions, or in those of these names.
 
 Each session is run once for each growth, with that one refused (by refuse.c, built by the kit's clang and loaded before
 the program). It must then write what it always writes; or `refused 10 no-memory` to one put, rename, build, run, report
@@ -26,15 +26,21 @@ UNSEEN = "with the plain replies"
 WANT_MEMORY = (b"put ", b"rename ", b"build ", b"run ", b"report units", b"report obsolete")
 
 
+def shim_of(source, folder):
+    """A C file of tests/ as a library that can be loaded before a program, built by the kit's clang."""
+    shim = f"{folder}/{source}.so"
+    clang = pathlib.Path(shutil.which("rt")).resolve().parents[1] / "toolchain/bin/clang"
+    how = ["-shared", "-nostdlib", "-fPIC", "-O1", "-fuse-ld=lld"]
+    subprocess.run([clang, *how, "-o", shim, TESTS / source], check=True)
+    return shim
+
+
 class Refuser:
     """Runs the program with one growth refused, or with none."""
 
     def __init__(self, program, folder):
         self.program = program
-        self.shim = f"{folder}/refuse.so"
-        clang = pathlib.Path(shutil.which("rt")).resolve().parents[1] / "toolchain/bin/clang"
-        how = ["-shared", "-nostdlib", "-fPIC", "-O1", "-fuse-ld=lld"]
-        subprocess.run([clang, *how, "-o", self.shim, TESTS / "refuse.c"], check=True)
+        self.shim = shim_of("refuse.c", folder)
 
     def growths_before(self, words):
         """How many growths come before the first command is read: those of a session without a command."""
@@ -121,7 +127,7 @@ def sweep(refuser, name):
 
 def main():
     program = str(pathlib.Path(sys.argv[1]).resolve())
-    names = [it.stem for it in sorted(SESSIONS.glob("*.in")) if it.stat().st_size <= LONGEST]
+    names = sys.argv[2:] or [it.stem for it in sorted(SESSIONS.glob("*.in")) if it.stat().st_size <= LONGEST]
     count = Count()
     with tempfile.TemporaryDirectory() as folder, concurrent.futures.ThreadPoolExecutor(os.cpu_count()) as pool:
         refuser = Refuser(program, folder)
