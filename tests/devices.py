@@ -12,6 +12,7 @@ Prints each failure and how many calls failed in turn, and last `N passed, M fai
 """
 import os
 import pathlib
+import re
 import subprocess
 import sys
 import tempfile
@@ -51,26 +52,33 @@ def ends_of(parts):
     return ends
 
 
-def replies_to(failing, commands):
-    """The reply to each command: what is written where the read behind its last byte fails, less what was before."""
-    written = [failing.run("read", end + 1)[0][1] for end in [0, *ends_of(commands)]]
-    return [after[len(before) :] for before, after in zip(written, written[1:])]
+def replies_in(output):
+    """The replies to puts and builds: a line each, and behind `failed K` K lines more."""
+    lines = output.splitlines(keepends=True)
+    while lines:
+        faults = re.fullmatch(rb"failed ([0-9]+)\n", lines[0])
+        size = 1 + int(faults[1]) if faults else 1
+        yield b"".join(lines[:size])
+        lines = lines[size:]
 
 
 class Session:
     """The session's commands and replies, and where each ends."""
 
-    def __init__(self, failing, count):
-        self.commands = list(commands_of(input_of(SESSION)))
-        self.replies = replies_to(failing, self.commands)
+    def __init__(self):
         self.plain = (SESSIONS / f"{SESSION}.out").read_bytes()
-        self.ends, self.reply_ends = ends_of(self.commands), ends_of(self.replies)
+        self.replies = list(replies_in(self.plain))
+        self.ends = ends_of(commands_of(input_of(SESSION)))
+        self.reply_ends = ends_of(self.replies)
         self.size = self.ends[-1]
-        count.check("the replies to the commands, one by one", (0, b"".join(self.replies), b""), (0, self.plain, b""))
 
-    def read_for(self, taken):
-        """How many bytes are read where the reply's byte with this number, from 0, isn't taken."""
-        return next(end for end, told in zip(self.ends, self.reply_ends) if taken < told)
+    def told(self, read):
+        """How many bytes are written once so many were read."""
+        return sum(len(reply) for reply, end in zip(self.replies, self.ends) if end <= read)
+
+    def read_at(self, taken):
+        """How many bytes are read where the replies' byte with this number, from 0, isn't taken."""
+        return next((end for end, told in zip(self.ends, self.reply_ends) if taken < told), self.size)
 
 
 def fail_in_turn(count, failing, what, wanted_of, **how):
@@ -85,26 +93,38 @@ def fail_in_turn(count, failing, what, wanted_of, **how):
     return at - 1
 
 
+def fail_all(count, failing, it):
+    """Each call of each device in turn; how many there were."""
+
+    def by_reads(before):
+        return it.plain[: it.told(before)], before
+
+    def by_bytes(before):
+        return it.plain[:before], it.read_at(before)
+
+    def by_replies(before):
+        written = b"".join(it.replies[:before])
+        return written, it.read_at(len(written))
+
+    calls = {"reads": fail_in_turn(count, failing, "read", by_reads)}
+    count.check("each byte is a read, and so is the end", (calls["reads"],), (it.size + 1,))
+    for what in ("write", "nothing"):
+        calls[f"{what}, byte by byte"] = fail_in_turn(count, failing, what, by_bytes, writes=1)
+        calls[f"{what}, reply by reply"] = fail_in_turn(count, failing, what, by_replies)
+    return calls
+
+
 def main():
     program = str(pathlib.Path(sys.argv[1]).resolve())
     count = Count()
     with tempfile.TemporaryDirectory() as folder:
         failing = Failing(program, folder)
-        it = Session(failing, count)
+        it = Session()
+        count.check("a reply for each command", (len(it.replies),), (len(it.ends),))
         for size in (1, 7, WHOLE):
             got, _ = failing.run("read", NEVER, size, size)
             count.check(f"reads and writes of {size} bytes", got, (0, it.plain, b""))
-
-        def told(end):
-            return sum(len(reply) for reply, last in zip(it.replies, it.ends) if last <= end)
-
-        calls = {"reads": fail_in_turn(count, failing, "read", lambda before: (it.plain[: told(before)], before))}
-        count.check("each byte is a read, and so is the end", (calls["reads"],), (it.size + 1,))
-        for what in ("write", "nothing"):
-            of_byte = lambda before: (it.plain[:before], it.read_for(before))
-            calls[f"{what}, byte by byte"] = fail_in_turn(count, failing, what, of_byte, writes=1)
-            of_reply = lambda before: (b"".join(it.replies[:before]), it.ends[before])
-            calls[f"{what}, reply by reply"] = fail_in_turn(count, failing, what, of_reply)
+        calls = fail_all(count, failing, it)
     print(f"{SESSION}: failed in turn: " + ", ".join(f"{times} {name}" for name, times in calls.items()))
     print(f"{count.passed} passed, {count.failed} failed")
     return count.failed != 0

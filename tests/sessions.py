@@ -24,13 +24,13 @@ class Count:
         self.failed = 0
 
     def check(self, name, got, wanted):
-        """Counts one run, where `got` and `wanted` are exit status, standard output and standard error."""
+        """Counts one run, where `got` and `wanted` are exit status, standard output and standard error, and more where a test has more."""
         if got == wanted:
             self.passed += 1
             return
         self.failed += 1
         print(f"{name}: failed")
-        for what, is_, should in zip(("exit status", "output", "error output"), got, wanted):
+        for what, is_, should in zip(("exit status", "output", "error output", "calls that failed", "bytes that were read"), got, wanted):
             if is_ != should:
                 print(f"  {what}: {shown(is_)}\n  wanted: {shown(should)}")
 
