@@ -1,12 +1,12 @@
 // A session over Ada units.
-ghost use Rattle.std.specs.Prelude.{◌+◌, ◌-◌, ◌^◌, ◌<◌, ◌≤◌, IfOk, IsErrOf};
+ghost use Rattle.std.specs.Prelude.{◌≡◌, ◌+◌, ◌-◌, ◌^◌, ◌<◌, ◌≤◌, IfOk, IsErrOf, OnErr};
 ghost use Rattle.al_stream.specs.Input.{source_moment};
 ghost use Rattle.al_stream.specs.Output.{sink_moment};
 ghost use Rattle.al_served.specs.Library.{State, empty, with_tick};
 ghost use Rattle.al_served.specs.Serving.{Serves, StopsReading, StopsWriting};
 ghost use Rattle.adalib.specs.Program.{ada_meaning};
 
-use al_ada_session::{Device, Ended, Sink, Source, new_engine, serve};
+use al_ada_session::{Device, Ended, Sink, Source, session};
 use al_base::NoMemory;
 use al_bounded_check::laws::headers_are_read;
 use al_check::ada_check;
@@ -15,10 +15,11 @@ use std::alloc::Global;
 /// Serves a session, from a library with no file.
 /// - `served`: what is written is the replies of the plain session to what is read, in which each build compiles all files from nothing.
 /// - `read`, `write`: a device that fails leaves a prefix of them.
+/// - `refused`: without memory for the library nothing is read and nothing is written.
 ///
 /// # Errors
 ///
-/// `NoMemory` where memory for the library was wanted and not given: then nothing is read.
+/// `NoMemory` where memory for the library was wanted and not given.
 pub fn serve_ada<S: Source, K: Sink>(
     alloc: Global,
     reader: &mut S,
@@ -36,11 +37,8 @@ pub fn serve_ada<S: Source, K: Sink>(
         (sink_moment K.written K.faults K.waits writer.old) (sink_moment K.written K.faults K.waits writer.new) empty after) }
     ensures write { IfOk result (λ came. IsErrOf came Device.Write → (after : State) × StopsWriting (with_tick ada_meaning tick) 1000000 (source_moment S.ahead S.faults S.pulls reader.old)
         (sink_moment K.written K.faults K.waits writer.old) (sink_moment K.written K.faults K.waits writer.new) empty after) }
+    ensures refused { OnErr result ((reader.new ≡ reader.old) × (writer.new ≡ writer.old)) }
 {
     headers_are_read();
-    let mut library = new_engine(alloc, ada_check())?;
-    let ended = serve(alloc, reader, writer, &mut library, tick);
-    // The system takes the memory back at the end of the process; to let go of all that is kept would only take time.
-    std::mem::forget(library);
-    Ok(ended)
+    session(alloc, ada_check(), reader, writer, tick)
 }

@@ -6,6 +6,7 @@ mod engine;
 mod laws;
 mod memory;
 mod serving;
+mod whole;
 
 pub use al_served::{Ended, MAX_COMMANDS, MAX_PULLS};
 pub use al_stream::{Counted, Device, Fault, Sink, Source};
@@ -15,3 +16,4 @@ pub use laws::{
 };
 pub use memory::serve_bytes;
 pub use serving::{serve, serve_within};
+pub use whole::session;

@@ -1,5 +1,5 @@
 -- What a whole session over a reader and a writer does.
-use Rattle.std.specs.Prelude.{◌≡◌, ℕ, suc, ◌+◌, ◌<◌, ◌≤◌, ◌⊎◌, Bool, true, false, List, ◌++◌, length, Option, Some, None}
+use Rattle.std.specs.Prelude.{◌≡◌, ℕ, suc, ◌+◌, ◌^◌, ◌<◌, ◌≤◌, ◌⊎◌, Bool, true, false, List, ◌++◌, length, Option, Some, None}
 use Rattle.std.specs.Io.KnownBytes.{Appends, Consumes}
 use Rattle.al_stream.specs.Input.{SourceMoment}
 use Rattle.al_stream.specs.Output.{IsFront, SinkMoment}
@@ -91,3 +91,33 @@ pub record StopsWriting (m : Meaning) (commands : ℕ) (reader : SourceMoment) (
   pub state : after ≡ with_it.state
   pub fault : writer_after.faults ≡ writer.faults + 1
   pub passed : out ≡ before_it.replies → writer.waits ≡ false → writer_after.waits ≡ false
+
+-- A session over bytes in memory went through to its end: the replies and the library are those of the session over these bytes.
+pub record ServesBytes (m : Meaning) (input : List ℕ) (before after : State) (replies : List ℕ) : Type 0 where
+  pub marks : List Bool
+  pub all : Outcome
+  pub is_session : IsSession m true 1000000 before marks input all
+  pub replies_are : replies ≡ all.replies
+  pub state : after ≡ all.state
+
+-- More calls of the reader were wanted than a session may have: the library is that of the commands that stand whole in the bytes that
+-- were read, a byte at least for each call.
+pub record StopsReadingBytes (m : Meaning) (input : List ℕ) (before after : State) : Type 0 where
+  pub read : List ℕ
+  pub unread : List ℕ
+  pub marks : List Bool
+  pub parts : input ≡ read ++ unread
+  pub many : 2 ^ 31 ≤ length read
+  pub unfinished : IsOpen 1000000 read
+  pub all : Outcome
+  pub is_session : IsSession m false 1000000 before marks read all
+  pub state : after ≡ all.state
+
+-- Memory for a reply was refused: the library is that after its command.
+pub record StopsWritingBytes (m : Meaning) (input : List ℕ) (before after : State) : Type 0 where
+  pub marks : List Bool
+  pub count : ℕ
+  pub in_range : count < 1000000
+  pub all : Outcome
+  pub is_session : IsSession m true (count + 1) before marks input all
+  pub state : after ≡ all.state
