@@ -9,7 +9,7 @@
 What a wrong body's verdict stands on is its own text, the files of its crate and of all crates that this one stands on but their
 tests, their lines of crates.txt, and the kit's line (`rt version`). These together are hashed: a file named by the hash says that exactly
 this was refused. The files lie in the folder that SOLBREOG_REFUSED names, by default ~/.cache/solbreog/refused; without
-it all wrong bodies are tried. Proofs and tests are never kept: each run does them from nothing.
+it all wrong bodies are tried. Proofs are rt ci's own to keep.
 """
 import hashlib
 import json
