@@ -1,5 +1,5 @@
 // Sets of names.
-ghost use Rattle.std.specs.Prelude.{◌≡◌, [], OnOk};
+ghost use Rattle.std.specs.Prelude.{◌≡◌, [], IfOk, OnOk};
 ghost use Rattle.std.specs.List.{list_any};
 ghost use Rattle.std.specs.Str.{bytes_eq};
 ghost use Rattle.indexmap.specs.IndexSet.{insert_key};
@@ -53,5 +53,17 @@ impl NameSet {
     {
         self.names.insert(name)?;
         Ok(())
+    }
+
+    /// The same names once more.
+    pub fn copy(&self, alloc: Global) -> Result<NameSet, NoMemory>
+        ensures { IfOk result (λ copy. copy ≡ self.now) }
+    {
+        let mut copy = NameSet::new(alloc);
+        for name in self.names.as_slice() {
+            let name = Name::from_slice(alloc, name.as_slice())?;
+            copy.insert(name)?;
+        }
+        Ok(copy)
     }
 }

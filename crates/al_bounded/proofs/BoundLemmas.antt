@@ -1,5 +1,5 @@
 -- Questions that may be asked, and logs that agree with a table within bounds.
-use Rattle.std.proofs.Common.{◌≡◌, ℕ, zero, suc, ◌+◌, add-one, Bool, true, false, cond, not, ◌||◌, List, [], ◌∷◌, ◌++◌, Some, None, is_some, refl, sym, ◌∙◌, ap, subst, drop, if◌then◌else◌}
+use Rattle.std.proofs.Common.{◌≡◌, ℕ, zero, suc, ◌+◌, add-one, Bool, true, false, cond, not, ◌&&◌, ◌||◌, List, [], ◌∷◌, ◌++◌, Some, None, is_some, refl, sym, ◌∙◌, ap, subst, drop, if◌then◌else◌}
 use Rattle.std.specs.Prelude.{slice_get}
 use Rattle.std.specs.List.{flat_map, list_all}
 use Rattle.std.proofs.lemmas.List.Folds.{list_all-append}
@@ -15,7 +15,7 @@ use Rattle.al_query.proofs.AskLemmas.{asks_one}
 use Rattle.al_query.proofs.KnownLemmas.{has_unit-left}
 use Rattle.al_outcome.specs.ReadsLaw.{AsksOthers, is_of_another}
 use Rattle.al_outcome.specs.Tables.{no_answer}
-use Rattle.al_bounded.specs.Bounding.{allowed, bounded, may_ask}
+use Rattle.al_bounded.specs.Bounding.{allowed, bounded, is_by_names, may_ask}
 use Rattle.al_bounded.specs.declared.bounds.Bounds.{Bounds}
 
 -- what may be asked is answered alike where the tables answer it alike
@@ -33,7 +33,7 @@ bounded-else b q t s h = at (may_ask b q) h
 -- a question that may be asked is one of those that are allowed
 pub asks-allowed : (b : Bounds) (q : Query) (a : AnswerKind) (old new : Log) → may_ask b q ≡ true → new ≡ logged old q a → AsksOf b.known (allowed b) old new
 asks-allowed b q a old new h e =
-    let parts = both (has_unit b.known (unit_of q)) (not (same_unit b.unit (unit_of q))) h in
+    let parts = both (has_unit b.known (unit_of q)) (not (same_unit b.unit (unit_of q)) && is_by_names b.unit b.names q) h in
     asks_one (OfKnown b.known (allowed b)) old new q a (has_unit-left b.known (flat_map (λ (x : Query × AnswerKind). learned x.0 x.1) old) (unit_of q) parts.0, h) e
 
 or-right : (b c : Bool) → c ≡ true → (b || c) ≡ true
@@ -43,8 +43,9 @@ or-right false c h = h
 -- it is of another unit
 of-another : (b : Bounds) (q : Query) → may_ask b q ≡ true → is_of_another b.unit q ≡ true
 of-another b q h =
-    let parts = both (has_unit b.known (unit_of q)) (not (same_unit b.unit (unit_of q))) h in
-    or-right (has_unit predefined_units (unit_of q)) (not (same_unit b.unit (unit_of q))) parts.1
+    let known = both (has_unit b.known (unit_of q)) (not (same_unit b.unit (unit_of q)) && is_by_names b.unit b.names q) h in
+    let other = both (not (same_unit b.unit (unit_of q))) (is_by_names b.unit b.names q) known.1 in
+    or-right (has_unit predefined_units (unit_of q)) (not (same_unit b.unit (unit_of q))) other.0
 
 pub asks-others : (b : Bounds) (q : Query) (a : AnswerKind) (old new : Log) → may_ask b q ≡ true → new ≡ logged old q a → AsksOthers b.unit old → AsksOthers b.unit new
 asks-others b q a old new h e before = subst (λ (l : Log). AsksOthers b.unit l) (sym e) (at (is_some (recorded old q)))

@@ -1,23 +1,34 @@
 // A table with bounds.
 ghost use Rattle.std.specs.Prelude.{◌≡◌};
+ghost use Rattle.al_query.specs.Answers.{declaration};
 ghost use Rattle.al_query.specs.Known.{has_unit};
 ghost use Rattle.al_query.specs.Queries.{unit_of};
 ghost use Rattle.al_view.specs.Symbols.{same_unit};
-ghost use Rattle.al_bounded.specs.Bounding.{bounded, may_ask};
+ghost use Rattle.al_bounded.specs.Bounding.{bounded, is_by_names, may_ask};
 
-use al_base::{NoMemory, UnitKey};
+use al_asked_again::NameSet;
+use al_base::{NoMemory, UnitKey, UnitKind};
 use al_outcome::no_answer;
-use al_query::{Answer, Answers, Query};
+use al_query::{Answer, Answers, Property, Query};
 use al_view::{Row, is_unit};
 use std::alloc::Global;
 
-/// Of whom a unit may ask.
+/// What a unit may ask.
 #[derive(Drop)]
 pub struct Bounds {
     /// The unit that asks, which isn't asked itself.
     pub unit: UnitKey,
     /// The units that it knows.
     pub known: Row<UnitKey>,
+    /// The names that it may ask for: the words of its text.
+    pub names: NameSet,
+}
+
+/// Whether the first unit is the declaration of the other one's name.
+fn is_declaration_of(unit: &UnitKey, other: &UnitKey) -> bool
+    ensures { result ≡ same_unit unit.now (declaration other.now.name) }
+{
+    matches!(unit.kind, UnitKind::Decl) && unit.name.as_slice() == other.name.as_slice()
 }
 
 impl Bounds {
@@ -31,11 +42,27 @@ impl Bounds {
             .any(|known| is_unit(unit, known))
     }
 
-    /// Whether the question may be asked: it is of a unit that is known, and of another than the one that asks.
+    /// Whether the question is by one of the names, or for a property; for what a body must complete, of the unit's own declaration.
+    fn is_by_names(&self, query: &Query) -> bool
+        ensures { result ≡ is_by_names self.now.unit self.now.names query.now }
+    {
+        match query {
+            Query::Named { name, .. } => self.names.contains(name),
+            Query::Of {
+                unit,
+                property: Property::Completions,
+            } => is_declaration_of(unit, &self.unit),
+            Query::Of { .. } => true,
+        }
+    }
+
+    /// Whether the question may be asked: it is of a unit that is known, and of another than the one that asks, and by one of the names
+    /// or for a property.
     pub fn may_ask(&self, query: &Query) -> bool
         ensures { result ≡ may_ask self.now query.now }
     {
-        self.knows(query.unit()) && !is_unit(&self.unit, query.unit())
+        let unit = query.unit();
+        self.knows(unit) && !is_unit(&self.unit, unit) && self.is_by_names(query)
     }
 }
 

@@ -1,4 +1,4 @@
-//! Who may be asked while a unit is walked: a table with bounds, and what was asked within them asked of a recorder.
+//! What may be asked while a unit is walked, of whom and by which names: a table with bounds, and what was asked within them asked of a recorder.
 #![tactic(auto)]
 
 mod bounds;

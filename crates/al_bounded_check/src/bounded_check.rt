@@ -1,6 +1,11 @@
 // The checker.
-ghost use Rattle.std.specs.Prelude.{◌≡◌};
-ghost use Rattle.al_outcome.specs.ReadsLaw.{one_more};
+ghost use Rattle.std.specs.Prelude.{◌≡◌, [], IfOk, OnOk};
+ghost use Rattle.al_outcome.specs.ReadsLaw.{AsksOthers, one_more};
+ghost use Rattle.al_outcome.specs.Results.{checked_seen};
+ghost use Rattle.al_bounded.specs.Bounding.{AsksByNames};
+ghost use Rattle.al_within.specs.Within.{IsChecked};
+ghost use Rattle.al_within.specs.Words.{words_of};
+ghost use Rattle.al_bounded_check.specs.Meanings.{header_in, text_meaning};
 
 use crate::texts::check_text;
 use al_base::{NoMemory, UnitKey};
@@ -24,6 +29,27 @@ impl<F: UnitFinder> BoundedCheck<F> {
         ensures checks { result.checks ≡ 0 }
     {
         BoundedCheck { finder, checks: 0 }
+    }
+
+    /// Checks a unit with its text. Beside what is promised of every checker, whatever the finder asks:
+    /// - `names`: each question is by a word of the text, an operator's sign too, or for a property of a unit; that for what a body must
+    ///   complete is of the unit's own declaration.
+    pub fn check_unit<A: Answers>(
+        &mut self,
+        alloc: Global,
+        unit: &UnitKey,
+        text: &[u8],
+        recorder: &mut Recorder<A>,
+    ) -> Result<Checked, NoMemory>
+        requires { recorder.old.log ≡ [] }
+        ensures asked { recorder.new.asked ≡ recorder.old.asked }
+        ensures checked { IfOk result (λ checked. IsChecked unit.now (header_in text.now) (text_meaning F.units F.verdict unit.now text.now) recorder.new.log (checked_seen checked)) }
+        ensures others { OnOk result (AsksOthers unit.now recorder.new.log) }
+        ensures names { OnOk result (AsksByNames unit.now (words_of text.now) recorder.new.log) }
+        ensures counted { self.new.checks ≡ one_more self.old.checks }
+    {
+        self.checks = one_more(self.checks);
+        check_text(alloc, &self.finder, unit, text, recorder)
     }
 }
 
@@ -54,8 +80,7 @@ impl<F: UnitFinder> UnitCheck for BoundedCheck<F> {
         text: &[u8],
         recorder: &mut Recorder<A>,
     ) -> Result<Checked, NoMemory> {
-        self.checks = one_more(self.checks);
-        check_text(alloc, &self.finder, unit, text, recorder)
+        self.check_unit(alloc, unit, text, recorder)
     }
 
     fn checks(&self) -> u64 {

@@ -4,8 +4,10 @@ ghost use Rattle.al_unit.specs.ReadingSeen.{reading_seen};
 ghost use Rattle.al_unit.specs.Readings.{reading_of};
 ghost use Rattle.al_outcome.specs.ReadsLaw.{AsksOthers};
 ghost use Rattle.al_outcome.specs.Results.{checked_seen};
+ghost use Rattle.al_bounded.specs.Bounding.{AsksByNames};
 ghost use Rattle.al_self_check.specs.SelfChecks.{checked_faults};
 ghost use Rattle.al_within.specs.Within.{IsChecked};
+ghost use Rattle.al_within.specs.Words.{words_of};
 ghost use Rattle.al_bounded_check.specs.Meanings.{header_in, text_meaning};
 
 use al_base::{NoMemory, UnitKey};
@@ -47,6 +49,7 @@ fn check_reading<F: UnitFinder, A: Answers>(
     ensures asked { recorder.new.asked ≡ recorder.old.asked }
     ensures checked { IfOk result (λ checked. IsChecked unit.now (header_in text.now) (text_meaning F.units F.verdict unit.now text.now) recorder.new.log (checked_seen checked)) }
     ensures others { OnOk result (AsksOthers unit.now recorder.new.log) }
+    ensures names { OnOk result (AsksByNames unit.now (words_of text.now) recorder.new.log) }
 {
     faults_are_told();
     match reading {
@@ -67,6 +70,7 @@ pub(crate) fn check_text<F: UnitFinder, A: Answers>(
     ensures asked { recorder.new.asked ≡ recorder.old.asked }
     ensures checked { IfOk result (λ checked. IsChecked unit.now (header_in text.now) (text_meaning F.units F.verdict unit.now text.now) recorder.new.log (checked_seen checked)) }
     ensures others { OnOk result (AsksOthers unit.now recorder.new.log) }
+    ensures names { OnOk result (AsksByNames unit.now (words_of text.now) recorder.new.log) }
 {
     faults_are_told();
     if !fits(text) {

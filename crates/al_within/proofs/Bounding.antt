@@ -13,20 +13,20 @@ use Rattle.al_bounded.specs.Bounding.{bounded}
 use Rattle.al_bounded.specs.declared.bounds.Bounds.{Bounds}
 use Rattle.al_self_check.specs.SelfChecks.{is_kept, self_checked}
 use Rattle.al_within.specs.Verdicts.{Verdict}
-use Rattle.al_within.specs.Within.{concluded, meaning_within}
+use Rattle.al_within.specs.Within.{bounds_of, concluded, meaning_within}
 
-unfoldable pub made : UnitKey → List UnitKey → Bounds
-made unit known = record { unit = unit; known = known }
+unfoldable pub made : UnitKey → List UnitKey → List (List ℕ) → Bounds
+made unit known names = record { unit = unit; known = known; names = names }
 
-pub same_bounds : (u v : UnitKey) (k l : List UnitKey) → u ≡ v → k ≡ l → made u k ≡ made v l
-same_bounds u v k l a b = ap (λ (x : UnitKey). made x k) a ∙ ap (λ (y : List UnitKey). made v y) b
+pub same_bounds : (u v : UnitKey) (k l : List UnitKey) (m n : List (List ℕ)) → u ≡ v → k ≡ l → m ≡ n → made u k m ≡ made v l n
+same_bounds u v k l m n a b c = ap (λ (x : UnitKey). made x k m) a ∙ ap (λ (y : List UnitKey). made v y m) b ∙ ap (λ (z : List (List ℕ)). made v l z) c
 
 -- what a check gives by bounds that are these under the table
 pub means : (units : UnitKey → Header → Table → List UnitKey) (verdict : UnitKey → List ℕ → CompilationUnitTree → Table → Verdict) (unit : UnitKey) (text : List ℕ) (tree : CompilationUnitTree) (t : Table) (b : Bounds) (found : Verdict) (outcome : Outcome)
-    → b ≡ record { unit = unit; known = units unit (header_of tree) t } → found ≡ verdict b.unit text tree (bounded b t) → outcome ≡ concluded b text found (bounded b t)
+    → b ≡ bounds_of unit text (units unit (header_of tree) t) → found ≡ verdict b.unit text tree (bounded b t) → outcome ≡ concluded b found (bounded b t)
     → outcome ≡ meaning_within units verdict unit text tree t
 means units verdict unit text tree t b found outcome is finds gives =
-    gives ∙ ap (λ (v : Verdict). concluded b text v (bounded b t)) finds ∙ ap (λ (x : Bounds). concluded x text (verdict x.unit text tree (bounded x t)) (bounded x t)) is
+    gives ∙ ap (λ (v : Verdict). concluded b v (bounded b t)) finds ∙ ap (λ (x : Bounds). concluded x (verdict x.unit text tree (bounded x t)) (bounded x t)) is
 
 -- the same units and views
 pub same_test : (unit : UnitKey) (k l : List UnitKey) (v w : List ViewKind) (i : UnitInterface) (tree : UnitTree) → k ≡ l → v ≡ w → self_checked unit k v i tree ≡ self_checked unit l w i tree

@@ -6,13 +6,15 @@ ghost use Rattle.al_query.specs.Asked.{AsksOf};
 ghost use Rattle.al_query.specs.Reads.{Agrees, Told};
 ghost use Rattle.al_outcome.specs.ReadsLaw.{AsksOthers};
 ghost use Rattle.al_outcome.specs.Results.{checked_seen};
-ghost use Rattle.al_bounded.specs.Bounding.{allowed, bounded};
+ghost use Rattle.al_bounded.specs.Bounding.{AsksByNames, allowed, bounded};
 ghost use Rattle.al_within.specs.Verdicts.{verdict_of};
 ghost use Rattle.al_within.specs.Within.{AreBounds, IsChecked, meaning_within};
+ghost use Rattle.al_within.specs.Words.{words_of};
 
 use crate::concluding::concluded_within;
 use crate::finder::UnitFinder;
 use crate::finding::Found;
+use crate::words::words_of;
 use al_base::{NoMemory, UnitKey};
 use al_bounded::{Bounded, Bounds, replay};
 use al_header::header_of;
@@ -22,24 +24,28 @@ use al_tree::CompilationUnit;
 use al_view::{Row, copied_unit};
 use std::alloc::Global;
 
-/// The units that may be asked.
+/// What may be asked: the units that are known, by the words of the text.
 fn bounds_of<F: UnitFinder, A: Answers>(
     alloc: Global,
     finder: &F,
     unit: &UnitKey,
+    text: &[u8],
     tree: &CompilationUnit,
     recorder: &mut Recorder<A>,
 ) -> Result<Bounds, NoMemory>
-    requires { recorder.old.log ≡ [] }
+    requires text { length text.now ≤ 4294967294 }
+    requires log { recorder.old.log ≡ [] }
     ensures asked { recorder.new.asked ≡ recorder.old.asked }
-    ensures bounds { IfOk result (λ bounds. AreBounds (F.units unit.now (headers.header_of (unit_seen tree.now))) (headers.header_of (unit_seen tree.now)) unit.now recorder.new.log bounds) }
+    ensures bounds { IfOk result (λ bounds. AreBounds (F.units unit.now (headers.header_of (unit_seen tree.now))) (headers.header_of (unit_seen tree.now)) unit.now text.now recorder.new.log bounds) }
 {
     let header = header_of(alloc, tree)?;
     let known = finder.units_known(alloc, unit, &header, recorder)?;
     let unit = copied_unit(alloc, unit)?;
+    let names = words_of(alloc, text)?;
     Ok(Bounds {
         unit,
         known: Row::new(known),
+        names,
     })
 }
 
@@ -87,9 +93,10 @@ pub fn check_within<F: UnitFinder, A: Answers>(
     ensures asked { recorder.new.asked ≡ recorder.old.asked }
     ensures checked { IfOk result (λ checked. IsChecked unit.now (headers.header_of (unit_seen tree.now)) (meaning_within F.units F.verdict unit.now text.now (unit_seen tree.now)) recorder.new.log (checked_seen checked)) }
     ensures others { OnOk result (AsksOthers unit.now recorder.new.log) }
+    ensures names { OnOk result (AsksByNames unit.now (words_of text.now) recorder.new.log) }
 {
-    let bounds = bounds_of(alloc, finder, unit, tree, recorder)?;
+    let bounds = bounds_of(alloc, finder, unit, text, tree, recorder)?;
     let found = found_within(alloc, finder, &bounds, text, tree, recorder)?;
-    let checked = concluded_within(alloc, &bounds, text, found, recorder)?;
+    let checked = concluded_within(alloc, &bounds, found, recorder)?;
     Ok(checked)
 }

@@ -1,5 +1,5 @@
 // What the check of a unit gives.
-ghost use Rattle.std.specs.Prelude.{◌≡◌, ◌≤◌, List, length, IfOk, OnOk};
+ghost use Rattle.std.specs.Prelude.{◌≡◌, List, IfOk, OnOk};
 ghost use Rattle.al_base.specs.declared.unit_key.UnitKey.{UnitKey};
 ghost use Rattle.al_typed.specs.UnitTrees.{unit_seen};
 ghost use Rattle.al_query.specs.Asked.{AsksOf};
@@ -27,22 +27,20 @@ use std::alloc::Global;
 fn sound_within<A: Answers>(
     alloc: Global,
     bounds: &Bounds,
-    text: &[u8],
     sound: SoundUnit,
     log: &ReadLog,
     recorder: &mut Recorder<A>,
 ) -> Result<Checked, NoMemory>
-    requires text { length text.now ≤ 4294967294 }
-    requires agrees { HoldsBy recorder.old.log (λ t. Agrees (bounded bounds.now t) log.now) }
+    requires { HoldsBy recorder.old.log (λ t. Agrees (bounded bounds.now t) log.now) }
     ensures asked { recorder.new.asked ≡ recorder.old.asked }
-    ensures told { IfOk result (λ checked. Told recorder.old.log recorder.new.log (λ t. checked_seen checked ≡ concluded bounds.now text.now (sound_of sound) (bounded bounds.now t))) }
+    ensures told { IfOk result (λ checked. Told recorder.old.log recorder.new.log (λ t. checked_seen checked ≡ concluded bounds.now (sound_of sound) (bounded bounds.now t))) }
     ensures asks { OnOk result (AsksOf bounds.now.known (allowed bounds.now) recorder.old.log recorder.new.log) }
     ensures others { OnOk result (AsksOthers bounds.now.unit recorder.old.log → AsksOthers bounds.now.unit recorder.new.log) }
     ensures promised { IfOk result (λ checked. (first : List UnitKey) → AreAmong bounds.now.known (known_after first recorder.new.log) → Promised bounds.now.unit first recorder.new.log (checked_seen checked)) }
 {
     what_is_tested_keeps();
     shown_views_are_answered();
-    let wanted = wanted_of(alloc, bounds, text)?;
+    let wanted = wanted_of(alloc, bounds)?;
     let shown = shown_views(alloc, bounds, &wanted, log, &sound, recorder)?;
     recorder.agrees();
     self_checked(
@@ -58,14 +56,12 @@ fn sound_within<A: Answers>(
 pub(crate) fn concluded_within<A: Answers>(
     alloc: Global,
     bounds: &Bounds,
-    text: &[u8],
     found: Found,
     recorder: &mut Recorder<A>,
 ) -> Result<Checked, NoMemory>
-    requires text { length text.now ≤ 4294967294 }
-    requires agrees { HoldsBy recorder.old.log (λ t. Agrees (bounded bounds.now t) found.log) }
+    requires { HoldsBy recorder.old.log (λ t. Agrees (bounded bounds.now t) found.log) }
     ensures asked { recorder.new.asked ≡ recorder.old.asked }
-    ensures told { IfOk result (λ checked. Told recorder.old.log recorder.new.log (λ t. checked_seen checked ≡ concluded bounds.now text.now (verdict_of found.finding) (bounded bounds.now t))) }
+    ensures told { IfOk result (λ checked. Told recorder.old.log recorder.new.log (λ t. checked_seen checked ≡ concluded bounds.now (verdict_of found.finding) (bounded bounds.now t))) }
     ensures asks { OnOk result (AsksOf bounds.now.known (allowed bounds.now) recorder.old.log recorder.new.log) }
     ensures others { OnOk result (AsksOthers bounds.now.unit recorder.old.log → AsksOthers bounds.now.unit recorder.new.log) }
     ensures promised { IfOk result (λ checked. (first : List UnitKey) → AreAmong bounds.now.known (known_after first recorder.new.log) → Promised bounds.now.unit first recorder.new.log (checked_seen checked)) }
@@ -74,6 +70,6 @@ pub(crate) fn concluded_within<A: Answers>(
     let Found { finding, log } = found;
     match finding {
         Finding::Faulty(faults) => checked_faults(alloc, &bounds.unit, faults),
-        Finding::Sound(sound) => sound_within(alloc, bounds, text, sound, &log, recorder),
+        Finding::Sound(sound) => sound_within(alloc, bounds, sound, &log, recorder),
     }
 }

@@ -1,4 +1,4 @@
-//! The check of a unit within bounds: whoever finds what its text says asks only units that it knows of, and the result is tested at the end.
+//! The check of a unit within bounds: whoever finds what its text says asks only units that it knows of, and by the words of the text alone; the result is tested at the end.
 #![tactic(auto)]
 
 mod checking;

@@ -1,5 +1,5 @@
 // The views that a unit was shown.
-ghost use Rattle.std.specs.Prelude.{◌≡◌, ◌≤◌, length, IfOk, OnOk};
+ghost use Rattle.std.specs.Prelude.{◌≡◌, IfOk, OnOk};
 ghost use Rattle.al_typed.specs.UnitTrees.{unit_seen};
 ghost use Rattle.al_query.specs.Asked.{AsksOf};
 ghost use Rattle.al_query.specs.Reads.{Agrees, HoldsBy, Told};
@@ -10,7 +10,6 @@ ghost use Rattle.al_asked_again.specs.Questions.{shown_by};
 ghost use Rattle.al_within.specs.Within.{IsAsGood, wanted_of};
 
 use crate::segments::segments_of;
-use crate::words::words_of;
 use al_asked_again::{Wanted, asked_again, recorded_views};
 use al_base::{NoMemory, UnitKey};
 use al_bounded::{Bounded, Bounds, replay};
@@ -30,15 +29,14 @@ fn copied_units(alloc: Global, units: &[UnitKey]) -> Result<Row<UnitKey>, NoMemo
     Ok(copy)
 }
 
-/// Which questions may show the unit with this text what it uses of others.
-pub(crate) fn wanted_of(alloc: Global, bounds: &Bounds, text: &[u8]) -> Result<Wanted, NoMemory>
-    requires { length text.now ≤ 4294967294 }
-    ensures { IfOk result (λ wanted. wanted ≡ wanted_of bounds.now text.now) }
+/// Which questions may show the unit what it uses of others.
+pub(crate) fn wanted_of(alloc: Global, bounds: &Bounds) -> Result<Wanted, NoMemory>
+    ensures { IfOk result (λ wanted. wanted ≡ wanted_of bounds.now) }
 {
     Ok(Wanted {
         units: copied_units(alloc, bounds.known.as_slice())?,
         stubs: segments_of(alloc, bounds.unit.name.as_slice())?,
-        names: words_of(alloc, text)?,
+        names: bounds.names.copy(alloc)?,
     })
 }
 

@@ -5,6 +5,8 @@ use Rattle.al_unit.specs.ReadingSeen.{reading_seen}
 use Rattle.al_query.specs.Reads.{Log}
 use Rattle.al_outcome.specs.ReadsLaw.{AsksOthers}
 use Rattle.al_outcome.specs.Results.{checked_seen}
+use Rattle.al_bounded.specs.Bounding.{AsksByNames}
+use Rattle.al_within.specs.Words.{words_of}
 use Rattle.al_bounded_check.proofs.Reading.{fails, sentence}
 use Rattle.al_bounded_check.proofs.texts.check_reading.Goals as goal
 
@@ -20,3 +22,6 @@ returns-in-Fails-clause-checked g c =
 
 pub returns-in-Fails-clause-others : goal.returns-in-Fails-clause-others
 returns-in-Fails-clause-others g c = IfOk-weaker c.not_yet.result _ _ (λ v e. subst (λ (l : Log). AsksOthers c.args.unit.now l) (sym c.requires.log) refl) c.not_yet.ensures
+
+pub returns-in-Fails-clause-names : goal.returns-in-Fails-clause-names
+returns-in-Fails-clause-names g c = IfOk-weaker c.not_yet.result _ _ (λ v e. subst (λ (l : Log). AsksByNames c.args.unit.now (words_of c.args.text.now) l) (sym c.requires.log) refl) c.not_yet.ensures

@@ -3,6 +3,8 @@ use Rattle.std.proofs.lemmas.Result.{IfOk-weaker}
 use Rattle.al_query.specs.Reads.{Log}
 use Rattle.al_outcome.specs.ReadsLaw.{AsksOthers}
 use Rattle.al_outcome.specs.Results.{checked_seen}
+use Rattle.al_bounded.specs.Bounding.{AsksByNames}
+use Rattle.al_within.specs.Words.{words_of}
 use Rattle.al_bounded_check.proofs.Reading.{le_is, too_long}
 use Rattle.al_bounded_check.proofs.texts.check_text.Goals as goal
 
@@ -19,3 +21,6 @@ read-requires g c = le_is (length c.args.text.now) 4294967294 (sym c.fits.ensure
 
 pub check_reading-checked-requires-clause-text : goal.check_reading-checked-requires-clause-text
 check_reading-checked-requires-clause-text g c = le_is (length c.args.text.now) 4294967294 (sym c.fits.ensures ∙ c.if-not-fits.false)
+
+pub returns-then-not-fits-clause-names : goal.returns-then-not-fits-clause-names
+returns-then-not-fits-clause-names g c = IfOk-weaker c.not_yet.result _ _ (λ v e. subst (λ (l : Log). AsksByNames c.args.unit.now (words_of c.args.text.now) l) (sym c.requires) refl) c.not_yet.ensures

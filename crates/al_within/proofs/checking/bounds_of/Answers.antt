@@ -8,6 +8,7 @@ use Rattle.al_query.specs.Asked.{AsksOf, by_property}
 use Rattle.al_query.specs.Known.{AreKnown, known_after}
 use Rattle.al_query.specs.Reads.{Log}
 use Rattle.al_outcome.specs.ReadsLaw.{AsksOthers, named_by}
+use Rattle.al_within.specs.Words.{words_of}
 use Rattle.al_within.proofs.Bounding.{made, same_bounds}
 use Rattle.al_within.proofs.checking.bounds_of.Goals as goal
 
@@ -19,12 +20,13 @@ returns-clause-bounds g c =
     let known = c.in_ok-known.ensures in
     record {
       told = λ t h.
-          same_bounds c.in_ok-unit.unit c.args.unit.now _ (g.F.UnitFinder.units c.args.unit.now (headers.header_of (unit_seen c.args.tree.now)) t) c.in_ok-unit.ensures
-          (c.new.ensures ∙ (known.told t h).1 ∙ ap (λ (x : plain.Header). g.F.UnitFinder.units c.args.unit.now x t) is);
+          same_bounds c.in_ok-unit.unit c.args.unit.now _ (g.F.UnitFinder.units c.args.unit.now (headers.header_of (unit_seen c.args.tree.now)) t) c.in_ok-names.names (words_of c.args.text.now) c.in_ok-unit.ensures
+          (c.new.ensures ∙ (known.told t h).1 ∙ ap (λ (x : plain.Header). g.F.UnitFinder.units c.args.unit.now x t) is) c.in_ok-names.ensures;
       own = c.in_ok-unit.ensures;
-      asks = subst (λ (x : Log). AsksOf (named_by (headers.header_of (unit_seen c.args.tree.now))) by_property x log) c.requires
+      names = c.in_ok-names.ensures;
+      asks = subst (λ (x : Log). AsksOf (named_by (headers.header_of (unit_seen c.args.tree.now))) by_property x log) c.requires.log
           (subst (λ (x : plain.Header). AsksOf (named_by x) by_property c.args.recorder.now.log log) is known.asks);
-      others = known.others (subst (λ (x : Log). AsksOthers c.args.unit.now x) (sym c.requires) refl);
+      others = known.others (subst (λ (x : Log). AsksOthers c.args.unit.now x) (sym c.requires.log) refl);
       known = subst (λ (us : List UnitKey). AreKnown (known_after (named_by (headers.header_of (unit_seen c.args.tree.now))) log) us) (sym c.new.ensures)
           (subst (λ (x : plain.Header). AreKnown (known_after (named_by x) log) c.in_ok-known.known.items) is known.known);
     }

@@ -9,7 +9,8 @@ use Rattle.al_bounded.specs.Bounding.{allowed}
 use Rattle.al_self_check.specs.Laws.{Promised}
 use Rattle.al_within.specs.Verdicts.{verdict_of}
 use Rattle.al_within.proofs.Bounding.{means}
-use Rattle.al_within.proofs.Grounds.{grounded, still_known}
+use Rattle.al_within.specs.Words.{words_of}
+use Rattle.al_within.proofs.Grounds.{by_words, grounded, still_known}
 use Rattle.al_within.proofs.checking.check_within.Goals as goal
 
 pub returns-clause-checked : goal.returns-clause-checked
@@ -38,5 +39,11 @@ returns-clause-others g c =
     subst (λ (u : UnitKey). AsksOthers u c.concluded_within.new.recorder.log) are.own
     (c.in_ok-checked.ensures.others (c.in_ok-found.ensures.others (subst (λ (u : UnitKey). AsksOthers u c.bounds_of.new.recorder.log) (sym are.own) are.others)))
 
-pub concluded_within-requires-clause-agrees : goal.concluded_within-requires-clause-agrees
-concluded_within-requires-clause-agrees g c t h = (c.in_ok-found.ensures.told t h).1
+pub returns-clause-names : goal.returns-clause-names
+returns-clause-names g c =
+    let are = c.in_ok-bounds.ensures.bounds in
+    by_words c.in_ok-bounds.bounds c.args.unit.now (words_of c.args.text.now) (named_by (headers.header_of (unit_seen c.args.tree.now))) c.bounds_of.new.recorder.log c.found_within.new.recorder.log c.concluded_within.new.recorder.log
+    are.own are.names are.asks c.in_ok-found.ensures.asks c.in_ok-checked.ensures.asks
+
+pub concluded_within-requires : goal.concluded_within-requires
+concluded_within-requires g c t h = (c.in_ok-found.ensures.told t h).1

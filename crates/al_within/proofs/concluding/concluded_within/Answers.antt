@@ -13,7 +13,7 @@ use Rattle.al_within.proofs.concluding.concluded_within.Goals as goal
 pub returns-in-Faulty-clause-told : goal.returns-in-Faulty-clause-told
 returns-in-Faulty-clause-told g c =
     let b = c.args.bounds.now in
-    IfOk-weaker c.checked_faults.result _ _ (λ v e t h. (h, e ∙ ap (λ (f : Finding). concluded b c.args.text.now (verdict_of f) (bounded b t)) (sym c.in-Faulty.is))) c.checked_faults.ensures
+    IfOk-weaker c.checked_faults.result _ _ (λ v e t h. (h, e ∙ ap (λ (f : Finding). concluded b (verdict_of f) (bounded b t)) (sym c.in-Faulty.is))) c.checked_faults.ensures
 
 pub returns-in-Faulty-clause-asks : goal.returns-in-Faulty-clause-asks
 returns-in-Faulty-clause-asks g c =
@@ -32,4 +32,4 @@ returns-in-Faulty-clause-promised g c =
 pub returns-clause-told : goal.returns-clause-told
 returns-clause-told g c =
     let b = c.args.bounds.now in
-    IfOk-weaker c.sound_within.result _ _ (λ v e t h. let told = e t h in (told.0, told.1 ∙ ap (λ (f : Finding). concluded b c.args.text.now (verdict_of f) (bounded b t)) (sym c.in-Sound.is))) c.sound_within.ensures.told
+    IfOk-weaker c.sound_within.result _ _ (λ v e t h. let told = e t h in (told.0, told.1 ∙ ap (λ (f : Finding). concluded b (verdict_of f) (bounded b t)) (sym c.in-Sound.is))) c.sound_within.ensures.told

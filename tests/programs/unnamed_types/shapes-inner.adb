@@ -1,0 +1,6 @@
+package body Shapes.Inner is
+   function Sum return Grade is
+   begin
+      return Secret + Hidden (Green) - Hidden (Red);
+   end Sum;
+end Shapes.Inner;

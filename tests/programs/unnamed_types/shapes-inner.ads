@@ -1,0 +1,3 @@
+private package Shapes.Inner is
+   function Sum return Grade;
+end Shapes.Inner;
