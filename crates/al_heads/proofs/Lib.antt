@@ -2,3 +2,4 @@ pub mod TermsSeen
 pub mod LawLemmas
 pub mod Gathered
 pub mod HeadsMade
+pub mod ChainLemmas

@@ -6,3 +6,4 @@ pub mod Aggregates
 pub mod Heads
 pub mod Interpreting
 pub mod Laws
+pub mod Chains

@@ -13,6 +13,7 @@ use crate::built::{
     number, other, prefixed, range_member, short_circuited, text, value, with_others,
 };
 use crate::candidate::{indexing, possible, selection};
+use crate::chain::{Sign, add, chained};
 use crate::everywhere::Predefined;
 use crate::operands::gathered;
 use crate::part::{Nominal, declared_under, part_of};
@@ -22,13 +23,52 @@ use al_name::all_of;
 use al_term::Term;
 use std::alloc::Global;
 
+/// The head of an operand, and whether it is of numbers alone. A chain of operators is gone down by a loop, so that it takes no more
+/// of the stack than one operator does.
+#[cycle(heads)]
+#[tactic(auto, using(crate::proofs::TermsSeen::terms_made, crate::proofs::ChainLemmas::first_joined_head, crate::proofs::ChainLemmas::first_joined_universal))]
+fn operand(alloc: Global, predefined: &Predefined, term: &Term) -> Result<Built, NoMemory>
+    ensures head { IfOk result (λ b. plain b.expression ≡ head_of predefined.now None (term_seen term.now)) }
+    ensures universal { IfOk result (λ b. b.is_universal ≡ is_universal (term_seen term.now)) }
+{
+    let mut joints = Vec::new(alloc);
+    let mut rest = term;
+    loop {
+        rest = match rest {
+            Term::Infix {
+                operator,
+                views,
+                left,
+                right,
+            } => {
+                let sign = Sign::Operator(*operator, views.as_slice());
+                add(&mut joints, sign, one(alloc, predefined, right)?)?;
+                left
+            }
+            Term::Concatenation { left, right } => {
+                let right = one(alloc, predefined, right)?;
+                add(&mut joints, Sign::Concatenation, right)?;
+                left
+            }
+            Term::ShortCircuit { left, right, .. } => {
+                let right = one(alloc, predefined, right)?;
+                add(&mut joints, Sign::ShortCircuit, right)?;
+                left
+            }
+            _ => break,
+        };
+    }
+    let first = build(alloc, predefined, &None, rest)?;
+    chained(alloc, predefined, joints, first)
+}
+
 /// One operand.
 #[cycle(heads)]
 fn one(alloc: Global, predefined: &Predefined, term: &Term) -> Result<BuiltOperands, NoMemory>
     ensures operands { IfOk result (λ built. plain_all built.operands ≡ one (head_of predefined.now None (term_seen term.now))) }
     ensures universal { IfOk result (λ built. built.are_universal ≡ is_universal (term_seen term.now)) }
 {
-    let built = build(alloc, predefined, &None, term)?;
+    let built = operand(alloc, predefined, term)?;
     let operands = Operands::before(alloc, built.expression, Operands::none())?;
     Ok(BuiltOperands {
         operands,
@@ -47,7 +87,7 @@ fn before(
     ensures operands { IfOk result (λ built. plain_all built.operands ≡ MoreTrees (head_of predefined.now None (term_seen term.now)) (plain_all others.operands)) }
     ensures universal { IfOk result (λ built. built.are_universal ≡ (is_universal (term_seen term.now) && others.are_universal)) }
 {
-    let first = build(alloc, predefined, &None, term)?;
+    let first = operand(alloc, predefined, term)?;
     let are_universal = first.is_universal && others.are_universal;
     let operands = Operands::before(alloc, first.expression, others.operands)?;
     Ok(BuiltOperands {
@@ -63,7 +103,7 @@ fn each(alloc: Global, predefined: &Predefined, terms: &[Term]) -> Result<Vec<Ex
 {
     let mut heads = Vec::new(alloc);
     for term in terms {
-        let built = build(alloc, predefined, &None, term)?;
+        let built = operand(alloc, predefined, term)?;
         heads.push(built.expression)?;
     }
     Ok(heads)
@@ -110,7 +150,7 @@ fn indexed(
 {
     let standard = &predefined.standard;
     let candidate = indexing(alloc, standard, part_of(standard, prefix))?;
-    let built = build(alloc, predefined, &None, prefix)?;
+    let built = operand(alloc, predefined, prefix)?;
     let operands = Operands::before(alloc, built.expression, indexes)?;
     let expression = possible(alloc, candidate, operands)?;
     Ok(other(expression))

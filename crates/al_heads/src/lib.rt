@@ -5,6 +5,7 @@
 mod aggregate;
 mod built;
 mod candidate;
+mod chain;
 mod everywhere;
 mod head;
 mod interpret;

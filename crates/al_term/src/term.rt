@@ -8,7 +8,6 @@ use al_typed::{BinaryOperator, Conversion, ShortCircuit, UnaryOperator};
 use al_view::{Bounds, StaticValue, SubtypeView, Views};
 
 /// An expression whose names have been looked up: with each name stands what is visible under it.
-#[derive(Drop)]
 pub enum Term {
     /// A numeric literal (ARM 2.4).
     Number {
@@ -127,6 +126,91 @@ pub enum Term {
     Nothing {
         place: Place,
     },
+}
+
+// A chain of operators, selectors or indexes leans to the left: what a term begins with is let go by the loop, and all else of it
+// by a call, so that no chain takes more of the stack than its nesting.
+impl Drop for Term {
+    fn drop(mut self) {
+        loop {
+            match self {
+                Term::Selected { prefix, name: _ } => self = Box::into_inner(prefix),
+                Term::Applied { name, arguments: _ } => self = Box::into_inner(name),
+                Term::Infix {
+                    operator: _,
+                    views: _,
+                    left,
+                    right: _,
+                } => self = Box::into_inner(left),
+                Term::Concatenation { left, right: _ } => self = Box::into_inner(left),
+                Term::ShortCircuit {
+                    form: _,
+                    left,
+                    right: _,
+                } => self = Box::into_inner(left),
+                Term::Member {
+                    value,
+                    is_negated: _,
+                    subtype: _,
+                } => self = Box::into_inner(value),
+                Term::RangeMember {
+                    value,
+                    is_negated: _,
+                    low: _,
+                    high: _,
+                } => self = Box::into_inner(value),
+                Term::Number { place: _, value: _ } => return,
+                Term::Text { place: _, bytes: _ } => return,
+                Term::Named { place: _, views: _ } => return,
+                Term::Bound {
+                    place: _,
+                    subtype: _,
+                    is_last: _,
+                } => return,
+                Term::Length {
+                    place: _,
+                    bounds: _,
+                } => return,
+                Term::Conversion {
+                    place: _,
+                    subtype: _,
+                    operand: _,
+                } => return,
+                Term::Qualified {
+                    place: _,
+                    subtype: _,
+                    operand: _,
+                } => return,
+                Term::Attribute {
+                    place: _,
+                    conversion: _,
+                    subtype: _,
+                    argument: _,
+                } => return,
+                Term::Image {
+                    place: _,
+                    subtype: _,
+                    argument: _,
+                } => return,
+                Term::Prefixed {
+                    place: _,
+                    operator: _,
+                    views: _,
+                    operand: _,
+                } => return,
+                Term::Group { place: _, inner: _ } => return,
+                Term::Aggregate {
+                    place: _,
+                    components: _,
+                } => return,
+                Term::Others {
+                    place: _,
+                    component: _,
+                } => return,
+                Term::Nothing { place: _ } => return,
+            }
+        }
+    }
 }
 
 impl Term {

@@ -1,8 +1,17 @@
-use Rattle.std.proofs.Common.{◌≡◌, map, take}
+use Rattle.std.proofs.Common.{◌≡◌, ◌≤◌, None, map, take}
 use Rattle.al_choice.specs.Counts.{plain}
-use Rattle.al_heads.specs.Heads.{plain_head}
+use Rattle.al_heads.specs.Chains.{chained_head, chained_universal}
+use Rattle.al_heads.specs.Heads.{head_of, plain_head}
+use Rattle.al_heads.specs.Universal.{is_universal}
 use Rattle.al_term.specs.TermViews.{term_seen}
+use Rattle.al_term.specs.declared.term.Term.{size-Term}
 use Rattle.al_heads.proofs.head.+heads.Given as goal
 
 abbrev pub invariant-each-loop-term : goal.invariant-each-loop-term
 invariant-each-loop-term l = map plain l.heads.items ≡ map (plain_head l.predefined) (map term_seen (take l.term-index l.terms))
+
+abbrev pub invariant-operand-loop-rest : goal.invariant-operand-loop-rest
+invariant-operand-loop-rest l =
+    (chained_head l.predefined l.joints.items (head_of l.predefined None (term_seen l.rest)) (is_universal (term_seen l.rest)) ≡ head_of l.predefined None (term_seen l.fn.term))
+    × (chained_universal l.joints.items (is_universal (term_seen l.rest)) ≡ is_universal (term_seen l.fn.term))
+    × (size-Term l.rest ≤ size-Term l.fn.term)
