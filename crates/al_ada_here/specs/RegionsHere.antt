@@ -1,5 +1,5 @@
 -- Loops and blocks at a place (ARM 5.5, 5.6, 8.1).
-use Rattle.std.specs.Prelude.{ℕ, true, List, [], ◌∷◌, ◌++◌, Option, Some, None, if◌then◌else◌}
+use Rattle.std.specs.Prelude.{ℕ, true, List, [], ◌∷◌, ◌++◌, Option, Some, None, unwrap_or, if◌then◌else◌}
 use Rattle.al_decl_body.specs.Regions.{block_entered, outside_of, taken_back}
 use Rattle.al_decl_body.specs.declared.block.Outside.{Outside}
 use Rattle.al_decl_type.specs.Objects.{object_view}
@@ -52,8 +52,9 @@ out_of_block h = out_of h (innermost h.blocks)
 
 -- ---- the parameter of a loop (ARM 5.5(9))
 
+-- of the bounds of its range, where these are static; else it has all values of its type, as any selector of which no more is known (ARM 5.4(7))
 abbrev pub parameter_subtype : LoopType → Option Bounds → SubtypeView
-parameter_subtype f bounds = record { subtype = record { base = f.of; bounds = bounds }; types = f.types; literals = [] }
+parameter_subtype f bounds = record { subtype = record { base = f.of; bounds = Some (unwrap_or bounds f.values) }; types = f.types; literals = [] }
 
 -- a constant without a value in that word of the frame
 abbrev pub parameter_declaration : Here → List ℕ → LoopType → Option Bounds → ℕ → Declaration

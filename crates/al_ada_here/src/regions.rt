@@ -87,7 +87,8 @@ pub fn leave_block(standing: &mut Standing)
     }
 }
 
-/// The subtype of a loop's parameter.
+/// The subtype of a loop's parameter: of the bounds of its range, where these are static; else it has all values of its type, as any selector of which no
+/// more is known (ARM 5.4(7)).
 fn parameter_subtype(
     alloc: Global,
     found: &LoopType,
@@ -96,6 +97,7 @@ fn parameter_subtype(
     ensures { IfOk result (λ of. of ≡ parameter_subtype found.now bounds) }
 {
     let base = found.of.copy(alloc)?;
+    let bounds = Some(bounds.unwrap_or(found.values));
     let subtype = Subtype { base, bounds };
     let types = found.types.share()?;
     let literals = Names::new(alloc, Row::empty(alloc))?;

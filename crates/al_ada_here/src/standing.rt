@@ -17,7 +17,7 @@ use al_stmts::ReturnContext;
 use al_subprogram::Heading;
 use al_typed::FormalWords;
 use al_unit_place::OwnText;
-use al_view::{Interface, Part, Row, SubtypeView, Symbol, Types};
+use al_view::{Bounds, Interface, Part, Row, SubtypeView, Symbol, Types};
 
 /// What stays the same in a unit.
 #[derive(Drop)]
@@ -65,11 +65,13 @@ pub struct UseHere {
     pub stubs: usize,
 }
 
-/// The type of the range of a for loop, with the types among which it is: nothing where every unit has it.
+/// The type of the range of a for loop, with the types among which it is: nothing where every unit has it. All values of the type are the parameter's where
+/// the bounds of the range aren't static.
 #[derive(Drop)]
 pub struct LoopType {
     pub of: Symbol,
     pub types: Types,
+    pub values: Bounds,
 }
 
 /// Where the check of a unit stands.

@@ -10,7 +10,7 @@ use Rattle.al_judged.specs.declared.fault.Fault.{Fault}
 use Rattle.al_label.specs.Ranges.{FoundTree}
 use Rattle.al_performed_at.specs.PerformedAt.{performed_at}
 use Rattle.al_query.specs.Reads.{Table}
-use Rattle.al_ranges_at.specs.ChoicesAt.{selected_at, whole_at}
+use Rattle.al_ranges_at.specs.ChoicesAt.{all_values, selected_at, whole_at}
 use Rattle.al_ranges_at.specs.LoopsAt.{FoundRangeTree, loop_range_at}
 use Rattle.al_stmts.specs.LoopForms.{RangeTree}
 use Rattle.al_syntax.specs.DeclarationTrees.{DiscreteRangeTree}
@@ -98,7 +98,7 @@ range_found f = f.range
 
 -- the type of a range that is right is kept for the parameter
 abbrev pub with_range : Standing → Result FoundRangeTree Fault → Standing
-with_range h (Ok f) = record h { parameter = Some (record { of = f.found.of; types = f.found.types }) }
+with_range h (Ok f) = record h { parameter = Some (record { of = f.found.of; types = f.found.types; values = all_values f.found }) }
 with_range h (Err f) = h
 
 abbrev pub range_read : Standing → Worded FoundRangeTree → Read Standing RangeTree

@@ -13,7 +13,7 @@ use al_base::NoMemory;
 use al_judged::Judged;
 use al_label::FoundType;
 use al_query::{Answers, Recorder};
-use al_ranges_at::{FoundRange, loop_range_at};
+use al_ranges_at::{FoundRange, all_values, loop_range_at};
 use al_stmts::LoopRange;
 use al_tree::DiscreteRange;
 
@@ -25,8 +25,9 @@ fn keep_type(standing: &mut Standing, found: Judged<FoundRange>) -> Judged<LoopR
     match found {
         Ok(found) => {
             let FoundRange { range, found } = found;
+            let values = all_values(&standing.unit.labeller.predefined.standard, &found);
             let FoundType { of, types } = found;
-            standing.parameter = Some(LoopType { of, types });
+            standing.parameter = Some(LoopType { of, types, values });
             Ok(range)
         }
         Err(fault) => Err(fault),

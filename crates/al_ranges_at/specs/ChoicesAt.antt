@@ -35,7 +35,7 @@ use Rattle.al_view.specs.declared.types.Bounds.{Bounds}
 use Rattle.al_view.specs.declared.types.StaticValue.{StaticValue}
 use Rattle.al_view.specs.declared.view.SubtypeView.{SubtypeView}
 
--- all values of a selector's type: the positions of an enumeration, all words of an integer type (ARM 5.4(8, 9))
+-- all values of a type, as of a selector: the positions of an enumeration, all words of an integer type (ARM 5.4(8, 9))
 abbrev pub all_words : Bounds
 all_words = record { low = negsuc 9223372036854775807; high = pos 9223372036854775807 }
 

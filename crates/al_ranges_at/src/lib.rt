@@ -7,4 +7,4 @@ mod selected;
 
 pub use choice::choice_at;
 pub use loop_range::{FoundRange, loop_range_at};
-pub use selected::{selected_at, whole_at};
+pub use selected::{all_values, selected_at, whole_at};

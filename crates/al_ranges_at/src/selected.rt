@@ -22,8 +22,8 @@ use al_tree::{Choice as ChoiceText, Expression};
 use al_values_at::{Site, selector_judged_at};
 use al_view::Bounds;
 
-/// The range of a selector's whole type: the positions of an enumeration, and all words of an integer type (ARM 5.4(8, 9)).
-fn all_values(standard: &StandardTypes, found: &FoundType) -> Bounds
+/// The range of a whole type: the positions of an enumeration, and all words of an integer type (ARM 5.4(8, 9)).
+pub fn all_values(standard: &StandardTypes, found: &FoundType) -> Bounds
     ensures { result ≡ all_values found.now }
 {
     match positions_in(standard, &found.types, &found.of) {

@@ -1,5 +1,5 @@
 -- What terms without expressions in them are, and what is made of the operands of others (ARM 8.6).
-use Rattle.std.specs.Prelude.{ℕ, pos, ◌==◌, Bool, true, false, List, slice_get, option_map, Option, Some, None, Result, Ok, Err, if◌then◌else◌}
+use Rattle.std.specs.Prelude.{ℕ, pos, ◌-ℤ◌, int_lt, ◌==◌, Bool, true, false, List, slice_get, option_map, Option, Some, None, Result, Ok, Err, if◌then◌else◌}
 use Rattle.std.specs.Option.{option_and_then, option_map_or}
 use Rattle.al_base.specs.declared.place.Place.{Place}
 use Rattle.al_choice.specs.Labelling.{Label}
@@ -10,9 +10,10 @@ use Rattle.al_name.specs.Types.{value_type}
 use Rattle.al_overload.specs.Meanings.{nothing_fits}
 use Rattle.al_predefined.specs.StandardTypes.{type_of}
 use Rattle.al_static.specs.Combining.{failure_in}
-use Rattle.al_static.specs.declared.knowledge.Known.TheVariants.{Open}
+use Rattle.al_static.specs.declared.knowledge.Known.{Known}
+use Rattle.al_static.specs.declared.knowledge.Known.TheVariants.{Value, Fails, Open}
 use Rattle.al_typed.specs.ExpressionTrees.{TypedTree, FormTree, ValueTree, ActualTree}
-use Rattle.al_typed.specs.ExpressionTrees.FormTree.{AggregateForm, OthersForm}
+use Rattle.al_typed.specs.ExpressionTrees.FormTree.{AggregateForm, LiteralForm, OthersForm}
 use Rattle.al_typed.specs.ExpressionTrees.ValueTree.{Checked}
 use Rattle.al_typed.specs.ExpressionViews.{values_of}
 use Rattle.al_typed.specs.declared.label.Conversion.{Conversion}
@@ -53,8 +54,12 @@ abbrev pub bound_node : Symbol → Place → SubtypeView → Bool → ReadingTre
 bound_node root place mark is_last =
     option_map_or (λ (b : Bounds). literal root place mark.types mark.subtype.base (bound_word is_last b)) (range_in mark.types mark.subtype) (misfit place)
 
+-- the length of an index range is static; one of more values than the largest word fails (ARM 3.6.2, 4.9)
+abbrev pub length_known : Place → Bounds → Known
+length_known place b = if int_lt (b.high -ℤ b.low) (pos 9223372036854775807) then Value (record { word = length_of b }) else Fails place
+
 abbrev pub length_node : Symbol → Place → List TypeView → Symbol → Bounds → ReadingTree
-length_node root place types at bounds = literal root place types at (record { word = length_of bounds })
+length_node root place types at b = node root place types at None (length_known place b) (Ok (LiteralForm (record { word = length_of b })))
 
 -- a declaration that is named alone, where this candidate of it is meant
 abbrev pub view_node : Symbol → Option Symbol → Place → List TypeView → Symbol → ViewKind → ReadingTree

@@ -8,7 +8,7 @@ ghost use Rattle.al_overload.specs.declared.context.Context.TheVariants as conte
 ghost use Rattle.al_term.specs.TermViews.{term_seen};
 ghost use Rattle.al_typed.specs.ExpressionViews.{form_seen, typed_seen, value_seen};
 ghost use Rattle.al_told.specs.Seen.{application_seen};
-ghost use Rattle.al_told.specs.Leaves.{aggregate_node, application, applied_view, argument_check, argument_type, attribute_node, bound_node, bound_word, candidate_node, checked, component_in, component_of_type, in_bounds_node, in_mark_node, length_node, mark_node, mark_type, named_node, others_form, others_of, view_node, with_value};
+ghost use Rattle.al_told.specs.Leaves.{aggregate_node, application, applied_view, argument_check, argument_type, attribute_node, bound_node, bound_word, candidate_node, checked, component_in, component_of_type, in_bounds_node, in_mark_node, length_known, length_node, mark_node, mark_type, named_node, others_form, others_of, view_node, with_value};
 ghost use Rattle.al_nodes.specs.Views.{reading_seen, values_seen};
 
 use crate::told::is_position;
@@ -212,6 +212,19 @@ pub fn bound_reading(
     }
 }
 
+/// The length of an index range is static; one of more values than the largest word fails (ARM 3.6.2, 4.9).
+fn length_known(place: Place, bounds: Bounds) -> Known
+    ensures { result ≡ length_known place bounds }
+{
+    if bounds.high.saturating_sub(bounds.low) < i64::MAX {
+        let word = length_of(bounds);
+        Known::Value(StaticValue { word })
+    } else {
+        Known::Fails(place)
+    }
+}
+
+/// `A'Length` of an array whose index has these bounds.
 pub fn length_reading(
     labeller: &Labeller,
     place: Place,
@@ -222,7 +235,8 @@ pub fn length_reading(
     ensures { IfOk result (λ r. reading_seen r ≡ length_node labeller.now.predefined.root place types.now at.now bounds) }
 {
     let word = length_of(bounds);
-    labeller.literal(place, types, at, StaticValue { word })
+    let form = Ok(Form::literal(StaticValue { word }));
+    labeller.node(place, types, at, None, length_known(place, bounds), form)
 }
 
 /// A declaration that is named alone.
