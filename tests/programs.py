@@ -24,7 +24,7 @@ def files_of(folder):
 
 def unit_line(file):
     """What `report units` says of a file."""
-    kind = "decl" if file.suffix == ".ads" else "sub" if re.search(rb"^separate\b", file.read_bytes(), re.M) else "body"
+    kind = "decl" if file.suffix == ".ads" else "sub" if re.search(rb"^separate\b", file.read_bytes(), re.M | re.I) else "body"
     return f"{file.name} {kind} {file.stem.replace('-', '.')}"
 
 

@@ -136,6 +136,14 @@ def run_turns(program, count):
             count.check(f"the reply to {command} in its turn", (0, next_line(talk.stdout), b""), (0, reply, b""))
 
 
+def run_last_command(program, count):
+    """A session ends with its millionth command, where each line is one, refused and empty ones too; what follows isn't read."""
+    empty = 999_999
+    for last, reply in ((b"put a b c\n", b"refused 8 bad-command\n"), (b"put a.ads 5\nquit\n\n", b"ok\n")):
+        wanted = (0, b"refused 8 bad-command\n" * empty + reply, b"")
+        count.check(f"the millionth command {last}", run(program, [], b"\n" * empty + last + b"put a.ads x\n"), wanted)
+
+
 def main():
     program = str(pathlib.Path(sys.argv[1]).resolve())
     count = Count()
@@ -144,6 +152,7 @@ def main():
     run_command_lines(program, count)
     run_faults(program, count)
     run_turns(program, count)
+    run_last_command(program, count)
     print(f"{count.passed} passed, {count.failed} failed")
     return count.failed != 0
 

@@ -1,0 +1,6 @@
+package body Early is
+begin
+   Alone;
+   Ready;
+   Unready;
+end Early;
