@@ -37,6 +37,7 @@ pub(crate) fn kept(
     Ok(reading)
 }
 
+#[cold]
 #[inline(never)]
 pub(crate) fn kept_unfit(alloc: Global, place: Place) -> Result<Box<Reading>, NoMemory>
     ensures { IfOk result (λ r. reading_seen r.value ≡ misfit place) }

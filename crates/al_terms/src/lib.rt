@@ -1,6 +1,7 @@
 //! The term of an expression's text, by what its names denote; E401 and E404 (ARM 4.1 to 4.7).
 #![tactic(auto)]
 
+mod chain;
 mod laws;
 mod range;
 mod text;

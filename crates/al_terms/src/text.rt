@@ -13,6 +13,7 @@ ghost use Rattle.al_readings.specs.Steps.{started};
 ghost use Rattle.al_tree.specs.ExpressionViews.{expression_seen, expressions_of, group_seen, member_seen, part_seen};
 ghost use Rattle.al_tree.specs.Lexemes.{identifier_label, number_label, string_label};
 
+use crate::chain::{Joint, chained};
 use al_base::NoMemory;
 use al_judged::{Fault, Judged, unless};
 use al_keys::{Names, first_place};
@@ -338,7 +339,8 @@ fn several(
     Ok(done)
 }
 
-/// The term of a whole text; E401 or E404 at the first of its names that isn't visible or isn't what is wanted.
+/// The term of a whole text; E401 or E404 at the first of its names that isn't visible or isn't what is wanted. A chain of operators is gone down
+/// by a loop, so that it takes no more of the stack than one operator does.
 #[cycle(text)]
 pub fn term_of(
     alloc: Global,
@@ -348,8 +350,18 @@ pub fn term_of(
 ) -> Result<Judged<Term>, NoMemory>
     ensures { IfOk result (λ judged. seen_by term_seen judged ≡ term_of (denoted names.now) (expression_seen expression.now)) }
 {
-    let judged = read(alloc, standard, names, expression)?;
-    Ok(as_value(judged))
+    let mut joints = Vec::new(alloc);
+    let mut rest = expression;
+    while let Expression::Infix(infix) = rest {
+        let right = term_of(alloc, standard, names, &infix.right)?;
+        joints.push(Joint {
+            operator: infix.operator,
+            right,
+        })?;
+        rest = &infix.left;
+    }
+    let first = read(alloc, standard, names, rest)?;
+    chained(alloc, names, joints, as_value(first))
 }
 
 /// The subtype that a mark names.
