@@ -11,8 +11,6 @@ ghost use Rattle.std.specs.Prelude.{◌≤◌};
 mod options;
 mod serving;
 mod status;
-#[cfg(test)]
-mod tests;
 
 use al_ada_session::Counted;
 use al_base::NoMemory;

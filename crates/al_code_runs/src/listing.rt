@@ -1,0 +1,258 @@
+// The code of an object as text: its instructions one after another, with `L0:` where jumps lead, numbered from the front, and
+// `NAME.KIND:` where a symbol stands. An operand that counts from a symbol is `NAME.KIND+NUMBER`.
+use crate::atoms::{Stop, put};
+use crate::instructions::{action_name, plain_name, sized_name};
+use crate::text::Text;
+use al_instr::{DecodeFault, Instr, Words, decode};
+use al_object::{Address, Compiled, Use};
+use al_view::{LinkKind, LinkSymbol};
+use std::alloc::Global;
+
+/// An instruction, and the places where it begins and ends.
+#[derive(Drop)]
+struct Placed {
+    place: usize,
+    end: usize,
+    instr: Instr,
+}
+
+/// Puts the code of an object.
+pub fn put_listing(alloc: Global, text: &mut Text, compiled: &Compiled) -> Result<(), Stop> {
+    let instructions = instructions(alloc, compiled.code())?;
+    put_all(alloc, text, compiled, instructions.as_slice())
+}
+
+fn put_all(
+    alloc: Global,
+    text: &mut Text,
+    compiled: &Compiled,
+    instructions: &[Placed],
+) -> Result<(), Stop> {
+    let targets = targets(alloc, instructions)?;
+    for placed in instructions {
+        put_symbols(text, compiled.defines(), placed.place)?;
+        put_label(text, &targets, placed.place)?;
+        put_instr(text, compiled.uses(), &targets, placed)?;
+    }
+    all_used(compiled.uses(), instructions)
+}
+
+fn instructions(alloc: Global, code: &[u8]) -> Result<Vec<Placed>, Stop> {
+    let mut instructions = Vec::new(alloc);
+    let mut rest = code;
+    for _ in 0..code.len() {
+        if rest.is_empty() {
+            break;
+        }
+        let place = code.len().saturating_sub(rest.len());
+        let (instr, behind) = decoded(alloc, rest)?;
+        let end = code.len().saturating_sub(behind.len());
+        put(&mut instructions, Placed { place, end, instr })?;
+        rest = behind;
+    }
+    Ok(instructions)
+}
+
+fn decoded(alloc: Global, bytes: &[u8]) -> Result<(Instr, &[u8]), Stop> {
+    match decode(alloc, bytes) {
+        Ok(decoded) => Ok(decoded),
+        Err(DecodeFault::NoMemory) => Err(Stop::Memory),
+        Err(DecodeFault::Damaged) => Err(Stop::Damaged),
+    }
+}
+
+/// Where a jump leads.
+fn target(placed: &Placed) -> Option<i64> {
+    let distance = match &placed.instr {
+        Instr::Jump(distance) => *distance,
+        Instr::JumpZero(distance) => *distance,
+        _ => return None,
+    };
+    let end = i64::try_from(placed.end).ok()?;
+    end.checked_add(i64::from(distance))
+}
+
+/// Where jumps lead, each place once, in order.
+fn targets(alloc: Global, instructions: &[Placed]) -> Result<Vec<i64>, Stop> {
+    let mut targets = Vec::new(alloc);
+    for placed in instructions {
+        if let Some(target) = target(placed) {
+            if !targets.contains(&target) {
+                put(&mut targets, target)?;
+            }
+        }
+    }
+    match targets.sort() {
+        Ok(()) => Ok(targets),
+        Err(_) => Err(Stop::Memory),
+    }
+}
+
+/// The number of a place among those where jumps lead.
+fn label(targets: &[i64], place: i64) -> Option<i64> {
+    let number = targets.iter().position(|target| *target == place)?;
+    i64::try_from(number).ok()
+}
+
+fn put_label(text: &mut Text, targets: &[i64], place: usize) -> Result<(), Stop> {
+    if let Ok(place) = i64::try_from(place) {
+        if let Some(label) = label(targets, place) {
+            text.word(b"L")?;
+            text.push_number(label)?;
+            text.push(b":")?;
+        }
+    }
+    Ok(())
+}
+
+fn kind_name(kind: LinkKind) -> &'static [u8] {
+    match kind {
+        LinkKind::Code => b".code",
+        LinkKind::Gate => b".gate",
+        LinkKind::EntryBody => b".entry",
+        LinkKind::Flag => b".flag",
+        LinkKind::Data => b".data",
+        LinkKind::Protected => b".protected",
+    }
+}
+
+fn is_code(kind: LinkKind) -> bool {
+    matches!(kind, LinkKind::Code | LinkKind::Gate | LinkKind::EntryBody)
+}
+
+pub fn put_symbol(text: &mut Text, symbol: &LinkSymbol) -> Result<(), Stop> {
+    text.word(symbol.symbol.name.as_slice())?;
+    text.push(kind_name(symbol.kind))
+}
+
+/// The symbols of code that stand at a place.
+fn put_symbols(text: &mut Text, defines: &[Address], place: usize) -> Result<(), Stop> {
+    for address in defines {
+        if is_code(address.symbol.kind) && address.offset as usize == place {
+            put_symbol(text, &address.symbol)?;
+            text.push(b":")?;
+        }
+    }
+    Ok(())
+}
+
+/// Whether this symbol is used by the first operand of that instruction.
+fn is_used(used: &Use, placed: &Placed) -> bool {
+    used.place as usize == placed.place.saturating_add(1)
+}
+
+/// An operand is used where an instruction has one.
+fn all_used(uses: &[Use], instructions: &[Placed]) -> Result<(), Stop> {
+    for used in uses {
+        if !instructions.iter().any(|placed| is_used(used, placed)) {
+            return Err(Stop::Damaged);
+        }
+    }
+    Ok(())
+}
+
+/// An operand that counts from a symbol.
+fn put_operand(text: &mut Text, uses: &[Use], placed: &Placed, number: u32) -> Result<(), Stop> {
+    let mut is_first = true;
+    for used in uses {
+        if is_used(used, placed) {
+            put_symbol(text, &used.symbol)?;
+            text.push(b"+")?;
+            is_first = false;
+        }
+    }
+    if is_first {
+        text.begin()?;
+    }
+    text.push_number(i64::from(number))
+}
+
+fn put_one(text: &mut Text, name: &[u8], number: u32) -> Result<(), Stop> {
+    text.word(name)?;
+    text.number(i64::from(number))
+}
+
+fn put_instr(text: &mut Text, uses: &[Use], targets: &[i64], placed: &Placed) -> Result<(), Stop> {
+    match &placed.instr {
+        Instr::Plain(plain) => text.word(plain_name(*plain)),
+        Instr::Sized(sized, number) => put_one(text, sized_name(*sized), *number),
+        Instr::Const(word) => {
+            text.word(b"Const")?;
+            text.number(*word)
+        }
+        Instr::Frame { depth, word } => {
+            put_one(text, b"Frame", *depth)?;
+            text.number(i64::from(*word))
+        }
+        Instr::Check { low, high } => put_range(text, b"Check", *low, *high),
+        Instr::Index { low, high, words } => {
+            put_range(text, b"Index", *low, *high)?;
+            text.number(i64::from(*words))
+        }
+        Instr::Jump(_) => put_jump(text, b"Jump", targets, placed),
+        Instr::JumpZero(_) => put_jump(text, b"JumpZero", targets, placed),
+        Instr::PutText(bytes) => {
+            text.word(b"PutText")?;
+            text.quoted(bytes.as_slice())
+        }
+        Instr::PutName { below, names } => put_names(text, *below, names),
+        other => put_using(text, uses, placed, other),
+    }
+}
+
+/// An instruction whose first operand counts from a symbol.
+fn put_using(text: &mut Text, uses: &[Use], placed: &Placed, instr: &Instr) -> Result<(), Stop> {
+    match instr {
+        Instr::Protected(action, object) => {
+            text.word(action_name(*action))?;
+            put_operand(text, uses, placed, *object)
+        }
+        Instr::Global(place) => {
+            text.word(b"Global")?;
+            put_operand(text, uses, placed, *place)
+        }
+        Instr::Call { place, words } => {
+            text.word(b"Call")?;
+            put_operand(text, uses, placed, *place)?;
+            text.number(i64::from(*words))
+        }
+        Instr::Task { place, priority } => {
+            text.word(b"Task")?;
+            put_operand(text, uses, placed, *place)?;
+            text.number(i64::from(*priority))
+        }
+        Instr::Seed { place, words } => {
+            text.word(b"Seed")?;
+            put_operand(text, uses, placed, *place)?;
+            text.number(i64::from(*words))
+        }
+        _ => Ok(()),
+    }
+}
+
+fn put_range(text: &mut Text, name: &[u8], low: i64, high: i64) -> Result<(), Stop> {
+    text.word(name)?;
+    text.number(low)?;
+    text.number(high)
+}
+
+fn put_jump(text: &mut Text, name: &[u8], targets: &[i64], placed: &Placed) -> Result<(), Stop> {
+    text.word(name)?;
+    if let Some(target) = target(placed) {
+        if let Some(label) = label(targets, target) {
+            text.word(b"L")?;
+            text.push_number(label)?;
+        }
+    }
+    Ok(())
+}
+
+fn put_names(text: &mut Text, below: u32, names: &Words) -> Result<(), Stop> {
+    put_one(text, b"PutName", below)?;
+    for number in 0..names.len() {
+        if let Some(name) = names.get(number) {
+            text.quoted(name)?;
+        }
+    }
+    Ok(())
+}

@@ -1,0 +1,58 @@
+//! Tells the code of labelled units, one a line. A line that begins with `#` is a title, and is given back. Another one begins with what it
+//! asks for, and the rest is a unit:
+//!
+//! - `code`: its instructions by their names, `L0:` where jumps lead, `NAME.KIND:` where a symbol stands, `NAME.KIND+NUMBER` for an operand that
+//!   counts from one;
+//! - `bytes`: the bytes of its code in hexadecimal digits; `length`: how many they are;
+//! - `links`: which symbols it uses and defines, and at which places, and how many words, tasks and protected objects it has.
+//!
+//! The answer is `large` where the code is longer than that of any image, and `unreadable` where the line isn't written as it is to be.
+//!
+//! A unit is the body of a package P that has no words: at most one elaboration, and any bodies behind it. Each word stands before what it is
+//! made of, and each list behind its length, as in `loop forever 2 exit 0 set 'x' 1`. Numbers are `-7`, ranges `1..9` or `any` for none, modes
+//! `in`, `out`, `in_out`; texts and names stand between quotes, with `_` for a blank. The other words are listed where they are read: `read_name`, `read_form`,
+//! `read_value`, `read_call`, `read_output`, `read_simple`, `read_control`, `read_declaration`, `read_kind`, `read_body`; operators are words of their
+//! own. All expressions have the root type, and all lines are 1.
+//!
+//! The output was worked out from the templates, and not by the program.
+#![tactic(auto)]
+
+mod atoms;
+mod calls;
+mod control;
+mod declarations;
+mod expressions;
+mod instructions;
+mod listing;
+mod names;
+mod statements;
+mod text;
+mod told;
+mod unit;
+mod units;
+
+use crate::atoms::Stop;
+use crate::told::answer;
+use std::alloc::{AllocError, Global};
+use std::io;
+
+fn main(rt: HostRuntime) -> io::Result<()> {
+    let text = io::read_to_string(rt.alloc(), rt.reader())?;
+    for line in text.as_str().lines() {
+        let told = line_told(rt.alloc(), line)?;
+        rt.println(told)?;
+    }
+    Ok(())
+}
+
+fn line_told(alloc: Global, line: &str) -> Result<String, AllocError> {
+    if line.starts_with('#') {
+        return String::from_str(alloc, line);
+    }
+    match answer(alloc, line) {
+        Ok(told) => Ok(told),
+        Err(Stop::Memory) => Err(AllocError),
+        Err(Stop::Unreadable) => String::from_str(alloc, "unreadable"),
+        Err(Stop::Damaged) => String::from_str(alloc, "damaged"),
+    }
+}
