@@ -2,13 +2,16 @@
 """sessions.py PROGRAM: runs the stored sessions and command lines against a built program.
 
 A session NAME is NAME.in, the bytes of its commands (or NAME.gen, which writes them), NAME.out, the bytes of its
-replies, NAME.exit, its exit status where that isn't 0, and NAME.args, the program's words, one a line. NAME.cuts is
+replies, NAME.exit, its exit status where that isn't 0, and NAME.args, the program's words, one a line. NAME.stack is
+how many MiB of stack the session is given where Rattle's own compiler made the program, whose frames are larger than
+LLVM's; every other run has the stack that the system gives. NAME.cuts is
 what comes of the session NAME cut to its first n bytes, for each n. command-lines.json lists words of the program with
 the exit status and what it writes. Prints each failure, and last `N passed, M failed`.
 """
 import json
 import os
 import pathlib
+import resource
 import select
 import subprocess
 import sys
@@ -41,13 +44,13 @@ def shown(value):
     return f"{len(value)} bytes, {value[-300:]!r}" if len(value) > 300 else repr(value)
 
 
-def run(program, words, given, output=subprocess.PIPE):
-    """The exit status, output and error output; `given` is the standard input, as bytes or as an open file."""
+def run(program, words, given, output=subprocess.PIPE, before=None):
+    """The exit status, output and error output; `given` is the standard input, as bytes or as an open file; `before` is called in the program's process, before the program."""
     source = {"input": given} if isinstance(given, bytes) else {"stdin": given}
     with tempfile.TemporaryDirectory() as folder:
         try:
             done = subprocess.run(
-                [program, *words], stdout=output, stderr=subprocess.PIPE, cwd=folder, timeout=120, **source
+                [program, *words], stdout=output, stderr=subprocess.PIPE, cwd=folder, timeout=120, preexec_fn=before, **source
             )
         except subprocess.TimeoutExpired:
             return (-1, b"", b"no end within 120 seconds")
@@ -66,12 +69,23 @@ def words_of(name):
     return args.read_text().split("\n")[:-1] if args.exists() else []
 
 
+def stack_of(name, program):
+    """What gives the session its stack, or None where the system's is enough."""
+    size = SESSIONS / f"{name}.stack"
+    if not size.exists() or pathlib.Path(program).suffix != ".by-rattle":
+        return None
+    wanted = int(size.read_text()) << 20
+    hard = resource.getrlimit(resource.RLIMIT_STACK)[1]
+    soft = wanted if hard == resource.RLIM_INFINITY else min(wanted, hard)
+    return lambda: resource.setrlimit(resource.RLIMIT_STACK, (soft, hard))
+
+
 def run_sessions(program, count):
     for out in sorted(SESSIONS.glob("*.out")):
         name = out.stem
         status = SESSIONS / f"{name}.exit"
         wanted = (int(status.read_text()) if status.exists() else 0, out.read_bytes(), b"")
-        count.check(name, run(program, words_of(name), input_of(name)), wanted)
+        count.check(name, run(program, words_of(name), input_of(name), before=stack_of(name, program)), wanted)
 
 
 def run_cuts(program, count):
