@@ -1,5 +1,5 @@
 -- What a region has, part by part.
-use Rattle.std.proofs.Common.{◌≡◌, ℕ, ◌+◌, ◌<◌, List, [], ◌∷◌, ◌++◌, Bool, take, length, get_or, refl, sym, ◌∙◌, ap}
+use Rattle.std.proofs.Common.{◌≡◌, ℕ, ◌+◌, ◌<◌, zero, suc, List, [], ◌∷◌, ◌++◌, Bool, true, false, cond, filter, arith, take, length, get_or, refl, sym, ◌∙◌, ap}
 use Rattle.std.specs.List.{flat_map}
 use Rattle.std.proofs.lemmas.List.{take_more}
 use Rattle.al_query.specs.declared.query.Query.{Query}
@@ -31,3 +31,22 @@ found-is b c v w e f = ap (λ (x : Bool). let y : Found = record { begun = x; vi
 -- what a region has, put together
 pub views-are : (t : Query → AnswerKind) (m : Declarations) (name : List ℕ) (parts ps : List UnitPart) (v own views new : List ViewKind) → new ≡ v ++ own → v ≡ flat_map (declared_by t m name) ps → ps ≡ parts → own ≡ views → new ≡ flat_map (declared_by t m name) parts ++ views
 views-are t m name parts ps v own views new n e p d = n ∙ ap (λ l. l ++ own) (e ∙ ap (flat_map (declared_by t m name)) p) ∙ ap (λ (l : List ViewKind). flat_map (declared_by t m name) parts ++ l) d
+
+-- a filter that keeps an item leaves some
+pub filter-some : {X : Type 0} (p : X → Bool) (xs : List X) (i : ℕ) (x : X) → i < length xs → x ≡ get_or xs i x → p x ≡ true → filter p xs ≡ [] → ⊥
+filter-some p [] i x h e is none = absurd (omega arith)
+filter-some p (y ∷ ys) zero x h e is none = at (p y) (ap p (sym e) ∙ is) none
+  where
+    at : (b : Bool) → b ≡ true → cond b (y ∷ filter p ys) (filter p ys) ≡ [] → ⊥
+    at true k n = absurd (cc)
+    at false k n = absurd (cc)
+filter-some p (y ∷ ys) (suc i) x h e is none = at (p y) none (filter-some p ys i x (omega arith) e is)
+  where
+    at : (b : Bool) → cond b (y ∷ filter p ys) (filter p ys) ≡ [] → (filter p ys ≡ [] → ⊥) → ⊥
+    at true n more = absurd (cc)
+    at false n more = more n
+
+-- nor is a list that one item more was joined to
+pub joined-some : {X : Type 0} (xs : List X) (y : X) (ys : List X) → xs ++ y ∷ ys ≡ [] → ⊥
+joined-some [] y ys none = absurd (cc)
+joined-some (x ∷ xs) y ys none = absurd (cc)

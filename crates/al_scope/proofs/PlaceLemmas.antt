@@ -7,7 +7,7 @@ use Rattle.al_query.specs.declared.answer.AnswerKind.{AnswerKind}
 use Rattle.al_scope.specs.declared.region.Region.{Region}
 use Rattle.al_scope.specs.declared.region.UnitPart.{UnitPart}
 use Rattle.al_view.specs.Named.{Declarations}
-use Rattle.al_scope.specs.Places.{in_last, inner_parts, is_region_of, place_of, uses_at, with_part}
+use Rattle.al_scope.specs.Places.{in_last, inner_declared, inner_parts, is_region_of, place_of, uses_at, with_part}
 use Rattle.al_scope.specs.UseClauses.{EachOnce}
 use Rattle.al_scope.specs.Visible.{found_in, here}
 
@@ -20,7 +20,7 @@ in_last-is change (x ∷ y ∷ ys) (suc n) d new h e =
     let less : n + 1 ≡ length (y ∷ ys) = omega arith in
     ap (λ (l : List Region). x ∷ l) (in_last-is change (y ∷ ys) n d new less e)
 
--- what the innermost region has, and the parts that it continues
+-- what the innermost region has, the parts that it continues, and what is declared in it so far
 pub here-is : (t : Query → AnswerKind) (m : Declarations) (name : List ℕ) (xs : List Region) (n : ℕ) (d : Region) → n + 1 ≡ length xs → here t m name xs ≡ (found_in t m name (get_or xs n d)).views
 here-is t m name [] n d h = absurd (omega arith)
 here-is t m name (x ∷ []) zero d h = refl
@@ -38,6 +38,15 @@ inner_parts-is (x ∷ y ∷ ys) zero d h = absurd (omega arith)
 inner_parts-is (x ∷ y ∷ ys) (suc n) d h =
     let less : n + 1 ≡ length (y ∷ ys) = omega arith in
     inner_parts-is (y ∷ ys) n d less
+
+pub inner_declared-is : (xs : List Region) (n : ℕ) (d : Region) → n + 1 ≡ length xs → inner_declared xs ≡ (get_or xs n d).declared
+inner_declared-is [] n d h = absurd (omega arith)
+inner_declared-is (x ∷ []) zero d h = refl
+inner_declared-is (x ∷ []) (suc n) d h = absurd (omega arith)
+inner_declared-is (x ∷ y ∷ ys) zero d h = absurd (omega arith)
+inner_declared-is (x ∷ y ∷ ys) (suc n) d h =
+    let less : n + 1 ≡ length (y ∷ ys) = omega arith in
+    inner_declared-is (y ∷ ys) n d less
 
 -- a part more at the construct's region
 with_part-at : (s : Symbol) (p : UnitPart) (xs : List Region) (d new : Region) → place_of s xs < length xs → new ≡ record (get_or xs (place_of s xs) d) { parts = (get_or xs (place_of s xs) d).parts ++ p ∷ [] } → set xs (place_of s xs) new ≡ with_part s p xs

@@ -72,6 +72,12 @@ inner_parts [] = []
 inner_parts (r ∷ []) = r.parts
 inner_parts (r ∷ q ∷ inner) = inner_parts (q ∷ inner)
 
+-- what is declared so far in the innermost region
+abbrev pub inner_declared : List Region → Declarations
+inner_declared [] = []
+inner_declared (r ∷ []) = r.declared
+inner_declared (r ∷ q ∷ inner) = inner_declared (q ∷ inner)
+
 -- a region that is entered: nothing is declared in it, and the use clauses round it hold in it too (ARM 8.4(6))
 abbrev pub entered : List UnitPart → List Region → Region
 entered parts regions = record { construct = None; parts = parts; declared = []; begun = []; uses = uses_at regions }

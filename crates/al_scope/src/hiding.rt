@@ -1,5 +1,5 @@
 // What regions have of one name, and what of it is visible.
-ghost use Rattle.std.specs.Prelude.{◌≡◌, List, [], ◌∷◌, IfOk, OnOk, filter, not};
+ghost use Rattle.std.specs.Prelude.{◌≡◌, List, [], ◌∷◌, IfOk, OnOk, filter, is_ok, not, true};
 ghost use Rattle.std.specs.List.{list_all, list_any};
 ghost use Rattle.al_view.specs.Homographs.{homographs, may_be_overloaded};
 ghost use Rattle.al_scope.specs.declared.hiding.Found.{Found};
@@ -39,9 +39,10 @@ fn shuts_any(view: &View, founds: &[Found]) -> bool
     founds.iter().any(|found| shuts(view, found))
 }
 
-/// The views that no region shuts out.
+/// The views that no region shuts out. Where there are none it takes no memory.
 fn left_by(alloc: Global, founds: &[Found], views: &Views) -> Result<Views, NoMemory>
-    ensures { IfOk result (λ left. left ≡ filter (λ v. not (list_any (shuts_out v) founds.now)) views.now) }
+    ensures is { IfOk result (λ left. left ≡ filter (λ v. not (list_any (shuts_out v) founds.now)) views.now) }
+    ensures takes_none { filter (λ v. not (list_any (shuts_out v) founds.now)) views.now ≡ [] → is_ok result ≡ true }
 {
     let mut left = Views::new(alloc);
     for view in views.as_slice() {
@@ -109,9 +110,10 @@ fn do_clash(views: &Views) -> bool
     views.as_slice().len() > 1 && !all_overload(views.as_slice())
 }
 
-/// The use-visible ones among those that are potentially so.
+/// The use-visible ones among those that are potentially so. Where there are none it takes no memory.
 pub fn use_visible_of(alloc: Global, founds: &[Found], views: &Views) -> Result<Views, NoMemory>
-    ensures { IfOk result (λ left. left ≡ use_visible founds.now views.now) }
+    ensures is { IfOk result (λ left. left ≡ use_visible founds.now views.now) }
+    ensures takes_none { use_visible founds.now views.now ≡ [] → is_ok result ≡ true }
 {
     if do_clash(views) {
         return Ok(Views::new(alloc));

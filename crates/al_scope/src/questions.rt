@@ -1,5 +1,5 @@
 // What units declare under a name, as they are asked.
-ghost use Rattle.std.specs.Prelude.{◌≡◌, [], ◌∷◌, ◌++◌, IfOk, flat_map};
+ghost use Rattle.std.specs.Prelude.{◌≡◌, [], ◌∷◌, ◌++◌, IfOk, false, flat_map, is_ok, true};
 ghost use Rattle.al_query.specs.Reads.{Told};
 ghost use Rattle.al_scope.specs.Asked.{AsksParts, query_of};
 ghost use Rattle.al_scope.specs.Expanded.{part_of};
@@ -67,7 +67,7 @@ fn query_of(alloc: Global, from: &UnitPart, name: &[u8]) -> Result<Query, NoMemo
     })
 }
 
-/// Appends the mentioned children of that name, where the part is a unit's visible part.
+/// Appends the mentioned children of that name, where the part is a unit's visible part. Of another part it takes no memory.
 fn append_children(
     alloc: Global,
     mentioned: &Interface,
@@ -75,7 +75,8 @@ fn append_children(
     name: &[u8],
     views: &mut Views,
 ) -> Result<(), NoMemory>
-    ensures { IfOk result (λ _. views.new ≡ views.old ++ children_in mentioned.now name.now from.now) }
+    ensures is { IfOk result (λ _. views.new ≡ views.old ++ children_in mentioned.now name.now from.now) }
+    ensures takes_none { is_visible_part from.now ≡ false → is_ok result ≡ true }
 {
     if is_visible(from) {
         let child = child_of(alloc, from.unit.name.as_slice(), name)?;
@@ -104,7 +105,7 @@ pub fn ask_more<A: Answers>(
     Ok(())
 }
 
-/// What some parts of units declare under a name.
+/// What some parts of units declare under a name. Of no parts it takes no memory.
 pub fn ask_each<A: Answers>(
     alloc: Global,
     mentioned: &Interface,
@@ -115,6 +116,7 @@ pub fn ask_each<A: Answers>(
     ensures asked { recorder.new.asked ≡ recorder.old.asked }
     ensures told { IfOk result (λ views. Told recorder.old.log recorder.new.log (λ t. views ≡ flat_map (declared_by t mentioned.now name.now) parts.now)) }
     ensures asks { IfOk result (λ _. AsksParts parts.now name.now recorder.old.log recorder.new.log) }
+    ensures takes_none { parts.now ≡ [] → is_ok result ≡ true }
 {
     let mut views = Views::new(alloc);
     for part in parts {

@@ -10,7 +10,7 @@ ghost use Rattle.al_query.specs.Reads.{HoldsBy, Told};
 ghost use Rattle.al_scope.specs.declared.region.Region.{Region};
 ghost use Rattle.al_scope.specs.Asked.{AsksParts};
 ghost use Rattle.al_scope.specs.Expanded.{IsSelected, part_of, region_of, selected_at, selected_parts, within, within_parts};
-ghost use Rattle.al_scope.specs.Places.{encloses, entered, entered_construct, in_last, inner_parts, is_declared_round, part_units, place_of, place_units, uses_at, with_begun, with_declared, with_mentioned, with_part, with_use, with_use_type};
+ghost use Rattle.al_scope.specs.Places.{encloses, entered, entered_construct, in_last, inner_declared, inner_parts, is_declared_round, part_units, place_of, place_units, uses_at, with_begun, with_declared, with_mentioned, with_part, with_use, with_use_type};
 ghost use Rattle.al_scope.specs.Searches.{searched_parts};
 ghost use Rattle.al_scope.specs.Visible.{declared_by, here, visible_at};
 ghost use Rattle.al_scope.specs.VisibleSet.{Has, IsVisible, KeepsOnce, StaysOnce};
@@ -26,9 +26,10 @@ use al_view::{Interface, Row, Symbol, View, Views};
 use std::alloc::Global;
 use std::marker::Model;
 
-/// The use clauses that hold in the innermost region.
+/// The use clauses that hold in the innermost region. Where there is no region it takes no memory.
 fn uses_of(alloc: Global, regions: &[Region]) -> Result<UseClauses, NoMemory>
-    ensures { IfOk result (λ uses. uses ≡ uses_at regions.now) }
+    ensures is { IfOk result (λ uses. uses ≡ uses_at regions.now) }
+    ensures takes_none { regions.now ≡ [] → is_ok result ≡ true }
 {
     match regions.last() {
         Some(region) => {
@@ -112,9 +113,10 @@ impl Scope {
         Ok(())
     }
 
-    /// A region that continues these parts, in which the use clauses round it hold.
+    /// A region that continues these parts, in which the use clauses round it hold. Where there is no region it takes no memory.
     fn inner_region(&self, parts: Row<UnitPart>) -> Result<Region, NoMemory>
-        ensures { IfOk result (λ region. region ≡ entered parts self.now.regions) }
+        ensures is { IfOk result (λ region. region ≡ entered parts self.now.regions) }
+        ensures takes_none { self.now.regions ≡ [] → is_ok result ≡ true }
     {
         let uses = uses_of(self.alloc, self.regions.as_slice())?;
         let region = Region::new(self.alloc, parts, uses);
@@ -242,7 +244,8 @@ impl Scope {
     }
 
     /// What the innermost region has of a name, with the parts that it continues: what a new declaration of the name may be
-    /// a homograph of, and what it may complete.
+    /// a homograph of, and what it may complete. Where that region continues no part and nothing of the name is declared in it, it
+    /// takes no memory.
     pub fn declared_here<A: Answers>(
         &self,
         name: &[u8],
@@ -252,6 +255,7 @@ impl Scope {
         ensures asked { recorder.new.asked ≡ recorder.old.asked }
         ensures told { IfOk result (λ views. Told recorder.old.log recorder.new.log (λ t. views ≡ here t self.now.mentioned name.now self.now.regions)) }
         ensures asks { IfOk result (λ _. AsksOf (part_units (inner_parts self.now.regions)) (by_name (name.now ∷ [])) recorder.old.log recorder.new.log) }
+        ensures takes_none { inner_parts self.now.regions ≡ [] → views_of (inner_declared self.now.regions) name.now ≡ [] → is_ok result ≡ true }
     {
         let last = self.regions.len() - 1;
         let found = find(
@@ -264,7 +268,8 @@ impl Scope {
         Ok(found.views)
     }
 
-    /// Whether the innermost region has a homograph, so that the declaration wouldn't fit there (ARM 8.3(26)).
+    /// Whether the innermost region has a homograph, so that the declaration wouldn't fit there (ARM 8.3(26)). Where that region
+    /// continues no part and nothing of the name is declared in it, it takes no memory.
     pub fn has_homograph<A: Answers>(
         &self,
         name: &[u8],
@@ -275,6 +280,7 @@ impl Scope {
         ensures asked { recorder.new.asked ≡ recorder.old.asked }
         ensures told { IfOk result (λ has. Told recorder.old.log recorder.new.log (λ t. has ≡ list_any (homographs view.now) (here t self.now.mentioned name.now self.now.regions))) }
         ensures asks { IfOk result (λ _. AsksOf (part_units (inner_parts self.now.regions)) (by_name (name.now ∷ [])) recorder.old.log recorder.new.log) }
+        ensures takes_none { inner_parts self.now.regions ≡ [] → views_of (inner_declared self.now.regions) name.now ≡ [] → is_ok result ≡ true }
     {
         let views = self.declared_here(name, recorder)?;
         let has = has_homograph(view, views.as_slice());

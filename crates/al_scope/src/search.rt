@@ -1,5 +1,6 @@
 // What regions and use clauses have of a name.
-ghost use Rattle.std.specs.Prelude.{◌≡◌, List, [], ◌++◌, IfOk, map, if◌then◌else◌};
+ghost use Rattle.std.specs.Prelude.{◌≡◌, List, [], ◌++◌, IfOk, OnOk, is_ok, map, true, if◌then◌else◌};
+ghost use Rattle.al_view.specs.Interfaces.{views_of};
 ghost use Rattle.al_query.specs.Reads.{HoldsBy, Told};
 ghost use Rattle.al_scope.specs.declared.hiding.Found.{Found};
 ghost use Rattle.al_scope.specs.Asked.{AsksParts};
@@ -14,10 +15,21 @@ use crate::questions::ask_each;
 use crate::region::Region;
 use al_base::NoMemory;
 use al_query::{Answers, Recorder};
-use al_view::{Interface, Views};
+use al_view::{Interface, View, Views};
 use std::alloc::Global;
 
-/// What a region has of a name.
+/// Appends the others, if there are any; where there are none it takes no memory.
+fn append_some(views: &mut Views, others: &[View]) -> Result<(), NoMemory>
+    ensures is { OnOk result (views.new ≡ views.old ++ others.now) }
+    ensures takes_none { others.now ≡ [] → is_ok result ≡ true }
+{
+    if !others.is_empty() {
+        views.append(others)?;
+    }
+    Ok(())
+}
+
+/// What a region has of a name. Where it continues no part and nothing of the name is declared in it, it takes no memory.
 pub fn find<A: Answers>(
     alloc: Global,
     mentioned: &Interface,
@@ -28,14 +40,16 @@ pub fn find<A: Answers>(
     ensures asked { recorder.new.asked ≡ recorder.old.asked }
     ensures told { IfOk result (λ found. Told recorder.old.log recorder.new.log (λ t. found ≡ found_in t mentioned.now name.now region.now)) }
     ensures asks { IfOk result (λ _. AsksParts region.now.parts name.now recorder.old.log recorder.new.log) }
+    ensures takes_none { region.now.parts ≡ [] → views_of region.now.declared name.now ≡ [] → is_ok result ≡ true }
 {
     let mut views = ask_each(alloc, mentioned, region.parts.as_slice(), name, recorder)?;
-    views.append(region.declared.views(name))?;
+    append_some(&mut views, region.declared.views(name))?;
     let begun = region.begun.contains(name);
     Ok(Found { begun, views })
 }
 
 /// What the regions have of a name, from the innermost outward up to the first that decides. No region further out is asked.
+/// Where there is no region it takes no memory.
 pub fn search_outward<A: Answers>(
     alloc: Global,
     mentioned: &Interface,
@@ -47,6 +61,7 @@ pub fn search_outward<A: Answers>(
     ensures told { IfOk result (λ search. Told recorder.old.log recorder.new.log (λ t. IsSearch (map (found_in t mentioned.now name.now) regions.now) search)) }
     ensures asks { IfOk result (λ _. AsksParts (region_parts regions.now) name.now recorder.old.log recorder.new.log) }
     ensures stops { IfOk result (λ _. HoldsBy recorder.new.log (λ t. AsksParts (region_parts (searched t mentioned.now name.now regions.now)) name.now recorder.old.log recorder.new.log)) }
+    ensures takes_none { regions.now ≡ [] → is_ok result ≡ true }
 {
     match regions {
         [] => Ok(Search::new(alloc)),
@@ -62,7 +77,8 @@ pub fn search_outward<A: Answers>(
     }
 }
 
-/// What is potentially use-visible of a name, by the use clauses that hold in the innermost region.
+/// What is potentially use-visible of a name, by the use clauses that hold in the innermost region. Where none hold it takes
+/// no memory.
 fn potential_of<A: Answers>(
     alloc: Global,
     mentioned: &Interface,
@@ -74,6 +90,7 @@ fn potential_of<A: Answers>(
     ensures told { IfOk result (λ views. Told recorder.old.log recorder.new.log (λ t. views ≡ potential t mentioned.now name.now (uses_at regions.now))) }
     ensures asks { IfOk result (λ _. AsksParts (use_parts (uses_at regions.now)) name.now recorder.old.log recorder.new.log) }
     ensures each { IfOk result (λ _. EachOnce (uses_at regions.now)) }
+    ensures takes_none { uses_at regions.now ≡ [] → is_ok result ≡ true }
 {
     match regions.last() {
         Some(region) => {
@@ -85,7 +102,7 @@ fn potential_of<A: Answers>(
 }
 
 /// What is use-visible of a name, of which the regions have this. No package is asked where a region has what shuts out
-/// every other declaration.
+/// every other declaration, and no memory is taken.
 pub fn used_of<A: Answers>(
     alloc: Global,
     mentioned: &Interface,
@@ -98,6 +115,7 @@ pub fn used_of<A: Answers>(
     ensures told { IfOk result (λ used. Told recorder.old.log recorder.new.log (λ t. (founds : List Found) → IsSearch founds search.now → used ≡ use_visible founds (potential t mentioned.now name.now (uses_at regions.now)))) }
     ensures asks { IfOk result (λ _. AsksParts (if search.now.is_decided then [] else use_parts (uses_at regions.now)) name.now recorder.old.log recorder.new.log) }
     ensures once { IfOk result (λ used. HoldsBy recorder.new.log (λ t. DeclareOnce t mentioned.now name.now (uses_at regions.now) → AreApart t mentioned.now name.now → Once used)) }
+    ensures takes_none { search.now.is_decided ≡ true → is_ok result ≡ true }
 {
     if search.is_decided {
         return Ok(Views::new(alloc));

@@ -1,5 +1,5 @@
 // Use clauses, by the package whose declarations they open.
-ghost use Rattle.std.specs.Prelude.{◌≡◌, [], ◌∷◌, ◌++◌, IfOk, OnErr, OnOk, filter, is_ok, if◌then◌else◌};
+ghost use Rattle.std.specs.Prelude.{◌≡◌, [], ◌∷◌, ◌++◌, IfOk, OnErr, OnOk, filter, is_ok, true, if◌then◌else◌};
 ghost use Rattle.std.specs.List.{list_any};
 ghost use Rattle.std.specs.BTreeMap.{insert_entry};
 ghost use Rattle.al_base.specs.Files.{name_cmp};
@@ -28,9 +28,10 @@ pub struct PackageUse {
     pub types: Row<Symbol>,
 }
 
-/// The same symbols once more.
+/// The same symbols once more. Of none it takes no memory.
 fn copied_symbols(alloc: Global, symbols: &[Symbol]) -> Result<Row<Symbol>, NoMemory>
-    ensures { IfOk result (λ copy. copy ≡ symbols.now) }
+    ensures is { IfOk result (λ copy. copy ≡ symbols.now) }
+    ensures takes_none { symbols.now ≡ [] → is_ok result ≡ true }
 {
     let mut copy = Row::empty(alloc);
     for symbol in symbols {
@@ -51,9 +52,10 @@ impl PackageUse {
         }
     }
 
-    /// The same once more.
+    /// The same once more. Where no type is named it takes no memory.
     fn copy(&self, alloc: Global) -> Result<Self, NoMemory>
-        ensures { IfOk result (λ copy. copy ≡ self.now) }
+        ensures is { IfOk result (λ copy. copy ≡ self.now) }
+        ensures takes_none { self.now.types ≡ [] → is_ok result ≡ true }
     {
         Ok(PackageUse {
             is_named: self.is_named,
@@ -71,9 +73,10 @@ impl PackageUse {
             .any(|symbol| view.is_operator_of(symbol))
     }
 
-    /// What is opened of what the package declares.
+    /// What is opened of what the package declares. Where that is nothing it takes no memory.
     fn opened(&self, alloc: Global, views: &Views) -> Result<Views, NoMemory>
-        ensures { IfOk result (λ opened. opened ≡ filter (opens self.now) views.now) }
+        ensures is { IfOk result (λ opened. opened ≡ filter (opens self.now) views.now) }
+        ensures takes_none { filter (opens self.now) views.now ≡ [] → is_ok result ≡ true }
     {
         let mut opened = Views::new(alloc);
         for view in views.as_slice() {
@@ -122,10 +125,11 @@ impl UseClauses {
         })
     }
 
-    /// What is said of a package.
+    /// What is said of a package. Where no type of it is named it takes no memory.
     #[tactic(auto, using(crate::proofs::UseLemmas::lookup_uses_of))]
     fn of(&self, package_name: &[u8]) -> Result<PackageUse, NoMemory>
-        ensures { IfOk result (λ used. used ≡ use_of self.now package_name.now) }
+        ensures is { IfOk result (λ used. used ≡ use_of self.now package_name.now) }
+        ensures takes_none { (use_of self.now package_name.now).types ≡ [] → is_ok result ≡ true }
     {
         match self.by_package.get(package_name) {
             Some(used) => {
@@ -168,7 +172,7 @@ impl UseClauses {
         Ok(())
     }
 
-    /// What is potentially use-visible of a name.
+    /// What is potentially use-visible of a name. Where there are no use clauses it takes no memory.
     pub fn potential<A: Answers>(
         &self,
         mentioned: &Interface,
@@ -179,6 +183,7 @@ impl UseClauses {
         ensures told { IfOk result (λ views. Told recorder.old.log recorder.new.log (λ t. views ≡ potential t mentioned.now name.now self.now)) }
         ensures asks { IfOk result (λ _. AsksParts (use_parts self.now) name.now recorder.old.log recorder.new.log) }
         ensures each { IfOk result (λ _. EachOnce self.now) }
+        ensures takes_none { self.now ≡ [] → is_ok result ≡ true }
     {
         let mut views = Views::new(self.alloc);
         for (package_name, used) in self.by_package.iter() {

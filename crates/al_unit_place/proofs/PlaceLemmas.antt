@@ -49,6 +49,29 @@ inside-more p us i u rs before after h e b a =
     let split : inside (take (i + 1) us) p ≡ inside (take i us) p ++ inside (u ∷ []) p = ap (λ l. inside l p) more ∙ inside-join p (take i us) (u ∷ []) in
     a ∙ ap (with_clauses (inside (u ∷ []) p)) b ∙ sym (ap (λ l. with_clauses l rs) split ∙ with_clauses-join (inside (take i us) p) (inside (u ∷ []) p) rs)
 
+-- where no use clause stands in the part, none of the list does
+pub inside-none : (p : Part) (us : List UseInPart) (i : ℕ) (u : UseInPart) → i < length us → u ≡ get_or us i u → inside us p ≡ [] → stands_in p u ≡ false
+inside-none p [] i u h e none = absurd (omega arith)
+inside-none p (x ∷ us) zero u h e none = ap (stands_in p) e ∙ at (stands_in p x) none
+  where
+    at : (b : Bool) → map (λ (y : UseInPart). y.clause) (cond b (x ∷ filter (stands_in p) us) (filter (stands_in p) us)) ≡ [] → b ≡ false
+    at true k = absurd (cc)
+    at false k = refl
+inside-none p (x ∷ us) (suc i) u h e none = inside-none p us i u (omega arith) e (at (stands_in p x) none)
+  where
+    at : (b : Bool) → map (λ (y : UseInPart). y.clause) (cond b (x ∷ filter (stands_in p) us) (filter (stands_in p) us)) ≡ [] → inside us p ≡ []
+    at true k = absurd (cc)
+    at false k = k
+
+-- what joined lists are made of, where these have nothing
+pub joined-first : {X : Type 0} (xs ys : List X) → xs ++ ys ≡ [] → xs ≡ []
+joined-first [] ys none = refl
+joined-first (x ∷ xs) ys none = absurd (cc)
+
+pub joined-second : {X : Type 0} (xs ys : List X) → xs ++ ys ≡ [] → ys ≡ []
+joined-second [] ys none = none
+joined-second (x ∷ xs) ys none = absurd (cc)
+
 pub append-assoc : {X : Type 0} (xs ys zs : List X) → (xs ++ ys) ++ zs ≡ xs ++ (ys ++ zs)
 append-assoc [] ys zs = refl
 append-assoc (x ∷ xs) ys zs = ap (λ l. x ∷ l) (append-assoc xs ys zs)

@@ -1,7 +1,10 @@
 // Use clauses, as they are answered, in the innermost region of a place.
-ghost use Rattle.std.specs.Prelude.{◌≡◌, ◌<◌, [], ◌∷◌, IfOk, length};
+ghost use Rattle.std.specs.Prelude.{◌≡◌, ◌<◌, [], ◌∷◌, IfOk, false, is_ok, length, true};
 ghost use Rattle.std.specs.List.{list_any};
 ghost use Rattle.std.specs.Str.{bytes_eq};
+ghost use Rattle.al_base.specs.declared.unit_key.UnitKey.{UnitKey};
+ghost use Rattle.al_query.specs.declared.answer.UseClause.TheVariants.{Package};
+ghost use Rattle.al_scope.specs.Places.{encloses};
 ghost use Rattle.al_unit_place.specs.UnitPlaces.{inside, stands_in, uses_with, with_clause, with_clauses};
 
 use al_base::{Name, NoMemory};
@@ -10,12 +13,13 @@ use al_scope::Scope;
 use al_view::Part;
 use std::alloc::Global;
 
-/// A use clause of the innermost region.
+/// A use clause of the innermost region. Where it names a package that encloses the place it takes no memory.
 fn use_clause(alloc: Global, scope: &mut Scope, clause: &UseClause) -> Result<(), NoMemory>
     requires { 0 < length scope.old.regions }
     ensures regions { IfOk result (λ _. scope.new.regions ≡ with_clause clause.now scope.old.regions) }
     ensures depth { length scope.new.regions ≡ length scope.old.regions }
     ensures mentioned { scope.new.mentioned ≡ scope.old.mentioned }
+    ensures takes_none { (unit : UnitKey) → clause.now ≡ Package unit → encloses unit scope.old.regions ≡ true → is_ok result ≡ true }
 {
     match clause {
         UseClause::Package(unit) => scope.use_package(unit)?,
@@ -27,12 +31,13 @@ fn use_clause(alloc: Global, scope: &mut Scope, clause: &UseClause) -> Result<()
     Ok(())
 }
 
-/// Use clauses of the innermost region, in order.
+/// Use clauses of the innermost region, in order. Where there are none it takes no memory.
 pub fn use_each(alloc: Global, scope: &mut Scope, clauses: &[UseClause]) -> Result<(), NoMemory>
     requires { 0 < length scope.old.regions }
     ensures regions { IfOk result (λ _. scope.new.regions ≡ with_clauses clauses.now scope.old.regions) }
     ensures depth { length scope.new.regions ≡ length scope.old.regions }
     ensures mentioned { scope.new.mentioned ≡ scope.old.mentioned }
+    ensures takes_none { clauses.now ≡ [] → is_ok result ≡ true }
 {
     for clause in clauses {
         use_clause(alloc, scope, clause)?;
@@ -61,7 +66,7 @@ fn does_stand_in(part: &Part, used: &UseInPart) -> bool
     }
 }
 
-/// The use clause, in the innermost region, if it stands in the part.
+/// The use clause, in the innermost region, if it stands in the part; if not it takes no memory.
 fn use_if_inside(
     alloc: Global,
     scope: &mut Scope,
@@ -72,6 +77,7 @@ fn use_if_inside(
     ensures regions { IfOk result (λ _. scope.new.regions ≡ with_clauses (inside (used.now ∷ []) part.now) scope.old.regions) }
     ensures depth { length scope.new.regions ≡ length scope.old.regions }
     ensures mentioned { scope.new.mentioned ≡ scope.old.mentioned }
+    ensures takes_none { stands_in part.now used.now ≡ false → is_ok result ≡ true }
 {
     if !does_stand_in(part, used) {
         return Ok(());
@@ -80,7 +86,7 @@ fn use_if_inside(
     Ok(())
 }
 
-/// The use clauses that stand in the part, in the innermost region.
+/// The use clauses that stand in the part, in the innermost region. Where there are none it takes no memory.
 fn use_inside(
     alloc: Global,
     scope: &mut Scope,
@@ -91,6 +97,7 @@ fn use_inside(
     ensures regions { IfOk result (λ _. scope.new.regions ≡ with_clauses (inside uses.now part.now) scope.old.regions) }
     ensures depth { length scope.new.regions ≡ length scope.old.regions }
     ensures mentioned { scope.new.mentioned ≡ scope.old.mentioned }
+    ensures takes_none { inside uses.now part.now ≡ [] → is_ok result ≡ true }
 {
     for used in uses {
         use_if_inside(alloc, scope, used, part)?;
@@ -98,7 +105,7 @@ fn use_inside(
     Ok(())
 }
 
-/// The use clauses that a region has by continuing the part of a unit with that context.
+/// The use clauses that a region has by continuing the part of a unit with that context. Where there are none it takes no memory.
 pub fn use_context(
     alloc: Global,
     scope: &mut Scope,
@@ -109,6 +116,7 @@ pub fn use_context(
     ensures regions { IfOk result (λ _. scope.new.regions ≡ with_clauses (uses_with context.now part.now) scope.old.regions) }
     ensures depth { length scope.new.regions ≡ length scope.old.regions }
     ensures mentioned { scope.new.mentioned ≡ scope.old.mentioned }
+    ensures takes_none { uses_with context.now part.now ≡ [] → is_ok result ≡ true }
 {
     if part.is(&Part::Private) {
         use_inside(alloc, scope, context.uses_inside.as_slice(), part)?;

@@ -1,5 +1,5 @@
 // The library units that are mentioned at the start of the text of a unit.
-ghost use Rattle.std.specs.Prelude.{◌≡◌, ◌∷◌, [], ◌++◌, IfOk, OnOk};
+ghost use Rattle.std.specs.Prelude.{◌≡◌, ◌∷◌, [], ◌++◌, IfOk, OnOk, is_ok, true};
 ghost use Rattle.std.specs.List.{flat_map};
 ghost use Rattle.al_unit_graph.specs.Names.{lineage};
 ghost use Rattle.al_query.specs.Asked.{AsksOf, by_property};
@@ -36,9 +36,10 @@ fn add_lineage(alloc: Global, name: &[u8], names: &mut Vec<Name>) -> Result<(), 
     Ok(())
 }
 
-/// Adds the names of the units and of their ancestors.
+/// Adds the names of the units and of their ancestors. Of no units it takes no memory.
 fn add_lineages(alloc: Global, units: &[UnitKey], names: &mut Vec<Name>) -> Result<(), NoMemory>
-    ensures { OnOk result (names.new.items ≡ names.old.items ++ lineages units.now) }
+    ensures is { OnOk result (names.new.items ≡ names.old.items ++ lineages units.now) }
+    ensures takes_none { units.now ≡ [] → is_ok result ≡ true }
 {
     for unit in units {
         add_lineage(alloc, unit.name.as_slice(), names)?;
@@ -68,7 +69,7 @@ fn add_withs<A: Answers>(
     }
 }
 
-/// Adds the names that the with clauses of the units mention.
+/// Adds the names that the with clauses of the units mention. Of no units it takes no memory.
 fn add_each_withs<A: Answers>(
     alloc: Global,
     units: &[UnitKey],
@@ -78,6 +79,7 @@ fn add_each_withs<A: Answers>(
     ensures asked { recorder.new.asked ≡ recorder.old.asked }
     ensures told { OnOk result (Told recorder.old.log recorder.new.log (λ t. names.new.items ≡ names.old.items ++ flat_map (λ u. lineages (withs_of t u)) units.now)) }
     ensures asks { OnOk result (AsksOf units.now by_property recorder.old.log recorder.new.log) }
+    ensures takes_none { units.now ≡ [] → is_ok result ≡ true }
 {
     for unit in units {
         add_withs(alloc, unit, names, recorder)?;
@@ -95,9 +97,10 @@ fn add_stub(alloc: Global, stub: &UnitPart, units: &mut Vec<UnitKey>) -> Result<
     Ok(())
 }
 
-/// Adds the units whose regions bodies continue at the stubs.
+/// Adds the units whose regions bodies continue at the stubs. Of no stubs it takes no memory.
 fn add_stubs(alloc: Global, stubs: &[UnitPart], units: &mut Vec<UnitKey>) -> Result<(), NoMemory>
-    ensures { OnOk result (units.new.items ≡ units.old.items ++ flat_map stub_units stubs.now) }
+    ensures is { OnOk result (units.new.items ≡ units.old.items ++ flat_map stub_units stubs.now) }
+    ensures takes_none { stubs.now ≡ [] → is_ok result ≡ true }
 {
     for stub in stubs {
         add_stub(alloc, stub, units)?;

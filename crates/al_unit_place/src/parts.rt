@@ -1,5 +1,5 @@
 // Regions that continue parts of units.
-ghost use Rattle.std.specs.Prelude.{◌≡◌, ◌+◌, ◌<◌, [], ◌∷◌, ◌++◌, IfOk, length};
+ghost use Rattle.std.specs.Prelude.{◌≡◌, ◌+◌, ◌<◌, [], ◌∷◌, ◌++◌, IfOk, is_ok, length, true};
 ghost use Rattle.std.specs.List.{flat_map};
 ghost use Rattle.al_query.specs.Asked.{AsksOf, by_property};
 ghost use Rattle.al_query.specs.Reads.{Told};
@@ -24,9 +24,10 @@ pub fn copied_part(alloc: Global, part: &UnitPart) -> Result<UnitPart, NoMemory>
     })
 }
 
-/// The same parts once more.
+/// The same parts once more. Of none it takes no memory.
 fn copied_parts(alloc: Global, parts: &[UnitPart]) -> Result<Row<UnitPart>, NoMemory>
-    ensures { IfOk result (λ copy. copy ≡ parts.now) }
+    ensures is { IfOk result (λ copy. copy ≡ parts.now) }
+    ensures takes_none { parts.now ≡ [] → is_ok result ≡ true }
 {
     let mut copy = Row::empty(alloc);
     for part in parts {
@@ -71,7 +72,7 @@ pub fn use_part<A: Answers>(
     }
 }
 
-/// The use clauses that the innermost region has by continuing the parts.
+/// The use clauses that the innermost region has by continuing the parts. Of no parts it takes no memory.
 fn use_parts<A: Answers>(
     alloc: Global,
     scope: &mut Scope,
@@ -84,6 +85,7 @@ fn use_parts<A: Answers>(
     ensures asks { IfOk result (λ _. AsksOf (part_units parts.now) by_property recorder.old.log recorder.new.log) }
     ensures depth { length scope.new.regions ≡ length scope.old.regions }
     ensures mentioned { scope.new.mentioned ≡ scope.old.mentioned }
+    ensures takes_none { parts.now ≡ [] → is_ok result ≡ true }
 {
     for part in parts {
         use_part(alloc, scope, part, recorder)?;

@@ -1,5 +1,5 @@
 // Where the private part of a package's declaration begins, or the declarative part of a library subprogram's body.
-ghost use Rattle.std.specs.Prelude.{◌≡◌, ◌<◌, [], ◌∷◌, ◌||◌, IfOk, length, if◌then◌else◌};
+ghost use Rattle.std.specs.Prelude.{◌≡◌, ◌<◌, [], ◌∷◌, ◌||◌, IfOk, None, is_ok, length, true, if◌then◌else◌};
 ghost use Rattle.al_view.specs.declared.part.Part.TheVariants.{Private};
 ghost use Rattle.al_query.specs.Asked.{AsksOf, by_property};
 ghost use Rattle.al_query.specs.Reads.{Told};
@@ -26,11 +26,12 @@ fn private_part_of(alloc: Global, unit: &UnitKey) -> Result<UnitPart, NoMemory>
     })
 }
 
-/// The region of that construct, if there is one, continues the part too.
+/// The region of that construct, if there is one, continues the part too. Of no construct it takes no memory.
 fn add_part(scope: &mut Scope, construct: Option<Symbol>, part: UnitPart) -> Result<(), NoMemory>
     ensures regions { IfOk result (λ _. scope.new.regions ≡ with_part_of construct part scope.old.regions) }
     ensures depth { length scope.new.regions ≡ length scope.old.regions }
     ensures mentioned { scope.new.mentioned ≡ scope.old.mentioned }
+    ensures takes_none { construct ≡ None → is_ok result ≡ true }
 {
     match construct {
         Some(symbol) => scope.add_part(&symbol, part)?,
@@ -61,7 +62,7 @@ fn open<A: Answers>(
     Ok(())
 }
 
-/// The same, unless it was seen before.
+/// The same, unless it was seen before. Where it was seen by the place it takes no memory.
 fn open_unless_seen<A: Answers>(
     alloc: Global,
     scope: &mut Scope,
@@ -76,6 +77,7 @@ fn open_unless_seen<A: Answers>(
     ensures asks { IfOk result (λ _. AsksOf (unit.now ∷ nearer.now) by_property recorder.old.log recorder.new.log) }
     ensures depth { length scope.new.regions ≡ length scope.old.regions }
     ensures mentioned { scope.new.mentioned ≡ scope.old.mentioned }
+    ensures takes_none { sees ≡ true → is_ok result ≡ true }
 {
     if sees_private_part(alloc, sees, nearer, recorder)? {
         return Ok(());
@@ -84,7 +86,8 @@ fn open_unless_seen<A: Answers>(
     Ok(())
 }
 
-/// The private parts of the ancestors that weren't seen before, the farthest first.
+/// The private parts of the ancestors that weren't seen before, the farthest first. Where the place saw them all, or there are
+/// none, it takes no memory.
 fn open_each<A: Answers>(
     alloc: Global,
     scope: &mut Scope,
@@ -98,6 +101,8 @@ fn open_each<A: Answers>(
     ensures asks { IfOk result (λ _. AsksOf units.now by_property recorder.old.log recorder.new.log) }
     ensures depth { length scope.new.regions ≡ length scope.old.regions }
     ensures mentioned { scope.new.mentioned ≡ scope.old.mentioned }
+    ensures takes_none { sees ≡ true → is_ok result ≡ true }
+    ensures takes_none_of_none { units.now ≡ [] → is_ok result ≡ true }
 {
     for i in 0..units.len() {
         let unit = &units[i];

@@ -1,5 +1,5 @@
 // The place at the start of the text of a unit.
-ghost use Rattle.std.specs.Prelude.{◌≡◌, ◌+◌, ◌<◌, [], ◌∷◌, ◌++◌, ◌||◌, IfOk, OnOk, Some, drop, length};
+ghost use Rattle.std.specs.Prelude.{◌≡◌, ◌+◌, ◌<◌, [], ◌∷◌, ◌++◌, ◌||◌, IfOk, None, OnOk, Some, drop, is_ok, length, true};
 ghost use Rattle.std.specs.Option.{option_copied};
 ghost use Rattle.std.specs.List.{flat_map};
 ghost use Rattle.al_query.specs.Asked.{AsksOf, by_property};
@@ -41,7 +41,7 @@ pub fn ancestors_of(alloc: Global, name: &[u8]) -> Result<Vec<UnitKey>, NoMemory
     Ok(units)
 }
 
-/// Whether some of the units is private. It asks up to the first that is.
+/// Whether some of the units is private. It asks up to the first that is. Of no units it takes no memory.
 fn some_are_private<A: Answers>(
     alloc: Global,
     units: &[UnitKey],
@@ -50,6 +50,7 @@ fn some_are_private<A: Answers>(
     ensures asked { recorder.new.asked ≡ recorder.old.asked }
     ensures told { IfOk result (λ are. Told recorder.old.log recorder.new.log (λ t. are ≡ some_private t units.now)) }
     ensures asks { IfOk result (λ _. AsksOf units.now by_property recorder.old.log recorder.new.log) }
+    ensures takes_none { units.now ≡ [] → is_ok result ≡ true }
 {
     for unit in units {
         let query = property_of(alloc, unit, Property::IsPrivate)?;
@@ -82,7 +83,8 @@ fn parts_of(alloc: Global, unit: &UnitKey, sees_private: bool) -> Result<Row<Uni
     Ok(parts)
 }
 
-/// Whether the private part of what encloses these units is seen, where it is anyway or one of them is private.
+/// Whether the private part of what encloses these units is seen, where it is anyway or one of them is private. Where it is
+/// anyway, or of no units, it takes no memory.
 pub fn sees_private_part<A: Answers>(
     alloc: Global,
     sees: bool,
@@ -92,6 +94,9 @@ pub fn sees_private_part<A: Answers>(
     ensures asked { recorder.new.asked ≡ recorder.old.asked }
     ensures told { IfOk result (λ does. Told recorder.old.log recorder.new.log (λ t. does ≡ (sees || some_private t nearer.now))) }
     ensures asks { IfOk result (λ _. AsksOf nearer.now by_property recorder.old.log recorder.new.log) }
+    ensures seen { sees ≡ true → IfOk result (λ does. does ≡ true) }
+    ensures takes_none { sees ≡ true → is_ok result ≡ true }
+    ensures takes_none_of_none { nearer.now ≡ [] → is_ok result ≡ true }
 {
     if sees {
         return Ok(true);
@@ -100,9 +105,10 @@ pub fn sees_private_part<A: Answers>(
     Ok(are)
 }
 
-/// The symbol of the package or subprogram with that view.
+/// The symbol of the package or subprogram with that view. Where there is none it takes no memory.
 fn symbol_of(alloc: Global, view: Option<&View>) -> Result<Option<Symbol>, NoMemory>
-    ensures { IfOk result (λ symbol. symbol ≡ view_symbol (option_copied view.entry)) }
+    ensures is { IfOk result (λ symbol. symbol ≡ view_symbol (option_copied view.entry)) }
+    ensures takes_none { view_symbol (option_copied view.entry) ≡ None → is_ok result ≡ true }
 {
     match view {
         Some(view) => match view.kind() {
@@ -170,7 +176,7 @@ pub fn nearer_than(units: &[UnitKey], i: usize) -> &[UnitKey]
     &units[i + 1..]
 }
 
-/// Enters the regions of the ancestors, the farthest first.
+/// Enters the regions of the ancestors, the farthest first. Of no ancestors it takes no memory.
 fn enter_ancestors<A: Answers>(
     alloc: Global,
     scope: &mut Scope,
@@ -182,6 +188,7 @@ fn enter_ancestors<A: Answers>(
     ensures told { IfOk result (λ _. Told recorder.old.log recorder.new.log (λ t. scope.new.regions ≡ inward t sees units.now scope.old.regions)) }
     ensures asks { IfOk result (λ _. AsksOf units.now by_property recorder.old.log recorder.new.log) }
     ensures mentioned { scope.new.mentioned ≡ scope.old.mentioned }
+    ensures takes_none { units.now ≡ [] → is_ok result ≡ true }
 {
     for i in 0..units.len() {
         let unit = &units[i];
@@ -208,9 +215,10 @@ fn enter_standard(alloc: Global, scope: &mut Scope) -> Result<(), NoMemory>
     Ok(())
 }
 
-/// The parts that the region of a unit continues.
+/// The parts that the region of a unit continues. Where there are none it takes no memory.
 fn own_parts_of(alloc: Global, unit: &UnitKey, is_package: bool) -> Result<Row<UnitPart>, NoMemory>
-    ensures { IfOk result (λ parts. parts ≡ own_parts unit.now is_package) }
+    ensures is { IfOk result (λ parts. parts ≡ own_parts unit.now is_package) }
+    ensures takes_none { own_parts unit.now is_package ≡ [] → is_ok result ≡ true }
 {
     if !matches!(unit.kind, UnitKind::Body) || !is_package {
         return Ok(Row::empty(alloc));
@@ -220,9 +228,10 @@ fn own_parts_of(alloc: Global, unit: &UnitKey, is_package: bool) -> Result<Row<U
     Ok(parts)
 }
 
-/// The parts whose use clauses hold in the region of a unit.
+/// The parts whose use clauses hold in the region of a unit. Where there are none it takes no memory.
 fn own_uses_of(alloc: Global, unit: &UnitKey, is_package: bool) -> Result<Row<UnitPart>, NoMemory>
-    ensures { IfOk result (λ parts. parts ≡ own_uses unit.now is_package) }
+    ensures is { IfOk result (λ parts. parts ≡ own_uses unit.now is_package) }
+    ensures takes_none { own_uses unit.now is_package ≡ [] → is_ok result ≡ true }
 {
     if !matches!(unit.kind, UnitKind::Body) {
         return Ok(Row::empty(alloc));
@@ -282,7 +291,7 @@ fn enter_stub<A: Answers>(
     Ok(())
 }
 
-/// Enters the regions of the bodies round a subunit at their stubs, outermost first.
+/// Enters the regions of the bodies round a subunit at their stubs, outermost first. At no stubs it takes no memory.
 fn enter_stubs<A: Answers>(
     alloc: Global,
     scope: &mut Scope,
@@ -293,6 +302,7 @@ fn enter_stubs<A: Answers>(
     ensures told { IfOk result (λ _. Told recorder.old.log recorder.new.log (λ t. scope.new.regions ≡ at_stubs t stubs.now scope.old.regions)) }
     ensures asks { IfOk result (λ _. AsksOf (flat_map stub_units stubs.now) by_property recorder.old.log recorder.new.log) }
     ensures mentioned { scope.new.mentioned ≡ scope.old.mentioned }
+    ensures takes_none { stubs.now ≡ [] → is_ok result ≡ true }
 {
     for stub in stubs {
         enter_stub(alloc, scope, stub, recorder)?;
@@ -326,13 +336,14 @@ fn sees_all_parts(own: &OwnText) -> bool
         || (matches!(own.unit.kind, UnitKind::Body) && own.is_package)
 }
 
-/// Adds the declaration of a library unit's body.
+/// Adds the declaration of a library unit's body. Of another unit it takes no memory.
 pub fn add_declaration(
     alloc: Global,
     unit: &UnitKey,
     units: &mut Vec<UnitKey>,
 ) -> Result<(), NoMemory>
-    ensures { OnOk result (units.new.items ≡ units.old.items ++ own_declaration unit.now) }
+    ensures is { OnOk result (units.new.items ≡ units.old.items ++ own_declaration unit.now) }
+    ensures takes_none { own_declaration unit.now ≡ [] → is_ok result ≡ true }
 {
     if !matches!(unit.kind, UnitKind::Body) {
         return Ok(());
@@ -342,7 +353,8 @@ pub fn add_declaration(
     Ok(())
 }
 
-/// Whether the place at the start of the text sees the ancestors' private parts.
+/// Whether the place at the start of the text sees the ancestors' private parts. Where it isn't that of a library unit's body it takes
+/// no memory.
 pub fn sees_private_parts<A: Answers>(
     alloc: Global,
     own: &OwnText,
@@ -351,6 +363,7 @@ pub fn sees_private_parts<A: Answers>(
     ensures asked { recorder.new.asked ≡ recorder.old.asked }
     ensures told { IfOk result (λ sees. Told recorder.old.log recorder.new.log (λ t. sees ≡ sees_at t own.now)) }
     ensures asks { IfOk result (λ _. AsksOf (own_declaration own.now.unit) by_property recorder.old.log recorder.new.log) }
+    ensures takes_none { own_declaration own.now.unit ≡ [] → is_ok result ≡ true }
 {
     let mut units = Vec::new(alloc);
     add_declaration(alloc, &own.unit, &mut units)?;

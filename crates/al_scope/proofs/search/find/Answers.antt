@@ -8,7 +8,7 @@ returns-clause-told g c t h =
     let told = c.in_ok-views.ensures.told t h in (
       told.0,
       found-is _ _ _ _ c.contains-begun.ensures
-          (views-are t c.args.mentioned.now c.args.name.now c.args.region.now.parts c.as_slice.result.now c.in_ok-views.views c.views.result.now (views_of c.args.region.now.declared c.args.name.now) c.append.new.self c.in_ok-append.ensures told.1 c.as_slice.ensures c.views.ensures),
+          (views-are t c.args.mentioned.now c.args.name.now c.args.region.now.parts c.as_slice.result.now c.in_ok-views.views c.views.result.now (views_of c.args.region.now.declared c.args.name.now) c.append_some.new.views c.in_ok-append_some.ensures.is told.1 c.as_slice.ensures c.views.ensures),
     )
 
 pub returns-clause-asks : goal.returns-clause-asks

@@ -24,3 +24,8 @@ returns-in_ok-views-in-Some-clause-each g c = subst (λ (us : Uses). EachOnce us
 
 pub returns-in-None-clause-each : goal.returns-in-None-clause-each
 returns-in-None-clause-each g c = each-none c.args.regions.now (sym c.in-None.ensures.value)
+
+pub returns-in_err-views-in-Some-clause-takes_none : goal.returns-in_err-views-in-Some-clause-takes_none
+returns-in_err-views-in-Some-clause-takes_none g c none =
+    let views = c.in_err-views-in-Some.ensures.takes_none (sym (uses_at-last c.args.regions.now c.in-Some.region.now (sym c.in-Some.ensures.value)) ∙ none) in
+    absurd (cc)

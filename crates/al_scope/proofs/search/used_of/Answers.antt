@@ -17,7 +17,7 @@ returns-clause-told g c t h =
     let told = c.in_ok-views.ensures.told t h in
     let all = potential t c.args.mentioned.now c.args.name.now (uses_at c.args.regions.now) in (
       told.0,
-      λ founds s. c.in_ok-used.ensures
+      λ founds s. c.in_ok-used.ensures.is
           ∙ ap (use_visible c.as_slice.result.now) told.1
           ∙ ap (λ fs. use_visible fs all) c.as_slice.ensures.value
           ∙ use_visible-same c.args.search.now.founds.items founds all s.shuts,
@@ -26,6 +26,6 @@ returns-clause-told g c t h =
 pub returns-clause-once : goal.returns-clause-once
 returns-clause-once g c t h one apart =
     let told = c.in_ok-views.ensures.told t h in
-    let is = c.in_ok-used.ensures ∙ ap (use_visible c.as_slice.result.now) told.1 in
+    let is = c.in_ok-used.ensures.is ∙ ap (use_visible c.as_slice.result.now) told.1 in
     subst (λ (l : List ViewKind). Once l) (sym is)
     (once-used t c.args.mentioned.now c.args.name.now (uses_at c.args.regions.now) c.as_slice.result.now c.in_ok-views.ensures.each one apart)

@@ -11,7 +11,7 @@ returns-in-Some-clause-told g c t h =
     let told = c.in_ok-answer.ensures.told t h in
     let asked : t (Of c.args.unit.now Context) ≡ c.in_ok-answer.answer = ap t (sym c.in_ok-query.ensures) ∙ told.1 in
     let same = c.in-Some.ensures ∙ ap context_of (sym asked) in
-    (told.0, c.in_ok-add_lineages-in-Some.ensures ∙ ap (λ us. c.args.names.now.items ++ lineages us) c.as_slice.ensures ∙ ap (λ o. c.args.names.now.items ++ lineages (withs_if_told o)) same)
+    (told.0, c.in_ok-add_lineages-in-Some.ensures.is ∙ ap (λ us. c.args.names.now.items ++ lineages us) c.as_slice.ensures ∙ ap (λ o. c.args.names.now.items ++ lineages (withs_if_told o)) same)
 
 pub returns-clause-told : goal.returns-clause-told
 returns-clause-told g c t h =

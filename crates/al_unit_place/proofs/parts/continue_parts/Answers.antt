@@ -8,4 +8,4 @@ returns-clause-told g c t h =
     let told = c.in_ok-use_parts.ensures.told t h in
     let before = c.args.scope.now.regions in
     let uses = flat_map (part_uses t) c.args.used.now in
-    (told.0, told.1 ∙ ap (with_clauses uses) (c.in_ok-enter_as.ensures.regions ∙ ap (λ ps. before ++ entered_as c.args.construct ps before ∷ []) c.in_ok-copy.ensures))
+    (told.0, told.1 ∙ ap (with_clauses uses) (c.in_ok-enter_as.ensures.regions ∙ ap (λ ps. before ++ entered_as c.args.construct ps before ∷ []) c.in_ok-copy.ensures.is))

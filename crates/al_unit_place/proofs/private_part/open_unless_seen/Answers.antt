@@ -25,3 +25,9 @@ returns-then-branch-clause-asks g c =
 pub returns-clause-asks : goal.returns-clause-asks
 returns-clause-asks g c =
     asks-turned c.args.unit.now c.args.nearer.now c.args.recorder.now.log c.sees_private_part.new.recorder.log c.open.new.recorder.log c.in_ok-sees_private_part.ensures.asks c.in_ok-open.ensures.asks
+
+pub returns-in_err-open-clause-takes_none : goal.returns-in_err-open-clause-takes_none
+returns-in_err-open-clause-takes_none g c sees =
+    let seen = c.in_ok-sees_private_part.ensures.seen sees in
+    let isnt = c.if-branch.false in
+    absurd (cc)

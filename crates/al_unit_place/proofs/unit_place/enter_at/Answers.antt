@@ -13,16 +13,16 @@ returns-clause-told g c t h =
     let before = c.args.scope.now.regions in
     let told = c.in_ok-continue_parts.ensures.told t h in
     let parts = c.as_slice.ensures ∙ c.in_ok-push.ensures
-    ∙ ap (λ l. l ++ c.in_ok-continued.continued ∷ []) c.in_ok-parts.ensures
+    ∙ ap (λ l. l ++ c.in_ok-continued.continued ∷ []) c.in_ok-parts.ensures.is
     ∙ ap (λ p. own_parts stub.unit c.is_package-packaged.result ++ p ∷ []) c.in_ok-continued.ensures
     ∙ ap (λ b. own_parts stub.unit b ++ stub ∷ []) c.is_package-packaged.ensures in
     let used = c.as_slice-2.ensures ∙ c.in_ok-push-2.ensures
-    ∙ ap (λ l. l ++ c.in_ok-told.told ∷ []) c.in_ok-used.ensures
+    ∙ ap (λ l. l ++ c.in_ok-told.told ∷ []) c.in_ok-used.ensures.is
     ∙ ap (λ p. own_uses stub.unit c.is_package-packaged.result ++ p ∷ []) c.in_ok-told.ensures
     ∙ ap (λ b. own_uses stub.unit b ++ stub ∷ []) c.is_package-packaged.ensures in (
       told.0,
       told.1
-          ∙ ap (λ o. continued t o c.as_slice.result.now c.as_slice-2.result.now before) c.in_ok-symbol.ensures
+          ∙ ap (λ o. continued t o c.as_slice.result.now c.as_slice-2.result.now before) c.in_ok-symbol.ensures.is
           ∙ ap (λ ps. continued t (view_symbol view) ps c.as_slice-2.result.now before) parts
           ∙ ap (λ us. continued t (view_symbol view) (own_parts stub.unit (is_package_view view) ++ stub ∷ []) us before) used,
     )
@@ -34,7 +34,7 @@ returns-clause-asks g c =
     let old = c.args.recorder.now.log in
     let new = c.continue_parts.new.recorder.log in
     let used = c.as_slice-2.ensures ∙ c.in_ok-push-2.ensures
-    ∙ ap (λ l. l ++ c.in_ok-told.told ∷ []) c.in_ok-used.ensures
+    ∙ ap (λ l. l ++ c.in_ok-told.told ∷ []) c.in_ok-used.ensures.is
     ∙ ap (λ p. own_uses stub.unit c.is_package-packaged.result ++ p ∷ []) c.in_ok-told.ensures
     ∙ ap (λ b. own_uses stub.unit b ++ stub ∷ []) c.is_package-packaged.ensures in
     asks-stub (package_unit stub.unit.name) (is_body stub.unit) (is_package_view view) stub old new

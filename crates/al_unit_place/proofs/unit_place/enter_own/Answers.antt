@@ -13,8 +13,8 @@ returns-clause-told g c t h =
       told.0,
       told.1
           ∙ ap (λ s. continued t (Some s) c.as_slice.result.now c.as_slice-2.result.now before) c.in_ok-symbol.ensures
-          ∙ ap (λ ps. continued t (Some own.symbol) ps c.as_slice-2.result.now before) (c.as_slice.ensures ∙ c.in_ok-parts.ensures)
-          ∙ ap (λ ps. continued t (Some own.symbol) (own_parts own.unit own.is_package) ps before) (c.as_slice-2.ensures ∙ c.in_ok-used.ensures),
+          ∙ ap (λ ps. continued t (Some own.symbol) ps c.as_slice-2.result.now before) (c.as_slice.ensures ∙ c.in_ok-parts.ensures.is)
+          ∙ ap (λ ps. continued t (Some own.symbol) (own_parts own.unit own.is_package) ps before) (c.as_slice-2.ensures ∙ c.in_ok-used.ensures.is),
     )
 
 pub returns-clause-asks : goal.returns-clause-asks
@@ -23,4 +23,4 @@ returns-clause-asks g c =
     let old = c.args.recorder.now.log in
     let new = c.continue_parts.new.recorder.log in
     asks-own (package_unit own.unit.name) (is_body own.unit) own.is_package old new
-    (asks-same (part_units c.as_slice-2.result.now) (part_units (own_uses own.unit own.is_package)) old new (ap part_units (c.as_slice-2.ensures ∙ c.in_ok-used.ensures)) c.in_ok-continue_parts.ensures.asks)
+    (asks-same (part_units c.as_slice-2.result.now) (part_units (own_uses own.unit own.is_package)) old new (ap part_units (c.as_slice-2.ensures ∙ c.in_ok-used.ensures.is)) c.in_ok-continue_parts.ensures.asks)

@@ -7,11 +7,11 @@ pub returns-clause-told : goal.returns-clause-told
 returns-clause-told g c t h =
     let told = c.in_ok-sees.ensures.told t h in
     let own = c.args.own.now in
-    let units = c.as_slice.ensures.value ∙ c.in_ok-add_declaration.ensures ∙ ap (λ l. l ++ own_declaration own.unit) c.new-units.ensures.items in
+    let units = c.as_slice.ensures.value ∙ c.in_ok-add_declaration.ensures.is ∙ ap (λ l. l ++ own_declaration own.unit) c.new-units.ensures.items in
     (told.0, told.1 ∙ ap (λ b. b || some_private t c.as_slice.result.now) c.sees_all_parts.ensures ∙ ap (λ us. sees_all own || some_private t us) units)
 
 pub returns-clause-asks : goal.returns-clause-asks
 returns-clause-asks g c =
     let own = c.args.own.now in
-    let units = c.as_slice.ensures.value ∙ c.in_ok-add_declaration.ensures ∙ ap (λ l. l ++ own_declaration own.unit) c.new-units.ensures.items in
+    let units = c.as_slice.ensures.value ∙ c.in_ok-add_declaration.ensures.is ∙ ap (λ l. l ++ own_declaration own.unit) c.new-units.ensures.items in
     asks-same c.as_slice.result.now (own_declaration own.unit) c.args.recorder.now.log c.sees_private_part.new.recorder.log units c.in_ok-sees.ensures.asks

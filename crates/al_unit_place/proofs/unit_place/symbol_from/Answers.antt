@@ -10,7 +10,7 @@ pub returns-clause-told : goal.returns-clause-told
 returns-clause-told g c t h =
     let told = c.in_ok-answer.ensures.told t h in
     let asked : t (Of c.args.unit.now Kind) ≡ c.in_ok-answer.answer = ap t (sym c.in_ok-query.ensures) ∙ told.1 in
-    (told.0, c.in_ok-symbol.ensures ∙ ap view_symbol (c.own_view.ensures ∙ ap own_view_of (sym asked)))
+    (told.0, c.in_ok-symbol.ensures.is ∙ ap view_symbol (c.own_view.ensures ∙ ap own_view_of (sym asked)))
 
 pub returns-clause-asks : goal.returns-clause-asks
 returns-clause-asks g c = asks-one c.args.recorder.now.log c.ask.new.self.log c.in_ok-query.query c.args.unit.now Kind c.in_ok-answer.answer refl c.in_ok-query.ensures c.in_ok-answer.ensures.log
