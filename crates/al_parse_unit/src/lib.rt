@@ -7,6 +7,7 @@
 
 mod body;
 mod declaration;
+mod protected;
 mod specification;
 mod start;
 mod statement;
