@@ -52,22 +52,37 @@ fn subtype(alloc: Global, base: &[u8]) -> Result<Subtype, NoMemory> {
     })
 }
 
+fn parameter(alloc: Global, base: &[u8]) -> Result<Parameter, NoMemory> {
+    Ok(Parameter {
+        name: Name::from_slice(alloc, b"a")?,
+        mode: Mode::In,
+        subtype: subtype(alloc, base)?,
+    })
+}
+
+fn parameters(alloc: Global, base: Option<&[u8]>) -> Result<Row<Parameter>, NoMemory> {
+    let mut parameters = Row::empty(alloc);
+    match base {
+        None => Ok(parameters),
+        Some(base) => {
+            parameters.push(parameter(alloc, base)?)?;
+            Ok(parameters)
+        }
+    }
+}
+
+fn profile(alloc: Global, base: Option<&[u8]>, gives: &[u8]) -> Result<Profile, NoMemory> {
+    Ok(Profile {
+        parameters: parameters(alloc, base)?,
+        result: Some(subtype(alloc, gives)?),
+    })
+}
+
 /// A function of a parameter of the first type, or of none, with a result of the second.
 fn function(alloc: Global, parameter: Option<&[u8]>, gives: &[u8]) -> Result<View, NoMemory> {
-    let mut parameters = Row::empty(alloc);
-    if let Some(base) = parameter {
-        parameters.push(Parameter {
-            name: Name::from_slice(alloc, b"a")?,
-            mode: Mode::In,
-            subtype: subtype(alloc, base)?,
-        })?;
-    }
     let subprogram = SubprogramView {
         symbol: symbol(alloc, b"f")?,
-        profile: Profile {
-            parameters,
-            result: Some(subtype(alloc, gives)?),
-        },
+        profile: profile(alloc, parameter, gives)?,
         types: no_types(alloc)?,
         call: CallKind::Subprogram { depth: 0 },
         flag: None,
@@ -76,66 +91,144 @@ fn function(alloc: Global, parameter: Option<&[u8]>, gives: &[u8]) -> Result<Vie
     Ok(view)
 }
 
-#[test]
-fn names_stay_in_the_order_of_their_first_declarations(rt: HostRuntime) -> Result<(), Fail> {
-    let alloc = rt.alloc();
+/// Two declarations of B, and between them one of A.
+fn two_names(alloc: Global) -> Result<Interface, NoMemory> {
     let mut interface = Interface::new(alloc);
     interface.declare(b"b", literal(alloc, b"t")?)?;
     interface.declare(b"a", number(alloc, 1)?)?;
     interface.declare(b"b", literal(alloc, b"u")?)?;
-    assert_eq!(rt; interface.len(), 2);
-    assert_eq!(rt; interface.views(b"b").len(), 2);
-    assert_eq!(rt; interface.views(b"c").len(), 0);
-    let Some((name, views)) = interface.at(1) else {
+    Ok(interface)
+}
+
+#[test]
+fn names_stay_in_the_order_of_their_first_declarations(rt: HostRuntime) -> Result<(), Fail> {
+    let interface = two_names(rt.alloc())?;
+    let lengths = [
+        interface.len(),
+        interface.views(b"b").len(),
+        interface.views(b"c").len(),
+    ];
+    assert_eq!(rt; lengths, [2, 2, 0]);
+    let Some((name, _)) = interface.at(1) else {
         return Err(Fail::from("nothing there"));
     };
     assert_eq!(rt; name, b"a".as_slice());
-    let mut all = Views::new(alloc);
-    all.append(views)?;
-    all.append(interface.views(b"b"))?;
-    assert_eq!(rt; all.copy(alloc)?.as_slice().len(), 3);
     Ok(())
+}
+
+/// The views of the second name, and those of B behind them.
+fn appended(alloc: Global, interface: &Interface) -> Result<Views, NoMemory> {
+    let mut all = Views::new(alloc);
+    if let Some((_, views)) = interface.at(1) {
+        all.append(views)?;
+    }
+    all.append(interface.views(b"b"))?;
+    Ok(all)
+}
+
+fn appended_and_copied(alloc: Global) -> Result<usize, NoMemory> {
+    let interface = two_names(alloc)?;
+    let all = appended(alloc, &interface)?;
+    let copy = all.copy(alloc)?;
+    Ok(copy.as_slice().len())
+}
+
+#[test]
+fn views_are_appended(rt: HostRuntime) -> Result<(), Fail> {
+    let found = appended_and_copied(rt.alloc())?;
+    assert_eq!(rt; found, 3);
+    Ok(())
+}
+
+fn are_homographs(
+    one: Result<View, NoMemory>,
+    other: Result<View, NoMemory>,
+) -> Result<bool, NoMemory> {
+    let one = one?;
+    let other = other?;
+    Ok(one.is_homograph_of(&other))
+}
+
+fn is_homograph_of_itself(view: Result<View, NoMemory>) -> Result<bool, NoMemory> {
+    let view = view?;
+    let other = view.share()?;
+    Ok(view.is_homograph_of(&other))
+}
+
+/// A number isn't overloadable. A literal is like a function.
+fn homographs(alloc: Global) -> Result<[bool; 5], NoMemory> {
+    let t = Some(b"t".as_slice());
+    Ok([
+        are_homographs(number(alloc, 1), literal(alloc, b"t"))?,
+        are_homographs(literal(alloc, b"t"), function(alloc, None, b"t"))?,
+        are_homographs(literal(alloc, b"t"), function(alloc, None, b"u"))?,
+        are_homographs(function(alloc, None, b"t"), function(alloc, t, b"t"))?,
+        is_homograph_of_itself(function(alloc, t, b"t"))?,
+    ])
 }
 
 #[test]
 fn overloadable_ones_are_homographs_by_their_types(rt: HostRuntime) -> Result<(), Fail> {
-    let alloc = rt.alloc();
-    let x = number(alloc, 1)?;
-    let of_t = literal(alloc, b"t")?;
-    let gives_t = function(alloc, None, b"t")?;
-    let gives_u = function(alloc, None, b"u")?;
-    let takes_t = function(alloc, Some(b"t"), b"t")?;
-    assert_eq!(rt;
-        x.is_homograph_of(&of_t),
-        true,
-        "a number isn't overloadable"
-    );
-    assert_eq!(rt;
-        of_t.is_homograph_of(&gives_t),
-        true,
-        "a literal is like a function"
-    );
-    assert_eq!(rt; of_t.is_homograph_of(&gives_u), false);
-    assert_eq!(rt; gives_t.is_homograph_of(&takes_t), false);
-    assert_eq!(rt; takes_t.is_homograph_of(&takes_t.share()?), true);
-    assert_eq!(rt; x.may_be_overloaded(), false);
-    assert_eq!(rt; of_t.may_be_overloaded(), true);
-    assert_eq!(rt; takes_t.is_operator_of(&symbol(alloc, b"t")?), false);
+    let found = homographs(rt.alloc())?;
+    assert_eq!(rt; found, [true, true, false, false, true]);
     Ok(())
+}
+
+fn may_be_overloaded(view: Result<View, NoMemory>) -> Result<bool, NoMemory> {
+    let view = view?;
+    Ok(view.may_be_overloaded())
+}
+
+fn is_operator_of(alloc: Global, view: Result<View, NoMemory>) -> Result<bool, NoMemory> {
+    let view = view?;
+    let of_type = symbol(alloc, b"t")?;
+    Ok(view.is_operator_of(&of_type))
+}
+
+fn overloadable(alloc: Global) -> Result<[bool; 3], NoMemory> {
+    let takes_t = function(alloc, Some(b"t".as_slice()), b"t");
+    Ok([
+        is_operator_of(alloc, takes_t)?,
+        may_be_overloaded(number(alloc, 1))?,
+        may_be_overloaded(literal(alloc, b"t"))?,
+    ])
+}
+
+#[test]
+fn literals_may_be_overloaded(rt: HostRuntime) -> Result<(), Fail> {
+    let found = overloadable(rt.alloc())?;
+    assert_eq!(rt; found, [false, false, true]);
+    Ok(())
+}
+
+fn are_one_unit(alloc: Global, one: &[u8], other: &[u8]) -> Result<bool, NoMemory> {
+    let one = unit(alloc, one)?;
+    let other = unit(alloc, other)?;
+    Ok(is_unit(&one, &other))
+}
+
+/// Whether a stub's part is a copy of it, and whether it is the body.
+fn parts(alloc: Global) -> Result<(bool, bool), NoMemory> {
+    let stub = Part::Stub(Name::from_slice(alloc, b"s")?);
+    let copy = stub.copy(alloc)?;
+    Ok((stub.is(&copy), stub.is(&Part::Body)))
+}
+
+fn copied_symbol(alloc: Global) -> Result<bool, NoMemory> {
+    let first = symbol(alloc, b"t")?;
+    let copy = first.copy(alloc)?;
+    Ok(first.is(&copy))
 }
 
 #[test]
 fn keys_and_parts_are_told_apart(rt: HostRuntime) -> Result<(), Fail> {
     let alloc = rt.alloc();
-    let p = unit(alloc, b"p")?;
-    let q = unit(alloc, b"q")?;
-    assert_eq!(rt; is_unit(&p, &p), true);
-    assert_eq!(rt; is_unit(&p, &q), false);
-    let stub = Part::Stub(Name::from_slice(alloc, b"s")?);
-    assert_eq!(rt; stub.is(&stub.copy(alloc)?), true);
-    assert_eq!(rt; stub.is(&Part::Body), false);
-    let first = symbol(alloc, b"t")?;
-    assert_eq!(rt; first.is(&first.copy(alloc)?), true);
+    let units = [
+        are_one_unit(alloc, b"p", b"p")?,
+        are_one_unit(alloc, b"p", b"q")?,
+    ];
+    let found = (units, parts(alloc)?, copied_symbol(alloc)?);
+    assert_eq!(rt; found, ([true, false], (true, false), true));
     Ok(())
 }
 
@@ -148,81 +241,120 @@ fn color(alloc: Global, name: &[u8]) -> Result<TypeView, NoMemory> {
     })
 }
 
-#[test]
-fn types_have_bounds_and_words(rt: HostRuntime) -> Result<(), Fail> {
-    let alloc = rt.alloc();
+/// T and U.
+fn two_colors(alloc: Global) -> Result<Types, NoMemory> {
     let mut types = Row::empty(alloc);
     types.push(color(alloc, b"t")?)?;
     types.push(color(alloc, b"u")?)?;
     let types = Types::new(alloc, types)?;
-    let Some(found) = types.find(&symbol(alloc, b"u")?) else {
-        return Err(Fail::from("no such type"));
-    };
-    assert_eq!(rt; found.symbol == symbol(alloc, b"u")?, true);
-    let bounds = Some(Bounds { low: 0, high: 2 });
-    assert_eq!(rt; found.definition.bounds(), bounds);
-    assert_eq!(rt; TypeDefinition::Time.bounds(), None);
-    assert_eq!(rt; found.layout.words(), 1);
-    assert_eq!(rt;
-        Layout::Array {
-            component: 2,
-            words: 8
+    Ok(types)
+}
+
+/// The bounds and the words of the type that is found under the name, where it has this name.
+fn found_color(alloc: Global, name: &[u8]) -> Result<Option<(Option<Bounds>, u32)>, NoMemory> {
+    let types = two_colors(alloc)?;
+    let symbol = symbol(alloc, name)?;
+    match types.find(&symbol) {
+        Some(found) if found.symbol == symbol => {
+            Ok(Some((found.definition.bounds(), found.layout.words())))
         }
-        .words(),
-        8
-    );
-    assert_eq!(rt; Layout::Words(5).words(), 5);
-    assert_eq!(rt; types.find(&symbol(alloc, b"v")?).is_none(), true);
+        _ => Ok(None),
+    }
+}
+
+#[test]
+fn types_have_bounds_and_words(rt: HostRuntime) -> Result<(), Fail> {
+    let found = [
+        found_color(rt.alloc(), b"u")?,
+        found_color(rt.alloc(), b"v")?,
+    ];
+    let bounds = Some(Bounds { low: 0, high: 2 });
+    assert_eq!(rt; found, [Some((bounds, 1)), None]);
     Ok(())
 }
 
 #[test]
-fn literals_stand_where_their_type_is_declared(rt: HostRuntime) -> Result<(), Fail> {
-    let alloc = rt.alloc();
+fn layouts_have_words(rt: HostRuntime) {
+    let array = Layout::Array {
+        component: 2,
+        words: 8,
+    };
+    let found = [array.words(), Layout::Words(5).words()];
+    assert_eq!(rt; found, [8, 5]);
+    assert_eq!(rt; TypeDefinition::Time.bounds(), None);
+}
+
+/// A type of these literals.
+fn declared(alloc: Global, literals: Names) -> Result<View, NoMemory> {
+    let declared = DeclaredType {
+        types: no_types(alloc)?,
+        literals,
+    };
+    let view = View::new(alloc, ViewKind::OfType(declared))?;
+    Ok(view)
+}
+
+fn names_of(alloc: Global, names: Row<Name>) -> Result<Names, NoMemory> {
+    let names = Names::new(alloc, names)?;
+    Ok(names)
+}
+
+fn red(alloc: Global) -> Result<Names, NoMemory> {
     let mut names = Row::empty(alloc);
     names.push(Name::from_slice(alloc, b"red")?)?;
-    let names = Names::new(alloc, names)?;
-    let red = View::new(
-        alloc,
-        ViewKind::OfType(DeclaredType {
-            types: no_types(alloc)?,
-            literals: names.share()?,
-        }),
-    )?;
-    let other = View::new(
-        alloc,
-        ViewKind::OfType(DeclaredType {
-            types: no_types(alloc)?,
-            literals: Names::new(alloc, Row::empty(alloc))?,
-        }),
-    )?;
-    assert_eq!(rt; names.as_slice().len(), 1);
-    assert_eq!(rt; red.is_same(&red.share()?), true);
-    assert_eq!(rt; red.is_same(&other), false);
+    names_of(alloc, names)
+}
+
+/// How many literals there are, whether the type is one with itself, and whether it is one with a type of none.
+fn types_of_literals(alloc: Global) -> Result<(usize, bool, bool), NoMemory> {
+    let names = red(alloc)?;
+    let with_red = declared(alloc, names.share()?)?;
+    let again = with_red.share()?;
+    let other = declared(alloc, names_of(alloc, Row::empty(alloc))?)?;
+    let same = with_red.is_same(&again);
+    Ok((names.as_slice().len(), same, with_red.is_same(&other)))
+}
+
+#[test]
+fn literals_stand_where_their_type_is_declared(rt: HostRuntime) -> Result<(), Fail> {
+    let found = types_of_literals(rt.alloc())?;
+    assert_eq!(rt; found, (1, true, false));
     Ok(())
+}
+
+fn copied_subtype(alloc: Global) -> Result<bool, NoMemory> {
+    let positive = Subtype {
+        base: symbol(alloc, b"t")?,
+        bounds: Some(Bounds { low: 1, high: 9 }),
+    };
+    let copy = positive.copy(alloc)?;
+    Ok(copy.is_same(&positive))
+}
+
+fn copied_place(alloc: Global, place: ObjectPlace) -> Result<bool, NoMemory> {
+    let copy = place.copy(alloc)?;
+    Ok(copy.is_same(&place))
 }
 
 #[test]
 fn subtypes_and_places_are_copied(rt: HostRuntime) -> Result<(), Fail> {
     let alloc = rt.alloc();
-    let positive = Subtype {
-        base: symbol(alloc, b"t")?,
-        bounds: Some(Bounds { low: 1, high: 9 }),
-    };
-    assert_eq!(rt; positive.copy(alloc)?.is_same(&positive), true);
-    let place = ObjectPlace::Static {
+    let object = ObjectPlace::Static {
         symbol: symbol(alloc, b"o")?,
         word: 4,
     };
-    assert_eq!(rt; place.copy(alloc)?.is_same(&place), true);
-    let place = ObjectPlace::Frame { depth: 1, word: 3 };
-    assert_eq!(rt; place.copy(alloc)?.is_same(&place), true);
+    let found = [
+        copied_place(alloc, object)?,
+        copied_place(alloc, ObjectPlace::Frame { depth: 1, word: 3 })?,
+        copied_subtype(alloc)?,
+    ];
+    assert_eq!(rt; found, [true, true, true]);
     Ok(())
 }
 
-#[test]
-fn symbols_are_keys(rt: HostRuntime) -> Result<(), Fail> {
-    let alloc = rt.alloc();
+type LinkMap = BTreeMap<LinkSymbol, u32>;
+
+fn link_symbols(alloc: Global) -> Result<LinkMap, NoMemory> {
     let mut places = BTreeMap::new(alloc);
     for (name, kind) in [
         (b"f", LinkKind::Flag),
@@ -232,12 +364,29 @@ fn symbols_are_keys(rt: HostRuntime) -> Result<(), Fail> {
         let symbol = symbol(alloc, name)?;
         places.insert(LinkSymbol { symbol, kind }, 1)?;
     }
+    Ok(places)
+}
+
+#[test]
+fn link_symbols_are_keys(rt: HostRuntime) -> Result<(), Fail> {
+    let places = link_symbols(rt.alloc())?;
     assert_eq!(rt; places.len(), 3);
     let first = places.keys().next();
     assert_eq!(rt; first.is_some_and(|key| key.kind == LinkKind::Data), true);
+    Ok(())
+}
+
+/// What is found under a name where F has 7.
+fn number_of(alloc: Global, name: &[u8]) -> Result<Option<u32>, NoMemory> {
     let mut numbers = IndexMap::new(alloc);
     numbers.insert(symbol(alloc, b"f")?, 7)?;
-    assert_eq!(rt; numbers.get(&symbol(alloc, b"f")?).copied(), Some(7));
-    assert_eq!(rt; numbers.get(&symbol(alloc, b"g")?).is_none(), true);
+    let symbol = symbol(alloc, name)?;
+    Ok(numbers.get(&symbol).copied())
+}
+
+#[test]
+fn symbols_are_keys(rt: HostRuntime) -> Result<(), Fail> {
+    let found = [number_of(rt.alloc(), b"f")?, number_of(rt.alloc(), b"g")?];
+    assert_eq!(rt; found, [Some(7), None]);
     Ok(())
 }
