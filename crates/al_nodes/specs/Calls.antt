@@ -10,9 +10,10 @@ use Rattle.al_judged.specs.Judging.{next, seen_by, unless}
 use Rattle.al_judged.specs.declared.fault.Fault.{Fault}
 use Rattle.al_overload.specs.Meanings.{nothing_fits}
 use Rattle.al_static.specs.declared.knowledge.Known.TheVariants.{Open}
-use Rattle.al_typed.specs.ExpressionTrees.{TypedTree, FormTree, ActualTree, CallTree}
+use Rattle.al_typed.specs.ExpressionTrees.{TypedTree, FormTree, NameTree, ActualTree, CallTree}
+use Rattle.al_typed.specs.FormNames.{name_in as form_name}
 use Rattle.al_typed.specs.ExpressionTrees.TypedTree.{Labelled}
-use Rattle.al_typed.specs.ExpressionTrees.FormTree.{LiteralForm, NamedForm, UnaryForm, BinaryForm, ShortCircuitForm, MembershipForm, ConvertedForm, AggregateForm, OthersForm, CallForm, ClockForm}
+use Rattle.al_typed.specs.ExpressionTrees.FormTree.{ConvertedForm, CallForm, ClockForm}
 use Rattle.al_typed.specs.ExpressionTrees.ValueTree.{Checked}
 use Rattle.al_typed.specs.ExpressionTrees.ActualTree.{InActual, VariableActual}
 use Rattle.al_typed.specs.ExpressionTrees.CallTree.{Called}
@@ -129,17 +130,8 @@ in_actual range value = InActual (Checked value range)
 
 -- a variable of a formal of this mode, whose address is kept in a word that is numbered later
 abbrev pub variable_of : Mode → Option Bounds → Labels → FormTree → Result ActualTree Fault
-variable_of mode range labels (NamedForm name) = Ok (VariableActual name labels.words mode range labels.bounds 0)
-variable_of mode range labels (LiteralForm value) = Err (nothing_fits labels.place)
-variable_of mode range labels (UnaryForm operator operand) = Err (nothing_fits labels.place)
-variable_of mode range labels (BinaryForm operator left right) = Err (nothing_fits labels.place)
-variable_of mode range labels (ShortCircuitForm form left right) = Err (nothing_fits labels.place)
-variable_of mode range labels (MembershipForm value is_negated low high slot) = Err (nothing_fits labels.place)
-variable_of mode range labels (ConvertedForm conversion value) = Err (nothing_fits labels.place)
-variable_of mode range labels (AggregateForm values) = Err (nothing_fits labels.place)
-variable_of mode range labels (OthersForm count value) = Err (nothing_fits labels.place)
-variable_of mode range labels (CallForm call) = Err (nothing_fits labels.place)
-variable_of mode range labels ClockForm = Err (nothing_fits labels.place)
+variable_of mode range labels form =
+    option_map_or (λ (name : NameTree). Ok (VariableActual name labels.words mode range labels.bounds 0)) (form_name form) (Err (nothing_fits labels.place))
 
 abbrev pub variable_actual : Mode → Option Bounds → TypedTree → Result ActualTree Fault
 variable_actual mode range (Labelled labels form) = variable_of mode range labels form

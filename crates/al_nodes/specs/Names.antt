@@ -12,8 +12,9 @@ use Rattle.al_static.specs.Combining.{failure_in, named}
 use Rattle.al_static.specs.declared.knowledge.Known.TheVariants.{Open}
 use Rattle.al_term.specs.Terms.{TermTree, TermTree as t}
 use Rattle.al_typed.specs.ExpressionTrees.{TypedTree, FormTree, NameTree}
+use Rattle.al_typed.specs.FormNames.{name_in as form_name}
 use Rattle.al_typed.specs.ExpressionTrees.TypedTree.{Labelled}
-use Rattle.al_typed.specs.ExpressionTrees.FormTree.{LiteralForm, NamedForm, UnaryForm, BinaryForm, ShortCircuitForm, MembershipForm, ConvertedForm, AggregateForm, OthersForm, CallForm, ClockForm}
+use Rattle.al_typed.specs.ExpressionTrees.FormTree.{NamedForm}
 use Rattle.al_typed.specs.ExpressionTrees.NameTree.{ObjectName, ComponentName, IndexedName}
 use Rattle.al_view.specs.declared.symbol.Symbol.{Symbol}
 use Rattle.al_view.specs.declared.types.Bounds.{Bounds}
@@ -32,17 +33,7 @@ object_node root place o =
 
 -- what an expression is that is to be the name of an object
 abbrev pub name_of : Place → FormTree → Result NameTree Fault
-name_of place (NamedForm name) = Ok name
-name_of place (LiteralForm value) = Err (nothing_fits place)
-name_of place (UnaryForm operator operand) = Err (nothing_fits place)
-name_of place (BinaryForm operator left right) = Err (nothing_fits place)
-name_of place (ShortCircuitForm form left right) = Err (nothing_fits place)
-name_of place (MembershipForm value is_negated low high slot) = Err (nothing_fits place)
-name_of place (ConvertedForm conversion value) = Err (nothing_fits place)
-name_of place (AggregateForm values) = Err (nothing_fits place)
-name_of place (OthersForm count value) = Err (nothing_fits place)
-name_of place (CallForm call) = Err (nothing_fits place)
-name_of place ClockForm = Err (nothing_fits place)
+name_of place form = option_map_or Ok (form_name form) (Err (nothing_fits place))
 
 abbrev pub name_in : TypedTree → Result NameTree Fault
 name_in (Labelled labels form) = name_of labels.place form

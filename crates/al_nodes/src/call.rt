@@ -193,30 +193,12 @@ fn in_actual(range: Option<Bounds>, value: Judged<Typed>) -> Judged<Actual>
     }
 }
 
-#[tactic(auto, using(crate::proofs::Seen::forms_made))]
 fn variable_of(mode: Mode, range: Option<Bounds>, labels: Labels, form: Form) -> Judged<Actual>
     ensures { seen_by actual_seen result ≡ variable_of mode range labels (form_seen form) }
 {
-    let place = labels.place;
-    match form {
-        Form::Named(name) => Ok(Actual::variable(
-            name,
-            labels.words,
-            mode,
-            range,
-            labels.bounds,
-            0,
-        )),
-        Form::Literal(_) => Err(nothing_fits(place)),
-        Form::Unary(_, _) => Err(nothing_fits(place)),
-        Form::Binary(_, _, _) => Err(nothing_fits(place)),
-        Form::ShortCircuit(_, _, _) => Err(nothing_fits(place)),
-        Form::Membership { .. } => Err(nothing_fits(place)),
-        Form::Converted(_, _) => Err(nothing_fits(place)),
-        Form::Aggregate(_) => Err(nothing_fits(place)),
-        Form::Others(_, _) => Err(nothing_fits(place)),
-        Form::Call(_) => Err(nothing_fits(place)),
-        Form::Clock => Err(nothing_fits(place)),
+    match form.into_name() {
+        Some(name) => Ok(Actual::variable(name, labels.words, mode, range, labels.bounds, 0)),
+        None => Err(nothing_fits(labels.place)),
     }
 }
 

@@ -20,22 +20,12 @@ use al_view::{Bounds, ObjectView, Subtype, Types, View, ViewKind};
 use std::alloc::Global;
 
 /// What an expression is that is to be the name of an object.
-#[tactic(auto, using(crate::proofs::Seen::forms_made))]
 fn name_of(place: Place, form: Form) -> Judged<TypedName>
     ensures { seen_by name_seen result ≡ name_of place (form_seen form) }
 {
-    match form {
-        Form::Named(name) => Ok(name),
-        Form::Literal(_) => Err(nothing_fits(place)),
-        Form::Unary(_, _) => Err(nothing_fits(place)),
-        Form::Binary(_, _, _) => Err(nothing_fits(place)),
-        Form::ShortCircuit(_, _, _) => Err(nothing_fits(place)),
-        Form::Membership { .. } => Err(nothing_fits(place)),
-        Form::Converted(_, _) => Err(nothing_fits(place)),
-        Form::Aggregate(_) => Err(nothing_fits(place)),
-        Form::Others(_, _) => Err(nothing_fits(place)),
-        Form::Call(_) => Err(nothing_fits(place)),
-        Form::Clock => Err(nothing_fits(place)),
+    match form.into_name() {
+        Some(name) => Ok(name),
+        None => Err(nothing_fits(place)),
     }
 }
 

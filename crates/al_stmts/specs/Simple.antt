@@ -9,9 +9,10 @@ use Rattle.al_judged.specs.Judging.{both, next, unless}
 use Rattle.al_judged.specs.declared.fault.Fault.{Fault}
 use Rattle.al_loops.specs.Exits.{LoopsRound, exit_judged}
 use Rattle.al_loops.specs.Returns.{return_fault}
-use Rattle.al_typed.specs.ExpressionTrees.{CallTree, FormTree, NameTree, TypedTree}
-use Rattle.al_typed.specs.ExpressionTrees.{FormTree as forms, NameTree as names, TypedTree as typed, ValueTree as values}
+use Rattle.al_typed.specs.ExpressionTrees.{CallTree, NameTree, TypedTree}
+use Rattle.al_typed.specs.ExpressionTrees.{NameTree as names, TypedTree as typed, ValueTree as values}
 use Rattle.al_typed.specs.ExpressionViews.{name_seen}
+use Rattle.al_typed.specs.FormNames.{name_in}
 use Rattle.al_typed.specs.StatementTrees.{PieceTree, StatementTree}
 use Rattle.al_typed.specs.StatementTrees.{StatementFormTree as statements, StatementTree as numbered}
 use Rattle.al_typed.specs.declared.label.Labels.{Labels}
@@ -32,11 +33,6 @@ abbrev pub is_variable : NameTree → Bool
 is_variable (names.ObjectName place is_constant) = not is_constant
 is_variable (names.ComponentName whole offset) = is_variable whole
 is_variable (names.IndexedName array index bounds words) = is_variable array
-
--- the name that an expression is
-abbrev pub name_in : FormTree → Option NameTree
-name_in (forms.NamedForm name) = Some name
-name_in _ = None
 
 -- a name as the target of an assignment, or the fault at its first token that it is no variable (ARM 5.2(5))
 abbrev pub target_named : Labels → Option NameTree → Result TargetTree Fault

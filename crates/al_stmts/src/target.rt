@@ -5,11 +5,11 @@ ghost use Rattle.al_base.specs.declared.rule.Rule.TheVariants.{NotAVariable};
 ghost use Rattle.al_judged.specs.Faults.{fault_at};
 ghost use Rattle.al_judged.specs.Judging.{seen_by};
 ghost use Rattle.al_typed.specs.ExpressionViews.{form_seen, name_seen, typed_seen};
-ghost use Rattle.al_stmts.specs.Simple.{is_variable, name_in, target_named, target_of, target_seen};
+ghost use Rattle.al_stmts.specs.Simple.{is_variable, target_named, target_of, target_seen};
 
 use al_base::{Place, Rule};
 use al_judged::{Fault, Judged};
-use al_typed::{Form, Labels, Typed, TypedName};
+use al_typed::{Labels, Typed, TypedName};
 use al_view::Bounds;
 
 /// A variable that is assigned to: its words, and the range of its nominal subtype where that is scalar.
@@ -29,26 +29,6 @@ fn is_variable(name: &TypedName) -> bool
         TypedName::Object { is_constant, .. } => !*is_constant,
         TypedName::Component { whole, .. } => is_variable(whole),
         TypedName::Indexed { array, .. } => is_variable(array),
-    }
-}
-
-/// The name that an expression is.
-#[tactic(auto, using(al_typed::proofs::ExpressionsMade::literal_made, al_typed::proofs::ExpressionsMade::named_made, al_typed::proofs::ExpressionsMade::unary_made, al_typed::proofs::ExpressionsMade::binary_made, al_typed::proofs::ExpressionsMade::converted_made, al_typed::proofs::ExpressionsMade::clock_made, al_typed::proofs::ExpressionsMade::short_circuit_made, al_typed::proofs::ExpressionsMade::membership_made, al_typed::proofs::ExpressionsMade::others_made, al_typed::proofs::ExpressionsMade::aggregate_made, al_typed::proofs::ExpressionsMade::call_form_made))]
-fn name_in(form: Form) -> Option<TypedName>
-    ensures { option_map name_seen result ≡ name_in (form_seen form) }
-{
-    match form {
-        Form::Named(name) => Some(name),
-        Form::Literal(_) => None,
-        Form::Unary(_, _) => None,
-        Form::Binary(_, _, _) => None,
-        Form::ShortCircuit(_, _, _) => None,
-        Form::Membership { .. } => None,
-        Form::Converted(_, _) => None,
-        Form::Aggregate(_) => None,
-        Form::Others(_, _) => None,
-        Form::Call(_) => None,
-        Form::Clock => None,
     }
 }
 
@@ -90,5 +70,5 @@ pub fn target_of(found: Typed) -> Judged<Target>
     ensures { seen_by target_seen result ≡ target_of (typed_seen found) }
 {
     let Typed { labels, form } = found;
-    named(labels, name_in(form))
+    named(labels, form.into_name())
 }

@@ -1,6 +1,7 @@
 pub mod DeclarationTrees
 pub mod ExpressionTrees
 pub mod ExpressionViews
+pub mod FormNames
 pub mod Listed
 pub mod StatementTrees
 pub mod StatementViews

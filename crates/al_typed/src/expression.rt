@@ -1,7 +1,8 @@
 // Expressions with their labels (ARM 4, 8.6).
-ghost use Rattle.std.specs.Prelude.{◌≡◌, IfOk, map};
+ghost use Rattle.std.specs.Prelude.{◌≡◌, IfOk, map, option_map};
 ghost use Rattle.al_typed.specs.ExpressionTrees.{TypedTree as typed_trees, FormTree as form_trees, NameTree as name_trees, ValueTree as value_trees, ActualTree as actual_trees, CallTree as call_trees};
 ghost use Rattle.al_typed.specs.ExpressionViews.{actual_seen, actuals_of, call_seen, form_seen, name_seen, typed_seen, value_seen, values_of};
+ghost use Rattle.al_typed.specs.FormNames.{name_in};
 
 use crate::label::{BinaryOperator, Conversion, Labels, ShortCircuit, UnaryOperator};
 use al_base::NoMemory;
@@ -17,7 +18,6 @@ pub struct Typed {
 }
 
 /// What an expression is.
-#[derive(Drop)]
 #[cycle(expression)]
 pub enum Form {
     /// A literal, a named number, or an attribute that is one number (ARM 2.4, 3.3.2, 3.5(12, 13), 3.6.2).
@@ -254,6 +254,70 @@ impl Form {
         ensures { form_seen result ≡ form_trees.ClockForm }
     {
         Form::Clock
+    }
+
+    /// The name that it is, if it is one.
+    #[tactic(auto, using(crate::proofs::ExpressionsMade::literal_made, crate::proofs::ExpressionsMade::named_made, crate::proofs::ExpressionsMade::unary_made, crate::proofs::ExpressionsMade::binary_made, crate::proofs::ExpressionsMade::converted_made, crate::proofs::ExpressionsMade::clock_made, crate::proofs::ExpressionsMade::short_circuit_made, crate::proofs::ExpressionsMade::membership_made, crate::proofs::ExpressionsMade::others_made, crate::proofs::ExpressionsMade::aggregate_made, crate::proofs::ExpressionsMade::call_form_made))]
+    pub fn into_name(self) -> Option<TypedName>
+        ensures { option_map name_seen result ≡ name_in (form_seen self) }
+    {
+        match self {
+            Form::Named(name) => Some(name),
+            Form::Literal(_) => None,
+            Form::Unary(_, _) => None,
+            Form::Binary(_, _, _) => None,
+            Form::ShortCircuit(_, _, _) => None,
+            Form::Membership {
+                value: _,
+                is_negated: _,
+                low: _,
+                high: _,
+                slot: _,
+            } => None,
+            Form::Converted(_, _) => None,
+            Form::Aggregate(_) => None,
+            Form::Others(_, _) => None,
+            Form::Call(_) => None,
+            Form::Clock => None,
+        }
+    }
+}
+
+// A chain of operators leans to the left: what stands at the left is let go by the loop, and all else of a form by a call, so that no
+// chain takes more of the stack than its nesting.
+impl Drop for Form {
+    #[cycle(drop)]
+    fn drop(mut self) {
+        loop {
+            match self {
+                Form::Binary(_, left, _) => {
+                    let Typed { labels: _, form } = Box::into_inner(left);
+                    self = form;
+                }
+                Form::ShortCircuit(_, left, _) => {
+                    let Typed { labels: _, form } = Box::into_inner(left);
+                    self = form;
+                }
+                Form::Membership {
+                    value,
+                    is_negated: _,
+                    low: _,
+                    high: _,
+                    slot: _,
+                } => {
+                    let Typed { labels: _, form } = Box::into_inner(value);
+                    self = form;
+                }
+                Form::Literal(_) => return,
+                Form::Named(_) => return,
+                Form::Unary(_, _) => return,
+                Form::Converted(_, _) => return,
+                Form::Aggregate(_) => return,
+                Form::Others(_, _) => return,
+                Form::Call(_) => return,
+                Form::Clock => return,
+            }
+        }
     }
 }
 
