@@ -1,7 +1,7 @@
 -- Operands from the last one on, and terms in a row.
-use Rattle.std.proofs.Common.{◌≡◌, ℕ, suc, List, [], ◌∷◌, ◌++◌, map, length, refl, sym, ap, ◌∙◌}
+use Rattle.std.proofs.Common.{◌≡◌, suc, List, [], ◌∷◌, ◌++◌, map, length, refl, ap}
 use Rattle.al_choice.specs.Counts.{plain}
-use Rattle.al_choice.specs.Labelling.{Tree, Trees, NoTree, MoreTrees}
+use Rattle.al_choice.specs.Labelling.{Trees, MoreTrees}
 use Rattle.al_choice.specs.declared.term.Term.{Term as HeadTerm}
 use Rattle.al_term.specs.TermViews.{term_seen, terms_of}
 use Rattle.al_term.specs.Terms.{TermTree}

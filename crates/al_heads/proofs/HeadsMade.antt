@@ -1,5 +1,5 @@
 -- The head of a term by what the term is made of.
-use Rattle.std.proofs.Common.{◌≡◌, ℕ, Bool, List, map, length, Result, IfOk, Option, sym, ap, subst, ◌∙◌, Vec, Global}
+use Rattle.std.proofs.Common.{◌≡◌, ℕ, Bool, map, length, Result, IfOk, Option, sym, ap, subst, ◌∙◌, Vec, Global}
 use Rattle.std.specs.Option.{option_and_then}
 use Rattle.al_base.specs.declared.place.Place.{Place}
 use Rattle.al_choice.specs.Counts.{plain}

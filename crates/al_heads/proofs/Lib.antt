@@ -3,3 +3,4 @@ pub mod LawLemmas
 pub mod Gathered
 pub mod HeadsMade
 pub mod ChainLemmas
+pub mod Standing

@@ -21,7 +21,6 @@ use Rattle.al_typed.specs.declared.label.Conversion.TheVariants as conversions
 use Rattle.al_typed.specs.declared.label.UnaryOperator.{UnaryOperator}
 use Rattle.al_typed.specs.Listed.{listed}
 use Rattle.al_view.specs.Interfaces.{views_of}
-use Rattle.al_view.specs.declared.symbol.Symbol.{Symbol}
 use Rattle.al_view.specs.declared.types.TypeDefinition.{TypeDefinition}
 use Rattle.al_view.specs.declared.types.TypeDefinition.TheVariants as definitions
 use Rattle.al_view.specs.declared.view.SubtypeView.{SubtypeView}

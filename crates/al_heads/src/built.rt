@@ -7,13 +7,12 @@ ghost use Rattle.al_choice.specs.Ranges.{alike};
 ghost use Rattle.al_choice.specs.declared.types.Given.TheVariants as g;
 ghost use Rattle.al_name.specs.Heads.{all_candidates};
 ghost use Rattle.al_heads.specs.Aggregates.{operation, others, positional};
-ghost use Rattle.al_heads.specs.Heads.{attribute, concatenation, infixed, mark_given, membership, possible, prefixed, short_circuit, sole};
+ghost use Rattle.al_heads.specs.Heads.{attribute, concatenation, infixed, mark_given, possible, prefixed, short_circuit, sole};
 ghost use Rattle.al_heads.specs.Universal.{computes_one, computes_two, is_position, is_sole_number};
 
 use crate::aggregate::{others, positional};
 use crate::candidate::{
-    attribute, concatenation, giving, mark_given, membership, of_one, of_two, possible,
-    short_circuit,
+    attribute, concatenation, giving, mark_given, of_one, of_two, possible, short_circuit,
 };
 use crate::everywhere::Predefined;
 use crate::operator::{
@@ -190,21 +189,6 @@ pub(crate) fn short_circuited(
     ensures universal { IfOk result (λ b. b.is_universal ≡ false) }
 {
     let expression = sole(alloc, short_circuit(alloc, predefined)?, operands)?;
-    Ok(other(expression))
-}
-
-/// `value [not] in mark`
-pub(crate) fn member(
-    alloc: Global,
-    predefined: &Predefined,
-    mark: &SubtypeView,
-    value: Operands,
-) -> Result<Built, NoMemory>
-    ensures head { IfOk result (λ b. plain b.expression ≡ possible (membership predefined.now mark.now) (plain_all value)) }
-    ensures universal { IfOk result (λ b. b.is_universal ≡ false) }
-{
-    let candidate = membership(alloc, predefined, mark)?;
-    let expression = possible(alloc, candidate, value)?;
     Ok(other(expression))
 }
 

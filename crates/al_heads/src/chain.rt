@@ -1,18 +1,29 @@
-// Chains of operators, which lean to the left: `A - B + C` has `A - B` at the left of its `+`.
-ghost use Rattle.std.specs.Prelude.{◌≡◌, ◌&&◌, ◌∷◌, [], ◌++◌, IfOk, OnOk};
+// What begins with an operand leans to the left: `A - B + C` has `A - B` at the left of its `+`, and `A (1).C` has `A (1)` before its dot.
+ghost use Rattle.std.specs.Prelude.{◌≡◌, ◌&&◌, ◌∷◌, [], ◌++◌, false, IfOk, OnOk, None};
+ghost use Rattle.std.specs.Option.{option_and_then};
 ghost use Rattle.al_choice.specs.Counts.{plain, plain_all};
 ghost use Rattle.al_choice.specs.Labelling.{MoreTrees};
-ghost use Rattle.al_heads.specs.Chains.{chained_head, chained_universal, joint_head, joint_universal};
+ghost use Rattle.al_term.specs.TermViews.{term_seen};
+ghost use Rattle.al_heads.specs.Chains.{IsAt, chained_head, chained_universal, joint_head, joint_universal, stepped_head, stepped_universal};
+ghost use Rattle.al_heads.specs.declared.everywhere.Predefined.{Predefined};
+ghost use Rattle.al_heads.specs.Heads.{applied, head_of, membership, one, possible, selection};
+ghost use Rattle.al_heads.specs.Parts.{declared_under, part_of};
 
-use crate::built::{Built, BuiltOperands, concatenated, infixed, short_circuited};
+use crate::built::{
+    Built, BuiltOperands, concatenated, infixed, other, range_member, short_circuited,
+};
+use crate::candidate::{indexing, membership, possible, selection};
 use crate::everywhere::Predefined;
+use crate::part::{declared_under, part_of};
 use al_base::NoMemory;
-use al_choice::Operands;
+use al_choice::{Candidate, Operands};
+use al_name::all_of;
+use al_term::Term;
 use al_typed::BinaryOperator;
-use al_view::View;
+use al_view::{SubtypeView, View};
 use std::alloc::Global;
 
-/// What stands between the operands of a chain.
+/// What stands behind the first operand of a chain.
 #[derive(Drop)]
 pub(crate) enum Sign<'a> {
     /// An operator, with all that is visible under its sign.
@@ -21,16 +32,29 @@ pub(crate) enum Sign<'a> {
     Concatenation,
     /// `and then` or `or else`
     ShortCircuit,
+    /// `[not] in low .. high`
+    Range,
+    /// A selector, indexes or `[not] in mark`, with what may be meant.
+    Part(Option<Candidate>),
 }
 
-/// An operator of a chain with its right operand.
+/// A step down a chain.
+#[derive(Drop)]
+pub(crate) enum Step<'a> {
+    /// What stands behind an operand, with the operands behind that one, and the operand.
+    Down(Sign<'a>, BuiltOperands, &'a Term),
+    /// The head of what doesn't begin with an operand.
+    Last(Built),
+}
+
+/// What stands behind an operand of a chain, with the operands behind that one.
 #[derive(Drop)]
 pub(crate) struct Joint<'a> {
     pub(crate) sign: Sign<'a>,
     pub(crate) right: BuiltOperands,
 }
 
-/// One more operator of a chain, which stands before the others in the text.
+/// One more link of a chain, which stands before the others in the text.
 pub(crate) fn add<'a>(
     joints: &mut Vec<Joint<'a>>,
     sign: Sign<'a>,
@@ -42,7 +66,7 @@ pub(crate) fn add<'a>(
     Ok(())
 }
 
-/// What is made of the operands of an operator.
+/// What is made of the operands of a link.
 fn signed(
     alloc: Global,
     predefined: &Predefined,
@@ -58,11 +82,16 @@ fn signed(
         }
         Sign::Concatenation => concatenated(alloc, operands.operands),
         Sign::ShortCircuit => short_circuited(alloc, predefined, operands.operands),
+        Sign::Range => range_member(alloc, predefined, operands.operands),
+        Sign::Part(candidate) => {
+            let expression = possible(alloc, candidate, operands.operands)?;
+            Ok(other(expression))
+        }
     }
 }
 
-/// An operator with what stands at its left.
-fn joined(
+/// A link with what stands at its left.
+pub(crate) fn joined(
     alloc: Global,
     predefined: &Predefined,
     left: Built,
@@ -80,7 +109,7 @@ fn joined(
     signed(alloc, predefined, joint.sign, operands)
 }
 
-/// The head of a chain, from its first operand on. The last operator of the text comes first.
+/// The head of a chain, from its first operand on. The last link of the text comes first.
 #[tactic(auto, using(crate::proofs::ChainLemmas::first_joined_head, crate::proofs::ChainLemmas::first_joined_universal))]
 pub(crate) fn chained(
     alloc: Global,
@@ -97,4 +126,85 @@ pub(crate) fn chained(
         built = joined(alloc, predefined, built, joint)?;
     }
     Ok(built)
+}
+
+/// A step to an operand which no other operands stand behind.
+fn behind<'a>(candidate: Option<Candidate>, operands: Operands, left: &'a Term) -> Step<'a>
+    ensures head { (p : Predefined) → stepped_head p result ≡ possible candidate (MoreTrees (head_of p None (term_seen left.now)) (plain_all operands)) }
+    ensures universal { stepped_universal result ≡ false }
+    ensures at { IsAt left.now result }
+{
+    let right = BuiltOperands {
+        operands,
+        are_universal: false,
+    };
+    Step::Down(Sign::Part(candidate), right, left)
+}
+
+/// The step to what stands before a selector.
+pub(crate) fn selected<'a>(
+    alloc: Global,
+    predefined: &Predefined,
+    prefix: &'a Term,
+    name: &[u8],
+) -> Result<Step<'a>, NoMemory>
+    ensures head { IfOk result (λ s. stepped_head predefined.now s ≡ possible (option_and_then (selection name.now) (part_of (term_seen prefix.now))) (one (head_of predefined.now None (term_seen prefix.now)))) }
+    ensures universal { IfOk result (λ s. stepped_universal s ≡ false) }
+    ensures at { IfOk result (λ s. IsAt prefix.now s) }
+{
+    let standard = &predefined.standard;
+    let candidate = selection(alloc, standard, name, part_of(standard, prefix))?;
+    Ok(behind(candidate, Operands::none(), prefix))
+}
+
+/// The step to what stands before `[not] in mark`.
+pub(crate) fn tested<'a>(
+    alloc: Global,
+    predefined: &Predefined,
+    value: &'a Term,
+    mark: &SubtypeView,
+) -> Result<Step<'a>, NoMemory>
+    ensures head { IfOk result (λ s. stepped_head predefined.now s ≡ possible (membership predefined.now mark.now) (one (head_of predefined.now None (term_seen value.now)))) }
+    ensures universal { IfOk result (λ s. stepped_universal s ≡ false) }
+    ensures at { IfOk result (λ s. IsAt value.now s) }
+{
+    let candidate = membership(alloc, predefined, mark)?;
+    Ok(behind(candidate, Operands::none(), value))
+}
+
+/// The step to what stands before indexes.
+fn indexed<'a>(
+    alloc: Global,
+    predefined: &Predefined,
+    prefix: &'a Term,
+    indexes: Operands,
+) -> Result<Step<'a>, NoMemory>
+    ensures head { IfOk result (λ s. stepped_head predefined.now s ≡ applied predefined.now None (part_of (term_seen prefix.now)) (head_of predefined.now None (term_seen prefix.now)) (plain_all indexes)) }
+    ensures universal { IfOk result (λ s. stepped_universal s ≡ false) }
+    ensures at { IfOk result (λ s. IsAt prefix.now s) }
+{
+    let standard = &predefined.standard;
+    let candidate = indexing(alloc, standard, part_of(standard, prefix))?;
+    Ok(behind(candidate, indexes, prefix))
+}
+
+/// A name with arguments, or the step to what stands before indexes.
+pub(crate) fn applied<'a>(
+    alloc: Global,
+    predefined: &Predefined,
+    prefix: &'a Term,
+    operands: Operands,
+) -> Result<Step<'a>, NoMemory>
+    ensures head { IfOk result (λ s. stepped_head predefined.now s ≡ applied predefined.now (declared_under (term_seen prefix.now)) (part_of (term_seen prefix.now)) (head_of predefined.now None (term_seen prefix.now)) (plain_all operands)) }
+    ensures universal { IfOk result (λ s. stepped_universal s ≡ false) }
+    ensures at { IfOk result (λ s. IsAt prefix.now s) }
+{
+    match declared_under(prefix) {
+        Some(visible) => {
+            let (standard, root) = (&predefined.standard, &predefined.root);
+            let expression = all_of(alloc, standard, root, visible, operands)?;
+            Ok(Step::Last(other(expression)))
+        }
+        None => indexed(alloc, predefined, prefix, operands),
+    }
 }

@@ -1,32 +1,29 @@
 // The heads of terms, from their operands up.
-ghost use Rattle.std.specs.Prelude.{◌≡◌, ◌&&◌, false, map, IfOk, Some, None};
-ghost use Rattle.std.specs.Option.{option_and_then};
+ghost use Rattle.std.specs.Prelude.{◌≡◌, ◌&&◌, false, map, IfOk, None};
 ghost use Rattle.al_choice.specs.Counts.{plain, plain_all};
 ghost use Rattle.al_choice.specs.Labelling.{MoreTrees};
 ghost use Rattle.al_term.specs.TermViews.{term_seen, terms_of};
-ghost use Rattle.al_heads.specs.Heads.{applied, bounds_head, head_of, heads_of, one, plain_head, possible, selection};
-ghost use Rattle.al_heads.specs.Parts.{declared_under, part_of};
+ghost use Rattle.al_heads.specs.Chains.{IsBelow, leans, stepped_head, stepped_universal};
+ghost use Rattle.al_heads.specs.Heads.{bounds_head, head_of, heads_of, one, plain_head};
 ghost use Rattle.al_heads.specs.Universal.{is_universal};
 
 use crate::built::{
-    Built, BuiltOperands, aggregate, attributed, concatenated, infixed, member, named, nothing,
-    number, other, prefixed, range_member, short_circuited, text, value, with_others,
+    Built, BuiltOperands, aggregate, attributed, named, nothing, number, prefixed, text, value,
+    with_others,
 };
-use crate::candidate::{indexing, possible, selection};
-use crate::chain::{Sign, add, chained};
+use crate::chain::{Joint, Sign, Step, add, applied, chained, joined, selected, tested};
 use crate::everywhere::Predefined;
 use crate::operands::gathered;
-use crate::part::{Nominal, declared_under, part_of};
+use crate::part::Nominal;
 use al_base::NoMemory;
 use al_choice::{Expression, Operands, ValueType};
-use al_name::all_of;
 use al_term::Term;
 use std::alloc::Global;
 
-/// The head of an operand, and whether it is of numbers alone. A chain of operators is gone down by a loop, so that it takes no more
-/// of the stack than one operator does.
+/// The head of an operand, and whether it is of numbers alone. What begins with an operand of its own (a chain of operators, of indexes
+/// or of selectors) is gone down by a loop, so that it takes no more of the stack than one link does.
 #[cycle(heads)]
-#[tactic(auto, using(crate::proofs::TermsSeen::terms_made, crate::proofs::ChainLemmas::first_joined_head, crate::proofs::ChainLemmas::first_joined_universal))]
+#[tactic(auto, using(crate::proofs::ChainLemmas::first_joined_head, crate::proofs::ChainLemmas::first_joined_universal))]
 fn operand(alloc: Global, predefined: &Predefined, term: &Term) -> Result<Built, NoMemory>
     ensures head { IfOk result (λ b. plain b.expression ≡ head_of predefined.now None (term_seen term.now)) }
     ensures universal { IfOk result (λ b. b.is_universal ≡ is_universal (term_seen term.now)) }
@@ -34,32 +31,66 @@ fn operand(alloc: Global, predefined: &Predefined, term: &Term) -> Result<Built,
     let mut joints = Vec::new(alloc);
     let mut rest = term;
     loop {
-        rest = match rest {
-            Term::Infix {
-                operator,
-                views,
-                left,
-                right,
-            } => {
-                let sign = Sign::Operator(*operator, views.as_slice());
-                add(&mut joints, sign, one(alloc, predefined, right)?)?;
-                left
+        match step(alloc, predefined, &None, rest)? {
+            Step::Down(sign, right, left) => {
+                add(&mut joints, sign, right)?;
+                rest = left;
             }
-            Term::Concatenation { left, right } => {
-                let right = one(alloc, predefined, right)?;
-                add(&mut joints, Sign::Concatenation, right)?;
-                left
-            }
-            Term::ShortCircuit { left, right, .. } => {
-                let right = one(alloc, predefined, right)?;
-                add(&mut joints, Sign::ShortCircuit, right)?;
-                left
-            }
-            _ => break,
-        };
+            Step::Last(first) => return chained(alloc, predefined, joints, first),
+        }
     }
-    let first = build(alloc, predefined, &None, rest)?;
-    chained(alloc, predefined, joints, first)
+}
+
+/// A step down: what a term begins with and what stands behind that, or the head of what doesn't begin with an operand.
+#[cycle(heads)]
+#[tactic(auto, using(crate::proofs::TermsSeen::terms_made))]
+fn step<'a>(
+    alloc: Global,
+    predefined: &Predefined,
+    allowed: &Option<Nominal>,
+    term: &'a Term,
+) -> Result<Step<'a>, NoMemory>
+    ensures head { IfOk result (λ s. stepped_head predefined.now s ≡ head_of predefined.now allowed.now (term_seen term.now)) }
+    ensures universal { IfOk result (λ s. stepped_universal s ≡ is_universal (term_seen term.now)) }
+    ensures below { IfOk result (λ s. IsBelow term.now s) }
+{
+    let p = predefined;
+    match term {
+        Term::Infix {
+            operator,
+            views,
+            left,
+            right,
+        } => {
+            let right = one(alloc, p, right)?;
+            let sign = Sign::Operator(*operator, views.as_slice());
+            Ok(Step::Down(sign, right, left))
+        }
+        Term::Concatenation { left, right } => {
+            let right = one(alloc, p, right)?;
+            Ok(Step::Down(Sign::Concatenation, right, left))
+        }
+        Term::ShortCircuit { left, right, .. } => {
+            let right = one(alloc, p, right)?;
+            Ok(Step::Down(Sign::ShortCircuit, right, left))
+        }
+        Term::RangeMember {
+            value,
+            low,
+            high,
+            ..
+        } => {
+            let bounds = before(alloc, p, low, one(alloc, p, high)?)?;
+            Ok(Step::Down(Sign::Range, bounds, value))
+        }
+        Term::Member { value, subtype, .. } => tested(alloc, p, value, subtype),
+        Term::Selected { prefix, name } => selected(alloc, p, prefix, name.as_slice()),
+        Term::Applied { name, arguments } => {
+            let operands = all(alloc, p, arguments.as_slice())?;
+            applied(alloc, p, name, operands)
+        }
+        _ => Ok(Step::Last(alone(alloc, p, allowed, term)?)),
+    }
 }
 
 /// One operand.
@@ -119,88 +150,24 @@ fn all(alloc: Global, predefined: &Predefined, terms: &[Term]) -> Result<Operand
     gathered(alloc, heads)
 }
 
-/// What is selected by this name in something.
-#[cycle(heads)]
-fn selected(
-    alloc: Global,
-    predefined: &Predefined,
-    prefix: &Term,
-    name: &[u8],
-) -> Result<Built, NoMemory>
-    ensures head { IfOk result (λ b. plain b.expression ≡ possible (option_and_then (selection name.now) (part_of (term_seen prefix.now))) (one (head_of predefined.now None (term_seen prefix.now)))) }
-    ensures universal { IfOk result (λ b. b.is_universal ≡ false) }
-{
-    let standard = &predefined.standard;
-    let candidate = selection(alloc, standard, name, part_of(standard, prefix))?;
-    let operands = one(alloc, predefined, prefix)?;
-    let expression = possible(alloc, candidate, operands.operands)?;
-    Ok(other(expression))
-}
-
-/// What stands before indexes, as the first operand.
-#[cycle(heads)]
-fn indexed(
-    alloc: Global,
-    predefined: &Predefined,
-    prefix: &Term,
-    indexes: Operands,
-) -> Result<Built, NoMemory>
-    ensures head { IfOk result (λ b. plain b.expression ≡ applied predefined.now None (part_of (term_seen prefix.now)) (head_of predefined.now None (term_seen prefix.now)) (plain_all indexes)) }
-    ensures universal { IfOk result (λ b. b.is_universal ≡ false) }
-{
-    let standard = &predefined.standard;
-    let candidate = indexing(alloc, standard, part_of(standard, prefix))?;
-    let built = operand(alloc, predefined, prefix)?;
-    let operands = Operands::before(alloc, built.expression, indexes)?;
-    let expression = possible(alloc, candidate, operands)?;
-    Ok(other(expression))
-}
-
-/// A name with arguments, or indexes behind something.
-#[cycle(heads)]
-fn applied(
-    alloc: Global,
-    predefined: &Predefined,
-    prefix: &Term,
-    operands: Operands,
-) -> Result<Built, NoMemory>
-    ensures head { IfOk result (λ b. plain b.expression ≡ applied predefined.now (declared_under (term_seen prefix.now)) (part_of (term_seen prefix.now)) (head_of predefined.now None (term_seen prefix.now)) (plain_all operands)) }
-    ensures universal { IfOk result (λ b. b.is_universal ≡ false) }
-{
-    match declared_under(prefix) {
-        Some(visible) => {
-            let (standard, root) = (&predefined.standard, &predefined.root);
-            let expression = all_of(alloc, standard, root, visible, operands)?;
-            Ok(other(expression))
-        }
-        None => indexed(alloc, predefined, prefix, operands),
-    }
-}
-
-/// The head of a term, and whether it is of numbers alone.
+/// The head of a term that doesn't begin with an operand, and whether it is of numbers alone.
 #[cycle(heads)]
 #[tactic(auto, using(crate::proofs::TermsSeen::terms_made))]
-fn build(
+fn alone(
     alloc: Global,
     predefined: &Predefined,
     allowed: &Option<Nominal>,
     term: &Term,
 ) -> Result<Built, NoMemory>
-    ensures head { IfOk result (λ b. plain b.expression ≡ head_of predefined.now allowed.now (term_seen term.now)) }
-    ensures universal { IfOk result (λ b. b.is_universal ≡ is_universal (term_seen term.now)) }
+    ensures head { leans (term_seen term.now) ≡ false → IfOk result (λ b. plain b.expression ≡ head_of predefined.now allowed.now (term_seen term.now)) }
+    ensures universal { leans (term_seen term.now) ≡ false → IfOk result (λ b. b.is_universal ≡ is_universal (term_seen term.now)) }
 {
     let p = predefined;
     match term {
-        Term::Number { .. } => number(alloc),
-        Term::Text { .. } => text(alloc),
+        Term::Number { .. } | Term::Length { .. } => number(alloc),
+        Term::Text { .. } | Term::Image { .. } => text(alloc),
         Term::Named { views, .. } => named(alloc, p, views.as_slice()),
-        Term::Selected { prefix, name } => selected(alloc, p, prefix, name.as_slice()),
-        Term::Applied { name, arguments } => {
-            let operands = all(alloc, p, arguments.as_slice())?;
-            applied(alloc, p, name, operands)
-        }
         Term::Bound { subtype, .. } => value(alloc, p, subtype),
-        Term::Length { .. } => number(alloc),
         Term::Conversion { subtype, .. } => value(alloc, p, subtype),
         Term::Qualified { subtype, .. } => value(alloc, p, subtype),
         Term::Attribute {
@@ -209,49 +176,12 @@ fn build(
             argument,
             ..
         } => attributed(alloc, p, *conversion, subtype, one(alloc, p, argument)?),
-        Term::Image { .. } => text(alloc),
         Term::Prefixed {
-            operator,
+            operator: sign,
             views,
             operand,
             ..
-        } => prefixed(
-            alloc,
-            p,
-            *operator,
-            views.as_slice(),
-            one(alloc, p, operand)?,
-        ),
-        Term::Infix {
-            operator,
-            views,
-            left,
-            right,
-        } => {
-            let operands = before(alloc, p, left, one(alloc, p, right)?)?;
-            infixed(alloc, p, *operator, views.as_slice(), operands)
-        }
-        Term::Concatenation { left, right } => {
-            let operands = before(alloc, p, left, one(alloc, p, right)?)?;
-            concatenated(alloc, operands.operands)
-        }
-        Term::ShortCircuit { left, right, .. } => {
-            let operands = before(alloc, p, left, one(alloc, p, right)?)?;
-            short_circuited(alloc, p, operands.operands)
-        }
-        Term::Member { value, subtype, .. } => {
-            member(alloc, p, subtype, one(alloc, p, value)?.operands)
-        }
-        Term::RangeMember {
-            value,
-            low,
-            high,
-            ..
-        } => {
-            let bounds = before(alloc, p, low, one(alloc, p, high)?)?;
-            let operands = before(alloc, p, value, bounds)?;
-            range_member(alloc, p, operands.operands)
-        }
+        } => prefixed(alloc, p, *sign, views.as_slice(), one(alloc, p, operand)?),
         Term::Group { inner, .. } => build(alloc, p, allowed, inner),
         Term::Aggregate { components, .. } => {
             let values = all(alloc, p, components.as_slice())?;
@@ -261,6 +191,33 @@ fn build(
             with_others(alloc, p, allowed, one(alloc, p, component)?.operands)
         }
         Term::Nothing { .. } => Ok(nothing(alloc)),
+        Term::Infix { .. } => Ok(nothing(alloc)),
+        Term::Concatenation { .. } => Ok(nothing(alloc)),
+        Term::ShortCircuit { .. } => Ok(nothing(alloc)),
+        Term::RangeMember { .. } => Ok(nothing(alloc)),
+        Term::Member { .. } => Ok(nothing(alloc)),
+        Term::Selected { .. } => Ok(nothing(alloc)),
+        Term::Applied { .. } => Ok(nothing(alloc)),
+    }
+}
+
+/// The head of a term, and whether it is of numbers alone.
+#[cycle(heads)]
+fn build(
+    alloc: Global,
+    predefined: &Predefined,
+    allowed: &Option<Nominal>,
+    term: &Term,
+) -> Result<Built, NoMemory>
+    ensures head { IfOk result (λ b. plain b.expression ≡ head_of predefined.now allowed.now (term_seen term.now)) }
+    ensures universal { IfOk result (λ b. b.is_universal ≡ is_universal (term_seen term.now)) }
+{
+    match step(alloc, predefined, allowed, term)? {
+        Step::Down(sign, right, left) => {
+            let first = operand(alloc, predefined, left)?;
+            joined(alloc, predefined, first, Joint { sign, right })
+        }
+        Step::Last(built) => Ok(built),
     }
 }
 

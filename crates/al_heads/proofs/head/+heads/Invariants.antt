@@ -10,8 +10,11 @@ use Rattle.al_heads.proofs.head.+heads.Given as goal
 abbrev pub invariant-each-loop-term : goal.invariant-each-loop-term
 invariant-each-loop-term l = map plain l.heads.items ≡ map (plain_head l.predefined) (map term_seen (take l.term-index l.terms))
 
-abbrev pub invariant-operand-loop-rest : goal.invariant-operand-loop-rest
-invariant-operand-loop-rest l =
+abbrev pub invariant-operand-loop-joints : goal.invariant-operand-loop-joints
+invariant-operand-loop-joints l =
     (chained_head l.predefined l.joints.items (head_of l.predefined None (term_seen l.rest)) (is_universal (term_seen l.rest)) ≡ head_of l.predefined None (term_seen l.fn.term))
     × (chained_universal l.joints.items (is_universal (term_seen l.rest)) ≡ is_universal (term_seen l.fn.term))
     × (size-Term l.rest ≤ size-Term l.fn.term)
+
+abbrev pub decreases-operand-loop-joints : goal.decreases-operand-loop-joints
+decreases-operand-loop-joints l = size-Term l.rest
