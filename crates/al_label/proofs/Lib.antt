@@ -2,3 +2,4 @@ pub mod Gathered
 pub mod PairMade
 pub mod TermKinds
 pub mod Wholes
+pub mod ChainLemmas

@@ -32,10 +32,6 @@ use Rattle.al_label.specs.Readings.{index_read, member_read, operand_read, readi
 pub read_by : {E : Type 0} (r : Result Reading E) (a b : ReadingTree) → a ≡ b → IfOk r (λ (x : Reading). reading_seen x ≡ a) → IfOk r (λ (x : Reading). reading_seen x ≡ b)
 read_by r a b e h = let P : ReadingTree → Type 0 = λ z. IfOk r (λ (x : Reading). reading_seen x ≡ z) in subst P e h
 
--- the same of what is on the heap
-pub kept_by : {E : Type 0} (r : Result (Box Reading Global) E) (a b : ReadingTree) → a ≡ b → IfOk r (λ (x : Box Reading Global). reading_seen x.value ≡ a) → IfOk r (λ (x : Box Reading Global). reading_seen x.value ≡ b)
-kept_by r a b e h = let P : ReadingTree → Type 0 = λ z. IfOk r (λ (x : Box Reading Global). reading_seen x.value ≡ z) in subst P e h
-
 -- what is known of a reading is known of it on the heap
 pub kept_is : {D E : Type 0} (a : ReadingTree) (made : Result Reading D) (r : Result (Box Reading Global) E) → IfOk made (λ (x : Reading). reading_seen x ≡ a)
     → IfOk r (λ (b : Box Reading Global). made ≡ Ok b.value) → IfOk r (λ (b : Box Reading Global). reading_seen b.value ≡ a)

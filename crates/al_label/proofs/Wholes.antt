@@ -1,33 +1,28 @@
 -- Whole terms whose operands are read one after another.
-use Rattle.std.proofs.Common.{◌≡◌, Bool, ◌&&◌, List, map, Result, Ok, Err, IfOk, Option, Some, refl, sym, ap, subst, ◌∙◌, Vec, Box, Global}
+use Rattle.std.proofs.Common.{◌≡◌, Bool, List, map, Result, Ok, Err, IfOk, Option, refl, sym, ap, subst, ◌∙◌, Vec, Box, Global}
 use Rattle.al_base.specs.declared.place.Place.{Place}
 use Rattle.al_base.specs.declared.refusal.NoMemory.{NoMemory}
 use Rattle.al_choice.specs.Labelling.{Label}
-use Rattle.al_term.proofs.TermsMade.{applied_made, infix_made, range_member_made, short_circuit_made}
+use Rattle.al_term.proofs.TermsMade.{applied_made, range_member_made}
 use Rattle.al_term.specs.Places.{first_place}
-use Rattle.al_term.specs.Terms.{TermTree, TermTree as t, TermsTree}
+use Rattle.al_term.specs.Terms.{TermTree, TermsTree}
 use Rattle.al_term.specs.TermViews.{term_seen, terms_of}
 use Rattle.al_term.specs.declared.term.Term.{Term}
-use Rattle.al_term.specs.declared.term.Term.TheVariants.{Applied, Infix, RangeMember, ShortCircuit}
-use Rattle.al_typed.specs.declared.label.BinaryOperator.{BinaryOperator}
-use Rattle.al_typed.specs.declared.label.ShortCircuit.{ShortCircuit as ShortCircuitKind}
+use Rattle.al_term.specs.declared.term.Term.TheVariants.{Applied, RangeMember}
 use Rattle.al_view.specs.declared.symbol.Symbol.{Symbol}
 use Rattle.al_view.specs.declared.types.TypeView.{TypeView}
 use Rattle.al_view.specs.declared.view.ObjectView.{ObjectView}
 use Rattle.al_view.specs.declared.view.SubprogramView.{SubprogramView}
-use Rattle.al_view.specs.declared.view.ViewKind.{ViewKind}
 use Rattle.al_heads.specs.Parts.{declared_under, part_of}
-use Rattle.al_heads.specs.Universal.{computes_two, is_universal}
 use Rattle.al_heads.specs.declared.everywhere.Predefined.{Predefined}
 use Rattle.al_heads.specs.declared.part.Nominal.{Nominal}
 use Rattle.al_nodes.specs.Calls.{call_node}
 use Rattle.al_nodes.specs.Gathering.{no_parts}
 use Rattle.al_nodes.specs.Names.{object_node}
 use Rattle.al_nodes.specs.Nodes.{ReadingTree, membership_node}
-use Rattle.al_nodes.specs.Operators.{Signature, binary_node, binary_signature, short_circuit_node}
 use Rattle.al_nodes.specs.Views.{reading_seen}
 use Rattle.al_nodes.specs.declared.node.Reading.{Reading}
-use Rattle.al_told.specs.Leaves.{Application, application, applied_node, indexed_node, signed}
+use Rattle.al_told.specs.Leaves.{Application, application, applied_node, indexed_node}
 use Rattle.al_told.specs.Leaves.Application.{CallOf, ElementOf, ElementOfPart}
 use Rattle.al_told.specs.Told.{test_type, types_in}
 use Rattle.al_label.specs.Pairs.{together}
@@ -51,37 +46,6 @@ pub three_made : {A B C : Type 0} (P : A → Type 0) (Q : B → Type 0) (R : C �
 three_made {A} {B} {C} P Q R one two three r s x y z made all is p q h =
     let k = two_made P (λ (w : B × C). r ≡ Ok (w.0, w.1)) one r s x (y, z) all is p (known r) in
     (k.0, two_made Q R two three r y z made k.1 q h)
-
--- ---- operators
-
-abbrev infix_by : Predefined → Option Symbol → Place → BinaryOperator → TermTree → TermTree → Label → Signature → ReadingTree
-infix_by p own place operator left right label s = binary_node p.root place operator s (operand_read p own place 0 left label s.types s.left) (operand_read p own place 1 right label s.types s.right)
-
-pub infix_is : (p : Predefined) (own : Option Symbol) (operator : BinaryOperator) (visible : List ViewKind) (left right : TermTree) (label : Label) (types : List TypeView) (at : Symbol) (place : Place) (n : Bool) (s : Signature) (a b : ReadingTree)
-    → place ≡ first_place left → n ≡ (computes_two operator && (is_universal left && is_universal right)) → Some s ≡ binary_signature p operator visible n label types at
-    → a ≡ operand_read p own place 0 left label s.types s.left → b ≡ operand_read p own place 1 right label s.types s.right
-    → binary_node p.root place operator s a b ≡ reading p own (t.InfixTerm operator visible left right) label types at
-infix_is p own operator visible left right label types at place n s a b here numbers found first second =
-    ap (λ (x : ReadingTree). binary_node p.root place operator s x b) first
-    ∙ ap (binary_node p.root place operator s (operand_read p own place 0 left label s.types s.left)) second
-    ∙ ap (λ (q : Place). infix_by p own q operator left right label s) here
-    ∙ ap (signed (first_place left) (infix_by p own (first_place left) operator left right label)) (found ∙ ap (λ (c : Bool). binary_signature p operator visible c label types at) numbers)
-
-pub infix_seen : (p : Predefined) (own : Option Symbol) (term : Term) (operator : BinaryOperator) (visible : List ViewKind) (left right : Box Term Global) (label : Label) (types : List TypeView) (at : Symbol) (vs : List ViewKind) (k l m n o : Term) (place : Place) (s : Signature) (a b : ReadingTree)
-    → term ≡ Infix operator visible left right → vs ≡ visible → k ≡ left.value → l ≡ left.value → m ≡ right.value → n ≡ left.value → o ≡ right.value
-    → place ≡ first_place (term_seen k)
-    → Some s ≡ binary_signature p operator vs (computes_two operator && (is_universal (term_seen l) && is_universal (term_seen m))) label types at
-    → a ≡ operand_read p own place 0 (term_seen n) label s.types s.left → b ≡ operand_read p own place 1 (term_seen o) label s.types s.right
-    → binary_node p.root place operator s a b ≡ reading p own (term_seen term) label types at
-infix_seen p own term operator visible left right label types at vs k l m n o place s a b is views begins one two first_is second_is here found first second =
-    infix_is p own operator visible (term_seen left.value) (term_seen right.value) label types at place (computes_two operator && (is_universal (term_seen left.value) && is_universal (term_seen right.value))) s a b
-    (here ∙ ap (λ (x : Term). first_place (term_seen x)) begins) refl
-    (found ∙ ap (λ (x : Term). binary_signature p operator vs (computes_two operator && (is_universal (term_seen x) && is_universal (term_seen m))) label types at) one
-    ∙ ap (λ (x : Term). binary_signature p operator vs (computes_two operator && (is_universal (term_seen left.value) && is_universal (term_seen x))) label types at) two
-    ∙ ap (λ (x : List ViewKind). binary_signature p operator x (computes_two operator && (is_universal (term_seen left.value) && is_universal (term_seen right.value))) label types at) views)
-    (first ∙ ap (λ (x : Term). operand_read p own place 0 (term_seen x) label s.types s.left) first_is)
-    (second ∙ ap (λ (x : Term). operand_read p own place 1 (term_seen x) label s.types s.right) second_is)
-    ∙ ap (λ (x : TermTree). reading p own x label types at) (sym (ap term_seen is ∙ infix_made operator visible left right))
 
 -- ---- components
 
@@ -177,22 +141,6 @@ range_member_is p own value is_negated low high label types among of place a b c
     ∙ ap (λ (q : Place). tested_by p own q value is_negated low high label types among of) here
     ∙ ap (λ (xs : List TypeView). tested_by p own (first_place value) value is_negated low high label types xs of) kinds
     ∙ ap (tested_by p own (first_place value) value is_negated low high label types (types_in types (test_type p value low high label))) kind
-
--- ---- short circuits
-
-abbrev shorted_by : Predefined → Option Symbol → Place → ShortCircuitKind → TermTree → TermTree → Label → List TypeView → ReadingTree
-shorted_by p own place form left right label types =
-    short_circuit_node p.root place types p.types.boolean.symbol form (operand_read p own place 0 left label types p.types.boolean.symbol) (operand_read p own place 1 right label types p.types.boolean.symbol)
-
-pub short_circuit_seen : (p : Predefined) (own : Option Symbol) (term : Term) (form : ShortCircuitKind) (left right : Box Term Global) (label : Label) (types : List TypeView) (at : Symbol) (k n o : Term) (place : Place) (a b : ReadingTree)
-    → term ≡ ShortCircuit form left right → k ≡ left.value → n ≡ left.value → o ≡ right.value → place ≡ first_place (term_seen k)
-    → a ≡ operand_read p own place 0 (term_seen n) label types p.types.boolean.symbol → b ≡ operand_read p own place 1 (term_seen o) label types p.types.boolean.symbol
-    → short_circuit_node p.root place types p.types.boolean.symbol form a b ≡ reading p own (term_seen term) label types at
-short_circuit_seen p own term form left right label types at k n o place a b is begins first_is second_is here first second =
-    ap (λ (x : ReadingTree). short_circuit_node p.root place types p.types.boolean.symbol form x b) (first ∙ ap (λ (x : Term). operand_read p own place 0 (term_seen x) label types p.types.boolean.symbol) first_is)
-    ∙ ap (short_circuit_node p.root place types p.types.boolean.symbol form (operand_read p own place 0 (term_seen left.value) label types p.types.boolean.symbol)) (second ∙ ap (λ (x : Term). operand_read p own place 1 (term_seen x) label types p.types.boolean.symbol) second_is)
-    ∙ ap (λ (q : Place). shorted_by p own q form (term_seen left.value) (term_seen right.value) label types) (here ∙ ap (λ (x : Term). first_place (term_seen x)) begins)
-    ∙ ap (λ (x : TermTree). reading p own x label types at) (sym (ap term_seen is ∙ short_circuit_made form left right))
 
 pub range_member_seen : {E : Type 0} (p : Predefined) (own : Option Symbol) (term : Term) (value : Box Term Global) (is_negated : Bool) (low high : Box Term Global) (label : Label) (types among : List TypeView) (at of : Symbol) (place : Place) (a b c : ReadingTree) (r : Result Reading E)
     → term ≡ RangeMember value is_negated low high → place ≡ first_place (term_seen value.value)

@@ -3,3 +3,4 @@ pub mod Readings
 pub mod Contexts
 pub mod Ranges
 pub mod RangesSeen
+pub mod Chains

@@ -1,6 +1,7 @@
 //! The labelled tree of a term and its labelling (ARM 8.6).
 #![tactic(auto)]
 
+mod chain;
 mod context;
 mod made;
 mod meaning;

@@ -102,7 +102,7 @@ pub(crate) fn infix_signature<'a>(
 
 /// `first operator second`
 #[inline(never)]
-pub(crate) fn binary_of(
+fn binary_of(
     labeller: &Labeller,
     place: Place,
     operator: BinaryOperator,
@@ -134,7 +134,7 @@ pub(crate) fn kept_binary(
 
 /// `first and then second` or `first or else second`
 #[inline(never)]
-pub(crate) fn short_circuit_of(
+fn short_circuit_of(
     labeller: &Labeller,
     place: Place,
     types: &Types,

@@ -5,16 +5,17 @@ ghost use Rattle.al_judged.specs.Judging.{seen_by};
 ghost use Rattle.al_term.specs.Terms.{TermTree as trees};
 ghost use Rattle.al_term.specs.TermViews.{term_seen, terms_of};
 ghost use Rattle.al_nodes.specs.Gathering.{no_parts};
-ghost use Rattle.al_label.specs.Readings.{actuals_read, conversion_read, index_read, member_read, operand_read, qualified_read, reading, values_read};
+ghost use Rattle.al_label.specs.Readings.{actuals_read, conversion_read, index_read, member_read, operand_read, qualified_read, reading, short_circuit_read, values_read};
 ghost use Rattle.al_told.specs.Leaves.{actual_read, component_read, indexed_node, inner};
 ghost use Rattle.al_term.specs.Places.{first_place};
+ghost use Rattle.al_label.specs.Chains.{IsAt, IsBelow, stepped};
 ghost use Rattle.al_nodes.specs.Calls.{call_node};
 ghost use Rattle.al_nodes.specs.Names.{is_variable, object_node};
 ghost use Rattle.al_nodes.specs.Views.{actuals_seen, reading_seen, values_seen};
 
+use crate::chain::{Joint, Sign, Step, chained, down, joined};
 use crate::made::{
-    binary_of, infix_signature, kept, kept_binary, kept_short_circuit, kept_unfit, membership_of,
-    read_bound, read_length, read_number, short_circuit_of, unfit,
+    infix_signature, kept, kept_unfit, membership_of, read_bound, read_length, read_number, unfit,
 };
 use crate::meaning::{interpret_conversion, interpret_qualified, types_of_test};
 use crate::pair::together;
@@ -32,7 +33,7 @@ use al_told::{
     Application, add_value, aggregate_reading, argument_type, attribute_reading, component_of_type,
     how_applied, in_mark_reading, is_computed, marked_reading, named_reading, others_reading,
 };
-use al_typed::{Conversion, UnaryOperator};
+use al_typed::{BinaryOperator, Conversion, ShortCircuit, UnaryOperator};
 use al_view::{ObjectView, SubprogramView, SubtypeView, Symbol, Types, View};
 
 /// What a term is with its labelling, where it stands at this type among these.
@@ -138,23 +139,15 @@ pub(crate) fn read(
         } => {
             let place = first_place(left);
             let visible = views.as_slice();
-            let Some(of) = infix_signature(
-                labeller, *operator, visible, left, right, label, types, at,
-            ) else {
-                return unfit(place);
-            };
-            let first = read_kept(labeller, left, place, 0, label, of.types, of.left);
-            let second = read_kept(labeller, right, place, 1, label, of.types, of.right);
-            let (first, second) = together(first, second)?;
-            binary_of(labeller, place, *operator, &of, first, second)
+            let step = step_infix(
+                labeller, right, left, place, *operator, visible, label, types, at,
+            )?;
+            read_step(labeller, left, place, step)
         }
         Term::ShortCircuit { form, left, right } => {
             let place = first_place(left);
-            let of = &labeller.predefined.types.boolean.symbol;
-            let first = read_kept(labeller, left, place, 0, label, types, of);
-            let second = read_kept(labeller, right, place, 1, label, types, of);
-            let (first, second) = together(first, second)?;
-            short_circuit_of(labeller, place, types, *form, first, second)
+            let step = step_short_circuit(labeller, right, left, place, *form, label, types)?;
+            read_step(labeller, left, place, step)
         }
         Term::Member {
             value,
@@ -178,10 +171,10 @@ pub(crate) fn read(
     }
 }
 
-/// The same on the heap. Chains of operators lean to the left: so each operator of one takes little of the stack.
+/// The same on the heap. A chain of operators is gone down by a loop, so that it takes no more of the stack than one operator does. All that
+/// stands at the left of its operators begins where it begins itself.
 #[cycle(reading)]
 #[inline(never)]
-#[tactic(auto, using(al_nodes::proofs::TermsSeen::terms_made))]
 fn read_boxed(
     labeller: &Labeller,
     term: &Term,
@@ -191,6 +184,42 @@ fn read_boxed(
 ) -> Result<Box<Reading>, NoMemory>
     ensures { IfOk result (λ r. reading_seen r.value ≡ reading labeller.now.predefined labeller.now.own (term_seen term.now) (label_of label.now) types.now at.now) }
 {
+    let place = first_place(term);
+    let mut joints = Vec::new(labeller.alloc);
+    let (mut rest, mut label, mut types, mut at) = (term, label, types, at);
+    loop {
+        match step(labeller, rest, place, label, types, at)? {
+            Step::Down {
+                joint,
+                left,
+                label: left_label,
+                types: among,
+                at: of,
+            } => {
+                joints.push(joint)?;
+                (rest, label, types, at) = (left, left_label, among, of);
+            }
+            Step::Last(first) => return chained(labeller, place, joints, first),
+        }
+    }
+}
+
+/// A step down a chain of operators: the operator with its right operand, and what stands at its left; or what is no chain.
+#[cycle(reading)]
+#[inline(never)]
+#[tactic(auto, using(al_nodes::proofs::TermsSeen::terms_made))]
+fn step<'a>(
+    labeller: &'a Labeller,
+    term: &'a Term,
+    place: Place,
+    label: &'a Labelled,
+    types: &'a Types,
+    at: &'a Symbol,
+) -> Result<Step<'a>, NoMemory>
+    requires { place ≡ first_place (term_seen term.now) }
+    ensures read { IfOk result (λ s. stepped labeller.now.predefined labeller.now.own place s ≡ reading labeller.now.predefined labeller.now.own (term_seen term.now) (label_of label.now) types.now at.now) }
+    ensures below { IfOk result (λ s. IsBelow term.now s) }
+{
     match term {
         Term::Infix {
             operator,
@@ -198,27 +227,101 @@ fn read_boxed(
             left,
             right,
         } => {
-            let place = first_place(left);
             let visible = views.as_slice();
-            let Some(of) = infix_signature(
-                labeller, *operator, visible, left, right, label, types, at,
-            ) else {
-                return kept_unfit(labeller.alloc, place);
-            };
-            let first = read_kept(labeller, left, place, 0, label, of.types, of.left);
-            let second = read_kept(labeller, right, place, 1, label, of.types, of.right);
-            let (first, second) = together(first, second)?;
-            kept_binary(labeller, place, *operator, &of, first, second)
+            step_infix(
+                labeller, right, left, place, *operator, visible, label, types, at,
+            )
         }
         Term::ShortCircuit { form, left, right } => {
-            let place = first_place(left);
-            let of = &labeller.predefined.types.boolean.symbol;
-            let first = read_kept(labeller, left, place, 0, label, types, of);
-            let second = read_kept(labeller, right, place, 1, label, types, of);
-            let (first, second) = together(first, second)?;
-            kept_short_circuit(labeller, place, types, *form, first, second)
+            step_short_circuit(labeller, right, left, place, *form, label, types)
         }
-        _ => read_other(labeller, term, label, types, at),
+        _ => {
+            let reading = read_other(labeller, term, label, types, at)?;
+            Ok(Step::Last(reading))
+        }
+    }
+}
+
+/// The step at `left operator right`.
+#[cycle(reading)]
+#[inline(never)]
+fn step_infix<'a>(
+    labeller: &'a Labeller,
+    right: &'a Term,
+    left: &'a Term,
+    place: Place,
+    operator: BinaryOperator,
+    visible: &'a [View],
+    label: &'a Labelled,
+    types: &'a Types,
+    at: &'a Symbol,
+) -> Result<Step<'a>, NoMemory>
+    requires { place ≡ first_place (term_seen left.now) }
+    ensures read { IfOk result (λ s. stepped labeller.now.predefined labeller.now.own place s ≡ reading labeller.now.predefined labeller.now.own (trees.InfixTerm operator visible.now (term_seen left.now) (term_seen right.now)) (label_of label.now) types.now at.now) }
+    ensures at { IfOk result (λ s. IsAt left.now s) }
+{
+    let Some(of) = infix_signature(labeller, operator, visible, left, right, label, types, at)
+    else {
+        let reading = kept_unfit(labeller.alloc, place)?;
+        return Ok(Step::Last(reading));
+    };
+    let second = read_kept(labeller, right, place, 1, label, of.types, of.right)?;
+    let (among, stands_at) = (of.types, of.left);
+    let sign = Sign::Operator(operator, of);
+    let joint = Joint { sign, second };
+    let first_label = operand_label(label, 0);
+    down(labeller, place, joint, left, first_label, among, stands_at)
+}
+
+/// The step at `left and then right` or `left or else right`.
+#[cycle(reading)]
+#[inline(never)]
+fn step_short_circuit<'a>(
+    labeller: &'a Labeller,
+    right: &'a Term,
+    left: &'a Term,
+    place: Place,
+    form: ShortCircuit,
+    label: &'a Labelled,
+    types: &'a Types,
+) -> Result<Step<'a>, NoMemory>
+    requires { place ≡ first_place (term_seen left.now) }
+    ensures read { IfOk result (λ s. stepped labeller.now.predefined labeller.now.own place s ≡ short_circuit_read labeller.now.predefined labeller.now.own form (term_seen left.now) (term_seen right.now) (label_of label.now) types.now) }
+    ensures at { IfOk result (λ s. IsAt left.now s) }
+{
+    let of = &labeller.predefined.types.boolean.symbol;
+    let second = read_kept(labeller, right, place, 1, label, types, of)?;
+    let sign = Sign::ShortCircuit(form, types);
+    let joint = Joint { sign, second };
+    let first_label = operand_label(label, 0);
+    down(labeller, place, joint, left, first_label, types, of)
+}
+
+/// What a step makes of its term, once what stands at the left is read too.
+#[cycle(reading)]
+#[inline(never)]
+fn read_step(
+    labeller: &Labeller,
+    left: &Term,
+    place: Place,
+    step: Step<'_>,
+) -> Result<Reading, NoMemory>
+    requires { IsAt left.now step }
+    ensures { IfOk result (λ r. reading_seen r ≡ stepped labeller.now.predefined labeller.now.own place step.entry) }
+{
+    match step {
+        Step::Down {
+            joint,
+            left: _,
+            label,
+            types,
+            at,
+        } => {
+            let first = read_boxed(labeller, left, label, types, at)?;
+            let reading = joined(labeller, place, first, joint)?;
+            Ok(Box::into_inner(reading))
+        }
+        Step::Last(reading) => Ok(Box::into_inner(reading)),
     }
 }
 

@@ -1,20 +1,23 @@
-use Rattle.std.proofs.Common.{◌≡◌, map, refl, ap, ◌∙◌, rules, Box, Global}
+use Rattle.std.proofs.Common.{◌≡◌, map, refl, sym, ap, subst, ◌∙◌, arith, rules, Box, Global}
 use Rattle.al_choice.specs.Counts.{label_of}
 use Rattle.al_heads.specs.Parts.{declared_under, nominal, part_of}
 use Rattle.al_nodes.specs.Gathering.{no_parts}
 use Rattle.al_nodes.specs.Names.{object_node}
-use Rattle.al_nodes.specs.Operators.{signature}
 use Rattle.al_nodes.specs.Views.{reading_seen, values_seen}
 use Rattle.al_nodes.specs.declared.node.Reading.{Reading}
 use Rattle.al_term.specs.Places.{first_place}
 use Rattle.al_term.specs.TermViews.{term_seen, terms_of}
-use Rattle.al_term.specs.declared.term.Term.{Term}
+use Rattle.al_term.specs.declared.term.Term.{Term, size-Term}
+use Rattle.al_term.specs.declared.term.Term.TheViews.{sized-Infix, sized-ShortCircuit}
 use Rattle.al_told.specs.Leaves.{application}
 use Rattle.al_told.specs.Told.{test_type, types_in}
-use Rattle.al_label.specs.Readings.{operand_read, values_read}
+use Rattle.al_label.specs.Chains.{IsBelow, stepped}
+use Rattle.al_label.specs.Readings.{operand_read, reading, values_read}
+use Rattle.al_label.specs.declared.chain.Step.{Step}
+use Rattle.al_label.proofs.ChainLemmas.{infix_begins, infix_below, longer, short_circuit_begins, short_circuit_below}
 use Rattle.al_label.proofs.Gathered.{values_step}
-use Rattle.al_label.proofs.TermKinds.{attribute_is, kept_by, kept_is, many_indexes, member_is, member_seen, read_by, selected_is}
-use Rattle.al_label.proofs.Wholes.{applied_call_seen, element_seen, infix_seen, object_element_is, part_element_is, part_element_seen, range_member_seen, short_circuit_seen, three_made, two_made}
+use Rattle.al_label.proofs.TermKinds.{attribute_is, kept_is, many_indexes, member_is, member_seen, selected_is}
+use Rattle.al_label.proofs.Wholes.{applied_call_seen, element_seen, object_element_is, part_element_is, part_element_seen, range_member_seen, three_made}
 use Rattle.al_label.proofs.reading.+reading.Goals as goal
 
 pub read-returns-in-Member : goal.read-returns-in-Member
@@ -72,62 +75,14 @@ read-returns-in_ok-whole-in-ElementOfPart t c =
     (c.in_ok-whole-in-ElementOfPart.ensures ∙ ap (λ (x : Term). operand_read c.args.labeller.now.predefined c.args.labeller.now.own c.first_place-place.result 0 (term_seen x) (label_of c.args.label.now) c.args.types.now c.args.at.now) c.deref-in-ElementOfPart.ensures)
     c.read_part_element.ensures
 
-pub read-returns-in_ok-first-in-Infix : goal.read-returns-in_ok-first-in-Infix
-read-returns-in_ok-first-in-Infix t c =
-    let both = two_made (λ (r : Box Reading Global). reading_seen r.value ≡ operand_read c.args.labeller.now.predefined c.args.labeller.now.own c.first_place-place-in-Infix.result 0 (term_seen c.deref-in-Infix-4.result.now) (label_of c.args.label.now) c.in-Some.of.types.now c.in-Some.of.left.now)
-    (λ (r : Box Reading Global). reading_seen r.value ≡ operand_read c.args.labeller.now.predefined c.args.labeller.now.own c.first_place-place-in-Infix.result 1 (term_seen c.deref-in-Infix-5.result.now) (label_of c.args.label.now) c.in-Some.of.types.now c.in-Some.of.right.now)
-    c.read_kept-first.result c.read_kept-second.result c.together.result c.in_ok-first-in-Infix.first c.in_ok-first-in-Infix.second
-    c.together.ensures c.in_ok-first-in-Infix.was c.read_kept-first.ensures c.read_kept-second.ensures in
-    read_by c.binary_of.result _ _
-    (infix_seen c.args.labeller.now.predefined c.args.labeller.now.own c.args.term.now c.in-Infix.operator c.in-Infix.views c.in-Infix.left c.in-Infix.right (label_of c.args.label.now) c.args.types.now c.args.at.now c.as_slice-visible.result.now
-    c.deref-in-Infix.result.now c.deref-in-Infix-2.result.now c.deref-in-Infix-3.result.now c.deref-in-Infix-4.result.now c.deref-in-Infix-5.result.now c.first_place-place-in-Infix.result
-    (signature c.in-Some.of.left.now c.in-Some.of.right.now c.in-Some.of.result_type.now c.in-Some.of.types.now) (reading_seen c.in_ok-first-in-Infix.first.value) (reading_seen c.in_ok-first-in-Infix.second.value)
-    c.in-Infix.is c.as_slice-visible.ensures c.deref-in-Infix.ensures c.deref-in-Infix-2.ensures c.deref-in-Infix-3.ensures c.deref-in-Infix-4.ensures c.deref-in-Infix-5.ensures
-    c.first_place-place-in-Infix.ensures c.in-Some.ensures both.0 both.1) c.binary_of.ensures
-
-pub read-returns-in_ok-first-in-ShortCircuit : goal.read-returns-in_ok-first-in-ShortCircuit
-read-returns-in_ok-first-in-ShortCircuit t c =
-    let both = two_made (λ (r : Box Reading Global). reading_seen r.value ≡ operand_read c.args.labeller.now.predefined c.args.labeller.now.own c.first_place-place-in-ShortCircuit.result 0 (term_seen c.deref-in-ShortCircuit-2.result.now) (label_of c.args.label.now) c.args.types.now c.args.labeller.now.predefined.types.boolean.symbol)
-    (λ (r : Box Reading Global). reading_seen r.value ≡ operand_read c.args.labeller.now.predefined c.args.labeller.now.own c.first_place-place-in-ShortCircuit.result 1 (term_seen c.deref-in-ShortCircuit-3.result.now) (label_of c.args.label.now) c.args.types.now c.args.labeller.now.predefined.types.boolean.symbol)
-    c.read_kept-first-in-ShortCircuit.result c.read_kept-second-in-ShortCircuit.result c.together-in-ShortCircuit.result c.in_ok-first-in-ShortCircuit.first c.in_ok-first-in-ShortCircuit.second
-    c.together-in-ShortCircuit.ensures c.in_ok-first-in-ShortCircuit.was c.read_kept-first-in-ShortCircuit.ensures c.read_kept-second-in-ShortCircuit.ensures in
-    read_by c.short_circuit_of.result _ _
-    (short_circuit_seen c.args.labeller.now.predefined c.args.labeller.now.own c.args.term.now c.in-ShortCircuit.form c.in-ShortCircuit.left c.in-ShortCircuit.right (label_of c.args.label.now) c.args.types.now c.args.at.now
-    c.deref-in-ShortCircuit.result.now c.deref-in-ShortCircuit-2.result.now c.deref-in-ShortCircuit-3.result.now c.first_place-place-in-ShortCircuit.result (reading_seen c.in_ok-first-in-ShortCircuit.first.value) (reading_seen c.in_ok-first-in-ShortCircuit.second.value)
-    c.in-ShortCircuit.is c.deref-in-ShortCircuit.ensures c.deref-in-ShortCircuit-2.ensures c.deref-in-ShortCircuit-3.ensures c.first_place-place-in-ShortCircuit.ensures both.0 both.1) c.short_circuit_of.ensures
-
-pub read_boxed-returns-in_ok-first-in-Infix : goal.read_boxed-returns-in_ok-first-in-Infix
-read_boxed-returns-in_ok-first-in-Infix t c =
-    let both = two_made (λ (r : Box Reading Global). reading_seen r.value ≡ operand_read c.args.labeller.now.predefined c.args.labeller.now.own c.first_place-place.result 0 (term_seen c.deref-in-Infix-3.result.now) (label_of c.args.label.now) c.in-Some.of.types.now c.in-Some.of.left.now)
-    (λ (r : Box Reading Global). reading_seen r.value ≡ operand_read c.args.labeller.now.predefined c.args.labeller.now.own c.first_place-place.result 1 (term_seen c.deref-in-Infix-4.result.now) (label_of c.args.label.now) c.in-Some.of.types.now c.in-Some.of.right.now)
-    c.read_kept-first.result c.read_kept-second.result c.together.result c.in_ok-first-in-Infix.first c.in_ok-first-in-Infix.second
-    c.together.ensures c.in_ok-first-in-Infix.was c.read_kept-first.ensures c.read_kept-second.ensures in
-    kept_by c.kept_binary.result _ _
-    (infix_seen c.args.labeller.now.predefined c.args.labeller.now.own c.args.term.now c.in-Infix.operator c.in-Infix.views c.in-Infix.left c.in-Infix.right (label_of c.args.label.now) c.args.types.now c.args.at.now c.as_slice-visible.result.now
-    c.deref.result.now c.deref-in-Infix.result.now c.deref-in-Infix-2.result.now c.deref-in-Infix-3.result.now c.deref-in-Infix-4.result.now c.first_place-place.result
-    (signature c.in-Some.of.left.now c.in-Some.of.right.now c.in-Some.of.result_type.now c.in-Some.of.types.now) (reading_seen c.in_ok-first-in-Infix.first.value) (reading_seen c.in_ok-first-in-Infix.second.value)
-    c.in-Infix.is c.as_slice-visible.ensures c.deref.ensures c.deref-in-Infix.ensures c.deref-in-Infix-2.ensures c.deref-in-Infix-3.ensures c.deref-in-Infix-4.ensures
-    c.first_place-place.ensures c.in-Some.ensures both.0 both.1) c.kept_binary.ensures
-
-pub read_boxed-returns-in_ok-first-in-ShortCircuit : goal.read_boxed-returns-in_ok-first-in-ShortCircuit
-read_boxed-returns-in_ok-first-in-ShortCircuit t c =
-    let both = two_made (λ (r : Box Reading Global). reading_seen r.value ≡ operand_read c.args.labeller.now.predefined c.args.labeller.now.own c.first_place-place-in-ShortCircuit.result 0 (term_seen c.deref-in-ShortCircuit-2.result.now) (label_of c.args.label.now) c.args.types.now c.args.labeller.now.predefined.types.boolean.symbol)
-    (λ (r : Box Reading Global). reading_seen r.value ≡ operand_read c.args.labeller.now.predefined c.args.labeller.now.own c.first_place-place-in-ShortCircuit.result 1 (term_seen c.deref-in-ShortCircuit-3.result.now) (label_of c.args.label.now) c.args.types.now c.args.labeller.now.predefined.types.boolean.symbol)
-    c.read_kept-first-in-ShortCircuit.result c.read_kept-second-in-ShortCircuit.result c.together-in-ShortCircuit.result c.in_ok-first-in-ShortCircuit.first c.in_ok-first-in-ShortCircuit.second
-    c.together-in-ShortCircuit.ensures c.in_ok-first-in-ShortCircuit.was c.read_kept-first-in-ShortCircuit.ensures c.read_kept-second-in-ShortCircuit.ensures in
-    kept_by c.kept_short_circuit.result _ _
-    (short_circuit_seen c.args.labeller.now.predefined c.args.labeller.now.own c.args.term.now c.in-ShortCircuit.form c.in-ShortCircuit.left c.in-ShortCircuit.right (label_of c.args.label.now) c.args.types.now c.args.at.now
-    c.deref-in-ShortCircuit.result.now c.deref-in-ShortCircuit-2.result.now c.deref-in-ShortCircuit-3.result.now c.first_place-place-in-ShortCircuit.result (reading_seen c.in_ok-first-in-ShortCircuit.first.value) (reading_seen c.in_ok-first-in-ShortCircuit.second.value)
-    c.in-ShortCircuit.is c.deref-in-ShortCircuit.ensures c.deref-in-ShortCircuit-2.ensures c.deref-in-ShortCircuit-3.ensures c.first_place-place-in-ShortCircuit.ensures both.0 both.1) c.kept_short_circuit.ensures
-
 pub read-returns-in_ok-value-in-RangeMember : goal.read-returns-in_ok-value-in-RangeMember
 read-returns-in_ok-value-in-RangeMember t c =
     let all = three_made (λ (r : Box Reading Global). reading_seen r.value ≡ (operand_read c.args.labeller.now.predefined c.args.labeller.now.own c.first_place-place-in-RangeMember.result 0 (term_seen c.deref-in-RangeMember-5.result.now) (label_of c.args.label.now) c.types_of_test.result.0.now c.types_of_test.result.1.now))
     (λ (r : Box Reading Global). reading_seen r.value ≡ (operand_read c.args.labeller.now.predefined c.args.labeller.now.own c.first_place-place-in-RangeMember.result 1 (term_seen c.deref-in-RangeMember-6.result.now) (label_of c.args.label.now) c.types_of_test.result.0.now c.types_of_test.result.1.now))
     (λ (r : Box Reading Global). reading_seen r.value ≡ (operand_read c.args.labeller.now.predefined c.args.labeller.now.own c.first_place-place-in-RangeMember.result 2 (term_seen c.deref-in-RangeMember-7.result.now) (label_of c.args.label.now) c.types_of_test.result.0.now c.types_of_test.result.1.now))
-    c.read_kept-value.result c.read_kept-low.result c.read_kept-high.result c.together-in-RangeMember.result c.together-in-RangeMember-2.result
+    c.read_kept-value.result c.read_kept-low.result c.read_kept-high.result c.together.result c.together-in-RangeMember.result
     c.in_ok-value-in-RangeMember.value c.in_ok-value-in-RangeMember.low c.in_ok-value-in-RangeMember.high
-    c.together-in-RangeMember.ensures c.together-in-RangeMember-2.ensures c.in_ok-value-in-RangeMember.was c.read_kept-value.ensures c.read_kept-low.ensures c.read_kept-high.ensures in
+    c.together.ensures c.together-in-RangeMember.ensures c.in_ok-value-in-RangeMember.was c.read_kept-value.ensures c.read_kept-low.ensures c.read_kept-high.ensures in
     range_member_seen c.args.labeller.now.predefined c.args.labeller.now.own c.args.term.now c.in-RangeMember.value c.in-RangeMember.is_negated c.in-RangeMember.low c.in-RangeMember.high (label_of c.args.label.now) c.args.types.now c.types_of_test.result.0.now c.args.at.now c.types_of_test.result.1.now c.first_place-place-in-RangeMember.result
     (reading_seen c.in_ok-value-in-RangeMember.value.value) (reading_seen c.in_ok-value-in-RangeMember.low.value) (reading_seen c.in_ok-value-in-RangeMember.high.value) c.membership_of.result
     c.in-RangeMember.is (c.first_place-place-in-RangeMember.ensures ∙ ap (λ (x : Term). first_place (term_seen x)) c.deref-in-RangeMember.ensures)
@@ -146,3 +101,40 @@ read_values-loop-position-preserved t c =
     values_step c.args.labeller.now.predefined c.args.labeller.now.own c.args.types.now c.args.at.now (label_of c.args.label.now) c.args.components.now c.loop-position.position c.index-components-position.result (values_seen c.loop-position.values) (values_seen c.read_value.new.values)
     (values_read c.args.labeller.now.predefined c.args.labeller.now.own c.args.types.now c.args.at.now (label_of c.args.label.now) 0 no_parts (terms_of (map term_seen c.args.components.now)))
     c.loop-position.invariant c.loop-position-test.true c.index-components-position.is c.in_ok-read_value.ensures
+
+-- ---- steps down a chain of operators
+
+pub step-step_infix-requires : goal.step-step_infix-requires
+step-step_infix-requires t c = let a = ap size-Term c.in-Infix.is in let b = ap size-Term c.deref.ensures in (
+  omega (arith, c.decreases, sized-Infix c.in-Infix.operator c.in-Infix.views c.in-Infix.left c.in-Infix.right, a, b),
+  infix_begins c.args.term.now c.deref-in-Infix.result.now c.in-Infix.operator c.in-Infix.views c.in-Infix.left c.in-Infix.right c.args.place c.in-Infix.is c.deref-in-Infix.ensures c.requires,
+)
+
+pub step-step_short_circuit-requires : goal.step-step_short_circuit-requires
+step-step_short_circuit-requires t c = let a = ap size-Term c.in-ShortCircuit.is in let b = ap size-Term c.deref-in-ShortCircuit.ensures in (
+  omega (arith, c.decreases, sized-ShortCircuit c.in-ShortCircuit.form c.in-ShortCircuit.left c.in-ShortCircuit.right, a, b),
+  short_circuit_begins c.args.term.now c.deref-in-ShortCircuit-2.result.now c.in-ShortCircuit.form c.in-ShortCircuit.left c.in-ShortCircuit.right c.args.place c.in-ShortCircuit.is c.deref-in-ShortCircuit-2.ensures c.requires,
+)
+
+pub step-returns-in-Infix-clause-below : goal.step-returns-in-Infix-clause-below
+step-returns-in-Infix-clause-below t c =
+    infix_below c.args.term.now c.deref-in-Infix.result.now c.in-Infix.operator c.in-Infix.views c.in-Infix.left c.in-Infix.right c.step_infix.result c.in-Infix.is c.deref-in-Infix.ensures c.step_infix.ensures.at
+
+pub step-returns-in-ShortCircuit-clause-below : goal.step-returns-in-ShortCircuit-clause-below
+step-returns-in-ShortCircuit-clause-below t c =
+    short_circuit_below c.args.term.now c.deref-in-ShortCircuit-2.result.now c.in-ShortCircuit.form c.in-ShortCircuit.left c.in-ShortCircuit.right c.step_short_circuit.result c.in-ShortCircuit.is c.deref-in-ShortCircuit-2.ensures c.step_short_circuit.ensures.at
+
+pub read_boxed-loop-joints-preserved : goal.read_boxed-loop-joints-preserved
+read_boxed-loop-joints-preserved t c =
+    let p = c.args.labeller.now.predefined in let own = c.args.labeller.now.own in let place = c.first_place-place.result in
+    let P : Step → Type 0 = λ s. IsBelow c.loop-joints.rest.now s in let below = subst P c.in-Down.is c.in_ok-joint.ensures.below in (
+      longer p place c.loop-joints.joints.items c.push.new.self.items c.in-Down.joint
+          (reading p own (term_seen c.loop-joints.rest.now) (label_of c.loop-joints.label.now) c.loop-joints.types.now c.loop-joints.at.now)
+          (reading p own (term_seen c.in-Down.left.now) (label_of c.in-Down.left_label.now) c.in-Down.among.now c.in-Down.of.now)
+          (reading p own (term_seen c.args.term.now) (label_of c.args.label.now) c.args.types.now c.args.at.now)
+          c.in_ok-push-in-Down.ensures.items
+          (ap (λ (s : Step). stepped p own place s) (sym c.in-Down.is) ∙ c.in_ok-joint.ensures.read)
+          c.loop-joints.invariant.0,
+      c.loop-joints.invariant.1 ∙ sym below.1,
+      omega (arith, below.0, c.loop-joints.invariant.2),
+    )

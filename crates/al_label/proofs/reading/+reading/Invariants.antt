@@ -1,9 +1,12 @@
-use Rattle.std.proofs.Common.{◌≡◌, map, drop}
+use Rattle.std.proofs.Common.{◌≡◌, ◌≤◌, map, drop}
 use Rattle.al_choice.specs.Counts.{label_of}
+use Rattle.al_term.specs.Places.{first_place}
 use Rattle.al_term.specs.TermViews.{term_seen, terms_of}
+use Rattle.al_term.specs.declared.term.Term.{size-Term}
 use Rattle.al_nodes.specs.Gathering.{no_parts}
 use Rattle.al_nodes.specs.Views.{actuals_seen, values_seen}
-use Rattle.al_label.specs.Readings.{actuals_read, values_read}
+use Rattle.al_label.specs.Chains.{chained_node}
+use Rattle.al_label.specs.Readings.{actuals_read, reading, values_read}
 use Rattle.al_label.proofs.reading.+reading.Given as goal
 
 abbrev pub invariant-read_actuals-loop-position : goal.invariant-read_actuals-loop-position
@@ -15,3 +18,13 @@ abbrev pub invariant-read_values-loop-position : goal.invariant-read_values-loop
 invariant-read_values-loop-position l =
     values_read l.labeller.predefined l.labeller.own l.types l.at (label_of l.label) l.position (values_seen l.values) (terms_of (map term_seen (drop l.position l.components)))
     ≡ values_read l.labeller.predefined l.labeller.own l.types l.at (label_of l.label) 0 no_parts (terms_of (map term_seen l.components))
+
+abbrev pub invariant-read_boxed-loop-joints : goal.invariant-read_boxed-loop-joints
+invariant-read_boxed-loop-joints l =
+    (chained_node l.labeller.predefined l.place l.joints.items (reading l.labeller.predefined l.labeller.own (term_seen l.rest) (label_of l.label) l.types l.at)
+    ≡ reading l.labeller.predefined l.labeller.own (term_seen l.fn.term) (label_of l.fn.label) l.fn.types l.fn.at)
+    × (l.place ≡ first_place (term_seen l.rest))
+    × (size-Term l.rest ≤ size-Term l.fn.term)
+
+abbrev pub decreases-read_boxed-loop-joints : goal.decreases-read_boxed-loop-joints
+decreases-read_boxed-loop-joints l = size-Term l.rest
