@@ -1,26 +1,26 @@
 // What a name alone does.
 ghost use Rattle.std.specs.Prelude.{◌≡◌, IfOk};
-ghost use Rattle.al_judged.specs.Judging.{next, seen_by};
+ghost use Rattle.al_judged.specs.Judging.{next, seen_by, unless};
 ghost use Rattle.al_performed_at.specs.PerformedAt.{performed_at, performed_behind, performed_numbered, performed_of, performed_with_words};
+ghost use Rattle.al_prefixes.specs.TextsAt.{term_with_seen};
 ghost use Rattle.al_put.specs.Puts.{performed};
 ghost use Rattle.al_put.specs.Seen.{performed_seen as put_seen};
 ghost use Rattle.al_query.specs.Asked.{AsksOf, by_name};
 ghost use Rattle.al_query.specs.Reads.{Told};
 ghost use Rattle.al_reader.specs.PerformedViews.{performed_seen};
-ghost use Rattle.al_term.specs.TermViews.{term_seen};
 ghost use Rattle.al_terms_at.specs.TermsAt.{text_names};
 ghost use Rattle.al_tree.specs.ExpressionViews.{expression_seen};
 ghost use Rattle.al_values_at.specs.Surroundings.{site_seen, site_units};
 
 use al_base::NoMemory;
-use al_judged::Judged;
+use al_judged::{Fault, Judged, unless};
 use al_nodes::Labeller;
+use al_prefixes::context_with_at;
 use al_put::{Performed as Labelled, judge_performed};
 use al_query::{Answers, Recorder};
 use al_reader::Performed;
 use al_slots::{number_call, number_pieces};
 use al_term::Term;
-use al_terms_at::term_at;
 use al_tree::Expression;
 use al_values_at::Site;
 
@@ -57,14 +57,18 @@ fn performed_of(labelled: Judged<Labelled>) -> Judged<Performed>
     }
 }
 
-fn judge(labeller: &Labeller, term: Judged<Term>) -> Result<Judged<Labelled>, NoMemory>
-    ensures { IfOk result (λ judged. seen_by put_seen judged ≡ next (seen_by term_seen term) (performed labeller.now.predefined labeller.now.own)) }
+#[tactic(auto, using(al_prefixes::proofs::Seen::seen_unless))]
+fn judge(
+    labeller: &Labeller,
+    term: Judged<(Term, Option<Fault>)>,
+) -> Result<Judged<Labelled>, NoMemory>
+    ensures { IfOk result (λ judged. seen_by put_seen judged ≡ next (seen_by term_with_seen term) (λ w. unless w.1 (performed labeller.now.predefined labeller.now.own w.0))) }
 {
     match term {
-        Ok(term) => {
+        Ok((term, fault)) => {
             let judged = judge_performed(labeller, &term);
             drop(term);
-            judged
+            Ok(unless(fault, judged?))
         }
         Err(fault) => Ok(Err(fault)),
     }
@@ -84,16 +88,8 @@ pub fn performed_at<A: Answers>(
     ensures asks { IfOk result (λ _. AsksOf (site_units (site_seen site.now)) (by_name (text_names (expression_seen expression.now))) recorder.old.log recorder.new.log) }
 {
     let labeller = site.labeller;
-    let standard = &labeller.predefined.standard;
     let (scope, packages) = (site.scope, site.packages);
-    let term = term_at(
-        labeller.alloc,
-        standard,
-        scope,
-        packages,
-        expression,
-        recorder,
-    )?;
+    let term = context_with_at(labeller, scope, packages, expression, recorder)?;
     let labelled = judge(labeller, term)?;
     let mut judged = performed_of(labelled);
     take_words(&mut judged, word);

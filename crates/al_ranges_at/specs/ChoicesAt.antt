@@ -7,7 +7,7 @@ use Rattle.al_decl_type.specs.Subtypes.{subtype_of}
 use Rattle.al_decl_type.specs.declared.subtype.StaticRange.{StaticRange}
 use Rattle.al_declared.specs.StaticPieces.{static_of}
 use Rattle.al_heads.specs.declared.everywhere.Predefined.{Predefined}
-use Rattle.al_judged.specs.Judging.{both, next, seen_by}
+use Rattle.al_judged.specs.Judging.{both, next, seen_by, unless}
 use Rattle.al_judged.specs.declared.fault.Fault.{Fault}
 use Rattle.al_keys.specs.Places.{first_place}
 use Rattle.al_label.specs.Contexts.{term_judged}
@@ -17,6 +17,7 @@ use Rattle.al_name.specs.Types.{value_type}
 use Rattle.al_overload.specs.declared.context.Context.{Context}
 use Rattle.al_overload.specs.declared.context.Context.TheVariants as contexts
 use Rattle.al_picks.specs.Types.{positions_in, range_in}
+use Rattle.al_prefixes.specs.TextsAt.{With, read_with_at}
 use Rattle.al_query.specs.Reads.{Table}
 use Rattle.al_readings.specs.Readings.{ReadTree, range_read, valued}
 use Rattle.al_subtypes_at.specs.SubtypesAt.{discrete_names, static_at}
@@ -25,7 +26,7 @@ use Rattle.al_syntax.specs.StatementTrees.{ChoiceTree}
 use Rattle.al_syntax.specs.StatementTrees.ChoiceTree.{OthersChoice, RangeChoice}
 use Rattle.al_syntax.specs.ExpressionTrees.{ExpressionTree}
 use Rattle.al_term.specs.Terms.{TermTree}
-use Rattle.al_terms_at.specs.TermsAt.{mark_at, read_at}
+use Rattle.al_terms_at.specs.TermsAt.{mark_at}
 use Rattle.al_typed.specs.ExpressionTrees.{TypedTree}
 use Rattle.al_values_at.specs.Surroundings.{Surroundings}
 use Rattle.al_values_at.specs.ValuesAt.{selector_judged_at}
@@ -54,12 +55,13 @@ whole_at t s selector = values_of (selector_judged_at t s selector)
 abbrev pub choice_context : FoundType → Context
 choice_context found = contexts.ChoiceOf (value_type found.types found.of)
 
--- one value, which must be static
+-- one value, which must be static; before that is asked, it must be right, what stands in the prefixes of its attributes too
 abbrev pub one_value : StaticValue → Choice
 one_value v = choices.Range (record { low = v.word; high = v.word })
 
-abbrev pub value_choice : Predefined → Option Symbol → FoundType → TermTree → Result Choice Fault
-value_choice p own found term = next (term_judged p own (choice_context found) None found.types term) (λ (x : TypedTree). seen_by one_value (static_of x))
+abbrev pub value_choice : Predefined → Option Symbol → FoundType → Option Fault → TermTree → Result Choice Fault
+value_choice p own found fault term =
+    next (unless fault (term_judged p own (choice_context found) None found.types term)) (λ (x : TypedTree). seen_by one_value (static_of x))
 
 -- a subtype; one of another type than the selector's is none of its choices
 abbrev pub bounds_choice : Option Bounds → Choice
@@ -70,15 +72,15 @@ unfoldable pub mark_choice : FoundType → SubtypeView → Choice
 mark_choice found mark = if same_symbol mark.subtype.base found.of then bounds_choice (range_in mark.types mark.subtype) else choices.OfOtherType
 
 -- what stands alone: a mark or a Range attribute, or else a value
-abbrev pub part_choice : Predefined → Option Symbol → FoundType → ReadTree → Option Choice → Result Choice Fault
-part_choice p own found r (Some c) = Ok c
-part_choice p own found r None = next (valued r) (value_choice p own found)
+abbrev pub part_choice : Predefined → Option Symbol → FoundType → With ReadTree → Option Choice → Result Choice Fault
+part_choice p own found r (Some c) = unless r.1 (Ok c)
+part_choice p own found r None = next (valued r.0) (value_choice p own found r.1)
 
 abbrev pub range_part : FoundType → ReadTree → Option Choice
 range_part found r = option_map (mark_choice found) (range_read r)
 
-abbrev pub read_choice : Predefined → Option Symbol → FoundType → ReadTree → Result Choice Fault
-read_choice p own found r = part_choice p own found r (range_part found r)
+abbrev pub read_choice : Predefined → Option Symbol → FoundType → With ReadTree → Result Choice Fault
+read_choice p own found r = part_choice p own found r (range_part found r.0)
 
 -- two bounds, which must be static
 abbrev pub static_choice : Table → Surroundings → FoundType → RangeTree → Result StaticRange Fault
@@ -96,7 +98,7 @@ marked_choice found place x =
     if same_symbol x.0.subtype.base found.of then fitted_choice (subtype_of x.0 place (Some x.1)) else Ok choices.OfOtherType
 
 abbrev pub discrete_choice : Table → Surroundings → FoundType → DiscreteRangeTree → Result Choice Fault
-discrete_choice t s found (ranges.SoleMark x) = next (read_at t s.place s.packages x) (read_choice s.predefined s.own found)
+discrete_choice t s found (ranges.SoleMark x) = next (read_with_at t s.place s.packages s.predefined s.own x) (read_choice s.predefined s.own found)
 discrete_choice t s found (ranges.Bounds r) = seen_by range_choice (static_choice t s found r)
 discrete_choice t s found (ranges.MarkRange mark r) =
     next (both (mark_at t s.place s.packages mark) (static_choice t s found r)) (marked_choice found (first_place mark))

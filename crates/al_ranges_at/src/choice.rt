@@ -1,16 +1,17 @@
 // Choices of case statements (ARM 3.8.1, 5.4).
 ghost use Rattle.std.specs.Prelude.{◌≡◌, ◌++◌, IfOk, None, option_map};
 ghost use Rattle.al_declared.specs.StaticPieces.{static_of};
-ghost use Rattle.al_judged.specs.Judging.{both, next, seen_by};
+ghost use Rattle.al_judged.specs.Judging.{both, next, seen_by, unless};
 ghost use Rattle.al_keys.specs.Places.{first_place};
 ghost use Rattle.al_label.specs.Contexts.{term_judged};
+ghost use Rattle.al_prefixes.specs.TextsAt.{read_with_at, reading_with_seen};
 ghost use Rattle.al_query.specs.Asked.{AsksOf, by_name};
 ghost use Rattle.al_query.specs.Reads.{Told};
 ghost use Rattle.al_ranges_at.specs.ChoicesAt.{bounds_choice, choice_at, choice_context, choice_names, discrete_choice, fitted_choice, mark_choice, marked_choice, one_value, range_choice, range_part, read_choice, static_choice, value_choice};
 ghost use Rattle.al_readings.specs.ReadingViews.{reading_seen};
 ghost use Rattle.al_subtypes_at.specs.SubtypesAt.{discrete_names};
 ghost use Rattle.al_term.specs.TermViews.{term_seen};
-ghost use Rattle.al_terms_at.specs.TermsAt.{mark_at, range_names, read_at, text_names};
+ghost use Rattle.al_terms_at.specs.TermsAt.{mark_at, range_names, text_names};
 ghost use Rattle.al_tree.specs.DeclarationViews.{discrete_range_seen, range_seen};
 ghost use Rattle.al_tree.specs.ExpressionViews.{expression_seen};
 ghost use Rattle.al_tree.specs.StatementViews.{choice_seen};
@@ -21,7 +22,7 @@ use al_base::{NoMemory, Place};
 use al_choices::Choice;
 use al_decl_type::{StaticRange, subtype_of};
 use al_declared::static_of;
-use al_judged::{Judged, both};
+use al_judged::{Fault, Judged, both, unless};
 use al_keys::first_place;
 use al_label::{FoundType, judge_term};
 use al_name::value_type;
@@ -29,11 +30,12 @@ use al_nodes::Labeller;
 use al_overload::Context;
 use al_picks::range_in;
 use al_predefined::StandardTypes;
+use al_prefixes::read_with_at;
 use al_query::{Answers, Recorder};
 use al_readings::{Reading, as_value, mark_in};
 use al_subtypes_at::static_at;
 use al_term::Term;
-use al_terms_at::{mark_at, read_at};
+use al_terms_at::mark_at;
 use al_tree::{Choice as ChoiceText, DiscreteRange, Expression, Range};
 use al_typed::Typed;
 use al_values_at::Site;
@@ -74,27 +76,31 @@ fn one_value(judged: &Judged<Typed>) -> Judged<Choice>
     }
 }
 
+#[tactic(auto, using(al_prefixes::proofs::Seen::seen_unless))]
 fn value_choice(
     labeller: &Labeller,
     found: &FoundType,
+    fault: Option<Fault>,
     term: &Term,
 ) -> Result<Judged<Choice>, NoMemory>
-    ensures { IfOk result (λ choice. choice ≡ value_choice labeller.now.predefined labeller.now.own found.now (term_seen term.now)) }
+    ensures { IfOk result (λ choice. choice ≡ value_choice labeller.now.predefined labeller.now.own found.now fault (term_seen term.now)) }
 {
     let value = judge_value(labeller, found, term)?;
-    Ok(one_value(&value))
+    let judged = unless(fault, value);
+    Ok(one_value(&judged))
 }
 
 fn any_value_choice(
     labeller: &Labeller,
     found: &FoundType,
+    fault: Option<Fault>,
     term: Judged<Term>,
 ) -> Result<Judged<Choice>, NoMemory>
-    ensures { IfOk result (λ choice. choice ≡ next (seen_by term_seen term) (value_choice labeller.now.predefined labeller.now.own found.now)) }
+    ensures { IfOk result (λ choice. choice ≡ next (seen_by term_seen term) (value_choice labeller.now.predefined labeller.now.own found.now fault)) }
 {
     match term {
         Ok(term) => {
-            let choice = value_choice(labeller, found, &term);
+            let choice = value_choice(labeller, found, fault, &term);
             drop(term);
             choice
         }
@@ -163,15 +169,16 @@ fn read_choice(
     labeller: &Labeller,
     found: &FoundType,
     reading: Reading,
+    fault: Option<Fault>,
 ) -> Result<Judged<Choice>, NoMemory>
-    ensures { IfOk result (λ choice. choice ≡ read_choice labeller.now.predefined labeller.now.own found.now (reading_seen reading)) }
+    ensures { IfOk result (λ choice. choice ≡ read_choice labeller.now.predefined labeller.now.own found.now (reading_seen reading, fault)) }
 {
     match range_part(labeller, found, &reading) {
         Ok(Some(choice)) => {
             drop(reading);
-            Ok(Ok(choice))
+            Ok(unless(fault, Ok(choice)))
         }
-        Ok(None) => any_value_choice(labeller, found, as_value(Ok(reading))),
+        Ok(None) => any_value_choice(labeller, found, fault, as_value(Ok(reading))),
         Err(lack) => {
             drop(reading);
             Err(lack)
@@ -182,12 +189,12 @@ fn read_choice(
 fn any_read_choice(
     labeller: &Labeller,
     found: &FoundType,
-    reading: Judged<Reading>,
+    reading: Judged<(Reading, Option<Fault>)>,
 ) -> Result<Judged<Choice>, NoMemory>
-    ensures { IfOk result (λ choice. choice ≡ next (seen_by reading_seen reading) (read_choice labeller.now.predefined labeller.now.own found.now)) }
+    ensures { IfOk result (λ choice. choice ≡ next (seen_by reading_with_seen reading) (read_choice labeller.now.predefined labeller.now.own found.now)) }
 {
     match reading {
-        Ok(reading) => read_choice(labeller, found, reading),
+        Ok((reading, fault)) => read_choice(labeller, found, reading, fault),
         Err(fault) => Ok(Err(fault)),
     }
 }
@@ -199,20 +206,12 @@ fn single_choice<A: Answers>(
     recorder: &mut Recorder<A>,
 ) -> Result<Judged<Choice>, NoMemory>
     ensures asked { recorder.new.asked ≡ recorder.old.asked }
-    ensures told { IfOk result (λ choice. Told recorder.old.log recorder.new.log (λ t. choice ≡ next (read_at t (site_seen site.now).place (site_seen site.now).packages (expression_seen expression.now)) (read_choice (site_seen site.now).predefined (site_seen site.now).own found.now))) }
+    ensures told { IfOk result (λ choice. Told recorder.old.log recorder.new.log (λ t. choice ≡ next (read_with_at t (site_seen site.now).place (site_seen site.now).packages (site_seen site.now).predefined (site_seen site.now).own (expression_seen expression.now)) (read_choice (site_seen site.now).predefined (site_seen site.now).own found.now))) }
     ensures asks { IfOk result (λ _. AsksOf (site_units (site_seen site.now)) (by_name (text_names (expression_seen expression.now))) recorder.old.log recorder.new.log) }
 {
     let labeller = site.labeller;
-    let standard = &labeller.predefined.standard;
     let (scope, packages) = (site.scope, site.packages);
-    let reading = read_at(
-        labeller.alloc,
-        standard,
-        scope,
-        packages,
-        expression,
-        recorder,
-    )?;
+    let reading = read_with_at(labeller, scope, packages, expression, recorder)?;
     let choice = any_read_choice(labeller, found, reading)?;
     Ok(choice)
 }

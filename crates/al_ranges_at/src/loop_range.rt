@@ -5,13 +5,14 @@ ghost use Rattle.al_keys.specs.Places.{first_place};
 ghost use Rattle.al_label.specs.Ranges.{bounds_judged};
 ghost use Rattle.al_label.specs.RangesSeen.{pair_seen};
 ghost use Rattle.al_overload.specs.declared.context.Context.TheVariants as contexts;
+ghost use Rattle.al_prefixes.specs.TextsAt.{bounds_with_at, range_with_at};
 ghost use Rattle.al_query.specs.Asked.{AsksOf, by_name};
 ghost use Rattle.al_query.specs.Reads.{Told};
 ghost use Rattle.al_ranges_at.specs.LoopsAt.{behind_mark, between, discrete, found_range_seen, loop_range_at, loop_range_judged, marked_seen, range_with_words, whole, whole_range};
 ghost use Rattle.al_subtypes_at.specs.SubtypesAt.{discrete_names};
 ghost use Rattle.al_syntax.specs.DeclarationTrees.DiscreteRangeTree.{MarkRange};
 ghost use Rattle.al_term.specs.TermViews.{term_seen};
-ghost use Rattle.al_terms_at.specs.TermsAt.{bounds_at, mark_at, range_names, single_at, text_names};
+ghost use Rattle.al_terms_at.specs.TermsAt.{mark_at, range_names, text_names};
 ghost use Rattle.al_told.specs.Leaves.{mark_type};
 ghost use Rattle.al_tree.specs.DeclarationViews.{discrete_range_seen, range_seen};
 ghost use Rattle.al_tree.specs.ExpressionViews.{expression_seen};
@@ -20,18 +21,19 @@ ghost use Rattle.al_values_at.specs.ValuesAt.{pair_judged_at};
 
 use al_base::{NoMemory, Place};
 use al_decl_type::scalar_bounds;
-use al_judged::{Judged, both};
+use al_judged::{Fault, Judged, both, unless};
 use al_keys::first_place;
 use al_label::{FoundType, Pair, judge_bounds};
 use al_nodes::Labeller;
 use al_overload::Context;
 use al_predefined::StandardTypes;
+use al_prefixes::{bounds_with_at, range_with_at};
 use al_query::{Answers, Recorder};
 use al_slots::number_slots;
 use al_stmts::{LoopRange, mark_range};
 use al_subtypes_at::bound_context;
 use al_term::Term;
-use al_terms_at::{bounds_at, mark_at, single_at};
+use al_terms_at::mark_at;
 use al_tree::{DiscreteRange, Expression, Range};
 use al_values_at::{Site, no_types, pair_judged_at};
 use al_view::{Bounds, SubtypeView};
@@ -137,21 +139,21 @@ fn pair_behind(
 fn behind_found(
     labeller: &Labeller,
     mark: (SubtypeView, Bounds),
-    bounds: (Term, Term),
+    bounds: ((Term, Term), Option<Fault>),
 ) -> Result<Judged<FoundRange>, NoMemory>
     ensures { IfOk result (λ range. seen_by found_range_seen range ≡ behind_mark labeller.now.predefined labeller.now.own (marked_seen (mark, bounds))) }
 {
-    let pair = pair_behind(labeller, &mark.0, &bounds.0, &bounds.1);
-    let within = mark.1;
+    let pair = pair_behind(labeller, &mark.0, &bounds.0.0, &bounds.0.1);
+    let (within, fault) = (mark.1, bounds.1);
     drop(mark);
     drop(bounds);
     let judged = pair?;
-    Ok(between(Some(within), judged))
+    Ok(between(Some(within), unless(fault, judged)))
 }
 
 fn behind_mark(
     labeller: &Labeller,
-    judged: Judged<((SubtypeView, Bounds), (Term, Term))>,
+    judged: Judged<((SubtypeView, Bounds), ((Term, Term), Option<Fault>))>,
 ) -> Result<Judged<FoundRange>, NoMemory>
     ensures { IfOk result (λ range. seen_by found_range_seen range ≡ next (seen_by marked_seen judged) (behind_mark labeller.now.predefined labeller.now.own)) }
 {
@@ -167,13 +169,12 @@ fn single_range<A: Answers>(
     recorder: &mut Recorder<A>,
 ) -> Result<Judged<FoundRange>, NoMemory>
     ensures asked { recorder.new.asked ≡ recorder.old.asked }
-    ensures told { IfOk result (λ range. Told recorder.old.log recorder.new.log (λ t. seen_by found_range_seen range ≡ next (single_at t (site_seen site.now).place (site_seen site.now).packages (expression_seen expression.now)) (whole_range (first_place (expression_seen expression.now))))) }
+    ensures told { IfOk result (λ range. Told recorder.old.log recorder.new.log (λ t. seen_by found_range_seen range ≡ next (range_with_at t (site_seen site.now).place (site_seen site.now).packages (site_seen site.now).predefined (site_seen site.now).own (expression_seen expression.now)) (whole_range (first_place (expression_seen expression.now))))) }
     ensures asks { IfOk result (λ _. AsksOf (site_units (site_seen site.now)) (by_name (text_names (expression_seen expression.now))) recorder.old.log recorder.new.log) }
 {
     let labeller = site.labeller;
-    let (alloc, standard) = (labeller.alloc, &labeller.predefined.standard);
     let (scope, packages) = (site.scope, site.packages);
-    let mark = single_at(alloc, standard, scope, packages, expression, recorder)?;
+    let mark = range_with_at(labeller, scope, packages, expression, recorder)?;
     let range = whole_range(labeller, first_place(expression), mark)?;
     Ok(range)
 }
@@ -198,9 +199,9 @@ fn marked_bounds<A: Answers>(
     mark: &Expression,
     range: &Range,
     recorder: &mut Recorder<A>,
-) -> Result<Judged<((SubtypeView, Bounds), (Term, Term))>, NoMemory>
+) -> Result<Judged<((SubtypeView, Bounds), ((Term, Term), Option<Fault>))>, NoMemory>
     ensures asked { recorder.new.asked ≡ recorder.old.asked }
-    ensures told { IfOk result (λ judged. Told recorder.old.log recorder.new.log (λ t. seen_by marked_seen judged ≡ both (next (mark_at t (site_seen site.now).place (site_seen site.now).packages (expression_seen mark.now)) (discrete (first_place (expression_seen mark.now)))) (bounds_at t (site_seen site.now).place (site_seen site.now).packages (range_seen range.now)))) }
+    ensures told { IfOk result (λ judged. Told recorder.old.log recorder.new.log (λ t. seen_by marked_seen judged ≡ both (next (mark_at t (site_seen site.now).place (site_seen site.now).packages (expression_seen mark.now)) (discrete (first_place (expression_seen mark.now)))) (bounds_with_at t (site_seen site.now).place (site_seen site.now).packages (site_seen site.now).predefined (site_seen site.now).own (range_seen range.now)))) }
     ensures asks { IfOk result (λ _. AsksOf (site_units (site_seen site.now)) (by_name (text_names (expression_seen mark.now) ++ range_names (range_seen range.now))) recorder.old.log recorder.new.log) }
 {
     let labeller = site.labeller;
@@ -208,7 +209,7 @@ fn marked_bounds<A: Answers>(
     let (scope, packages) = (site.scope, site.packages);
     let place = first_place(mark);
     let mark = mark_at(alloc, standard, scope, packages, mark, recorder)?;
-    let bounds = bounds_at(alloc, standard, scope, packages, range, recorder)?;
+    let bounds = bounds_with_at(labeller, scope, packages, range, recorder)?;
     Ok(both(discrete_mark(standard, place, mark), bounds))
 }
 

@@ -10,11 +10,12 @@ use Rattle.al_keys.specs.Places.{first_place, place_of}
 use Rattle.al_label.specs.Ranges.{PairTree}
 use Rattle.al_overload.specs.declared.context.Context.{Context}
 use Rattle.al_overload.specs.declared.context.Context.TheVariants as contexts
+use Rattle.al_prefixes.specs.TextsAt.{range_with_at}
 use Rattle.al_query.specs.Reads.{Table}
 use Rattle.al_syntax.specs.DeclarationTrees.{DiscreteRangeTree, DiscreteRangeTree as ranges, RangeTree, SubtypeIndicationTree}
 use Rattle.al_syntax.specs.ExpressionTrees.{ExpressionTree}
 use Rattle.al_terms_at.specs.CompoundNames.{name_text}
-use Rattle.al_terms_at.specs.TermsAt.{mark_at, range_names, single_at, text_names}
+use Rattle.al_terms_at.specs.TermsAt.{mark_at, range_names, text_names}
 use Rattle.al_told.specs.Leaves.{mark_type}
 use Rattle.al_values_at.specs.Surroundings.{Surroundings}
 use Rattle.al_values_at.specs.ValuesAt.{pair_judged_at}
@@ -43,7 +44,7 @@ indication_at t s i = constrained_at t s (place_of i.mark.first) (mark_at t s.pl
 
 -- the subtype of an index: a mark or a Range attribute alone
 abbrev pub index_of_single : Table → Surroundings → ExpressionTree → Result SubtypeView Fault
-index_of_single t s x = index_of_mark (first_place x) (single_at t s.place s.packages x) None
+index_of_single t s x = index_of_mark (first_place x) (range_with_at t s.place s.packages s.predefined s.own x) None
 
 -- a mark with a constraint
 abbrev pub index_of_marked : Table → Surroundings → Place → Result SubtypeView Fault → RangeTree → Result SubtypeView Fault

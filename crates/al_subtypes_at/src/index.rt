@@ -21,8 +21,9 @@ use al_keys::first_place;
 use al_label::Pair;
 use al_nodes::Labeller;
 use al_overload::Context;
+use al_prefixes::range_with_at;
 use al_query::{Answers, Recorder};
-use al_terms_at::{mark_at, single_at};
+use al_terms_at::mark_at;
 use al_tree::{DiscreteRange, Expression, Range};
 use al_values_at::{Site, no_types, pair_judged_at};
 use al_view::SubtypeView;
@@ -39,7 +40,7 @@ fn single_index<A: Answers>(
     let labeller = site.labeller;
     let (alloc, standard) = (labeller.alloc, &labeller.predefined.standard);
     let (scope, packages) = (site.scope, site.packages);
-    let range = single_at(alloc, standard, scope, packages, expression, recorder)?;
+    let range = range_with_at(labeller, scope, packages, expression, recorder)?;
     let subtype = index_of_mark(alloc, standard, first_place(expression), &range, None);
     drop(range);
     subtype

@@ -4,7 +4,7 @@ use Rattle.std.specs.Prelude.{ℕ, List, [], Option, Some, None, Result, Ok, Err
 use Rattle.std.specs.Option.{option_map_or}
 use Rattle.al_heads.specs.Parts.{part_of}
 use Rattle.al_heads.specs.declared.part.Nominal.{Nominal}
-use Rattle.al_judged.specs.Judging.{next}
+use Rattle.al_judged.specs.Judging.{next, unless}
 use Rattle.al_judged.specs.declared.fault.Fault.{Fault}
 use Rattle.al_label.specs.Contexts.{target_judged, term_judged}
 use Rattle.al_label.specs.Ranges.{FoundTree, PairTree, bounds_judged, selector_judged}
@@ -12,12 +12,13 @@ use Rattle.al_name.specs.Types.{value_type}
 use Rattle.al_overload.specs.Meanings.{nothing_fits}
 use Rattle.al_overload.specs.declared.context.Context.{Context}
 use Rattle.al_overload.specs.declared.context.Context.TheVariants as contexts
+use Rattle.al_prefixes.specs.TextsAt.{With, bounds_with_at, context_with_at}
 use Rattle.al_query.specs.Reads.{Table}
 use Rattle.al_syntax.specs.DeclarationTrees.{RangeTree}
 use Rattle.al_syntax.specs.ExpressionTrees.{ExpressionTree}
 use Rattle.al_term.specs.Places.{first_place}
 use Rattle.al_term.specs.Terms.{TermTree}
-use Rattle.al_terms_at.specs.TermsAt.{bounds_at, term_at}
+use Rattle.al_terms_at.specs.TermsAt.{term_at}
 use Rattle.al_told.specs.Leaves.{mark_type}
 use Rattle.al_typed.specs.ExpressionTrees.{TypedTree}
 use Rattle.al_values_at.specs.Surroundings.{Surroundings}
@@ -27,10 +28,11 @@ use Rattle.al_view.specs.declared.view.SubtypeView.{SubtypeView}
 
 -- ---- any context
 
--- An expression in its context, whose types are among these: E401 and E404 of its names; else E402, E403, E405, E604. An aggregate may
--- stand where a nominal subtype is given.
+-- An expression in its context, whose types are among these: E401 and E404 of its names; else E402, E403, E405, E604, those in the prefixes of its
+-- attributes among them. An aggregate may stand where a nominal subtype is given.
 abbrev pub judged_at : Table → Surroundings → Context → Option Nominal → List TypeView → ExpressionTree → Result TypedTree Fault
-judged_at t s context allowed types x = next (term_at t s.place s.packages x) (term_judged s.predefined s.own context allowed types)
+judged_at t s context allowed types x =
+    next (context_with_at t s.place s.packages s.predefined s.own x) (λ (w : With TermTree). unless w.1 (term_judged s.predefined s.own context allowed types w.0))
 
 -- the same with its words
 abbrev pub value_at : Table → Surroundings → Context → Option Nominal → List TypeView → ExpressionTree → ℕ → Worded TypedTree
@@ -39,7 +41,8 @@ value_at t s context allowed types x word = with_words word (judged_at t s conte
 -- two bounds as one context
 abbrev pub pair_judged_at : Table → Surroundings → Context → List TypeView → RangeTree → Result PairTree Fault
 pair_judged_at t s context types r =
-    next (bounds_at t s.place s.packages r) (λ (b : TermTree × TermTree). bounds_judged s.predefined s.own context types b.0 b.1)
+    next (bounds_with_at t s.place s.packages s.predefined s.own r)
+    (λ (b : With (TermTree × TermTree)). unless b.1 (bounds_judged s.predefined s.own context types b.0.0 b.0.1))
 
 abbrev pub pair_at : Table → Surroundings → Context → List TypeView → RangeTree → ℕ → Worded PairTree
 pair_at t s context types r word = pair_with_words word (pair_judged_at t s context types r)
@@ -60,7 +63,8 @@ result_at t s of x word = value_at t s (contexts.ReturnValue (mark_type of)) Non
 
 -- what is assigned to
 abbrev pub target_at : Table → Surroundings → ExpressionTree → ℕ → Worded TypedTree
-target_at t s x word = with_words word (next (term_at t s.place s.packages x) (target_judged s.predefined s.own []))
+target_at t s x word =
+    with_words word (next (context_with_at t s.place s.packages s.predefined s.own x) (λ (w : With TermTree). unless w.1 (target_judged s.predefined s.own [] w.0)))
 
 -- what is assigned to a target of this nominal subtype; an aggregate may stand there
 abbrev pub source_judged : Table → Surroundings → ExpressionTree → Nominal → Result TypedTree Fault
@@ -77,7 +81,8 @@ source_at t s target x word = with_words word (next (next (term_at t s.place s.p
 
 -- the selector of a case statement, with its type; the same with its words
 abbrev pub selector_judged_at : Table → Surroundings → ExpressionTree → Result FoundTree Fault
-selector_judged_at t s x = next (term_at t s.place s.packages x) (selector_judged s.predefined s.own)
+selector_judged_at t s x =
+    next (context_with_at t s.place s.packages s.predefined s.own x) (λ (w : With TermTree). unless w.1 (selector_judged s.predefined s.own w.0))
 
 abbrev pub selector_at : Table → Surroundings → ExpressionTree → ℕ → Worded FoundTree
 selector_at t s x word = found_with_words word (selector_judged_at t s x)

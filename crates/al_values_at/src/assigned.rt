@@ -1,10 +1,11 @@
 // Targets and sources of assignments (ARM 5.2).
 ghost use Rattle.std.specs.Prelude.{◌≡◌, IfOk, ◌++◌, [], Some};
 ghost use Rattle.al_heads.specs.Parts.{nominal};
-ghost use Rattle.al_judged.specs.Judging.{next, seen_by};
+ghost use Rattle.al_judged.specs.Judging.{next, seen_by, unless};
 ghost use Rattle.al_label.specs.Contexts.{target_judged};
 ghost use Rattle.al_name.specs.Types.{value_type};
 ghost use Rattle.al_overload.specs.declared.context.Context.TheVariants as contexts;
+ghost use Rattle.al_prefixes.specs.TextsAt.{term_with_seen};
 ghost use Rattle.al_query.specs.Asked.{AsksOf, by_name};
 ghost use Rattle.al_query.specs.Reads.{Told};
 ghost use Rattle.al_term.specs.TermViews.{term_seen};
@@ -21,11 +22,12 @@ use crate::value::value_at;
 use crate::words::take_words;
 use al_base::NoMemory;
 use al_heads::{Nominal, part_of};
-use al_judged::Judged;
+use al_judged::{Fault, Judged, unless};
 use al_label::judge_target;
 use al_name::value_type;
 use al_nodes::{Labeller, nothing_fits};
 use al_overload::Context;
+use al_prefixes::context_with_at;
 use al_query::{Answers, Recorder};
 use al_term::{Term, first_place};
 use al_terms_at::term_at;
@@ -40,14 +42,18 @@ fn judge_assigned(labeller: &Labeller, term: &Term) -> Result<Judged<Typed>, NoM
     judge_target(labeller, &types, term)
 }
 
-fn judge_found_target(labeller: &Labeller, term: Judged<Term>) -> Result<Judged<Typed>, NoMemory>
-    ensures { IfOk result (λ judged. seen_by typed_seen judged ≡ next (seen_by term_seen term) (target_judged labeller.now.predefined labeller.now.own [])) }
+#[tactic(auto, using(al_prefixes::proofs::Seen::seen_unless))]
+fn judge_found_target(
+    labeller: &Labeller,
+    term: Judged<(Term, Option<Fault>)>,
+) -> Result<Judged<Typed>, NoMemory>
+    ensures { IfOk result (λ judged. seen_by typed_seen judged ≡ next (seen_by term_with_seen term) (λ w. unless w.1 (target_judged labeller.now.predefined labeller.now.own [] w.0))) }
 {
     match term {
-        Ok(term) => {
+        Ok((term, fault)) => {
             let judged = judge_assigned(labeller, &term);
             drop(term);
-            judged
+            Ok(unless(fault, judged?))
         }
         Err(fault) => Ok(Err(fault)),
     }
@@ -65,16 +71,8 @@ pub fn target_at<A: Answers>(
     ensures asks { IfOk result (λ _. AsksOf (site_units (site_seen site.now)) (by_name (text_names (expression_seen expression.now))) recorder.old.log recorder.new.log) }
 {
     let labeller = site.labeller;
-    let standard = &labeller.predefined.standard;
     let (scope, packages) = (site.scope, site.packages);
-    let term = term_at(
-        labeller.alloc,
-        standard,
-        scope,
-        packages,
-        expression,
-        recorder,
-    )?;
+    let term = context_with_at(labeller, scope, packages, expression, recorder)?;
     let mut judged = judge_found_target(labeller, term)?;
     take_words(&mut judged, word);
     Ok(judged)

@@ -1,11 +1,11 @@
 // Two bounds as one context.
 ghost use Rattle.std.specs.Prelude.{◌≡◌, IfOk};
-ghost use Rattle.al_judged.specs.Judging.{next, seen_by};
+ghost use Rattle.al_judged.specs.Judging.{next, seen_by, unless};
 ghost use Rattle.al_label.specs.Ranges.{bounds_judged};
 ghost use Rattle.al_label.specs.RangesSeen.{pair_seen};
+ghost use Rattle.al_prefixes.specs.TextsAt.{terms_with_seen};
 ghost use Rattle.al_query.specs.Asked.{AsksOf, by_name};
 ghost use Rattle.al_query.specs.Reads.{Told};
-ghost use Rattle.al_readings.specs.TermLists.{pair_seen as terms_seen};
 ghost use Rattle.al_terms_at.specs.TermsAt.{range_names};
 ghost use Rattle.al_tree.specs.DeclarationViews.{range_seen};
 ghost use Rattle.al_values_at.specs.Surroundings.{site_seen, site_units};
@@ -14,30 +14,30 @@ ghost use Rattle.al_values_at.specs.ValuesAt.{pair_at, pair_judged_at};
 use crate::site::Site;
 use crate::words::take_pair_words;
 use al_base::NoMemory;
-use al_judged::Judged;
+use al_judged::{Fault, Judged, unless};
 use al_label::{Pair, judge_bounds};
 use al_nodes::Labeller;
 use al_overload::Context;
+use al_prefixes::bounds_with_at;
 use al_query::{Answers, Recorder};
 use al_term::Term;
-use al_terms_at::bounds_at;
 use al_tree::Range;
 use al_view::Types;
 
+#[tactic(auto, using(al_prefixes::proofs::Seen::seen_unless))]
 fn judge_pair(
     labeller: &Labeller,
     context: &Context,
     types: &Types,
-    bounds: Judged<(Term, Term)>,
+    bounds: Judged<((Term, Term), Option<Fault>)>,
 ) -> Result<Judged<Pair>, NoMemory>
-    ensures { IfOk result (λ judged. seen_by pair_seen judged ≡ next (seen_by terms_seen bounds) (λ b. bounds_judged labeller.now.predefined labeller.now.own context.now types.now b.0 b.1)) }
+    ensures { IfOk result (λ judged. seen_by pair_seen judged ≡ next (seen_by terms_with_seen bounds) (λ b. unless b.1 (bounds_judged labeller.now.predefined labeller.now.own context.now types.now b.0.0 b.0.1))) }
 {
     match bounds {
-        Ok((low, high)) => {
-            let judged = judge_bounds(labeller, context, types, &low, &high);
-            drop(low);
-            drop(high);
-            judged
+        Ok((terms, fault)) => {
+            let judged = judge_bounds(labeller, context, types, &terms.0, &terms.1);
+            drop(terms);
+            Ok(unless(fault, judged?))
         }
         Err(fault) => Ok(Err(fault)),
     }
@@ -57,9 +57,8 @@ pub fn pair_judged_at<A: Answers>(
     ensures asks { IfOk result (λ _. AsksOf (site_units (site_seen site.now)) (by_name (range_names (range_seen range.now))) recorder.old.log recorder.new.log) }
 {
     let labeller = site.labeller;
-    let standard = &labeller.predefined.standard;
     let (scope, packages) = (site.scope, site.packages);
-    let bounds = bounds_at(labeller.alloc, standard, scope, packages, range, recorder)?;
+    let bounds = bounds_with_at(labeller, scope, packages, range, recorder)?;
     judge_pair(labeller, context, types, bounds)
 }
 

@@ -1,11 +1,11 @@
 // Selectors of case statements (ARM 5.4).
 ghost use Rattle.std.specs.Prelude.{◌≡◌, IfOk};
-ghost use Rattle.al_judged.specs.Judging.{next, seen_by};
+ghost use Rattle.al_judged.specs.Judging.{next, seen_by, unless};
 ghost use Rattle.al_label.specs.Ranges.{selector_judged};
 ghost use Rattle.al_label.specs.RangesSeen.{found_seen};
+ghost use Rattle.al_prefixes.specs.TextsAt.{term_with_seen};
 ghost use Rattle.al_query.specs.Asked.{AsksOf, by_name};
 ghost use Rattle.al_query.specs.Reads.{Told};
-ghost use Rattle.al_term.specs.TermViews.{term_seen};
 ghost use Rattle.al_terms_at.specs.TermsAt.{text_names};
 ghost use Rattle.al_tree.specs.ExpressionViews.{expression_seen};
 ghost use Rattle.al_values_at.specs.Surroundings.{site_seen, site_units};
@@ -14,22 +14,26 @@ ghost use Rattle.al_values_at.specs.ValuesAt.{selector_at, selector_judged_at};
 use crate::site::Site;
 use crate::words::take_found_words;
 use al_base::NoMemory;
-use al_judged::Judged;
+use al_judged::{Fault, Judged, unless};
 use al_label::{Found, judge_selector};
 use al_nodes::Labeller;
+use al_prefixes::context_with_at;
 use al_query::{Answers, Recorder};
 use al_term::Term;
-use al_terms_at::term_at;
 use al_tree::Expression;
 
-fn judge_found(labeller: &Labeller, term: Judged<Term>) -> Result<Judged<Found>, NoMemory>
-    ensures { IfOk result (λ judged. seen_by found_seen judged ≡ next (seen_by term_seen term) (selector_judged labeller.now.predefined labeller.now.own)) }
+#[tactic(auto, using(al_prefixes::proofs::Seen::seen_unless))]
+fn judge_found(
+    labeller: &Labeller,
+    term: Judged<(Term, Option<Fault>)>,
+) -> Result<Judged<Found>, NoMemory>
+    ensures { IfOk result (λ judged. seen_by found_seen judged ≡ next (seen_by term_with_seen term) (λ w. unless w.1 (selector_judged labeller.now.predefined labeller.now.own w.0))) }
 {
     match term {
-        Ok(term) => {
+        Ok((term, fault)) => {
             let judged = judge_selector(labeller, &term);
             drop(term);
-            judged
+            Ok(unless(fault, judged?))
         }
         Err(fault) => Ok(Err(fault)),
     }
@@ -47,16 +51,8 @@ pub fn selector_judged_at<A: Answers>(
     ensures asks { IfOk result (λ _. AsksOf (site_units (site_seen site.now)) (by_name (text_names (expression_seen expression.now))) recorder.old.log recorder.new.log) }
 {
     let labeller = site.labeller;
-    let standard = &labeller.predefined.standard;
     let (scope, packages) = (site.scope, site.packages);
-    let term = term_at(
-        labeller.alloc,
-        standard,
-        scope,
-        packages,
-        expression,
-        recorder,
-    )?;
+    let term = context_with_at(labeller, scope, packages, expression, recorder)?;
     judge_found(labeller, term)
 }
 

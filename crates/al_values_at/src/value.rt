@@ -1,10 +1,10 @@
 // One expression in its context.
 ghost use Rattle.std.specs.Prelude.{◌≡◌, IfOk};
-ghost use Rattle.al_judged.specs.Judging.{next, seen_by};
+ghost use Rattle.al_judged.specs.Judging.{next, seen_by, unless};
 ghost use Rattle.al_label.specs.Contexts.{term_judged};
+ghost use Rattle.al_prefixes.specs.TextsAt.{term_with_seen};
 ghost use Rattle.al_query.specs.Asked.{AsksOf, by_name};
 ghost use Rattle.al_query.specs.Reads.{Told};
-ghost use Rattle.al_term.specs.TermViews.{term_seen};
 ghost use Rattle.al_terms_at.specs.TermsAt.{text_names};
 ghost use Rattle.al_tree.specs.ExpressionViews.{expression_seen};
 ghost use Rattle.al_typed.specs.ExpressionViews.{typed_seen};
@@ -15,31 +15,32 @@ use crate::site::Site;
 use crate::words::take_words;
 use al_base::NoMemory;
 use al_heads::Nominal;
-use al_judged::Judged;
+use al_judged::{Fault, Judged, unless};
 use al_label::judge_term;
 use al_nodes::Labeller;
 use al_overload::Context;
+use al_prefixes::context_with_at;
 use al_query::{Answers, Recorder};
 use al_term::Term;
-use al_terms_at::term_at;
 use al_tree::Expression;
 use al_typed::Typed;
 use al_view::Types;
 
+#[tactic(auto, using(al_prefixes::proofs::Seen::seen_unless))]
 fn judge(
     labeller: &Labeller,
     context: &Context,
     allowed: &Option<Nominal>,
     types: &Types,
-    term: Judged<Term>,
+    term: Judged<(Term, Option<Fault>)>,
 ) -> Result<Judged<Typed>, NoMemory>
-    ensures { IfOk result (λ judged. seen_by typed_seen judged ≡ next (seen_by term_seen term) (term_judged labeller.now.predefined labeller.now.own context.now allowed.now types.now)) }
+    ensures { IfOk result (λ judged. seen_by typed_seen judged ≡ next (seen_by term_with_seen term) (λ w. unless w.1 (term_judged labeller.now.predefined labeller.now.own context.now allowed.now types.now w.0))) }
 {
     match term {
-        Ok(term) => {
+        Ok((term, fault)) => {
             let judged = judge_term(labeller, context, allowed, types, &term);
             drop(term);
-            judged
+            Ok(unless(fault, judged?))
         }
         Err(fault) => Ok(Err(fault)),
     }
@@ -61,16 +62,8 @@ pub fn judged_at<A: Answers>(
     ensures asks { IfOk result (λ _. AsksOf (site_units (site_seen site.now)) (by_name (text_names (expression_seen expression.now))) recorder.old.log recorder.new.log) }
 {
     let labeller = site.labeller;
-    let standard = &labeller.predefined.standard;
     let (scope, packages) = (site.scope, site.packages);
-    let term = term_at(
-        labeller.alloc,
-        standard,
-        scope,
-        packages,
-        expression,
-        recorder,
-    )?;
+    let term = context_with_at(labeller, scope, packages, expression, recorder)?;
     judge(labeller, context, allowed, types, term)
 }
 

@@ -1,0 +1,135 @@
+// What is wrong in one prefix.
+ghost use Rattle.std.specs.Prelude.{◌≡◌, IfOk};
+ghost use Rattle.al_judged.specs.Judging.{seen_by};
+ghost use Rattle.al_prefixes.specs.Prefixes.{argument_place, is_at, kept, kept_of, moved, part_fault, place_behind, prefix_fault, reading_fault};
+ghost use Rattle.al_readings.specs.ReadingViews.{reading_seen};
+ghost use Rattle.al_term.specs.TermViews.{term_seen};
+ghost use Rattle.al_typed.specs.ExpressionViews.{typed_seen};
+
+use al_base::{NoMemory, Place, Rule};
+use al_judged::{Fault, Judged};
+use al_label::judge_term;
+use al_nodes::Labeller;
+use al_overload::Context;
+use al_readings::{Reading, mark_in};
+use al_term::{Term, first_place};
+use al_typed::Typed;
+use al_view::{Row, Types};
+use std::alloc::Global;
+
+fn is_at(place: Place, other: Place) -> bool
+    ensures { result ≡ is_at place other }
+{
+    place.line == other.line && place.col == other.col
+}
+
+/// A fault of the prefix as a whole is told of the context round it, which begins at `at`.
+#[tactic(auto, unfolding(crate::specs::Prefixes::moved))]
+fn moved(at: Place, first: Place, fault: Fault) -> Fault
+    ensures { result ≡ moved at first fault }
+{
+    if is_at(fault.place, first) {
+        Fault {
+            place: at,
+            code: fault.code,
+        }
+    } else {
+        fault
+    }
+}
+
+/// A prefix isn't evaluated, so nothing in it fails.
+#[tactic(auto, unfolding(crate::specs::Prefixes::kept))]
+fn kept(at: Place, first: Place, fault: Fault) -> Option<Fault>
+    ensures { result ≡ kept at first fault }
+{
+    if fault.code == Rule::StaticFailure.number() {
+        None
+    } else {
+        Some(moved(at, first, fault))
+    }
+}
+
+fn kept_of(at: Place, first: Place, judged: &Judged<Typed>) -> Option<Fault>
+    ensures { result ≡ kept_of at first (seen_by typed_seen judged.now) }
+{
+    match judged {
+        Ok(_) => None,
+        Err(fault) => kept(at, first, *fault),
+    }
+}
+
+/// An object or a part of one, as a value of any type, in a context that begins at `at`.
+fn part_fault(labeller: &Labeller, at: Place, term: &Term) -> Result<Option<Fault>, NoMemory>
+    ensures { IfOk result (λ fault. fault ≡ part_fault labeller.now.predefined labeller.now.own at (term_seen term.now)) }
+{
+    let types = Types::new(labeller.alloc, Row::empty(labeller.alloc))?;
+    let judged = judge_term(labeller, &Context::Target, &None, &types, term)?;
+    Ok(kept_of(at, first_place(term), &judged))
+}
+
+fn reading_fault(
+    labeller: &Labeller,
+    at: Place,
+    reading: &Reading,
+) -> Result<Option<Fault>, NoMemory>
+    ensures { IfOk result (λ fault. fault ≡ reading_fault labeller.now.predefined labeller.now.own at (reading_seen reading.now)) }
+{
+    match reading {
+        Reading::Value(term) => part_fault(labeller, at, term),
+        Reading::Name(_, _, _) => Ok(None),
+        Reading::Function(_, _, _) => Ok(None),
+        Reading::Image(_, _) => Ok(None),
+        Reading::Range(_, _) => Ok(None),
+    }
+}
+
+/// What is wrong with the prefix of an attribute that stands in a context that begins at `at`: E402 and E403 of its indexes, and what is wrong in
+/// contexts inside them.
+pub(crate) fn prefix_fault(
+    labeller: &Labeller,
+    at: Place,
+    prefix: &Judged<Reading>,
+) -> Result<Option<Fault>, NoMemory>
+    ensures { IfOk result (λ fault. fault ≡ prefix_fault labeller.now.predefined labeller.now.own at (seen_by reading_seen prefix.now)) }
+{
+    match prefix {
+        Ok(reading) => reading_fault(labeller, at, reading),
+        Err(_) => Ok(None),
+    }
+}
+
+fn argument_place(
+    alloc: Global,
+    at: Place,
+    first: Place,
+    reading: &Reading,
+) -> Result<Place, NoMemory>
+    ensures { IfOk result (λ place. place ≡ argument_place at first (reading_seen reading.now)) }
+{
+    match reading {
+        Reading::Name(_, _, views) => {
+            let mark = mark_in(alloc, views.as_slice())?;
+            Ok(if mark.is_some() { first } else { at })
+        }
+        Reading::Image(_, _) => Ok(first),
+        Reading::Value(_) => Ok(at),
+        Reading::Function(_, _, _) => Ok(at),
+        Reading::Range(_, _) => Ok(at),
+    }
+}
+
+/// Where the context of an argument behind this name begins, whose first token is at `first`.
+pub(crate) fn place_behind(
+    alloc: Global,
+    at: Place,
+    first: Place,
+    name: &Judged<Reading>,
+) -> Result<Place, NoMemory>
+    ensures { IfOk result (λ place. place ≡ place_behind at first (seen_by reading_seen name.now)) }
+{
+    match name {
+        Ok(reading) => argument_place(alloc, at, first, reading),
+        Err(_) => Ok(at),
+    }
+}
