@@ -5,8 +5,8 @@ ghost use Rattle.al_judged.specs.Judging.{seen_by};
 ghost use Rattle.al_term.specs.Terms.{TermTree as terms};
 ghost use Rattle.al_term.specs.TermViews.{term_seen, terms_of};
 ghost use Rattle.al_typed.specs.ExpressionViews.{call_seen, typed_seen};
-ghost use Rattle.al_label.specs.Contexts.{call_judged, call_read, stands_at, statement_judged, target_judged, term_judged};
-ghost use Rattle.al_nodes.specs.Views.{actuals_seen};
+ghost use Rattle.al_label.specs.Contexts.{call_judged, call_read, stands_at, statement_judged, target_judged, term_judged, term_read};
+ghost use Rattle.al_nodes.specs.Views.{actuals_seen, reading_seen};
 
 use crate::meaning::interpret;
 use crate::reading::{read, read_actuals, read_inner};
@@ -15,7 +15,8 @@ use al_choice::Labelled;
 use al_heads::{Nominal, Predefined, declared_under, interpret_term};
 use al_judged::{Judged, unless};
 use al_nodes::{
-    Actuals, Labeller, is_variable, judged, nothing_fits, picked_subprogram, unless_variable,
+    Actuals, Labeller, Reading, is_variable, judged, nothing_fits, picked_subprogram,
+    unless_variable,
 };
 use al_overload::Context;
 use al_term::{Term, first_place};
@@ -48,9 +49,24 @@ pub(crate) fn stands_at<'a>(predefined: &'a Predefined, context: &'a Context) ->
     }
 }
 
-/// The labelled tree of a context's term, or what is wrong with it: E402 or E403 at its first token where it has no interpretation,
-/// or several; the first fault of contexts inside it, and the first of E405 and E604 of the whole. An aggregate may stand where a
-/// nominal subtype is given for it. The type that the context wants is among `types` or one that every unit has.
+/// A context's term with what is known of its value: its labelled tree, or the first of what is wrong with it that isn't a static failure. That is E402
+/// or E403 at its first token where it has no interpretation, or several; the first fault of contexts inside it, and E604 of the whole. An aggregate may
+/// stand where a nominal subtype is given for it. The type that the context wants is among `types` or one that every unit has.
+pub fn read_term(
+    labeller: &Labeller,
+    context: &Context,
+    allowed: &Option<Nominal>,
+    types: &Types,
+    term: &Term,
+) -> Result<Reading, NoMemory>
+    ensures { IfOk result (λ r. reading_seen r ≡ term_read labeller.now.predefined labeller.now.own context.now allowed.now types.now (term_seen term.now)) }
+{
+    let at = stands_at(&labeller.predefined, context);
+    let meaning = interpret_term(labeller.alloc, &labeller.predefined, context, allowed, term)?;
+    read_inner(labeller, term, meaning, types, at)
+}
+
+/// The labelled tree of a context's term, which is evaluated, or what is wrong with it: as `read_term`, and E405.
 pub fn judge_term(
     labeller: &Labeller,
     context: &Context,
@@ -60,9 +76,7 @@ pub fn judge_term(
 ) -> Result<Judged<Typed>, NoMemory>
     ensures { IfOk result (λ typed. seen_by typed_seen typed ≡ term_judged labeller.now.predefined labeller.now.own context.now allowed.now types.now (term_seen term.now)) }
 {
-    let at = stands_at(&labeller.predefined, context);
-    let meaning = interpret_term(labeller.alloc, &labeller.predefined, context, allowed, term)?;
-    let reading = read_inner(labeller, term, meaning, types, at)?;
+    let reading = read_term(labeller, context, allowed, types, term)?;
     Ok(judged(reading))
 }
 

@@ -9,5 +9,5 @@ mod pair;
 mod range;
 mod reading;
 
-pub use context::{judge_call, judge_target, judge_term, read_call};
+pub use context::{judge_call, judge_target, judge_term, read_call, read_term};
 pub use range::{Found, FoundType, Pair, judge_bounds, judge_selector};

@@ -2,12 +2,10 @@
 -- what stands in its indexes is part of the context round the attribute (ARM 8.6(4)), and must have its one interpretation there as all else has.
 use Rattle.std.specs.Prelude.{ℕ, Bool, ◌&&◌, ◌==◌, List, [], Option, Some, None, is_some, Result, Ok, Err, if◌then◌else◌}
 use Rattle.al_base.specs.declared.place.Place.{Place}
-use Rattle.al_base.specs.declared.rule.Rule.TheVariants.{StaticFailure}
-use Rattle.al_base.specs.Rules.{number_of}
 use Rattle.al_heads.specs.declared.everywhere.Predefined.{Predefined}
 use Rattle.al_judged.specs.Faults.{fault_at}
 use Rattle.al_judged.specs.declared.fault.Fault.{Fault}
-use Rattle.al_label.specs.Contexts.{term_judged}
+use Rattle.al_label.specs.Contexts.{term_read}
 use Rattle.al_overload.specs.declared.context.Context.TheVariants as contexts
 use Rattle.al_readings.specs.Marks.{mark_in}
 use Rattle.al_readings.specs.Readings.{ReadTree, ReadTree as reads}
@@ -24,17 +22,14 @@ is_at p q = (p.line == q.line) && (p.col == q.col)
 unfoldable pub moved : Place → Place → Fault → Fault
 moved at first f = if is_at f.place first then fault_at at f.code else f
 
--- A prefix isn't evaluated, so nothing in it fails.
-unfoldable pub kept : Place → Place → Fault → Option Fault
-kept at first f = if f.code == number_of StaticFailure then None else Some (moved at first f)
+abbrev pub moved_of : Place → Place → Result TypedTree Fault → Option Fault
+moved_of at first (Ok x) = None
+moved_of at first (Err f) = Some (moved at first f)
 
-abbrev pub kept_of : Place → Place → Result TypedTree Fault → Option Fault
-kept_of at first (Ok x) = None
-kept_of at first (Err f) = kept at first f
-
--- an object or a part of one, as a value of any type
+-- An object or a part of one, as a value of any type. It isn't evaluated, so nothing in it fails: only what is wrong with its tree is told, not what
+-- is known of its value.
 abbrev pub part_fault : Predefined → Option Symbol → Place → TermTree → Option Fault
-part_fault p own at t = kept_of at (first_place t) (term_judged p own contexts.Target None [] t)
+part_fault p own at t = moved_of at (first_place t) (term_read p own contexts.Target None [] t).tree
 
 -- a prefix, in a context that begins there
 abbrev pub reading_fault : Predefined → Option Symbol → Place → ReadTree → Option Fault

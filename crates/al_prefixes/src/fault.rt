@@ -1,14 +1,14 @@
 // What is wrong in one prefix.
 ghost use Rattle.std.specs.Prelude.{◌≡◌, IfOk};
 ghost use Rattle.al_judged.specs.Judging.{seen_by};
-ghost use Rattle.al_prefixes.specs.Prefixes.{argument_place, is_at, kept, kept_of, moved, part_fault, place_behind, prefix_fault, reading_fault};
+ghost use Rattle.al_prefixes.specs.Prefixes.{argument_place, is_at, moved, moved_of, part_fault, place_behind, prefix_fault, reading_fault};
 ghost use Rattle.al_readings.specs.ReadingViews.{reading_seen};
 ghost use Rattle.al_term.specs.TermViews.{term_seen};
 ghost use Rattle.al_typed.specs.ExpressionViews.{typed_seen};
 
-use al_base::{NoMemory, Place, Rule};
+use al_base::{NoMemory, Place};
 use al_judged::{Fault, Judged};
-use al_label::judge_term;
+use al_label::read_term;
 use al_nodes::Labeller;
 use al_overload::Context;
 use al_readings::{Reading, mark_in};
@@ -38,34 +38,22 @@ fn moved(at: Place, first: Place, fault: Fault) -> Fault
     }
 }
 
-/// A prefix isn't evaluated, so nothing in it fails.
-#[tactic(auto, unfolding(crate::specs::Prefixes::kept))]
-fn kept(at: Place, first: Place, fault: Fault) -> Option<Fault>
-    ensures { result ≡ kept at first fault }
-{
-    if fault.code == Rule::StaticFailure.number() {
-        None
-    } else {
-        Some(moved(at, first, fault))
-    }
-}
-
-fn kept_of(at: Place, first: Place, judged: &Judged<Typed>) -> Option<Fault>
-    ensures { result ≡ kept_of at first (seen_by typed_seen judged.now) }
+fn moved_of(at: Place, first: Place, judged: &Judged<Typed>) -> Option<Fault>
+    ensures { result ≡ moved_of at first (seen_by typed_seen judged.now) }
 {
     match judged {
         Ok(_) => None,
-        Err(fault) => kept(at, first, *fault),
+        Err(fault) => Some(moved(at, first, *fault)),
     }
 }
 
-/// An object or a part of one, as a value of any type, in a context that begins at `at`.
+/// An object or a part of one, as a value of any type, in a context that begins at `at`. It isn't evaluated, so nothing in it fails.
 fn part_fault(labeller: &Labeller, at: Place, term: &Term) -> Result<Option<Fault>, NoMemory>
     ensures { IfOk result (λ fault. fault ≡ part_fault labeller.now.predefined labeller.now.own at (term_seen term.now)) }
 {
     let types = Types::new(labeller.alloc, Row::empty(labeller.alloc))?;
-    let judged = judge_term(labeller, &Context::Target, &None, &types, term)?;
-    Ok(kept_of(at, first_place(term), &judged))
+    let reading = read_term(labeller, &Context::Target, &None, &types, term)?;
+    Ok(moved_of(at, first_place(term), &reading.typed))
 }
 
 fn reading_fault(
