@@ -1,5 +1,5 @@
 -- The entries of a map by package, seen as use clauses.
-use Rattle.std.proofs.Common.{◌≡◌, ℕ, cond, List, [], ◌∷◌, Some, Vec, refl, ap}
+use Rattle.std.proofs.Common.{◌≡◌, ℕ, cond, List, [], ◌∷◌, length, Some, Vec, refl, ap}
 use Rattle.std.specs.declared.rc.Rc.{Rc}
 use Rattle.std.specs.Option.{option_map}
 use Rattle.std.specs.List.{AllByRecursion, AllZip}
@@ -33,6 +33,15 @@ module _ {Y W : Type 0} where
         | Equal ↦ refl
         | Greater ↦ ap (λ us. (e.0.items, e.1.value) ∷ us) (uses_of-insert_entry es k v)
       ]
+
+-- of a map without entries there are none, and of no other
+pub uses_none : {Y W : Type 0} (es : List (Vec ℕ Y × Rc PackageUse W)) → length es ≡ 0 → uses_of es ≡ []
+uses_none [] none = refl
+uses_none (e ∷ es) none = absurd (cc)
+
+pub none_uses : {Y W : Type 0} (es : List (Vec ℕ Y × Rc PackageUse W)) → uses_of es ≡ [] → length es ≡ 0
+none_uses [] none = refl
+none_uses (e ∷ es) none = absurd (cc)
 
 copied_items : (xs ys : List ℕ) → AllZip (λ x y. y ≡ x) xs ys → ys ≡ xs
 copied_items [] [] same = refl

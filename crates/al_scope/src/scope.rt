@@ -1,5 +1,5 @@
 // The regions round a place, and what they make visible.
-ghost use Rattle.std.specs.Prelude.{◌≡◌, ◌<◌, ◌≤◌, List, [], ◌∷◌, ◌++◌, ◌↔◌, IfOk, OnErr, OnOk, IsTrue, length, not, true, None, is_ok, if◌then◌else◌};
+ghost use Rattle.std.specs.Prelude.{◌≡◌, ◌<◌, ◌≤◌, List, [], ◌∷◌, ◌++◌, ◌↔◌, IfOk, OnErr, OnOk, IsTrue, length, not, true, Some, None, is_ok, if◌then◌else◌};
 ghost use Rattle.std.specs.List.{list_any};
 ghost use Rattle.std.specs.Option.{option_copied};
 ghost use Rattle.al_view.specs.declared.view.ViewKind.{ViewKind};
@@ -18,7 +18,7 @@ ghost use Rattle.al_scope.specs.VisibleSet.{Has, IsVisible, KeepsOnce, StaysOnce
 use crate::hiding::{Search, has_homograph};
 use crate::questions::{ask_more, visible_part_at};
 use crate::region::{Region, UnitPart};
-use crate::search::{find, search_outward, used_of};
+use crate::search::{append_some, find, search_outward, used_of};
 use crate::uses::UseClauses;
 use al_base::{NoMemory, UnitKey, UnitKind};
 use al_query::{Answers, Recorder};
@@ -26,10 +26,10 @@ use al_view::{Interface, Row, Symbol, View, Views};
 use std::alloc::Global;
 use std::marker::Model;
 
-/// The use clauses that hold in the innermost region. Where there is no region it takes no memory.
+/// The use clauses that hold in the innermost region. Where there are none it takes no memory.
 fn uses_of(alloc: Global, regions: &[Region]) -> Result<UseClauses, NoMemory>
     ensures is { IfOk result (λ uses. uses ≡ uses_at regions.now) }
-    ensures takes_none { regions.now ≡ [] → is_ok result ≡ true }
+    ensures takes_none { uses_at regions.now ≡ [] → is_ok result ≡ true }
 {
     match regions.last() {
         Some(region) => {
@@ -113,10 +113,10 @@ impl Scope {
         Ok(())
     }
 
-    /// A region that continues these parts, in which the use clauses round it hold. Where there is no region it takes no memory.
+    /// A region that continues these parts, in which the use clauses round it hold. Where there are none it takes no memory.
     fn inner_region(&self, parts: Row<UnitPart>) -> Result<Region, NoMemory>
         ensures is { IfOk result (λ region. region ≡ entered parts self.now.regions) }
-        ensures takes_none { self.now.regions ≡ [] → is_ok result ≡ true }
+        ensures takes_none { uses_at self.now.regions ≡ [] → is_ok result ≡ true }
     {
         let uses = uses_of(self.alloc, self.regions.as_slice())?;
         let region = Region::new(self.alloc, parts, uses);
@@ -328,7 +328,8 @@ impl Scope {
 
     /// What is visible by selection of a name in a construct that encloses the place (ARM 4.1.3(4, 13), 8.3(8)): what
     /// the parts that its region continues declare, and what is declared in it so far. None where the construct doesn't
-    /// enclose the place, so that it is no prefix of an expanded name; then it takes no memory.
+    /// enclose the place, so that it is no prefix of an expanded name; then it takes no memory. Nor does it where the region of the construct
+    /// continues no part and nothing of the name is declared in it.
     pub fn selected_within<A: Answers>(
         &self,
         construct: &Symbol,
@@ -340,6 +341,7 @@ impl Scope {
         ensures asks { IfOk result (λ _. AsksOf (part_units (within_parts construct.now self.now)) (by_name (name.now ∷ [])) recorder.old.log recorder.new.log) }
         ensures selected { IfOk result (λ views. HoldsBy recorder.new.log (λ t. IsSelected t self.now.mentioned name.now construct.now self.now.regions views)) }
         ensures takes_none { region_of construct.now self.now.regions ≡ None → is_ok result ≡ true }
+        ensures takes_none_of_none { (region : Region) → region_of construct.now self.now.regions ≡ Some region → region.parts ≡ [] → views_of region.declared name.now ≡ [] → is_ok result ≡ true }
     {
         match region_of(self.regions.as_slice(), construct) {
             Some(region) => {
@@ -376,7 +378,7 @@ impl Scope {
 
     /// What is visible by selection of a name in the package with this symbol (ARM 4.1.3(4), 8.3(8)): where it encloses the
     /// place, what its region has, with what stands in its private part and body so far; else what its visible part declares,
-    /// in text order and its mentioned children last.
+    /// in text order and its mentioned children last. Where its region continues no part and nothing of the name is declared in it, it takes no memory.
     pub fn selected<A: Answers>(
         &self,
         prefix: &Symbol,
@@ -386,6 +388,7 @@ impl Scope {
         ensures asked { recorder.new.asked ≡ recorder.old.asked }
         ensures told { IfOk result (λ views. Told recorder.old.log recorder.new.log (λ t. views ≡ selected_at t name.now prefix.now self.now)) }
         ensures asks { IfOk result (λ _. AsksOf (part_units (selected_parts prefix.now self.now)) (by_name (name.now ∷ [])) recorder.old.log recorder.new.log) }
+        ensures takes_none_of_none { (region : Region) → region_of prefix.now self.now.regions ≡ Some region → region.parts ≡ [] → views_of region.declared name.now ≡ [] → is_ok result ≡ true }
     {
         match region_of(self.regions.as_slice(), prefix) {
             Some(region) => {
@@ -401,7 +404,8 @@ impl Scope {
 
     /// What is visible of a name (ARM 8.3, 8.4): directly visible ones first, innermost region first, then use-visible
     /// ones in the order of their package and text. It looks from the innermost region outward and stops at the first that
-    /// shuts out every other declaration; packages that use clauses open are asked where there is none.
+    /// shuts out every other declaration; packages that use clauses open are asked where there is none. Where there is no region it
+    /// takes no memory.
     pub fn visible<A: Answers>(
         &self,
         name: &[u8],
@@ -413,6 +417,7 @@ impl Scope {
         ensures stops { IfOk result (λ _. HoldsBy recorder.new.log (λ t. AsksParts (searched_parts t name.now self.now) name.now recorder.old.log recorder.new.log)) }
         ensures once { IfOk result (λ views. HoldsBy recorder.new.log (λ t. KeepsOnce t name.now self.now views)) }
         ensures exactly { IfOk result (λ views. HoldsBy recorder.new.log (λ t. (v : ViewKind) → Has views v ↔ IsVisible t name.now self.now v)) }
+        ensures takes_none { self.now.regions ≡ [] → is_ok result ≡ true }
     {
         let regions = self.regions.as_slice();
         let search = search_outward(self.alloc, &self.mentioned, regions, name, recorder)?;
@@ -428,7 +433,7 @@ impl Scope {
             direct: mut visible,
             ..
         } = search;
-        visible.append(used.as_slice())?;
+        append_some(&mut visible, used.as_slice())?;
         Ok(visible)
     }
 }

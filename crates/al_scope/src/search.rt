@@ -19,7 +19,7 @@ use al_view::{Interface, View, Views};
 use std::alloc::Global;
 
 /// Appends the others, if there are any; where there are none it takes no memory.
-fn append_some(views: &mut Views, others: &[View]) -> Result<(), NoMemory>
+pub fn append_some(views: &mut Views, others: &[View]) -> Result<(), NoMemory>
     ensures is { OnOk result (views.new ≡ views.old ++ others.now) }
     ensures takes_none { others.now ≡ [] → is_ok result ≡ true }
 {
@@ -78,7 +78,7 @@ pub fn search_outward<A: Answers>(
 }
 
 /// What is potentially use-visible of a name, by the use clauses that hold in the innermost region. Where none hold it takes
-/// no memory.
+/// no memory; where there is no region, it is nothing.
 fn potential_of<A: Answers>(
     alloc: Global,
     mentioned: &Interface,
@@ -91,6 +91,7 @@ fn potential_of<A: Answers>(
     ensures asks { IfOk result (λ _. AsksParts (use_parts (uses_at regions.now)) name.now recorder.old.log recorder.new.log) }
     ensures each { IfOk result (λ _. EachOnce (uses_at regions.now)) }
     ensures takes_none { uses_at regions.now ≡ [] → is_ok result ≡ true }
+    ensures none { regions.now ≡ [] → IfOk result (λ views. views ≡ []) }
 {
     match regions.last() {
         Some(region) => {
@@ -102,7 +103,7 @@ fn potential_of<A: Answers>(
 }
 
 /// What is use-visible of a name, of which the regions have this. No package is asked where a region has what shuts out
-/// every other declaration, and no memory is taken.
+/// every other declaration, and no memory is taken; nor where there is no region, and then it is nothing.
 pub fn used_of<A: Answers>(
     alloc: Global,
     mentioned: &Interface,
@@ -116,6 +117,8 @@ pub fn used_of<A: Answers>(
     ensures asks { IfOk result (λ _. AsksParts (if search.now.is_decided then [] else use_parts (uses_at regions.now)) name.now recorder.old.log recorder.new.log) }
     ensures once { IfOk result (λ used. HoldsBy recorder.new.log (λ t. DeclareOnce t mentioned.now name.now (uses_at regions.now) → AreApart t mentioned.now name.now → Once used)) }
     ensures takes_none { search.now.is_decided ≡ true → is_ok result ≡ true }
+    ensures takes_none_outside { regions.now ≡ [] → is_ok result ≡ true }
+    ensures none { regions.now ≡ [] → IfOk result (λ used. used ≡ []) }
 {
     if search.is_decided {
         return Ok(Views::new(alloc));

@@ -114,10 +114,15 @@ impl UseClauses {
         }
     }
 
-    /// The same use clauses once more.
+    /// The same use clauses once more. Of none it takes no memory.
+    #[tactic(auto, using(crate::proofs::UseLemmas::uses_none, crate::proofs::UseLemmas::none_uses))]
     pub fn copy(&self) -> Result<Self, NoMemory>
-        ensures { IfOk result (λ copy. copy ≡ self.now) }
+        ensures is { IfOk result (λ copy. copy ≡ self.now) }
+        ensures takes_none { self.now ≡ [] → is_ok result ≡ true }
     {
+        if self.by_package.is_empty() {
+            return Ok(UseClauses::new(self.alloc));
+        }
         let by_package = self.by_package.clone()?;
         Ok(UseClauses {
             alloc: self.alloc,

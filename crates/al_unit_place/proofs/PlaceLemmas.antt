@@ -1,6 +1,7 @@
 -- Use clauses one after the other, and questions of some units.
-use Rattle.std.proofs.Common.{◌≡◌, ℕ, ◌+◌, ◌<◌, zero, suc, List, [], ◌∷◌, ◌++◌, Bool, true, false, cond, ◌||◌, inl, inr, map, take, drop, length, get_or, filter, refl, sym, ◌∙◌, ap, subst, arith}
-use Rattle.std.specs.List.{flat_map, list_any}
+use Rattle.std.proofs.Common.{◌≡◌, ℕ, ◌+◌, ◌<◌, zero, suc, List, [], ◌∷◌, ◌++◌, Bool, true, false, cond, ◌||◌, Option, Some, None, inl, inr, map, take, drop, length, get_or, filter, refl, sym, ◌∙◌, ap, subst, arith}
+use Rattle.std.specs.Option.{is_some, option_map}
+use Rattle.std.specs.List.{flat_map, last_or, list_any}
 use Rattle.std.proofs.lemmas.List.{at_drop_more, take_more}
 use Rattle.al_base.specs.declared.unit_key.UnitKey.{UnitKey}
 use Rattle.al_view.specs.declared.part.Part.{Part}
@@ -226,3 +227,17 @@ asks-one old new q unit p a h is e = asks_of-one by_property old new q unit a (a
 pub map-after : {X Y Z : Type 0} (f : Y → Z) (g : X → Y) (xs : List X) → map (λ x. f (g x)) xs ≡ map f (map g xs)
 map-after f g [] = refl
 map-after f g (x ∷ xs) = ap (λ l. f (g x) ∷ l) (map-after f g xs)
+
+-- a unit has no ancestors just where it has no parent
+
+ends : {X : Type 0} (x : X) (xs : List X) → last_or (Some x) xs ≡ None → ⊥
+ends x [] none = absurd (cc)
+ends x (y ∷ xs) none = ends y xs none
+
+no-last : {X : Type 0} (xs : List X) → last_or None xs ≡ None → xs ≡ []
+no-last [] none = refl
+no-last (x ∷ xs) none = absurd (ends x xs none)
+
+pub no_parent : {B X : Type 0} (f : B → X) (o : Option B) (xs : List X) → is_some o ≡ false → option_map f o ≡ last_or None xs → xs ≡ []
+no_parent f None xs none is = no-last xs (sym is)
+no_parent f (Some b) xs none is = absurd (cc)

@@ -4,7 +4,7 @@ ghost use Rattle.std.specs.List.{flat_map};
 ghost use Rattle.al_unit_graph.specs.Names.{lineage};
 ghost use Rattle.al_query.specs.Asked.{AsksOf, by_property};
 ghost use Rattle.al_query.specs.Reads.{Told};
-ghost use Rattle.al_unit_place.specs.UnitPlaces.{asked_units, lineages, mentioned_names, stub_units, withs_of};
+ghost use Rattle.al_unit_place.specs.UnitPlaces.{ancestor_units, asked_units, library_name, lineages, mentioned_names, own_declaration, stub_units, withs_of};
 
 use crate::own::OwnText;
 use crate::parts::property_of;
@@ -108,9 +108,10 @@ fn add_stubs(alloc: Global, stubs: &[UnitPart], units: &mut Vec<UnitKey>) -> Res
     Ok(())
 }
 
-/// The units that are asked: the ancestors, the bodies round a subunit, and the declarations of bodies.
+/// The units that are asked: the ancestors, the bodies round a subunit, and the declarations of bodies. Where there are none it takes no memory.
 fn asked_units_of(alloc: Global, own: &OwnText) -> Result<Vec<UnitKey>, NoMemory>
-    ensures { IfOk result (λ units. units.items ≡ asked_units own.now) }
+    ensures is { IfOk result (λ units. units.items ≡ asked_units own.now) }
+    ensures takes_none { ancestor_units (library_name own.now) ≡ [] → own.now.stubs ≡ [] → own_declaration own.now.unit ≡ [] → is_ok result ≡ true }
 {
     let mut units = ancestors_of(alloc, library_name_of(own))?;
     add_stubs(alloc, own.stubs.as_slice(), &mut units)?;

@@ -3,7 +3,7 @@ ghost use Rattle.std.specs.Prelude.{◌≡◌, ◌<◌, [], ◌∷◌, ◌||◌,
 ghost use Rattle.al_view.specs.declared.part.Part.TheVariants.{Private};
 ghost use Rattle.al_query.specs.Asked.{AsksOf, by_property};
 ghost use Rattle.al_query.specs.Reads.{Told};
-ghost use Rattle.al_unit_place.specs.UnitPlaces.{asked_units, opened, outward_opened, part_of, private_regions, some_private, with_part_of};
+ghost use Rattle.al_unit_place.specs.UnitPlaces.{ancestor_units, asked_units, library_name, opened, outward_opened, own_declaration, part_of, private_regions, some_private, with_part_of};
 
 use crate::own::OwnText;
 use crate::parts::use_part;
@@ -114,7 +114,7 @@ fn open_each<A: Answers>(
 
 /// From here on the private parts of the ancestors are seen, with the use clauses that stand in them: where the private part of a
 /// package's declaration begins, and after the profile of a library subprogram's body (ARM 8.2(5), 8.4(7)). The place is in the
-/// unit's own region.
+/// unit's own region. Where there are no ancestors it takes no memory, but for the body of a library unit.
 pub fn enter_private_part<A: Answers>(
     alloc: Global,
     scope: &mut Scope,
@@ -127,6 +127,7 @@ pub fn enter_private_part<A: Answers>(
     ensures asks { IfOk result (λ _. AsksOf (asked_units own.now) by_property recorder.old.log recorder.new.log) }
     ensures depth { length scope.new.regions ≡ length scope.old.regions }
     ensures mentioned { scope.new.mentioned ≡ scope.old.mentioned }
+    ensures takes_none { ancestor_units (library_name own.now) ≡ [] → own_declaration own.now.unit ≡ [] → is_ok result ≡ true }
 {
     let units = ancestors_of(alloc, library_name_of(own))?;
     let sees = sees_private_parts(alloc, own, recorder)?;

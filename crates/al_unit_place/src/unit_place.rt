@@ -13,7 +13,7 @@ use crate::parts::{continue_parts, copied_part, enter_as, property_of};
 use al_base::{Name, NoMemory, UnitKey, UnitKind};
 use al_query::{Answers, Property, Recorder};
 use al_scope::{Scope, UnitPart};
-use al_unit_graph::ancestors;
+use al_unit_graph::{ancestors, parent_of};
 use al_view::{Part, Row, Symbol, View, ViewKind, copied_unit};
 use std::alloc::Global;
 
@@ -28,10 +28,14 @@ pub fn declaration_of(alloc: Global, name: &[u8]) -> Result<UnitKey, NoMemory>
     })
 }
 
-/// The declarations of the ancestors, the farthest first.
+/// The declarations of the ancestors, the farthest first. Where there are none it takes no memory.
 pub fn ancestors_of(alloc: Global, name: &[u8]) -> Result<Vec<UnitKey>, NoMemory>
-    ensures { IfOk result (λ units. units.items ≡ ancestor_units name.now) }
+    ensures is { IfOk result (λ units. units.items ≡ ancestor_units name.now) }
+    ensures takes_none { ancestor_units name.now ≡ [] → is_ok result ≡ true }
 {
+    if parent_of(name).is_none() {
+        return Ok(Vec::new(alloc));
+    }
     let names = ancestors(alloc, name)?;
     let mut units = Vec::new(alloc);
     for ancestor in names.as_slice() {

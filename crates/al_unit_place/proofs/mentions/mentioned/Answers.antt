@@ -10,10 +10,10 @@ pub returns-clause-told : goal.returns-clause-told
 returns-clause-told g c t h =
     let told = c.in_ok-add_each_withs.ensures.told t h in
     let own = c.args.own.now in
-    let units = c.as_slice-2.ensures.value ∙ c.in_ok-units.ensures in
+    let units = c.as_slice-2.ensures.value ∙ c.in_ok-units.ensures.is in
     let first = c.in_ok-add_lineage.ensures ∙ ap (λ (l : List (List ℕ)). l ++ lineage c.library_name_of-library.result.now) c.new-names.ensures.items ∙ ap lineage c.library_name_of-library.ensures in
     let second = c.in_ok-add_lineages.ensures.is ∙ ap (λ (us : List UnitKey). c.add_lineage.new.names.items ++ lineages us) c.as_slice.ensures ∙ ap (λ (l : List (List ℕ)). l ++ lineages own.withs) first in
     (told.0, told.1 ∙ ap (λ (us : List UnitKey). c.add_lineages.new.names.items ++ flat_map (λ u. lineages (withs_of t u)) us) units ∙ ap (λ (l : List (List ℕ)). l ++ flat_map (λ u. lineages (withs_of t u)) (asked_units own)) second)
 
 pub returns-clause-asks : goal.returns-clause-asks
-returns-clause-asks g c = asks-same c.as_slice-2.result.now (asked_units c.args.own.now) c.args.recorder.now.log c.add_each_withs.new.recorder.log (c.as_slice-2.ensures.value ∙ c.in_ok-units.ensures) c.in_ok-add_each_withs.ensures.asks
+returns-clause-asks g c = asks-same c.as_slice-2.result.now (asked_units c.args.own.now) c.args.recorder.now.log c.add_each_withs.new.recorder.log (c.as_slice-2.ensures.value ∙ c.in_ok-units.ensures.is) c.in_ok-add_each_withs.ensures.asks

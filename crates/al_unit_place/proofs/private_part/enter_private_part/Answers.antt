@@ -12,7 +12,7 @@ returns-clause-told g c t h =
     let before = c.args.scope.now.regions in
     let told = c.in_ok-open_each.ensures.told t h in
     let sees = c.in_ok-sees.ensures.told t told.0 in
-    let units = c.as_slice.ensures.value ∙ c.in_ok-units.ensures ∙ ap ancestor_units c.library_name_of.ensures in (
+    let units = c.as_slice.ensures.value ∙ c.in_ok-units.ensures.is ∙ ap ancestor_units c.library_name_of.ensures in (
       sees.0,
       told.1
           ∙ ap (λ us. outward_opened t c.in_ok-sees.sees us before) units
@@ -28,7 +28,7 @@ returns-clause-asks g c =
     let far = ancestor_units (library_name own) in
     let round = flat_map stub_units own.stubs in
     let declaration = own_declaration own.unit in
-    let units = c.as_slice.ensures.value ∙ c.in_ok-units.ensures ∙ ap ancestor_units c.library_name_of.ensures in
+    let units = c.as_slice.ensures.value ∙ c.in_ok-units.ensures.is ∙ ap ancestor_units c.library_name_of.ensures in
     let ancestors = asks-same c.as_slice.result.now far mid new units c.in_ok-open_each.ensures.asks in
     asks-both (asked_units own) old mid new
     (asks_of-right (far ++ round) declaration by_property old mid c.in_ok-sees.ensures.asks)

@@ -18,7 +18,7 @@ returns-clause-told g c t h =
     let sees = c.in_ok-sees.ensures.told t anc.0 in
     let start = c.args.scope.now.regions in
     let first = start ++ entered_as (Some standard_symbol) standard_parts start ∷ [] in
-    let units : c.as_slice.result.now ≡ ancestor_units (library_name own) = c.as_slice.ensures.value ∙ c.in_ok-units.ensures ∙ ap ancestor_units c.library_name_of.ensures in
+    let units : c.as_slice.result.now ≡ ancestor_units (library_name own) = c.as_slice.ensures.value ∙ c.in_ok-units.ensures.is ∙ ap ancestor_units c.library_name_of.ensures in
     let round = anc.1
     ∙ ap (λ (rs : List Region). inward t c.in_ok-sees.sees c.as_slice.result.now rs) c.in_ok-enter_standard.ensures.regions
     ∙ ap (λ (us : List UnitKey). inward t c.in_ok-sees.sees us first) units
@@ -39,7 +39,7 @@ returns-clause-asks g c =
     let round = flat_map stub_units own.stubs in
     let declaration = own_declaration own.unit in
     let sees = asks_of-right (far ++ round) declaration by_property before at-sees c.in_ok-sees.ensures.asks in
-    let units = asks-same c.as_slice.result.now far at-sees at-ancestors (c.as_slice.ensures.value ∙ c.in_ok-units.ensures ∙ ap ancestor_units c.library_name_of.ensures) c.in_ok-enter_ancestors.ensures.asks in
+    let units = asks-same c.as_slice.result.now far at-sees at-ancestors (c.as_slice.ensures.value ∙ c.in_ok-units.ensures.is ∙ ap ancestor_units c.library_name_of.ensures) c.in_ok-enter_ancestors.ensures.asks in
     let stubs = asks-same (flat_map stub_units c.as_slice-2.result.now) round at-ancestors at-stubs (ap (flat_map stub_units) c.as_slice-2.ensures) c.in_ok-enter_stubs.ensures.asks in
     let both = asks-then far round at-sees at-ancestors at-stubs units stubs in
     let rest = asks-then (far ++ round) declaration at-sees at-stubs after both c.in_ok-enter_own.ensures.asks in

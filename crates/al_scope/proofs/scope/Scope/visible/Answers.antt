@@ -26,14 +26,14 @@ returns-clause-told g c t h =
     let more = c.in_ok-used.ensures.told t h in
     let told = c.in_ok-search.ensures.told t more.0 in
     let used = more.1 founds told.1 in
-    let is : c.append.new.self ≡ visible_at t name here =
-    c.in_ok-append.ensures
+    let is : c.append_some.new.views ≡ visible_at t name here =
+    c.in_ok-append_some.ensures.is
     ∙ ap (λ l. c.in_ok-search.search.direct ++ l) (c.as_slice.ensures ∙ used)
     ∙ ap (λ l. l ++ use_visible founds all) told.1.views in
-    (told.0, subst (λ (p : Place). c.append.new.self ≡ visible_at t name p) same is)
+    (told.0, subst (λ (p : Place). c.append_some.new.views ≡ visible_at t name p) same is)
 
 pub returns-clause-exactly : goal.returns-clause-exactly
-returns-clause-exactly g c t h v = visible-exactly_is t c.args.name.now c.args.self.now c.append.new.self (returns-clause-told g c t h).1 v
+returns-clause-exactly g c t h v = visible-exactly_is t c.args.name.now c.args.self.now c.append_some.new.views (returns-clause-told g c t h).1 v
 
 pub returns-clause-once : goal.returns-clause-once
 returns-clause-once g c t h none two apart =
