@@ -1,5 +1,5 @@
 #!/usr/bin/env python3
-"""giving_up.py [NAME ..]: bodies that no contract excludes: parsers, graphs of units, recorders and sessions that answer want of memory, and
+"""giving_up.py [NAME ..]: bodies that no contract excludes: parsers and sessions that answer want of memory, and
 a writer that doesn't pass on what is held back.
 
 A contract can't say that memory is there, so a parser that gives up at `delay` is proved; nor what a device does at a flush. Stored

@@ -14,6 +14,7 @@ use al_build_order::laws::order_is_for_builds;
 use al_entries::Entry;
 use al_query::Answers;
 use al_recheck::{KeptUnits, Rechecked};
+use al_shortage::Shortages;
 use al_unit_check::UnitCheck;
 use al_unit_faults::{FileFaults, faults_by_file};
 use al_unit_graph::Sources;
@@ -57,7 +58,7 @@ pub fn check_library<C: UnitCheck, P: Answers>(
     ensures entries { kept.new.entries ≡ kept.old.entries }
 {
     order_is_for_builds();
-    let faults = faults_by_file(alloc, sources)?;
+    let faults = faults_by_file(alloc, sources, &mut Shortages::new())?;
     let order = dependence_order(alloc, sources, faults.as_slice())?;
     let rechecked = kept.recheck(predefined, sources, order.as_slice())?;
     let Rechecked { entries, checked } = rechecked;

@@ -1,5 +1,5 @@
 -- What agreeing with a log says of a question in it.
-use Rattle.std.proofs.Common.{◌≡◌, List, [], ◌∷◌, ◌++◌, Bool, true, false, cond, Some, None, refl, sym, ◌∙◌, ap, subst}
+use Rattle.std.proofs.Common.{◌≡◌, List, [], ◌∷◌, ◌++◌, Bool, true, false, cond, Some, None, Result, Ok, IfOk, refl, sym, ◌∙◌, ap, subst}
 use Rattle.indexmap.specs.IndexMap.{insert_entry}
 use Rattle.al_query.specs.declared.query.Query.{Query}
 use Rattle.al_query.specs.declared.answer.AnswerKind.{AnswerKind}
@@ -46,3 +46,7 @@ pub agrees-push_is : (t : Query → AnswerKind) (log new : List (Query × Answer
 agrees-push_is t log new q asked a k is one same h =
     let both = agrees-push t log q k (subst (λ (l : List (Query × AnswerKind)). Agrees t l) is h) in
     (both.0, sym (ap t one) ∙ both.1 ∙ same)
+
+-- what a call gave, where the same result was handed on
+pub handed_on : {X E : Type 0} (given : Result X E) (x y : X) → Ok x ≡ given → IfOk given (λ z. z ≡ y) → x ≡ y
+handed_on given x y same holds = subst (λ r. IfOk r (λ z. z ≡ y)) (sym same) holds

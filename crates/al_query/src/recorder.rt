@@ -2,6 +2,7 @@
 ghost use Rattle.std.specs.Prelude.{◌≡◌, ◌&&◌, ◌||◌, List, [], ◌∷◌, ◌++◌, IfOk, OnErr, None, true, is_ok, length, slice_get, if◌then◌else◌};
 ghost use Rattle.std.specs.Option.{option_copied, option_map};
 ghost use Rattle.al_base.specs.declared.unit_key.UnitKey.{UnitKey};
+ghost use Rattle.al_shortage.specs.Counts.{counted};
 ghost use Rattle.al_query.specs.declared.query.Query.{Query};
 ghost use Rattle.al_query.specs.declared.answer.AnswerKind.{AnswerKind};
 ghost use Rattle.al_query.specs.Known.{Learns};
@@ -10,6 +11,7 @@ ghost use Rattle.al_query.specs.Reads.{Agrees, Agrees-prop, Told, logged, record
 use crate::answer::Answer;
 use crate::query::Query;
 use al_base::NoMemory;
+use al_shortage::Shortages;
 use indexmap::IndexMap;
 use std::alloc::Global;
 use std::marker::Model;
@@ -82,12 +84,13 @@ impl ReadLog {
     }
 }
 
-/// Asks, and keeps what was asked.
+/// Asks, and keeps what was asked. Each want of memory that it answers is counted.
 #[derive(Drop)]
 pub struct Recorder<A: Answers> {
     alloc: Global,
     asked: A,
     log: ReadLog,
+    shortages: Shortages,
 }
 
 impl<A: Answers> Model for Recorder<A> {
@@ -97,7 +100,7 @@ impl<A: Answers> Model for Recorder<A> {
 
     ghost use Rattle.al_query.specs.Reads.{Agrees};
 
-    ghost view = { λ r. record { asked = r.asked; log = r.log } };
+    ghost view = { λ r. record { asked = r.asked; log = r.log; shortages = r.shortages } };
 
     ghost invariant = { λ r. Agrees (A.table r.asked) r.log };
 }
@@ -107,16 +110,19 @@ impl<A: Answers> Recorder<A> {
     pub fn new(alloc: Global, asked: A) -> Self
         ensures asked { result.asked ≡ asked }
         ensures log { result.log ≡ [] }
+        ensures shortages { result.shortages ≡ 0 }
     {
         Recorder {
             alloc,
             asked,
             log: ReadLog::new(alloc),
+            shortages: Shortages::new(),
         }
     }
 
     /// The answer, recorded where the log lacks the question, an empty one too. A table that agrees with the log from
-    /// now on gives this answer too.
+    /// now on gives this answer too. It doesn't give up: where it answers want of memory, a growth was refused to it or to who
+    /// is asked, and is counted; elsewhere none was.
     pub fn ask(&mut self, query: &Query) -> Result<Answer, NoMemory>
         ensures asked { self.new.asked ≡ self.old.asked }
         ensures answer { IfOk result (λ answer. answer ≡ A.table self.old.asked query.now) }
@@ -124,15 +130,16 @@ impl<A: Answers> Recorder<A> {
         ensures told { IfOk result (λ answer. Told self.old.log self.new.log (λ t. t query.now ≡ answer)) }
         ensures learns { IfOk result (λ answer. Learns self.old.log self.new.log query.now answer) }
         ensures err { OnErr result (self.new.log ≡ self.old.log) }
+        ensures shortages { self.new.shortages ≡ counted (is_ok result) self.old.shortages }
     {
         if let Some(answer) = self.log.find(query) {
-            let answer = answer.share()?;
+            let answer = self.shortages.of(answer.share())?;
             return Ok(answer);
         }
-        let answer = self.asked.ask(query)?;
-        let kept = answer.share()?;
-        let query = query.copy(self.alloc)?;
-        self.log.push(query, kept)?;
+        let answer = self.shortages.of(self.asked.ask(query))?;
+        let kept = self.shortages.of(answer.share())?;
+        let query = self.shortages.of(query.copy(self.alloc))?;
+        self.shortages.of(self.log.push(query, kept))?;
         Ok(answer)
     }
 

@@ -25,6 +25,7 @@ use crate::readings::{insert, reading_at};
 use al_base::{Diagnostic, Files, Name, NoMemory, UnitKey};
 use al_header::header_of;
 use al_obsolete::{obsolete, units};
+use al_shortage::Shortages;
 use al_tree::CompilationUnit;
 use al_unit_faults::{Dependents, FileFaults, faults, faults_by_file};
 use al_unit_graph::{Contents, Source, Sources};
@@ -269,7 +270,7 @@ impl Catalog {
     pub fn faults(&self) -> Result<Vec<Diagnostic>, NoMemory>
         ensures { IfOk result (λ found. map finding_of found.items ≡ graph_faults (library_of self.now)) }
     {
-        let found = faults(self.alloc, &self.sources)?;
+        let found = faults(self.alloc, &self.sources, &mut Shortages::new())?;
         Ok(found)
     }
 
@@ -277,7 +278,7 @@ impl Catalog {
     pub fn faults_by_file(&self) -> Result<Vec<FileFaults>, NoMemory>
         ensures { IfOk result (λ found. map file_faults_seen found.items ≡ map (λ file. (file, file_faults (library_of self.now) file)) (keys_of self.now)) }
     {
-        let found = faults_by_file(self.alloc, &self.sources)?;
+        let found = faults_by_file(self.alloc, &self.sources, &mut Shortages::new())?;
         Ok(found)
     }
 

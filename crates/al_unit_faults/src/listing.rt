@@ -1,8 +1,10 @@
 // All that is wrong with the units of a library as a graph.
-ghost use Rattle.std.specs.Prelude.{◌≡◌, ◌++◌, length, map, IfOk, OnOk};
+ghost use Rattle.std.specs.Prelude.{◌≡◌, ◌++◌, ◌∷◌, [], length, map, IfOk, OnOk, is_ok};
 ghost use Rattle.std.specs.Map.{keys_of};
 ghost use Rattle.al_base.specs.Batch.{finding_of};
+ghost use Rattle.al_shortage.specs.Counts.{counted};
 ghost use Rattle.al_unit_faults.specs.FilesSeen.{file_faults_seen};
+ghost use Rattle.al_unit_graph.specs.FaultLists.{finding_if};
 ghost use Rattle.al_unit_graph.specs.Headers.{Headed, key_of_unit};
 ghost use Rattle.al_unit_graph.specs.Library.{held, unit_in};
 ghost use Rattle.al_unit_graph.specs.Views.{header_seen};
@@ -14,8 +16,30 @@ use crate::cycles::Cycles;
 use crate::order::add_ascending;
 use crate::private::add_private_faults;
 use al_base::{Diagnostic, Name, NoMemory, Place};
+use al_shortage::Shortages;
 use al_unit_graph::{Contents, Header, Sources, name_faults};
 use std::alloc::Global;
+
+/// Adds that a unit depends on itself, where it does.
+fn add_cycle(
+    alloc: Global,
+    is_so: bool,
+    file: &[u8],
+    found: &mut Vec<Diagnostic>,
+) -> Result<(), NoMemory>
+    ensures { OnOk result (map finding_of found.new.items ≡ map finding_of found.old.items ++ finding_if is_so file.now (record { line = 1; col = 1 }) 203) }
+{
+    if is_so {
+        let file = Name::from_slice(alloc, file)?;
+        let place = Place { line: 1, col: 1 };
+        found.push(Diagnostic {
+            file,
+            place,
+            code: 203,
+        })?;
+    }
+    Ok(())
+}
 
 /// What is wrong with a unit whose name is right.
 fn rule_faults(
@@ -25,22 +49,16 @@ fn rule_faults(
     cycles: &Cycles,
     file: &[u8],
     header: &Header,
+    shortages: &mut Shortages,
 ) -> Result<Vec<Diagnostic>, NoMemory>
     requires count { count ≡ length sources.now }
     requires cycles { told cycles.now file.now ≡ depends_on_itself sources.now (key_of_unit (header_seen header.now)) }
-    ensures { IfOk result (λ found. map finding_of found.items ≡ rule_faults sources.now file.now (header_seen header.now)) }
+    ensures found { IfOk result (λ found. map finding_of found.items ≡ rule_faults sources.now file.now (header_seen header.now)) }
+    ensures shortages { shortages.new ≡ counted (is_ok result) shortages.old }
 {
-    let mut found = sources.own_faults(file, header)?;
-    if cycles.has(file) {
-        let file = Name::from_slice(alloc, file)?;
-        let place = Place { line: 1, col: 1 };
-        found.push(Diagnostic {
-            file,
-            place,
-            code: 203,
-        })?;
-    }
-    add_private_faults(alloc, sources, count, file, header, &mut found)?;
+    let mut found = sources.own_faults(file, header, shortages)?;
+    shortages.of(add_cycle(alloc, cycles.has(file), file, &mut found))?;
+    shortages.of(add_private_faults(alloc, sources, count, file, header, &mut found))?;
     Ok(found)
 }
 
@@ -52,17 +70,19 @@ fn header_faults(
     cycles: &Cycles,
     file: &[u8],
     header: &Header,
+    shortages: &mut Shortages,
 ) -> Result<Vec<Diagnostic>, NoMemory>
     requires count { count ≡ length sources.now }
     requires cycles { TellsCycles sources.now cycles.now }
     requires of_file { unit_in sources.now file.now ≡ held file.now (Headed (header_seen header.now)) }
-    ensures { IfOk result (λ found. map finding_of found.items ≡ header_faults sources.now file.now (header_seen header.now)) }
+    ensures found { IfOk result (λ found. map finding_of found.items ≡ header_faults sources.now file.now (header_seen header.now)) }
+    ensures shortages { shortages.new ≡ counted (is_ok result) shortages.old }
 {
-    let found = name_faults(alloc, file, header)?;
+    let found = name_faults(alloc, file, header, shortages)?;
     if !found.is_empty() {
         return Ok(found);
     }
-    rule_faults(alloc, sources, count, cycles, file, header)
+    rule_faults(alloc, sources, count, cycles, file, header, shortages)
 }
 
 /// Adds what is wrong with a file as a unit, by place and number.
@@ -74,18 +94,20 @@ fn add_file_faults(
     cycles: &Cycles,
     file: &[u8],
     found: &mut Vec<Diagnostic>,
+    shortages: &mut Shortages,
 ) -> Result<(), NoMemory>
     requires count { count ≡ length sources.now }
     requires cycles { TellsCycles sources.now cycles.now }
-    ensures { OnOk result (map finding_of found.new.items ≡ map finding_of found.old.items ++ file_faults sources.now file.now) }
+    ensures found { OnOk result (map finding_of found.new.items ≡ map finding_of found.old.items ++ file_faults sources.now file.now) }
+    ensures shortages { shortages.new ≡ counted (is_ok result) shortages.old }
 {
     let Some(source) = sources.source_at(file) else {
         return Ok(());
     };
     match &source.contents {
         Contents::Headed(header) => {
-            let faults = header_faults(alloc, sources, count, cycles, file, header)?;
-            add_ascending(alloc, file, faults.as_slice(), found)
+            let faults = header_faults(alloc, sources, count, cycles, file, header, shortages)?;
+            shortages.of(add_ascending(alloc, file, faults.as_slice(), found))
         }
         Contents::Unread(_, _) => Ok(()),
     }
@@ -95,14 +117,27 @@ fn add_file_faults(
 /// that it wants another file (201) or is reserved (207); elsewhere units and bodies that aren't there (202), cycles (203), private
 /// children that may not be mentioned (204), parents (205), stubs (206) and bodies that don't fit (209). A file that is no unit has
 /// none of these.
-pub fn faults(alloc: Global, sources: &Sources) -> Result<Vec<Diagnostic>, NoMemory>
-    ensures { IfOk result (λ found. map finding_of found.items ≡ graph_faults sources.now) }
+pub fn faults(
+    alloc: Global,
+    sources: &Sources,
+    shortages: &mut Shortages,
+) -> Result<Vec<Diagnostic>, NoMemory>
+    ensures found { IfOk result (λ found. map finding_of found.items ≡ graph_faults sources.now) }
+    ensures shortages { shortages.new ≡ counted (is_ok result) shortages.old }
 {
-    let files = sources.file_names()?;
-    let cycles = Cycles::of(alloc, sources, files.as_slice())?;
+    let files = shortages.of(sources.file_names())?;
+    let cycles = shortages.of(Cycles::of(alloc, sources, files.as_slice()))?;
     let mut found = Vec::new(alloc);
     for file in files.as_slice() {
-        add_file_faults(alloc, sources, files.len(), &cycles, file, &mut found)?;
+        add_file_faults(
+            alloc,
+            sources,
+            files.len(),
+            &cycles,
+            file,
+            &mut found,
+            shortages,
+        )?;
     }
     Ok(found)
 }
@@ -114,18 +149,39 @@ pub struct FileFaults {
     pub faults: Vec<Diagnostic>,
 }
 
-/// The same file by file, in the order of the names: also the files that have none.
-pub fn faults_by_file(alloc: Global, sources: &Sources) -> Result<Vec<FileFaults>, NoMemory>
-    ensures { IfOk result (λ all. map file_faults_seen all.items ≡ map (λ file. (file, file_faults sources.now file)) (keys_of sources.now)) }
+/// Adds a file's faults.
+fn add_file(all: &mut Vec<FileFaults>, file: FileFaults) -> Result<(), NoMemory>
+    ensures { OnOk result (all.new.items ≡ all.old.items ++ file ∷ []) }
 {
-    let files = sources.file_names()?;
-    let cycles = Cycles::of(alloc, sources, files.as_slice())?;
+    all.push(file)?;
+    Ok(())
+}
+
+/// The same file by file, in the order of the names: also the files that have none.
+pub fn faults_by_file(
+    alloc: Global,
+    sources: &Sources,
+    shortages: &mut Shortages,
+) -> Result<Vec<FileFaults>, NoMemory>
+    ensures found { IfOk result (λ all. map file_faults_seen all.items ≡ map (λ file. (file, file_faults sources.now file)) (keys_of sources.now)) }
+    ensures shortages { shortages.new ≡ counted (is_ok result) shortages.old }
+{
+    let files = shortages.of(sources.file_names())?;
+    let cycles = shortages.of(Cycles::of(alloc, sources, files.as_slice()))?;
     let mut all = Vec::new(alloc);
     for file in files.as_slice() {
         let mut faults = Vec::new(alloc);
-        add_file_faults(alloc, sources, files.len(), &cycles, file, &mut faults)?;
-        let file = Name::from_slice(alloc, file)?;
-        all.push(FileFaults { file, faults })?;
+        add_file_faults(
+            alloc,
+            sources,
+            files.len(),
+            &cycles,
+            file,
+            &mut faults,
+            shortages,
+        )?;
+        let file = shortages.of(Name::from_slice(alloc, file))?;
+        shortages.of(add_file(&mut all, FileFaults { file, faults }))?;
     }
     Ok(all)
 }

@@ -1,9 +1,10 @@
 // What is wrong with a unit by itself and with what it names.
-ghost use Rattle.std.specs.Prelude.{◌≡◌, ◌++◌, ◌∷◌, [], map, IfOk, OnOk};
+ghost use Rattle.std.specs.Prelude.{◌≡◌, ◌++◌, ◌∷◌, [], map, IfOk, OnOk, is_ok};
 ghost use Rattle.std.specs.Option.{option_map, option_map_or};
 ghost use Rattle.std.specs.List.{flat_map, list_any};
 ghost use Rattle.std.specs.Str.{bytes_eq};
 ghost use Rattle.al_base.specs.Batch.{finding_of};
+ghost use Rattle.al_shortage.specs.Counts.{counted};
 ghost use Rattle.al_unit_graph.specs.Headers.{is_package, is_package_body};
 ghost use Rattle.al_unit_graph.specs.Names.{parent_of};
 ghost use Rattle.al_unit_graph.specs.FaultLists.{finding_if, name_faults, is_missing, mention_faults, is_no_parent, has_no_parent, has_no_stub, parent_faults, fits, is_misfit, declaration_faults, own_faults};
@@ -16,7 +17,16 @@ use crate::source::Sources;
 use crate::units::kind_of;
 use crate::wanted::file_of;
 use al_base::{Diagnostic, Name, NoMemory, Place, UnitKind};
+use al_shortage::Shortages;
 use std::alloc::Global;
+
+/// Adds a finding.
+fn add(found: &mut Vec<Diagnostic>, finding: Diagnostic) -> Result<(), NoMemory>
+    ensures { OnOk result (found.new.items ≡ found.old.items ++ finding ∷ []) }
+{
+    found.push(finding)?;
+    Ok(())
+}
 
 /// Adds a finding at a place, where it is so.
 fn add_if(
@@ -26,14 +36,16 @@ fn add_if(
     place: Place,
     code: u16,
     found: &mut Vec<Diagnostic>,
+    shortages: &mut Shortages,
 ) -> Result<(), NoMemory>
-    ensures { OnOk result (map finding_of found.new.items ≡ map finding_of found.old.items ++ finding_if is_so file.now place code) }
+    ensures found { OnOk result (map finding_of found.new.items ≡ map finding_of found.old.items ++ finding_if is_so file.now place code) }
+    ensures shortages { shortages.new ≡ counted (is_ok result) shortages.old }
 {
-    if is_so {
-        let file = Name::from_slice(alloc, file)?;
-        found.push(Diagnostic { file, place, code })?;
+    if !is_so {
+        return Ok(());
     }
-    Ok(())
+    let file = shortages.of(Name::from_slice(alloc, file))?;
+    shortages.of(add(found, Diagnostic { file, place, code }))
 }
 
 /// Adds what is wrong with the name of a file's unit.
@@ -43,22 +55,32 @@ fn add_name_faults(
     file: &[u8],
     header: &Header,
     found: &mut Vec<Diagnostic>,
+    shortages: &mut Shortages,
 ) -> Result<(), NoMemory>
-    ensures { OnOk result (map finding_of found.new.items ≡ map finding_of found.old.items ++ name_faults file.now (header_seen header.now)) }
+    ensures found { OnOk result (map finding_of found.new.items ≡ map finding_of found.old.items ++ name_faults file.now (header_seen header.now)) }
+    ensures shortages { shortages.new ≡ counted (is_ok result) shortages.old }
 {
     let name = header.name.as_slice();
-    let wanted = file_of(alloc, name, kind_of(header.form))?;
+    let wanted = shortages.of(file_of(alloc, name, kind_of(header.form)))?;
     let differs = file != wanted.as_slice();
-    add_if(alloc, differs, file, header.place, 201, found)?;
-    add_if(alloc, is_reserved(name), file, header.place, 207, found)
+    add_if(alloc, differs, file, header.place, 201, found, shortages)?;
+    let is_taken = is_reserved(name);
+    add_if(alloc, is_taken, file, header.place, 207, found, shortages)
 }
 
-/// What is wrong with the name of a file's unit: it wants another file, or is the implementation's.
-pub fn name_faults(alloc: Global, file: &[u8], header: &Header) -> Result<Vec<Diagnostic>, NoMemory>
-    ensures { IfOk result (λ found. map finding_of found.items ≡ name_faults file.now (header_seen header.now)) }
+/// What is wrong with the name of a file's unit: it wants another file, or is the implementation's. Each want of memory that it
+/// answers is counted.
+pub fn name_faults(
+    alloc: Global,
+    file: &[u8],
+    header: &Header,
+    shortages: &mut Shortages,
+) -> Result<Vec<Diagnostic>, NoMemory>
+    ensures found { IfOk result (λ found. map finding_of found.items ≡ name_faults file.now (header_seen header.now)) }
+    ensures shortages { shortages.new ≡ counted (is_ok result) shortages.old }
 {
     let mut found = Vec::new(alloc);
-    add_name_faults(alloc, file, header, &mut found)?;
+    add_name_faults(alloc, file, header, &mut found, shortages)?;
     Ok(found)
 }
 
@@ -109,11 +131,21 @@ impl Sources {
         file: &[u8],
         mention: &Mention,
         found: &mut Vec<Diagnostic>,
+        shortages: &mut Shortages,
     ) -> Result<(), NoMemory>
-        ensures { OnOk result (map finding_of found.new.items ≡ map finding_of found.old.items ++ mention_faults self.now file.now (mention_seen mention.now)) }
+        ensures found { OnOk result (map finding_of found.new.items ≡ map finding_of found.old.items ++ mention_faults self.now file.now (mention_seen mention.now)) }
+        ensures shortages { shortages.new ≡ counted (is_ok result) shortages.old }
     {
         let is_missing = self.is_missing(mention.name.as_slice());
-        add_if(self.alloc, is_missing, file, mention.place, 202, found)
+        add_if(
+            self.alloc,
+            is_missing,
+            file,
+            mention.place,
+            202,
+            found,
+            shortages,
+        )
     }
 
     /// Adds the units that are mentioned and have no declaration.
@@ -122,11 +154,13 @@ impl Sources {
         file: &[u8],
         mentions: &[Mention],
         found: &mut Vec<Diagnostic>,
+        shortages: &mut Shortages,
     ) -> Result<(), NoMemory>
-        ensures { OnOk result (map finding_of found.new.items ≡ map finding_of found.old.items ++ flat_map (mention_faults self.now file.now) (map mention_seen mentions.now)) }
+        ensures found { OnOk result (map finding_of found.new.items ≡ map finding_of found.old.items ++ flat_map (mention_faults self.now file.now) (map mention_seen mentions.now)) }
+        ensures shortages { shortages.new ≡ counted (is_ok result) shortages.old }
     {
         for mention in mentions {
-            self.add_mention_faults(file, mention, found)?;
+            self.add_mention_faults(file, mention, found, shortages)?;
         }
         Ok(())
     }
@@ -173,20 +207,30 @@ impl Sources {
         file: &[u8],
         header: &Header,
         found: &mut Vec<Diagnostic>,
+        shortages: &mut Shortages,
     ) -> Result<(), NoMemory>
-        ensures { OnOk result (map finding_of found.new.items ≡ map finding_of found.old.items ++ parent_faults self.now file.now (header_seen header.now) (option_map mention_seen header.now.parent_body)) }
+        ensures found { OnOk result (map finding_of found.new.items ≡ map finding_of found.old.items ++ parent_faults self.now file.now (header_seen header.now) (option_map mention_seen header.now.parent_body)) }
+        ensures shortages { shortages.new ≡ counted (is_ok result) shortages.old }
     {
         match &header.parent_body {
             None => {
                 let is_so = self.has_no_parent(header.name.as_slice());
-                add_if(self.alloc, is_so, file, header.place, 205, found)
+                add_if(self.alloc, is_so, file, header.place, 205, found, shortages)
             }
             Some(parent) => {
                 let name = parent.name.as_slice();
                 let is_missing = !self.has_body_file(name);
-                add_if(self.alloc, is_missing, file, parent.place, 202, found)?;
+                add_if(
+                    self.alloc,
+                    is_missing,
+                    file,
+                    parent.place,
+                    202,
+                    found,
+                    shortages,
+                )?;
                 let is_so = self.has_no_stub(name, header.designator.as_slice());
-                add_if(self.alloc, is_so, file, header.place, 206, found)
+                add_if(self.alloc, is_so, file, header.place, 206, found, shortages)
             }
         }
     }
@@ -210,14 +254,32 @@ impl Sources {
         file: &[u8],
         header: &Header,
         found: &mut Vec<Diagnostic>,
+        shortages: &mut Shortages,
     ) -> Result<(), NoMemory>
-        ensures { OnOk result (map finding_of found.new.items ≡ map finding_of found.old.items ++ declaration_faults self.now file.now (header_seen header.now)) }
+        ensures found { OnOk result (map finding_of found.new.items ≡ map finding_of found.old.items ++ declaration_faults self.now file.now (header_seen header.now)) }
+        ensures shortages { shortages.new ≡ counted (is_ok result) shortages.old }
     {
         let has_file = self.has_declaration_file(header.name.as_slice());
         let is_missing = is_package_body(header.form) && !has_file;
-        add_if(self.alloc, is_missing, file, header.place, 202, found)?;
+        add_if(
+            self.alloc,
+            is_missing,
+            file,
+            header.place,
+            202,
+            found,
+            shortages,
+        )?;
         let is_misfit = self.is_misfit(header);
-        add_if(self.alloc, is_misfit, file, header.place, 209, found)
+        add_if(
+            self.alloc,
+            is_misfit,
+            file,
+            header.place,
+            209,
+            found,
+            shortages,
+        )
     }
 
     /// Adds what is wrong with a unit by itself and with what it names.
@@ -227,21 +289,30 @@ impl Sources {
         file: &[u8],
         header: &Header,
         found: &mut Vec<Diagnostic>,
+        shortages: &mut Shortages,
     ) -> Result<(), NoMemory>
-        ensures { OnOk result (map finding_of found.new.items ≡ map finding_of found.old.items ++ own_faults self.now file.now (header_seen header.now)) }
+        ensures found { OnOk result (map finding_of found.new.items ≡ map finding_of found.old.items ++ own_faults self.now file.now (header_seen header.now)) }
+        ensures shortages { shortages.new ≡ counted (is_ok result) shortages.old }
     {
-        self.add_context_faults(file, header.mentions.as_slice(), found)?;
-        self.add_parent_faults(file, header, found)?;
-        self.add_declaration_faults(file, header, found)
+        self.add_context_faults(file, header.mentions.as_slice(), found, shortages)?;
+        self.add_parent_faults(file, header, found, shortages)?;
+        self.add_declaration_faults(file, header, found, shortages)
     }
 
     /// What is wrong with a unit of the library by itself and with what it names: units that aren't there, a parent that is no
-    /// package, a stub that isn't there, a body that doesn't fit.
-    pub fn own_faults(&self, file: &[u8], header: &Header) -> Result<Vec<Diagnostic>, NoMemory>
-        ensures { IfOk result (λ found. map finding_of found.items ≡ own_faults self.now file.now (header_seen header.now)) }
+    /// package, a stub that isn't there, a body that doesn't fit. Each want of memory that it answers is counted: there is none
+    /// in place of a fault.
+    pub fn own_faults(
+        &self,
+        file: &[u8],
+        header: &Header,
+        shortages: &mut Shortages,
+    ) -> Result<Vec<Diagnostic>, NoMemory>
+        ensures found { IfOk result (λ found. map finding_of found.items ≡ own_faults self.now file.now (header_seen header.now)) }
+        ensures shortages { shortages.new ≡ counted (is_ok result) shortages.old }
     {
         let mut found = Vec::new(self.alloc);
-        self.add_own_faults(file, header, &mut found)?;
+        self.add_own_faults(file, header, &mut found, shortages)?;
         Ok(found)
     }
 }

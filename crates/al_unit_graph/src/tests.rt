@@ -2,6 +2,7 @@ ghost use Rattle.std.specs.Prelude.{◌≤◌, length};
 
 use crate::{Contents, Header, Mention, Source, Sources, UnitForm, parent_of};
 use al_base::{Name, NoMemory, Place, UnitKey, UnitKind};
+use al_shortage::Shortages;
 use std::alloc::Global;
 use std::rc::Rc;
 use std::test::Fail;
@@ -98,8 +99,10 @@ fn unit_that_is_not_there(rt: HostRuntime) -> Result<(), Fail> {
     let header = sources
         .unit_at(b"m", UnitKind::Body)
         .expect(&rt, "it is there");
-    let found = sources.own_faults(b"m.adb", header)?;
+    let mut shortages = Shortages::new();
+    let found = sources.own_faults(b"m.adb", header, &mut shortages)?;
     assert_eq!(rt; found.len(), 1);
+    assert_eq!(rt; shortages.count(), 0);
     Ok(())
 }
 

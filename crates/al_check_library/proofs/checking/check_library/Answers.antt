@@ -6,7 +6,7 @@ use Rattle.al_unit_order.specs.Reached.{IsDependenceOrder}
 use Rattle.al_check_library.proofs.checking.check_library.Goals as goal
 
 pub dependence_order-requires : goal.dependence_order-requires
-dependence_order-requires g c = ap (map file_faults_seen) c.as_slice.ensures.value ∙ c.in_ok-faults.ensures
+dependence_order-requires g c = ap (map file_faults_seen) c.as_slice.ensures.value ∙ c.in_ok-faults.ensures.found
 
 pub recheck-requires : goal.recheck-requires
 recheck-requires g c =

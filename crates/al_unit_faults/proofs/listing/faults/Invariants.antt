@@ -5,4 +5,6 @@ use Rattle.al_unit_faults.specs.GraphFaults.{file_faults}
 use Rattle.al_unit_faults.proofs.listing.faults.Given as goal
 
 abbrev pub invariant-loop-file : goal.invariant-loop-file
-invariant-loop-file l = map finding_of l.found.items ≡ flat_map (file_faults l.sources) (map (λ n. n.now) (take l.file-index l.file-items))
+invariant-loop-file l =
+    (map finding_of l.found.items ≡ flat_map (file_faults l.sources) (map (λ n. n.now) (take l.file-index l.file-items)))
+    × (l.shortages ≡ l.initial.shortages)

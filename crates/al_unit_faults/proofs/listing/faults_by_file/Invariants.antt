@@ -4,4 +4,6 @@ use Rattle.al_unit_faults.specs.GraphFaults.{file_faults}
 use Rattle.al_unit_faults.proofs.listing.faults_by_file.Given as goal
 
 abbrev pub invariant-loop-file : goal.invariant-loop-file
-invariant-loop-file l = map file_faults_seen l.all.items ≡ map (λ file. (file, file_faults l.sources file)) (map (λ n. n.now) (take l.file-index l.file-items))
+invariant-loop-file l =
+    (map file_faults_seen l.all.items ≡ map (λ file. (file, file_faults l.sources file)) (map (λ n. n.now) (take l.file-index l.file-items)))
+    × (l.shortages ≡ l.initial.shortages)

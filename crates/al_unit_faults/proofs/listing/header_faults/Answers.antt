@@ -12,5 +12,5 @@ rule_faults-requires-clause-cycles c =
     let file = c.args.file.now in
     let h = header_seen c.args.header.now in
     let empty : c.in_ok-found.found.items ≡ [] = grind (arith, common_steps, c.is_empty.ensures, c.if-not-is_empty.false) in
-    let none : name_faults file h ≡ [] = sym c.in_ok-found.ensures ∙ ap (λ ds. map finding_of ds) empty in
+    let none : name_faults file h ≡ [] = sym c.in_ok-found.ensures.found ∙ ap (λ ds. map finding_of ds) empty in
     c.requires.cycles file h (c.requires.of_file ∙ held_here file h (rightly_named file h none))

@@ -9,6 +9,6 @@ pub returns : goal.returns
 returns c =
     let files = c.args.self.now in
     let same : c.self.inside.sources ≡ library_of files = c.self.invariant.is_library ∙ ap library_of c.self.view_is in
-    c.in_ok-found.ensures
+    c.in_ok-found.ensures.found
     ∙ ap (λ lib. map (λ file. (file, file_faults lib file)) (keys_of lib)) same
     ∙ ap (map (λ file. (file, file_faults (library_of files) file))) (names_of-library_of files)

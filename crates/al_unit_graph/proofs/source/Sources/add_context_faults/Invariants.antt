@@ -7,4 +7,5 @@ use Rattle.al_unit_graph.proofs.source.Sources.add_context_faults.Given as goal
 
 abbrev pub invariant-loop-mention : goal.invariant-loop-mention
 invariant-loop-mention l =
-    map finding_of l.found.items ≡ map finding_of l.initial.found.items ++ flat_map (mention_faults l.self l.file) (map mention_seen (take l.mention-index l.mentions))
+    (map finding_of l.found.items ≡ map finding_of l.initial.found.items ++ flat_map (mention_faults l.self l.file) (map mention_seen (take l.mention-index l.mentions)))
+    × (l.shortages ≡ l.initial.shortages)

@@ -1,0 +1,55 @@
+// The count of wants of memory.
+ghost use Rattle.std.specs.Prelude.{◌≡◌, is_ok};
+ghost use Rattle.al_shortage.specs.Counts.{one_more, counted};
+
+use al_base::NoMemory;
+use std::marker::Model;
+
+/// How often memory was wanted and not given, to 2^64-1. A call that keeps this count raises it by one where it answers want of
+/// memory, and by none elsewhere; as it is raised where a growth is refused, none answers so that all growths were granted.
+#[derive(Drop)]
+pub struct Shortages {
+    count: u64,
+}
+
+impl Model for Shortages {
+    ghost use Rattle.std.specs.Prelude.{ℕ};
+
+    ghost Value = { ℕ };
+
+    ghost view = { λ s. s.count };
+}
+
+impl Shortages {
+    /// None so far.
+    pub fn new() -> Self
+        ensures { result ≡ 0 }
+    {
+        Shortages { count: 0 }
+    }
+
+    /// How many there were.
+    pub fn count(&self) -> u64
+        ensures { result ≡ self.now }
+    {
+        self.count
+    }
+
+    /// Gives back what a growth gave, and counts it where it was refused.
+    pub fn of<T: Drop>(&mut self, grown: Result<T, NoMemory>) -> Result<T, NoMemory>
+        ensures same { result ≡ grown }
+        ensures counted { self.new ≡ counted (is_ok grown) self.old }
+    {
+        if grown.is_err() {
+            self.count = one_more(self.count);
+        }
+        grown
+    }
+}
+
+/// One more, to 2^64-1.
+fn one_more(count: u64) -> u64
+    ensures { result ≡ one_more count }
+{
+    if count < u64::MAX { count + 1 } else { count }
+}
