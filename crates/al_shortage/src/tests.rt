@@ -1,7 +1,6 @@
 // Refused growths are counted, granted ones are not.
 use crate::Shortages;
 use al_base::NoMemory;
-use std::test::HostRuntime;
 
 #[test]
 fn refused_growths_are_counted(rt: HostRuntime) {
