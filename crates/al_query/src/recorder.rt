@@ -121,8 +121,8 @@ impl<A: Answers> Recorder<A> {
     }
 
     /// The answer, recorded where the log lacks the question, an empty one too. A table that agrees with the log from
-    /// now on gives this answer too. It doesn't give up: where it answers want of memory, a growth was refused to it or to who
-    /// is asked, and is counted; elsewhere none was.
+    /// now on gives this answer too. It doesn't give up unseen: where it answers want of memory, its own or that of who is
+    /// asked, one more is counted, and none elsewhere.
     pub fn ask(&mut self, query: &Query) -> Result<Answer, NoMemory>
         ensures asked { self.new.asked ≡ self.old.asked }
         ensures answer { IfOk result (λ answer. answer ≡ A.table self.old.asked query.now) }

@@ -5,8 +5,8 @@ ghost use Rattle.al_shortage.specs.Counts.{one_more, counted};
 use al_base::NoMemory;
 use std::marker::Model;
 
-/// How often memory was wanted and not given, to 2^64-1. A call that keeps this count raises it by one where it answers want of
-/// memory, and by none elsewhere; as it is raised where a growth is refused, none answers so that all growths were granted.
+/// How often want of memory was counted, to 2^64-1. A call that keeps this count promises to raise it by one where it answers
+/// want of memory, and not to touch it elsewhere; its code raises it through `of`, over what a growth gave.
 #[derive(Drop)]
 pub struct Shortages {
     count: u64,

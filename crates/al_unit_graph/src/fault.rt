@@ -300,8 +300,8 @@ impl Sources {
     }
 
     /// What is wrong with a unit of the library by itself and with what it names: units that aren't there, a parent that is no
-    /// package, a stub that isn't there, a body that doesn't fit. Each want of memory that it answers is counted: there is none
-    /// in place of a fault.
+    /// package, a stub that isn't there, a body that doesn't fit. Where it answers want of memory, one more is counted, and
+    /// none elsewhere.
     pub fn own_faults(
         &self,
         file: &[u8],
