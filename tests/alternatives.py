@@ -1,7 +1,7 @@
 #!/usr/bin/env python3
 """alternatives.py: which alternatives of the grammar's rules the accepted texts of the stored sessions take.
 
-The rules are read from crates/al_syntax/specs, the texts from the `put` commands of tests/sessions. A text is read as the
+The rules are read from crates/al_tree_syntax/specs, the texts from the `put` commands of tests/sessions. A text is read as the
 grammar is, by the next lexeme (behind the mark of a name, by the one after it). Each choice of a `∣` counts one alternative, each `Opt`,
 `Many` and `RoomOr` two, and each `Marked` three. Prints what no accepted text takes, the constructs with no fault inside, and
 last `N of M alternatives taken`; the exit status is 1 where one is left.
@@ -11,7 +11,7 @@ import re
 import sys
 
 ROOT = pathlib.Path(__file__).resolve().parent.parent
-SPECS = ROOT / "crates" / "al_syntax" / "specs"
+SPECS = ROOT / "crates" / "al_tree_syntax" / "specs"
 SESSIONS = ROOT / "tests" / "sessions"
 MOST_OPEN = 64
 

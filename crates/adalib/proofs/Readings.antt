@@ -96,7 +96,7 @@ abbrev pub AtMostOne : Option Text → Option Text → Type 0
 AtMostOne (Some a) (Some b) = ⊥
 AtMostOne _ _ = Unit {0}
 
--- what the words say, behind those that said `tick` and `file`
+-- what the words say, after those that said `tick` and `file`
 pub record Said (words : List Text) (tick file : Option Text) (end : Walk) : Type 0 where
   pub number : Option Text
   pub name : Option Text
@@ -122,7 +122,7 @@ Sound words = (rows : List Row) (pending : Option (Text × List Text)) (tick fil
     → walk_fault shape [] (free_walk rows pending file false) words ≡ [] → settle_fault rules false (end_of (free_walk rows pending file false) words).held ≡ []
     → Said words tick file (end_of (free_walk rows pending file false) words)
 
--- behind `--`
+-- after `--`
 pub trailing_said : (words : List Text) (rows : List Row) (pending : Option (Text × List Text)) (tick file : Option Text) → IsFree rows pending tick file
     → walk_fault shape [] (free_walk rows pending file true) words ≡ []
     → Said (two_hyphens ∷ words) tick file (end_of (free_walk rows pending file true) words)

@@ -1,7 +1,7 @@
 -- What Ada files mean to the program.
-use Rattle.al_served.specs.Library.{LibraryMeaning}
-use Rattle.al_ada_session.specs.Meanings.{library_meaning}
-use Rattle.al_bounded_check.specs.Meanings.{header_in, text_meaning}
+use Rattle.al_session_served.specs.Library.{LibraryMeaning}
+use Rattle.al_session.specs.Meanings.{library_meaning}
+use Rattle.al_check_bounded.specs.Meanings.{header_in, text_meaning}
 use Rattle.al_check.specs.Ada.{ada_units, ada_verdict}
 
 -- compiling from nothing, with the check that asks these units for a unit and finds this in its text

@@ -2,7 +2,7 @@
 use Rattle.std.specs.Prelude.{ℕ, Ok, Err}
 use Rattle.adalib.specs.declared.status.Outcome.{Outcome}
 use Rattle.adalib.specs.declared.status.Outcome.TheVariants.{Served, Usage, Failed}
-use Rattle.al_served.specs.declared.serving.Ended.TheVariants.{Quit, BadLength}
+use Rattle.al_session_served.specs.declared.serving.Ended.TheVariants.{Quit, BadLength}
 
 -- 0 at the end of the session; 2 after a text that isn't there as announced, and for words of another form; 1 after a failed device,
 -- and where no session could begin

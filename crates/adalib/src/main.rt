@@ -12,8 +12,8 @@ mod options;
 mod serving;
 mod status;
 
-use al_ada_session::Counted;
 use al_base::NoMemory;
+use al_session::Counted;
 use options::{MAX_TICK, Options, UsageError};
 use serving::serve_ada;
 use status::{Outcome, exit_code};

@@ -54,7 +54,7 @@ pub struct Options<'a> {
 }
 
 impl<'a> Options<'a> {
-    /// Reads `[--tick N] [FILE]`, the program's own word in front. `--tick=N` is `--tick N`, words behind `--` are no
+    /// Reads `[--tick N] [FILE]`, the program's own word in front. `--tick=N` is `--tick N`, words after `--` are no
     /// options, and `-` is a file's name.
     ///
     /// # Errors

@@ -1,15 +1,15 @@
 // A session over Ada units.
 ghost use Rattle.std.specs.Prelude.{◌≡◌, ◌+◌, ◌-◌, ◌^◌, ◌<◌, ◌≤◌, IfOk, IsErrOf, OnErr};
-ghost use Rattle.al_stream.specs.Input.{source_moment};
-ghost use Rattle.al_stream.specs.Output.{sink_moment};
-ghost use Rattle.al_served.specs.Library.{State, empty, with_tick};
-ghost use Rattle.al_served.specs.Serving.{Serves, StopsReading, StopsWriting};
+ghost use Rattle.al_session_stream.specs.Input.{source_moment};
+ghost use Rattle.al_session_stream.specs.Output.{sink_moment};
+ghost use Rattle.al_session_served.specs.Library.{State, empty, with_tick};
+ghost use Rattle.al_session_served.specs.Serving.{Serves, StopsReading, StopsWriting};
 ghost use Rattle.adalib.specs.Program.{ada_meaning};
 
-use al_ada_session::{Device, Ended, Sink, Source, session};
 use al_base::NoMemory;
-use al_bounded_check::laws::headers_are_read;
 use al_check::ada_check;
+use al_check_bounded::laws::headers_are_read;
+use al_session::{Device, Ended, Sink, Source, session};
 use std::alloc::Global;
 
 /// Serves a session, from a library with no file.

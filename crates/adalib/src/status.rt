@@ -3,7 +3,7 @@ ghost use Rattle.adalib.specs.Status.{status_of};
 ghost use Rattle.std.specs.Prelude.{◌≡◌};
 ghost use Rattle.std.specs.Process.{exit_status};
 
-use al_ada_session::{Device, Ended};
+use al_session::{Device, Ended};
 use std::process::ExitCode;
 
 /// How the program ended.

@@ -8,7 +8,7 @@ use Rattle.al_base.specs.Batch.{Key}
 abbrev pub hyphen_for_dot : ℕ → ℕ
 hyphen_for_dot b = if b == 46 then 45 else b
 
--- one of `a`, `g`, `i` and `s`, which with a hyphen behind them begin the names of the predefined files
+-- one of `a`, `g`, `i` and `s`, which with a hyphen after them begin the names of the predefined files
 abbrev pub is_kept_letter : ℕ → Bool
 is_kept_letter b = b == 97 || b == 103 || b == 105 || b == 115
 

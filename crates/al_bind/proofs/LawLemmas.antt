@@ -6,9 +6,9 @@ use Rattle.std.proofs.lemmas.List.Concat.{get_or-flat_map}
 use Rattle.std.proofs.lemmas.List.Folds.{length-flat_map-take}
 use Rattle.al_base.specs.Batch.{Key}
 use Rattle.al_base.specs.declared.unit_key.UnitKind.TheVariants.{Decl, Body, Sub}
-use Rattle.al_order.specs.declared.tie.Tie.{Tie}
-use Rattle.al_order.proofs.PlacingLemmas.{place_in}
-use Rattle.al_order.proofs.RelationLemmas.{stands_before}
+use Rattle.al_base_order.specs.declared.edge.Edge.{Edge}
+use Rattle.al_base_order.proofs.PlacingLemmas.{place_in}
+use Rattle.al_base_order.proofs.RelationLemmas.{stands_before}
 use Rattle.al_unit_graph.specs.Headers.{Library}
 use Rattle.al_unit_graph.proofs.Lists.{into_filter}
 use Rattle.al_bind.specs.Binding.{items_at, items_of, key_at}
@@ -101,7 +101,7 @@ order_obeys lib main items is reason x y whole_x whole_y carries =
     let (m, m_in, m_is) = node_place lib main is.keys is.lists y whole_y in
     let (i, i_in, i_is) = (is.lists.all x).1 (whole_x.0.0, whole_x.0.1) in
     let (j, j_in, j_is) = (is.lists.all y).1 (whole_y.0.0, whole_y.0.1) in
-    let t : Tie = record { after = n; before = m; reason = reason; x = i; y = j } in
+    let t : Edge = record { after = n; before = m; reason = reason; x = i; y = j } in
     let edge : TellsEdge lib main is.keys t = record { x = x; y = y; carries = carries; x_at = (i_in, i_is); y_at = (j_in, j_is); after_at = (n_in, n_is); before_at = (m_in, m_is) } in
     let (a, a_in, a_is) = place_in is.order n (is.ordered.all n n_in) in
     let comes : ComesAfter lib main is.keys n m = (t, edge, (refl, refl)) in

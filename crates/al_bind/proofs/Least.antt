@@ -10,14 +10,14 @@ use Rattle.std.specs.declared.cmp.Ordering.{Ordering}
 use Rattle.std.specs.declared.cmp.Ordering.TheVariants.{Less, Equal, Greater}
 use Rattle.al_base.specs.Batch.{Key}
 use Rattle.al_base.specs.Files.{name_cmp}
-use Rattle.al_graph.proofs.Members.{nowhere, first, later, first_or_later, the_one, from_flat_map, into_flat_map}
+use Rattle.al_base_graph.proofs.Members.{nowhere, first, later, first_or_later, the_one, from_flat_map, into_flat_map}
 use Rattle.al_unit_graph.specs.Headers.{Header, Library}
 use Rattle.al_unit_graph.specs.Library.{unit_at, is_unit, is_kind}
 use Rattle.al_base.specs.declared.unit_key.UnitKind.TheVariants.{Decl, Body}
 use Rattle.al_unit_graph.specs.Needed.{ListsUnits, Needed}
 use Rattle.al_bind.specs.Missing.{IsLeastName, least_of, missing_bodies, missing_stub, missing_stubs, LacksBody, LacksSubunit}
 
--- one name isn't behind another
+-- one name isn't after another
 abbrev Upto : List ℕ → List ℕ → Type 0
 Upto a b = is_gt (name_cmp a b) ≡ false
 
@@ -36,9 +36,9 @@ turned Less h = absurd (true≢false (sym h))
 turned Equal h = absurd (true≢false (sym h))
 turned Greater h = refl
 
--- what is behind another isn't before it
-behind : (a b : List ℕ) → is_gt (name_cmp a b) ≡ true → Upto b a
-behind a b h = ap is_gt (nat_list_cmp_total.antisymm b a ∙ ap ordering_reverse (turned (name_cmp a b) h))
+-- what is after another isn't before it
+after : (a b : List ℕ) → is_gt (name_cmp a b) ≡ true → Upto b a
+after a b h = ap is_gt (nat_list_cmp_total.antisymm b a ∙ ap ordering_reverse (turned (name_cmp a b) h))
 
 by_test : (b : Bool) (found n : List ℕ) (ns : List (List ℕ)) → is_gt (name_cmp found n) ≡ b → Found n ns → Found found ns → Found found (n ∷ ns)
 by_test true found n ns test more kept = record {
@@ -46,7 +46,7 @@ by_test true found n ns test more kept = record {
   is = ap (λ (x : Bool). least_of (cond x (Some n) (Some found)) ns) test ∙ more.is;
   among = later found (n ∷ ns) more.name more.among;
   least = λ other c. elim (first_or_later found (n ∷ ns) other c) [
-    | inl same ↦ subst (λ (x : List ℕ). Upto more.name x) same (upto nat_list_cmp_total more.name n found (more.least n (first n ns)) (behind found n test))
+    | inl same ↦ subst (λ (x : List ℕ). Upto more.name x) same (upto nat_list_cmp_total more.name n found (more.least n (first n ns)) (after found n test))
     | inr h ↦ more.least other h
   ];
 }

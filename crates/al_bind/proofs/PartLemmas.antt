@@ -6,7 +6,7 @@ use Rattle.std.proofs.lemmas.Bool.{cases_lt}
 use Rattle.std.proofs.lemmas.List.{get_or_append_left, get_or_default}
 use Rattle.std.proofs.lemmas.List.Elements.{Contains-append_left, Contains-append_right, Contains-append_cases}
 use Rattle.al_base.specs.Batch.{Key}
-use Rattle.al_graph.proofs.Members.{nowhere, one, the_one}
+use Rattle.al_base_graph.proofs.Members.{nowhere, one, the_one}
 use Rattle.al_unit_graph.specs.Headers.{Header, Library}
 use Rattle.al_unit_graph.specs.Library.{unit_at}
 use Rattle.al_unit_graph.specs.Needed.{subunits_of}
@@ -44,8 +44,8 @@ parts_further lib x keys i key so_far within is =
         | inl before ↦
             let w : k < length keys = omega (arith, before, within) in
             Contains-append_left keys (subunits_at lib key) q (so_far.closed k d q before w (subst (λ (j : Key). Contains (subunits_at lib j) q) (get_or_append_left keys (subunits_at lib key) d k w) c))
-        | inr behind ↦
-            let e : k ≡ i = omega (arith, behind, l) in
+        | inr after ↦
+            let e : k ≡ i = omega (arith, after, l) in
             let same : get_or (keys ++ subunits_at lib key) k d ≡ key = ap (λ (n : ℕ). get_or (keys ++ subunits_at lib key) n d) e ∙ get_or_append_left keys (subunits_at lib key) d i within ∙ get_or_default keys i d key within ∙ is in
             Contains-append_right keys (subunits_at lib key) q (subst (λ (j : Key). Contains (subunits_at lib j) q) same c)
       ];

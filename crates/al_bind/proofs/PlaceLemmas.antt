@@ -71,7 +71,7 @@ narrowed_none ks k low high n l (i, within, is) =
     let e : key_cmp (get_or ks i k) k ≡ Equal = ap (λ (j : Key). key_cmp j k) is ∙ key_itself k in
     elim (cases_lt i low) [
       | inl before ↦ let less = n.below i before in absurd (cc)
-      | inr behind ↦ let greater = n.above i (omega (arith, l, behind)) within in absurd (cc)
+      | inr after ↦ let greater = n.above i (omega (arith, l, after)) within in absurd (cc)
     ]
 
 pub key_at : (keys : List UnitKey) (m : ℕ) (x : UnitKey) (k : Key) → m < length keys → x ≡ get_or keys m x → get_or (map key_of keys) m k ≡ key_of x

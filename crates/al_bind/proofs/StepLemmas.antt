@@ -8,18 +8,18 @@ use Rattle.std.proofs.lemmas.Bool.{cases_eq}
 use Rattle.std.proofs.lemmas.List.Kept.{IsStrictlySortedBy-filter}
 use Rattle.al_base.specs.Batch.{Key}
 use Rattle.al_base.specs.declared.unit_key.UnitKind.TheVariants.{Decl, Body, Sub}
-use Rattle.al_graph.specs.Graphs.{Reaches}
-use Rattle.al_graph.specs.Graphs.Reaches.{here, further}
-use Rattle.al_graph.proofs.Members.{nowhere, first, later, first_or_later}
-use Rattle.al_graph.proofs.ReachLemmas.{Reaches-trans}
-use Rattle.al_order.specs.Orders.{IsOrder}
-use Rattle.al_order.specs.Relations.{IsOrderBy}
-use Rattle.al_order.specs.Ties.{graph_from}
-use Rattle.al_order.specs.declared.tie.Tie.{Tie}
-use Rattle.al_order.specs.declared.tie.Reason.{Reason}
-use Rattle.al_order.specs.declared.tie.Reason.TheVariants.{Depends, Elaborate, ElaborateAll}
-use Rattle.al_order.proofs.RelationLemmas.{steps_suffice}
-use Rattle.al_order.proofs.TieLemmas.{step_tied}
+use Rattle.al_base_graph.specs.Graphs.{Reaches}
+use Rattle.al_base_graph.specs.Graphs.Reaches.{here, further}
+use Rattle.al_base_graph.proofs.Members.{nowhere, first, later, first_or_later}
+use Rattle.al_base_graph.proofs.ReachLemmas.{Reaches-trans}
+use Rattle.al_base_order.specs.Orders.{IsOrder}
+use Rattle.al_base_order.specs.Relations.{IsOrderBy}
+use Rattle.al_base_order.specs.Ties.{graph_from}
+use Rattle.al_base_order.specs.declared.edge.Edge.{Edge}
+use Rattle.al_base_order.specs.declared.edge.Reason.{Reason}
+use Rattle.al_base_order.specs.declared.edge.Reason.TheVariants.{Depends, Elaborate, ElaborateAll}
+use Rattle.al_base_order.proofs.RelationLemmas.{steps_suffice}
+use Rattle.al_base_order.proofs.TieLemmas.{step_tied}
 use Rattle.al_unit_graph.specs.Headers.{Library}
 use Rattle.al_unit_graph.specs.Dependence.{DependsOn, direct}
 use Rattle.al_unit_graph.specs.Dependence.DependsOn.{directly, through}
@@ -31,8 +31,8 @@ use Rattle.al_bind.specs.Elaboration.Wants.{depends, elaborate, elaborate_all_bo
 use Rattle.al_bind.specs.Numbers.{ComesAfter, IsAt, IsEnd, TellsEdge, TellsWant, is_node, nodes_among}
 use Rattle.al_bind.specs.Steps.{ArePlaced, IsTold, WantsTold}
 use Rattle.al_bind.specs.declared.places.End.{End}
-use Rattle.al_bind.specs.declared.ties.Extent.{Extent}
-use Rattle.al_bind.specs.declared.ties.Extent.TheVariants.{Whole, Steps}
+use Rattle.al_bind.specs.declared.edges.Extent.{Extent}
+use Rattle.al_bind.specs.declared.edges.Extent.TheVariants.{Whole, Steps}
 use Rattle.al_bind.proofs.BindLemmas.{graph_count, tie_is_step}
 use Rattle.al_bind.proofs.EdgeLemmas.{same_at}
 use Rattle.al_bind.proofs.PlaceLemmas.{key_exact, key_itself}
@@ -55,7 +55,7 @@ wants_whole lib keys p _ _ (elaborate is c) = inr ((λ (e : Elaborate ≡ Depend
 wants_whole lib keys p _ _ (elaborate_all_body is c) = inr ((λ (e : ElaborateAll ≡ Depends). absurd (cc)), elaborate_all_body is c)
 wants_whole lib keys p _ y (elaborate_all is c needed) = inr ((λ (e : ElaborateAll ≡ Depends). absurd (cc)), elaborate_all is c needed)
 
-pub tells_edge : (extent : Extent) (lib : Library) (main : List ℕ) (keys : List Key) (t : Tie) → TellsWant lib main keys (WantsTold extent lib keys) t → TellsEdge lib main keys t
+pub tells_edge : (extent : Extent) (lib : Library) (main : List ℕ) (keys : List Key) (t : Edge) → TellsWant lib main keys (WantsTold extent lib keys) t → TellsEdge lib main keys t
 tells_edge extent lib main keys t w = record {
   x = w.x;
   y = w.y;
@@ -66,7 +66,7 @@ tells_edge extent lib main keys t w = record {
   before_at = w.before_at;
 }
 
-pub whole_tells : (lib : Library) (main : List ℕ) (keys : List Key) (t : Tie) → TellsEdge lib main keys t → TellsWant lib main keys (WantsTold Whole lib keys) t
+pub whole_tells : (lib : Library) (main : List ℕ) (keys : List Key) (t : Edge) → TellsEdge lib main keys t → TellsWant lib main keys (WantsTold Whole lib keys) t
 whole_tells lib main keys t edge =
     let (p, is_part, wants) = edge.carries.follows in
     record {
@@ -149,12 +149,12 @@ module _ (lib : Library) (keys : List Key) where
       ]
 
 -- steps from item to item
-module _ (lib : Library) (main : List ℕ) (keys : List Key) (lists : ListsUnits lib keys (Needed lib main)) (ties : List Tie) (tells : (t : Tie) → Contains ties t ↔ TellsWant lib main keys (WantsTold Steps lib keys) t) (within : All (λ t. (t.after < length (nodes_among lib keys)) × (t.before < length (nodes_among lib keys))) ties) where
+module _ (lib : Library) (main : List ℕ) (keys : List Key) (lists : ListsUnits lib keys (Needed lib main)) (edges : List Edge) (tells : (t : Edge) → Contains edges t ↔ TellsWant lib main keys (WantsTold Steps lib keys) t) (within : All (λ t. (t.after < length (nodes_among lib keys)) × (t.before < length (nodes_among lib keys))) edges) where
   abbrev nodes : List Key
   nodes = nodes_among lib keys
 
   abbrev g : List (List ℕ)
-  g = graph_from (length nodes) ties
+  g = graph_from (length nodes) edges
 
   nodes_sorted : IsStrictlySortedBy key_cmp nodes
   nodes_sorted = IsStrictlySortedBy-filter key_cmp (is_node lib) keys lists.ascend
@@ -166,7 +166,7 @@ module _ (lib : Library) (main : List ℕ) (keys : List Key) (lists : ListsUnits
         | inr other ↦
             let (i, i_in, i_is) = (lists.all x).1 (x_is.0, x_is.1) in
             let (j, j_in, j_is) = (lists.all y).1 (y_is.0, y_is.1) in
-            let t : Tie = record { after = a; before = b; reason = r; x = i; y = j } in
+            let t : Edge = record { after = a; before = b; reason = r; x = i; y = j } in
             let want : TellsWant lib main keys (WantsTold Steps lib keys) t = record {
               x = x;
               y = y;
@@ -181,7 +181,7 @@ module _ (lib : Library) (main : List ℕ) (keys : List Key) (lists : ListsUnits
               after_at = a_at;
               before_at = b_at;
             } in
-            further a here (tie_is_step (length nodes) ties within t ((tells t).1 want))
+            further a here (tie_is_step (length nodes) edges within t ((tells t).1 want))
       ]
 
   chained : (p y : Key) → Chain lib p y → (x : Key) → IsItem lib main x → IsPartOf lib x p → IsItem lib main y → (a b : ℕ) → IsAt nodes (node_of lib x) a → IsAt nodes (node_of lib y) b → Reaches g a b
@@ -206,26 +206,26 @@ module _ (lib : Library) (main : List ℕ) (keys : List Key) (lists : ListsUnits
   wanted_led p _ _ (elaborate_all_body {q} is c) x x_is part y_is a b a_at b_at = led x (q, Body) p ElaborateAll x_is y_is part (inr ((λ (e : ElaborateAll ≡ Depends). absurd (cc)), elaborate_all_body is c)) a b a_at b_at
   wanted_led p _ y (elaborate_all is c needed) x x_is part y_is a b a_at b_at = led x y p ElaborateAll x_is y_is part (inr ((λ (e : ElaborateAll ≡ Depends). absurd (cc)), elaborate_all is c needed)) a b a_at b_at
 
-  pub edge_reached : (t : Tie) → TellsEdge lib main keys t → Reaches g t.after t.before
+  pub edge_reached : (t : Edge) → TellsEdge lib main keys t → Reaches g t.after t.before
   edge_reached t edge =
       let (p, part, wants) = edge.carries.follows in
       wanted_led p t.reason edge.y wants edge.x edge.carries.after part edge.carries.before t.after t.before edge.after_at edge.before_at
 
 -- ties that tell edges, and lead to all, give the order of all
-module _ (lib : Library) (main : List ℕ) (keys : List Key) (ties : List Tie) (within : All (λ t. (t.after < length (nodes_among lib keys)) × (t.before < length (nodes_among lib keys))) ties) (sound : (t : Tie) → Contains ties t → TellsEdge lib main keys t) (reached : (t : Tie) → TellsEdge lib main keys t → Reaches (graph_from (length (nodes_among lib keys)) ties) t.after t.before) where
-  pub in_order_of_all : (order : List ℕ) → IsOrder (graph_from (length (nodes_among lib keys)) ties) order → IsOrderBy (length (nodes_among lib keys)) (ComesAfter lib main keys) order
+module _ (lib : Library) (main : List ℕ) (keys : List Key) (edges : List Edge) (within : All (λ t. (t.after < length (nodes_among lib keys)) × (t.before < length (nodes_among lib keys))) edges) (sound : (t : Edge) → Contains edges t → TellsEdge lib main keys t) (reached : (t : Edge) → TellsEdge lib main keys t → Reaches (graph_from (length (nodes_among lib keys)) edges) t.after t.before) where
+  pub in_order_of_all : (order : List ℕ) → IsOrder (graph_from (length (nodes_among lib keys)) edges) order → IsOrderBy (length (nodes_among lib keys)) (ComesAfter lib main keys) order
   in_order_of_all order is =
       let count = length (nodes_among lib keys) in
-      steps_suffice (graph_from count ties) order is count (graph_count count ties) (ComesAfter lib main keys)
-      (λ a b step. let (t, c, between) = step_tied count ties within a b step in (t, sound t c, between))
+      steps_suffice (graph_from count edges) order is count (graph_count count edges) (ComesAfter lib main keys)
+      (λ a b step. let (t, c, between) = step_tied count edges within a b step in (t, sound t c, between))
       (λ a b (t, edge, between). (
-        subst (λ (k : ℕ). Reaches (graph_from count ties) k b) between.0 (subst (λ (k : ℕ). Reaches (graph_from count ties) t.after k) between.1 (reached t edge)),
+        subst (λ (k : ℕ). Reaches (graph_from count edges) k b) between.0 (subst (λ (k : ℕ). Reaches (graph_from count edges) t.after k) between.1 (reached t edge)),
         λ e. edge.carries.apart (same_at (nodes_among lib keys) (node_of lib edge.x) (node_of lib edge.y) t.after edge.after_at (subst (λ (k : ℕ). IsAt (nodes_among lib keys) (node_of lib edge.y) k) (sym (between.0 ∙ e ∙ sym between.1)) edge.before_at)),
       ))
 
 -- of all ties, and of steps
-pub ordered_by : (extent : Extent) (lib : Library) (main : List ℕ) (keys : List Key) (ties : List Tie) → ListsUnits lib keys (Needed lib main) → All (λ t. (t.after < length (nodes_among lib keys)) × (t.before < length (nodes_among lib keys))) ties → ((t : Tie) → Contains ties t ↔ TellsWant lib main keys (WantsTold extent lib keys) t) → (order : List ℕ) → IsOrder (graph_from (length (nodes_among lib keys)) ties) order → IsOrderBy (length (nodes_among lib keys)) (ComesAfter lib main keys) order
-ordered_by Whole lib main keys ties lists within tells order is =
-    in_order_of_all lib main keys ties within (λ t c. tells_edge Whole lib main keys t ((tells t).0 c)) (λ t edge. further t.after here (tie_is_step (length (nodes_among lib keys)) ties within t ((tells t).1 (whole_tells lib main keys t edge)))) order is
-ordered_by Steps lib main keys ties lists within tells order is =
-    in_order_of_all lib main keys ties within (λ t c. tells_edge Steps lib main keys t ((tells t).0 c)) (λ t edge. edge_reached lib main keys lists ties tells within t edge) order is
+pub ordered_by : (extent : Extent) (lib : Library) (main : List ℕ) (keys : List Key) (edges : List Edge) → ListsUnits lib keys (Needed lib main) → All (λ t. (t.after < length (nodes_among lib keys)) × (t.before < length (nodes_among lib keys))) edges → ((t : Edge) → Contains edges t ↔ TellsWant lib main keys (WantsTold extent lib keys) t) → (order : List ℕ) → IsOrder (graph_from (length (nodes_among lib keys)) edges) order → IsOrderBy (length (nodes_among lib keys)) (ComesAfter lib main keys) order
+ordered_by Whole lib main keys edges lists within tells order is =
+    in_order_of_all lib main keys edges within (λ t c. tells_edge Whole lib main keys t ((tells t).0 c)) (λ t edge. further t.after here (tie_is_step (length (nodes_among lib keys)) edges within t ((tells t).1 (whole_tells lib main keys t edge)))) order is
+ordered_by Steps lib main keys edges lists within tells order is =
+    in_order_of_all lib main keys edges within (λ t c. tells_edge Steps lib main keys t ((tells t).0 c)) (λ t edge. edge_reached lib main keys lists edges tells within t edge) order is

@@ -3,10 +3,10 @@ use Rattle.std.specs.Prelude.{◌≡◌, ℕ, List, [], ◌∷◌, length, map, 
 use Rattle.std.specs.List.{flat_map}
 use Rattle.al_base.specs.Batch.{Key, key_of}
 use Rattle.al_base.specs.declared.unit_key.UnitKind.TheVariants.{Decl, Body, Sub}
-use Rattle.al_order.specs.Relations.{IsOrderBy}
-use Rattle.al_order.specs.Ties.{IsFault}
-use Rattle.al_order.specs.declared.tie.Tie.{Tie}
-use Rattle.al_order.specs.declared.tie.Reason.{Reason}
+use Rattle.al_base_order.specs.Relations.{IsOrderBy}
+use Rattle.al_base_order.specs.Ties.{IsFault}
+use Rattle.al_base_order.specs.declared.edge.Edge.{Edge}
+use Rattle.al_base_order.specs.declared.edge.Reason.{Reason}
 use Rattle.al_unit_graph.specs.Headers.{Library}
 use Rattle.al_bind.specs.Elaboration.{is_pair}
 use Rattle.al_bind.specs.Faults.{IsComplete, IsLack}
@@ -41,22 +41,22 @@ pub record IsElaboration (lib : Library) (main : List ℕ) (items : List Key) : 
   pub items_are : items ≡ items_at lib (nodes_among lib keys) order
 
 -- what a line says: an item, the item before it, and why
-abbrev pub line_seen : Line → Key × Key × Reason
-line_seen line = (key_of line.after, key_of line.before, line.reason)
+abbrev pub line_model : Line → Key × Key × Reason
+line_model line = (key_of line.after, key_of line.before, line.reason)
 
-abbrev pub line_of : List Key → Tie → Key × Key × Reason
-line_of keys tie = (key_at keys tie.x, key_at keys tie.y, tie.reason)
+abbrev pub line_of : List Key → Edge → Key × Key × Reason
+line_of keys edge = (key_at keys edge.x, key_at keys edge.y, edge.reason)
 
 -- nothing is missing, and the lines show the cycle to which the walk over stuck nodes comes: for each two nodes the carriers of
 -- the edge with the first reason, then the least x, then the least y
 pub record IsCycleOfItems (lib : Library) (main : List ℕ) (lines : List Line) : Type 0 where
   pub complete : IsComplete lib main
   pub keys : List Key
-  pub ties : List Tie
-  pub numbered : AreNumbered lib main keys ties
-  pub shown : List Tie
-  pub fault : IsFault (length (nodes_among lib keys)) ties shown
-  pub lines_are : map line_seen lines ≡ map (line_of keys) shown
+  pub edges : List Edge
+  pub numbered : AreNumbered lib main keys edges
+  pub shown : List Edge
+  pub fault : IsFault (length (nodes_among lib keys)) edges shown
+  pub lines_are : map line_model lines ≡ map (line_of keys) shown
 
 -- the first fault that holds
 abbrev pub IsBindFault : Library → List ℕ → BindFault → Type 0

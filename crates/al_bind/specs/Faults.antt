@@ -1,8 +1,8 @@
 -- The first thing that a partition lacks.
 use Rattle.std.specs.Prelude.{◌≡◌, ℕ, true, false, List}
 use Rattle.al_unit_graph.specs.Headers.{Library}
-use Rattle.al_bind.specs.declared.lacking.Lack.{Lack}
-use Rattle.al_bind.specs.declared.lacking.Lack.TheVariants.{Main, Body, Subunit}
+use Rattle.al_bind.specs.declared.lacking.MissingItem.{MissingItem}
+use Rattle.al_bind.specs.declared.lacking.MissingItem.TheVariants.{Main, Body, Subunit}
 use Rattle.al_bind.specs.Missing.{is_main, LacksBody, LacksSubunit, IsLeastName}
 
 -- no needed declaration lacks its body
@@ -18,7 +18,7 @@ abbrev pub IsComplete : Library → List ℕ → Type 0
 IsComplete lib main = (is_main lib main ≡ true) × HasBodies lib main × HasSubunits lib main
 
 -- the main subprogram; or else the least name of a body; or else the least of a subunit
-abbrev pub IsLack : Library → List ℕ → Lack → Type 0
+abbrev pub IsLack : Library → List ℕ → MissingItem → Type 0
 IsLack lib main Main = is_main lib main ≡ false
 IsLack lib main (Body name) = (is_main lib main ≡ true) × IsLeastName (LacksBody lib main) name
 IsLack lib main (Subunit name) = (is_main lib main ≡ true) × HasBodies lib main × IsLeastName (LacksSubunit lib main) name

@@ -2,7 +2,7 @@
 use Rattle.std.specs.Prelude.{ℕ, ◌+◌, ◌<◌, List, IsTrue}
 use Rattle.al_base.specs.Batch.{Key}
 use Rattle.al_base.specs.declared.unit_key.UnitKind.TheVariants.{Decl, Body}
-use Rattle.al_order.specs.declared.tie.Reason.{Reason}
+use Rattle.al_base_order.specs.declared.edge.Reason.{Reason}
 use Rattle.al_unit_graph.specs.Headers.{Library}
 use Rattle.al_bind.specs.Binding.{IsCycleOfItems, IsElaboration}
 use Rattle.al_bind.specs.declared.binding.Line.{Line}

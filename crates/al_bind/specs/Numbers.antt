@@ -3,15 +3,15 @@ use Rattle.std.specs.Prelude.{◌≡◌, ◌≢◌, ◌↔◌, ◌⊎◌, ℕ, �
 use Rattle.std.specs.List.{Contains, filter}
 use Rattle.al_base.specs.Batch.{Key, key_of}
 use Rattle.al_base.specs.declared.unit_key.UnitKind.TheVariants.{Decl, Body, Sub}
-use Rattle.al_order.specs.declared.tie.Tie.{Tie}
-use Rattle.al_order.specs.declared.tie.Reason.{Reason}
-use Rattle.al_order.specs.declared.tie.Reason.TheVariants.{ElaborateAll}
+use Rattle.al_base_order.specs.declared.edge.Edge.{Edge}
+use Rattle.al_base_order.specs.declared.edge.Reason.{Reason}
+use Rattle.al_base_order.specs.declared.edge.Reason.TheVariants.{ElaborateAll}
 use Rattle.al_unit_graph.specs.Headers.{Library}
 use Rattle.al_unit_graph.specs.Library.{is_unit}
 use Rattle.al_unit_graph.specs.Needed.{Needed, ListsUnits}
 use Rattle.al_unit_graph.specs.Orders.{key_cmp}
 use Rattle.std.specs.List.Sorted.{IsStrictlySortedBy}
-use Rattle.al_order.specs.Ties.{IsBetween}
+use Rattle.al_base_order.specs.Ties.{IsBetween}
 use Rattle.al_bind.specs.Elaboration.{Carries, IsItem, IsPartOf, is_pair, node_of}
 use Rattle.al_bind.specs.declared.places.End.{End}
 use Rattle.al_bind.specs.declared.places.Places.{Places}
@@ -31,23 +31,23 @@ abbrev pub IsAt : List Key → Key → ℕ → Type 0
 IsAt keys key i = (i < length keys) × (slice_index_or keys i key ≡ key)
 
 -- a tie tells an edge, and which items carry it: these by their places among the needed units, the nodes by theirs among the nodes
-pub record TellsEdge (lib : Library) (main : List ℕ) (keys : List Key) (tie : Tie) : Type 0 where
+pub record TellsEdge (lib : Library) (main : List ℕ) (keys : List Key) (edge : Edge) : Type 0 where
   pub x : Key
   pub y : Key
-  pub carries : Carries lib main tie.reason x y
-  pub x_at : IsAt keys x tie.x
-  pub y_at : IsAt keys y tie.y
-  pub after_at : IsAt (nodes_among lib keys) (node_of lib x) tie.after
-  pub before_at : IsAt (nodes_among lib keys) (node_of lib y) tie.before
+  pub carries : Carries lib main edge.reason x y
+  pub x_at : IsAt keys x edge.x
+  pub y_at : IsAt keys y edge.y
+  pub after_at : IsAt (nodes_among lib keys) (node_of lib x) edge.after
+  pub before_at : IsAt (nodes_among lib keys) (node_of lib y) edge.before
 
 -- an edge leads from node a to node b, which comes before it
 abbrev pub ComesAfter : Library → List ℕ → List Key → ℕ → ℕ → Type 0
-ComesAfter lib main keys a b = (t : Tie) × TellsEdge lib main keys t × IsBetween a b t
+ComesAfter lib main keys a b = (t : Edge) × TellsEdge lib main keys t × IsBetween a b t
 
 -- the needed units in the order of their keys, and for each edge between two nodes and each pair of items that carries it a tie
-pub record AreNumbered (lib : Library) (main : List ℕ) (keys : List Key) (ties : List Tie) : Type 0 where
+pub record AreNumbered (lib : Library) (main : List ℕ) (keys : List Key) (edges : List Edge) : Type 0 where
   pub lists : ListsUnits lib keys (Needed lib main)
-  pub tells : (t : Tie) → Contains ties t ↔ TellsEdge lib main keys t
+  pub tells : (t : Edge) → Contains edges t ↔ TellsEdge lib main keys t
 
 -- the code's places: units of the library in the order of their keys, and the nodes among them
 pub record ArePlaces (lib : Library) (places : Places) : Type 0 where
@@ -62,17 +62,17 @@ pub record IsEnd (lib : Library) (keys : List Key) (key : Key) (end : End) : Typ
   pub node_at : IsAt (nodes_among lib keys) (node_of lib key) end.node
 
 -- a tie from an item at one end to the item y, of another node
-pub record TiesTo (lib : Library) (keys : List Key) (x : End) (y : Key) (tie : Tie) : Type 0 where
+pub record TiesTo (lib : Library) (keys : List Key) (x : End) (y : Key) (edge : Edge) : Type 0 where
   pub y_kind : y.1 ≢ Sub
-  pub x_is : tie.x ≡ x.item
-  pub after_is : tie.after ≡ x.node
-  pub y_at : IsAt keys y tie.y
-  pub before_at : IsAt (nodes_among lib keys) (node_of lib y) tie.before
-  pub apart : tie.after ≢ tie.before
+  pub x_is : edge.x ≡ x.item
+  pub after_is : edge.after ≡ x.node
+  pub y_at : IsAt keys y edge.y
+  pub before_at : IsAt (nodes_among lib keys) (node_of lib y) edge.before
+  pub apart : edge.after ≢ edge.before
 
 -- a tie from the end to an item that is so, for its reason
-abbrev pub TiesBy : Library → List Key → End → (Reason → Key → Type 0) → Tie → Type 0
-TiesBy lib keys x R tie = (y : Key) × R tie.reason y × TiesTo lib keys x y tie
+abbrev pub TiesBy : Library → List Key → End → (Reason → Key → Type 0) → Edge → Type 0
+TiesBy lib keys x R edge = (y : Key) × R edge.reason y × TiesTo lib keys x y edge
 
 -- this item alone, for this reason
 abbrev pub IsFor : Reason → Key → Reason → Key → Type 0
@@ -83,30 +83,30 @@ abbrev pub IsForAll : Library → List ℕ → Reason → Key → Type 0
 IsForAll lib q r k = IsFor ElaborateAll (q, Body) r k ⊎ ((r ≡ ElaborateAll) × Needed lib q k)
 
 -- a tie of what a part of this item wants
-pub record TiesFrom (lib : Library) (keys : List Key) (WantsIt : Key → Reason → Key → Type 0) (x : Key) (tie : Tie) : Type 0 where
+pub record TiesFrom (lib : Library) (keys : List Key) (WantsIt : Key → Reason → Key → Type 0) (x : Key) (edge : Edge) : Type 0 where
   pub end : End
   pub is_end : IsEnd lib keys x end
-  pub ties : TiesBy lib keys end (λ reason y. (p : Key) × IsPartOf lib x p × WantsIt p reason y) tie
+  pub edges : TiesBy lib keys end (λ reason y. (p : Key) × IsPartOf lib x p × WantsIt p reason y) edge
 
 -- a tie tells what a part of an item wants, by places as TellsEdge has them
-pub record TellsWant (lib : Library) (main : List ℕ) (keys : List Key) (WantsIt : Key → Reason → Key → Type 0) (tie : Tie) : Type 0 where
+pub record TellsWant (lib : Library) (main : List ℕ) (keys : List Key) (WantsIt : Key → Reason → Key → Type 0) (edge : Edge) : Type 0 where
   pub x : Key
   pub y : Key
   pub after : IsItem lib main x
   pub before : IsItem lib main y
   pub part : Key
   pub is_part : IsPartOf lib x part
-  pub wants : WantsIt part tie.reason y
+  pub wants : WantsIt part edge.reason y
   pub apart : node_of lib x ≢ node_of lib y
-  pub x_at : IsAt keys x tie.x
-  pub y_at : IsAt keys y tie.y
-  pub after_at : IsAt (nodes_among lib keys) (node_of lib x) tie.after
-  pub before_at : IsAt (nodes_among lib keys) (node_of lib y) tie.before
+  pub x_at : IsAt keys x edge.x
+  pub y_at : IsAt keys y edge.y
+  pub after_at : IsAt (nodes_among lib keys) (node_of lib x) edge.after
+  pub before_at : IsAt (nodes_among lib keys) (node_of lib y) edge.before
 
 -- one that is so by some member of a list
-abbrev pub OneOf : {X : Type 0} → List X → (X → Tie → Type 0) → Tie → Type 0
+abbrev pub OneOf : {X : Type 0} → List X → (X → Edge → Type 0) → Edge → Type 0
 OneOf {X} zs P t = (z : X) × Contains zs z × P z t
 
 -- with the ties that are so, and no others
-pub record Adds (old new : List Tie) (P : Tie → Type 0) : Type 0 where
-  pub each : (t : Tie) → Contains new t ↔ (Contains old t ⊎ P t)
+pub record Adds (old new : List Edge) (P : Edge → Type 0) : Type 0 where
+  pub each : (t : Edge) → Contains new t ↔ (Contains old t ⊎ P t)

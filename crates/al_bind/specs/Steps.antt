@@ -2,15 +2,15 @@
 use Rattle.std.specs.Prelude.{◌≡◌, ◌≢◌, ◌⊎◌, List}
 use Rattle.std.specs.List.{Contains}
 use Rattle.al_base.specs.Batch.{Key}
-use Rattle.al_order.specs.declared.tie.Reason.{Reason}
-use Rattle.al_order.specs.declared.tie.Reason.TheVariants.{Depends}
+use Rattle.al_base_order.specs.declared.edge.Reason.{Reason}
+use Rattle.al_base_order.specs.declared.edge.Reason.TheVariants.{Depends}
 use Rattle.al_unit_graph.specs.Headers.{Library}
 use Rattle.al_unit_graph.specs.Dependence.{DependsOn, direct}
 use Rattle.al_bind.specs.Elaboration.{Wants}
 use Rattle.al_bind.specs.Numbers.{IsEnd}
 use Rattle.al_bind.specs.declared.places.End.{End}
-use Rattle.al_bind.specs.declared.ties.Extent.{Extent}
-use Rattle.al_bind.specs.declared.ties.Extent.TheVariants.{Whole, Steps}
+use Rattle.al_bind.specs.declared.edges.Extent.{Extent}
+use Rattle.al_bind.specs.declared.edges.Extent.TheVariants.{Whole, Steps}
 
 -- each of these is an item that has its place, and its node has one
 abbrev pub ArePlaced : Library → List Key → List Key → Type 0

@@ -3,16 +3,16 @@ ghost use Rattle.std.specs.Prelude.{◌≡◌, ◌<◌, ◌++◌, length, map, I
 ghost use Rattle.std.specs.List.{All};
 ghost use Rattle.al_base.specs.Batch.{key_of};
 ghost use Rattle.al_unit_graph.specs.Needed.{ListsUnits, Needed};
-ghost use Rattle.al_bind.specs.Binding.{items_at, items_of, line_of, line_seen, IsBindFault, IsCycleOfItems, IsElaboration};
+ghost use Rattle.al_bind.specs.Binding.{items_at, items_of, line_of, line_model, IsBindFault, IsCycleOfItems, IsElaboration};
 ghost use Rattle.al_bind.specs.Faults.{IsComplete};
 ghost use Rattle.al_bind.specs.Numbers.{ArePlaces};
-ghost use Rattle.al_bind.specs.declared.ties.Extent.TheVariants.{Whole};
+ghost use Rattle.al_bind.specs.declared.edges.Extent.TheVariants.{Whole};
 
-use crate::lacking::{Lack, first_lack};
+use crate::edges::{Extent, ties_of};
+use crate::lacking::{MissingItem, first_lack};
 use crate::places::{Places, copy_of, is_pair};
-use crate::ties::{Extent, ties_of};
 use al_base::{Name, NoMemory, UnitKey, UnitKind};
-use al_order::{Reason, Tie, order_of_ties};
+use al_base_order::{Edge, Reason, order_of_ties};
 use al_unit_graph::Sources;
 use std::alloc::Global;
 
@@ -28,7 +28,7 @@ pub struct Line {
 #[derive(Debug, Drop)]
 pub enum BindFault {
     /// Something is missing.
-    Lacks(Lack),
+    Lacks(MissingItem),
     /// A cycle: each line's node comes after that of the next line, and the last line's after that of the first (ARM 10.2.1(17)).
     Cycle(Vec<Line>),
 }
@@ -71,26 +71,26 @@ fn items_at(
 }
 
 // What a tie says.
-fn line_of(alloc: Global, keys: &[UnitKey], tie: &Tie) -> Result<Line, NoMemory>
-    requires x_in { tie.now.x < length keys.now }
-    requires y_in { tie.now.y < length keys.now }
-    ensures { IfOk result (λ line. line_seen line ≡ line_of (map key_of keys.now) tie.now) }
+fn line_of(alloc: Global, keys: &[UnitKey], edge: &Edge) -> Result<Line, NoMemory>
+    requires x_in { edge.now.x < length keys.now }
+    requires y_in { edge.now.y < length keys.now }
+    ensures { IfOk result (λ line. line_model line ≡ line_of (map key_of keys.now) edge.now) }
 {
     Ok(Line {
-        after: copy_of(alloc, &keys[tie.x])?,
-        before: copy_of(alloc, &keys[tie.y])?,
-        reason: tie.reason,
+        after: copy_of(alloc, &keys[edge.x])?,
+        before: copy_of(alloc, &keys[edge.y])?,
+        reason: edge.reason,
     })
 }
 
 // What these ties say.
-fn lines_of(alloc: Global, keys: &[UnitKey], ties: &[Tie]) -> Result<Vec<Line>, NoMemory>
-    requires { All (λ t. (t.x < length keys.now) × (t.y < length keys.now)) ties.now }
-    ensures { IfOk result (λ lines. map line_seen lines.items ≡ map (line_of (map key_of keys.now)) ties.now) }
+fn lines_of(alloc: Global, keys: &[UnitKey], edges: &[Edge]) -> Result<Vec<Line>, NoMemory>
+    requires { All (λ t. (t.x < length keys.now) × (t.y < length keys.now)) edges.now }
+    ensures { IfOk result (λ lines. map line_model lines.items ≡ map (line_of (map key_of keys.now)) edges.now) }
 {
     let mut lines = Vec::new(alloc);
-    for tie in ties {
-        lines.push(line_of(alloc, keys, tie)?)?;
+    for edge in edges {
+        lines.push(line_of(alloc, keys, edge)?)?;
     }
     Ok(lines)
 }
@@ -108,8 +108,8 @@ fn bound_by(
     requires places { ArePlaces sources.now places.now }
     ensures { IfOk result (λ bound. MatchResult bound (λ items. IsElaboration sources.now main.now (map key_of items.items)) (λ lines. extent ≡ Whole → IsCycleOfItems sources.now main.now lines.items)) }
 {
-    let ties = ties_of(alloc, sources, main, places, extent)?;
-    match order_of_ties(alloc, places.nodes.len(), &ties)? {
+    let edges = ties_of(alloc, sources, main, places, extent)?;
+    match order_of_ties(alloc, places.nodes.len(), &edges)? {
         Ok(order) => {
             let items = items_at(alloc, sources, &places.nodes, &order)?;
             Ok(Ok(items))

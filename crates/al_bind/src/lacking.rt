@@ -9,7 +9,7 @@ use std::alloc::Global;
 
 /// What a partition lacks.
 #[derive(Debug, Drop)]
-pub enum Lack {
+pub enum MissingItem {
     /// The main unit is no procedure without parameters (ARM 10.2(7)).
     Main,
     /// The body of the needed declaration of this name isn't there (ARM 10.2(4)).
@@ -24,17 +24,21 @@ pub enum Lack {
 /// # Errors
 ///
 /// `NoMemory` where memory is wanted.
-pub fn first_lack(alloc: Global, sources: &Sources, main: &[u8]) -> Result<Option<Lack>, NoMemory>
+pub fn first_lack(
+    alloc: Global,
+    sources: &Sources,
+    main: &[u8],
+) -> Result<Option<MissingItem>, NoMemory>
     ensures { IfOk result (λ found. MatchOption found (IsComplete sources.now main.now) (IsLack sources.now main.now)) }
 {
     if !is_main(sources, main) {
-        return Ok(Some(Lack::Main));
+        return Ok(Some(MissingItem::Main));
     }
     if let Some(name) = missing_body(alloc, sources, main)? {
-        return Ok(Some(Lack::Body(name)));
+        return Ok(Some(MissingItem::Body(name)));
     }
     if let Some(name) = missing_subunit(alloc, sources, main)? {
-        return Ok(Some(Lack::Subunit(name)));
+        return Ok(Some(MissingItem::Subunit(name)));
     }
     Ok(None)
 }

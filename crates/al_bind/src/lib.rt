@@ -2,14 +2,14 @@
 #![tactic(auto)]
 
 mod binding;
+mod edges;
 mod lacking;
 pub mod laws;
 mod missing;
 mod parts;
 mod places;
-mod ties;
 
-pub use al_order::Reason;
+pub use al_base_order::Reason;
 pub use binding::{BindFault, Line, bind};
-pub use lacking::{Lack, first_lack};
+pub use lacking::{MissingItem, first_lack};
 pub use parts::parts_of;

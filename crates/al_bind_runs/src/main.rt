@@ -6,10 +6,10 @@
 ghost use Rattle.std.specs.Prelude.{◌≤◌, length};
 
 mod library;
-mod told;
+mod printed;
 
 use crate::library::put;
-use crate::told::told;
+use crate::printed::printed;
 use al_unit_graph::Sources;
 use std::alloc::AllocError;
 use std::io;
@@ -20,7 +20,7 @@ fn main(rt: HostRuntime) -> io::Result<()> {
     for line in text.as_str().lines() {
         let (word, rest) = line.split_once(' ').unwrap_or((line, ""));
         if word == "bind" {
-            let Ok(reply) = told(rt.alloc(), &sources, rest) else {
+            let Ok(reply) = printed(rt.alloc(), &sources, rest) else {
                 return Err(AllocError)?;
             };
             rt.print(reply)?;

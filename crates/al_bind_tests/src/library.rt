@@ -1,6 +1,6 @@
 // Libraries as tables, and what binding them says.
 use al_base::{FileKey, Name, NoMemory, Place, UnitKey, UnitKind};
-use al_bind::{BindFault, Lack, Line, Reason, bind};
+use al_bind::{BindFault, Line, MissingItem, Reason, bind};
 use al_unit_graph::{Contents, Header, Mention, Source, Sources, UnitForm, kind_of};
 use std::alloc::Global;
 use std::process::Abort;
@@ -171,14 +171,14 @@ fn push_items(text: &mut Vec<u8>, items: &[UnitKey]) -> Result<(), NoMemory> {
     Ok(())
 }
 
-fn push_lack(text: &mut Vec<u8>, lack: &Lack) -> Result<(), NoMemory> {
+fn push_lack(text: &mut Vec<u8>, lack: &MissingItem) -> Result<(), NoMemory> {
     match lack {
-        Lack::Main => text.extend_from_slice(b"main")?,
-        Lack::Body(name) => {
+        MissingItem::Main => text.extend_from_slice(b"main")?,
+        MissingItem::Body(name) => {
             text.extend_from_slice(b"body ")?;
             text.extend_from_slice(name.as_slice())?;
         }
-        Lack::Subunit(name) => {
+        MissingItem::Subunit(name) => {
             text.extend_from_slice(b"subunit ")?;
             text.extend_from_slice(name.as_slice())?;
         }
@@ -193,7 +193,7 @@ fn push_fault(text: &mut Vec<u8>, fault: &BindFault) -> Result<(), NoMemory> {
     }
 }
 
-/// What binding says: the items with a semicolon behind each, or the lines of the cycle so, or what is missing.
+/// What binding says: the items with a semicolon after each, or the lines of the cycle so, or what is missing.
 fn bound(alloc: Global, sources: &Sources, main: &[u8]) -> Result<Vec<u8>, NoMemory> {
     let mut text = Vec::new(alloc);
     match bind(alloc, sources, main)? {

@@ -99,7 +99,7 @@ fn pairs_stay_together(rt: HostRuntime) -> Result<(), Fail> {
         ),
     ];
     told(&rt, alloc, &rows, b"main", b"z decl; z body; main body; ")?;
-    // what the body alone depends on comes before the declaration, and what depends on the declaration behind the body
+    // what the body alone depends on comes before the declaration, and what depends on the declaration after the body
     let rows: [Row<'static>; 5] = [
         (
             b"z",

@@ -2,29 +2,29 @@
 use Rattle.std.proofs.Common.{◌≡◌, ◌≢◌, ℕ, Bool, true, false, List, [], ◌∷◌, map, Option, Some, None, Result, Ok, Err, refl, ap, sym, ◌∙◌, if◌then◌else◌}
 use Rattle.al_base.specs.declared.diagnostic.Diagnostic.{Diagnostic}
 use Rattle.al_base.specs.declared.unit_key.UnitKey.{UnitKey}
-use Rattle.al_syntax.specs.UnitTrees.{CompilationUnitTree}
+use Rattle.al_tree_syntax.specs.UnitTrees.{CompilationUnitTree}
 use Rattle.al_query.specs.Reads.{Table}
-use Rattle.al_judged.specs.declared.fault.Fault.{Fault}
-use Rattle.al_faults.specs.FaultLists.{all_faults}
-use Rattle.al_typed.specs.UnitTrees.{UnitTree}
+use Rattle.al_base_fault.specs.declared.fault.Fault.{Fault}
+use Rattle.al_base_faults.specs.FaultLists.{all_faults}
+use Rattle.al_view_typed.specs.UnitTrees.{UnitTree}
 use Rattle.al_view.specs.declared.view.ViewKind.{ViewKind}
-use Rattle.al_outcome.specs.declared.interface.UnitInterface.{UnitInterface}
-use Rattle.al_walk.specs.Steps.{Inside}
-use Rattle.al_within.specs.Verdicts.{Verdict}
-use Rattle.al_within.specs.Verdicts.Verdict.{Wrong, Right}
-use Rattle.al_ada_here.specs.Ends.{ends_of}
-use Rattle.al_unit_at.specs.UnitsAt.{unit_at}
-use Rattle.al_unit_at.specs.declared.unit.UnitStart.{UnitStart}
-use Rattle.al_unit_made.specs.Ended.{ended, right_at, viewed}
-use Rattle.al_unit_made.specs.Made.{fault_in, faults_in, unless_wrong}
-use Rattle.al_unit_made.specs.Said.{own_view}
-use Rattle.al_unit_made.specs.Uncompiled.{is_not_compiled}
-use Rattle.al_unit_made.specs.declared.behind.EndedText.{EndedText}
-use Rattle.al_unit_made.specs.declared.behind.Round.{Round}
+use Rattle.al_query_outcome.specs.declared.interface.UnitInterface.{UnitInterface}
+use Rattle.al_stmts_walk.specs.Steps.{Inside}
+use Rattle.al_check_within.specs.Verdicts.{Verdict}
+use Rattle.al_check_within.specs.Verdicts.Verdict.{Wrong, Right}
+use Rattle.al_check_here.specs.Ends.{ends_of}
+use Rattle.al_check_start.specs.UnitsAt.{unit_at}
+use Rattle.al_check_start.specs.declared.unit.UnitStart.{UnitStart}
+use Rattle.al_check_made.specs.Ended.{ended, right_at, viewed}
+use Rattle.al_check_made.specs.Made.{fault_in, faults_in, unless_wrong}
+use Rattle.al_check_made.specs.Said.{own_view}
+use Rattle.al_check_made.specs.Uncompiled.{is_not_compiled}
+use Rattle.al_check_made.specs.declared.after.EndedText.{EndedText}
+use Rattle.al_check_made.specs.declared.after.UnitFacts.{UnitFacts}
 use Rattle.al_check.specs.Ada.{ada_verdict, ended_text, item_faults, item_walked, round_of, verdict_from}
-use Rattle.al_check.specs.Laws.{ItemFaultsAreTold, SoundUnitsHaveNoFault, StartFaultsAreTold, UncompiledIsRefused}
+use Rattle.al_check.specs.Laws.{ItemFaultsAreReported, SoundUnitsHaveNoFault, StartFaultsAreReported, UncompiledIsRefused}
 
--- ---- what is found behind an item
+-- ---- what is found after an item
 
 none_in : (unit : UnitKey) (faults : List Fault) → map (fault_in unit) faults ≡ [] → faults ≡ []
 none_in unit [] h = refl
@@ -38,7 +38,7 @@ unless_some : (wrong : List Diagnostic) (v : Verdict) → wrong ≢ [] → unles
 unless_some [] v h = absurd (h refl)
 unless_some (d ∷ wrong) v h = refl
 
-module _ (r : Round) (e : EndedText) (x : Inside) where
+module _ (r : UnitFacts) (e : EndedText) (x : Inside) where
   viewed_right : (view : Option ViewKind) (i : UnitInterface) (made : UnitTree) → viewed r view e x ≡ Right i made → all_faults x.faults ≡ []
   viewed_right None i made h = cc
   viewed_right (Some kind) i made h = none_in e.progress.unit (all_faults x.faults) (unless_right (faults_in e.progress.unit x.faults) (right_at r kind e x) i made h)
@@ -77,10 +77,10 @@ module _ (unit : UnitKey) (text : List ℕ) (tree : CompilationUnitTree) (t : Ta
 pub uncompiled_refused : UncompiledIsRefused
 uncompiled_refused unit text tree t h = sym (uncompiled_is unit text tree t true (sym h))
 
-pub start_told : StartFaultsAreTold
+pub start_told : StartFaultsAreReported
 start_told unit text tree t f c h = started unit text tree t (Err f) c h
 
-pub item_told : ItemFaultsAreTold
+pub item_told : ItemFaultsAreReported
 item_told unit text tree t s c h some =
     started unit text tree t (Ok s) c h ∙ ended_wrong (round_of tree s) (ended_text (ends_of (item_walked t tree s).0)) (item_walked t tree s).1 some
 

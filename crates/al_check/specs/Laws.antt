@@ -1,32 +1,32 @@
 -- What the check of an Ada unit tells, and of which units it gives an interface.
 use Rattle.std.specs.Prelude.{◌≡◌, ◌≢◌, ℕ, true, false, List, [], ◌∷◌, Ok, Err}
 use Rattle.al_base.specs.declared.unit_key.UnitKey.{UnitKey}
-use Rattle.al_syntax.specs.UnitTrees.{CompilationUnitTree}
+use Rattle.al_tree_syntax.specs.UnitTrees.{CompilationUnitTree}
 use Rattle.al_query.specs.Reads.{Table}
-use Rattle.al_judged.specs.declared.fault.Fault.{Fault}
-use Rattle.al_faults.specs.FaultLists.{all_faults}
-use Rattle.al_typed.specs.UnitTrees.{UnitTree}
-use Rattle.al_outcome.specs.declared.interface.UnitInterface.{UnitInterface}
-use Rattle.al_within.specs.Verdicts.Verdict.{Wrong, Right}
-use Rattle.al_unit_at.specs.UnitsAt.{unit_at}
-use Rattle.al_unit_at.specs.declared.unit.UnitStart.{UnitStart}
-use Rattle.al_unit_made.specs.Made.{fault_in, faults_in}
-use Rattle.al_unit_made.specs.Uncompiled.{is_not_compiled}
-use Rattle.al_check.specs.Ada.{ada_verdict, item_faults, unit_behind}
+use Rattle.al_base_fault.specs.declared.fault.Fault.{Fault}
+use Rattle.al_base_faults.specs.FaultLists.{all_faults}
+use Rattle.al_view_typed.specs.UnitTrees.{UnitTree}
+use Rattle.al_query_outcome.specs.declared.interface.UnitInterface.{UnitInterface}
+use Rattle.al_check_within.specs.Verdicts.Verdict.{Wrong, Right}
+use Rattle.al_check_start.specs.UnitsAt.{unit_at}
+use Rattle.al_check_start.specs.declared.unit.UnitStart.{UnitStart}
+use Rattle.al_check_made.specs.Made.{fault_in, faults_in}
+use Rattle.al_check_made.specs.Uncompiled.{is_not_compiled}
+use Rattle.al_check.specs.Ada.{ada_verdict, item_faults, unit_after}
 
 -- what isn't compiled yet is told so
 abbrev pub UncompiledIsRefused : Type 0
 UncompiledIsRefused = (unit : UnitKey) (text : List ℕ) (tree : CompilationUnitTree) (t : Table) → is_not_compiled text tree ≡ true → ada_verdict unit text tree t ≡ Wrong []
 
 -- a fault of the context clause or of the defining name is told, alone
-abbrev pub StartFaultsAreTold : Type 0
-StartFaultsAreTold = (unit : UnitKey) (text : List ℕ) (tree : CompilationUnitTree) (t : Table) (f : Fault) → is_not_compiled text tree ≡ false → unit_at t unit tree ≡ Err f
+abbrev pub StartFaultsAreReported : Type 0
+StartFaultsAreReported = (unit : UnitKey) (text : List ℕ) (tree : CompilationUnitTree) (t : Table) (f : Fault) → is_not_compiled text tree ≡ false → unit_at t unit tree ≡ Err f
     → ada_verdict unit text tree t ≡ Wrong (fault_in unit f ∷ [])
 
 -- of an item with faults all are told
-abbrev pub ItemFaultsAreTold : Type 0
-ItemFaultsAreTold = (unit : UnitKey) (text : List ℕ) (tree : CompilationUnitTree) (t : Table) (s : UnitStart) → is_not_compiled text tree ≡ false → unit_at t unit tree ≡ Ok s
-    → all_faults (item_faults t tree s) ≢ [] → ada_verdict unit text tree t ≡ Wrong (faults_in (unit_behind t tree s) (item_faults t tree s))
+abbrev pub ItemFaultsAreReported : Type 0
+ItemFaultsAreReported = (unit : UnitKey) (text : List ℕ) (tree : CompilationUnitTree) (t : Table) (s : UnitStart) → is_not_compiled text tree ≡ false → unit_at t unit tree ≡ Ok s
+    → all_faults (item_faults t tree s) ≢ [] → ada_verdict unit text tree t ≡ Wrong (faults_in (unit_after t tree s) (item_faults t tree s))
 
 -- only a unit that is compiled, and has no fault in its start or in its item, has an interface
 abbrev pub SoundUnitsHaveNoFault : Type 0

@@ -1,46 +1,46 @@
 // Who finds what the text of an Ada unit says.
 ghost use Rattle.std.specs.Prelude.{◌≡◌, ◌∷◌, [], IfOk};
-ghost use Rattle.al_tree.specs.UnitViews.{unit_seen};
-ghost use Rattle.al_query.specs.Reads.{Agrees, Told};
-ghost use Rattle.al_within.specs.Verdicts.{verdict_of};
-ghost use Rattle.al_within.specs.Verdicts.Verdict.{Wrong};
-ghost use Rattle.al_unit_at.specs.UnitsAt as starts;
-ghost use Rattle.al_unit_made.specs.Made.{fault_in};
+ghost use Rattle.al_tree.specs.UnitViews.{unit_model};
+ghost use Rattle.al_query.specs.Reads.{Agrees, FromAnswers};
+ghost use Rattle.al_check_within.specs.Verdicts.{verdict_of};
+ghost use Rattle.al_check_within.specs.Verdicts.Verdict.{Wrong};
+ghost use Rattle.al_check_start.specs.UnitsAt as starts;
+ghost use Rattle.al_check_made.specs.Made.{fault_in};
 ghost use Rattle.al_check.specs.Ada.{verdict_from};
 
 use crate::walk::walk_from;
 use al_base::{NoMemory, UnitKey};
-use al_bounded_check::BoundedCheck;
-use al_judged::{Fault, Judged};
+use al_base_fault::{CheckResult, Fault};
+use al_check_bounded::BoundedCheck;
+use al_check_known::units_known;
+use al_check_made::{diagnostic, is_not_compiled};
+use al_check_start::{UnitStart, unit_at};
+use al_check_within::{UnitFinder, UnitResult, UnitVerdict};
 use al_query::{Answers, Recorder};
 use al_tree::CompilationUnit;
-use al_unit_at::{UnitStart, unit_at};
 use al_unit_graph::Header;
-use al_unit_made::{diagnostic, is_not_compiled};
-use al_unit_start::units_known;
-use al_view::Row;
-use al_within::{Finding, Found, UnitFinder};
+use al_view::Seq;
 use std::alloc::Global;
 
 /// A unit that isn't compiled yet.
-fn not_yet<A: Answers + Drop>(alloc: Global, recorder: Recorder<A>) -> Found
+fn not_yet<A: Answers + Drop>(alloc: Global, recorder: Recorder<A>) -> UnitResult
     ensures agrees { Agrees (A.table recorder.asked) result.log }
     ensures finding { verdict_of result.finding ≡ Wrong [] }
 {
-    Found {
-        finding: Finding::Faulty(Row::empty(alloc)),
+    UnitResult {
+        finding: UnitVerdict::Faulty(Seq::empty(alloc)),
         log: recorder.into_log(),
     }
 }
 
 /// The fault of a unit's start.
-fn one_fault(alloc: Global, unit: &UnitKey, fault: &Fault) -> Result<Finding, NoMemory>
+fn one_fault(alloc: Global, unit: &UnitKey, fault: &Fault) -> Result<UnitVerdict, NoMemory>
     ensures { IfOk result (λ finding. verdict_of finding ≡ Wrong (fault_in unit.now fault.now ∷ [])) }
 {
     let diagnostic = diagnostic(alloc, unit, fault)?;
-    let mut faults = Row::empty(alloc);
+    let mut faults = Seq::empty(alloc);
     faults.push(diagnostic)?;
-    Ok(Finding::Faulty(faults))
+    Ok(UnitVerdict::Faulty(faults))
 }
 
 /// What is found in the text of a unit whose start has a fault.
@@ -49,13 +49,13 @@ fn faulty<A: Answers + Drop>(
     unit: &UnitKey,
     fault: &Fault,
     recorder: Recorder<A>,
-) -> Result<Found, NoMemory>
+) -> Result<UnitResult, NoMemory>
     ensures agrees { IfOk result (λ found. Agrees (A.table recorder.asked) found.log) }
     ensures log { IfOk result (λ found. found.log ≡ recorder.log) }
     ensures finding { IfOk result (λ found. verdict_of found.finding ≡ Wrong (fault_in unit.now fault.now ∷ [])) }
 {
     match one_fault(alloc, unit, fault) {
-        Ok(finding) => Ok(Found {
+        Ok(finding) => Ok(UnitResult {
             finding,
             log: recorder.into_log(),
         }),
@@ -71,11 +71,11 @@ fn find_from<A: Answers + Drop>(
     alloc: Global,
     unit: &UnitKey,
     tree: &CompilationUnit,
-    start: Judged<UnitStart>,
+    start: CheckResult<UnitStart>,
     recorder: Recorder<A>,
-) -> Result<Found, NoMemory>
+) -> Result<UnitResult, NoMemory>
     ensures agrees { IfOk result (λ found. Agrees (A.table recorder.asked) found.log) }
-    ensures told { IfOk result (λ found. Told recorder.log found.log (λ t. verdict_of found.finding ≡ verdict_from t unit.now (unit_seen tree.now) start)) }
+    ensures answered { IfOk result (λ found. FromAnswers recorder.log found.log (λ t. verdict_of found.finding ≡ verdict_from t unit.now (unit_model tree.now) start)) }
 {
     match start {
         Ok(start) => walk_from(alloc, tree, start, recorder),
@@ -89,9 +89,9 @@ fn find_in<A: Answers + Drop>(
     unit: &UnitKey,
     tree: &CompilationUnit,
     recorder: Recorder<A>,
-) -> Result<Found, NoMemory>
+) -> Result<UnitResult, NoMemory>
     ensures agrees { IfOk result (λ found. Agrees (A.table recorder.asked) found.log) }
-    ensures told { IfOk result (λ found. Told recorder.log found.log (λ t. verdict_of found.finding ≡ verdict_from t unit.now (unit_seen tree.now) (starts.unit_at t unit.now (unit_seen tree.now)))) }
+    ensures answered { IfOk result (λ found. FromAnswers recorder.log found.log (λ t. verdict_of found.finding ≡ verdict_from t unit.now (unit_model tree.now) (starts.unit_at t unit.now (unit_model tree.now)))) }
 {
     let mut recorder = recorder;
     match unit_at(alloc, unit, tree, &mut recorder) {
@@ -131,7 +131,7 @@ impl UnitFinder for AdaFinder {
         text: &[u8],
         tree: &CompilationUnit,
         recorder: Recorder<A>,
-    ) -> Result<Found, NoMemory> {
+    ) -> Result<UnitResult, NoMemory> {
         match is_not_compiled(alloc, text, tree) {
             Ok(true) => Ok(not_yet(alloc, recorder)),
             Ok(false) => find_in(alloc, unit, tree, recorder),

@@ -1,11 +1,11 @@
 //! Laws of what is found, as contracts of functions without code.
-ghost use Rattle.al_check.specs.Laws.{ItemFaultsAreTold, SoundUnitsHaveNoFault, StartFaultsAreTold, UncompiledIsRefused};
+ghost use Rattle.al_check.specs.Laws.{ItemFaultsAreReported, SoundUnitsHaveNoFault, StartFaultsAreReported, UncompiledIsRefused};
 
 /// Whatever is wrong with a unit is told: that it isn't compiled yet, the fault of its start, or all faults of its item.
-pub fn faults_are_told()
+pub fn faults_are_reported()
     ensures uncompiled { UncompiledIsRefused }
-    ensures start { StartFaultsAreTold }
-    ensures item { ItemFaultsAreTold }
+    ensures start { StartFaultsAreReported }
+    ensures item { ItemFaultsAreReported }
 {}
 
 /// Only a unit without faults has an interface.

@@ -1,29 +1,29 @@
 // Where the item of a unit begins.
 ghost use Rattle.std.specs.Prelude.{◌≡◌, IfOk};
-ghost use Rattle.al_tree.specs.UnitViews.{library_item_seen, unit_seen};
-ghost use Rattle.al_header.specs.Units as headers;
+ghost use Rattle.al_tree.specs.UnitViews.{library_item_model, unit_model};
+ghost use Rattle.al_unit_header.specs.Units as headers;
 ghost use Rattle.al_check.specs.Ada.{round_of, standing_of, text_of};
 
-use al_ada_here::{Standing, UnitText};
 use al_base::{NoMemory, UnitKey};
-use al_body_ends::ends_in;
-use al_header::header_of;
-use al_nodes::Labeller;
+use al_check_here::{CheckState, UnitText};
+use al_check_made::{UnitFacts, item_line, predefined_everywhere};
+use al_check_start::UnitStart;
+use al_overload_nodes::Labeller;
+use al_scope_unit::OwnText;
+use al_stmts_ends::ends_in;
 use al_tree::{CompilationUnit, LibraryItem};
-use al_unit_at::UnitStart;
-use al_unit_made::{Round, item_line, predefined_everywhere};
-use al_unit_place::OwnText;
-use al_view::Row;
+use al_unit_header::header_of;
+use al_view::Seq;
 use std::alloc::Global;
 
 /// What stays the same in the text of a unit.
 fn text_of(
     alloc: Global,
     item: &LibraryItem,
-    packages: Row<UnitKey>,
+    packages: Seq<UnitKey>,
     own: OwnText,
 ) -> Result<UnitText, NoMemory>
-    ensures { IfOk result (λ text. text ≡ text_of (library_item_seen item.now) packages own) }
+    ensures { IfOk result (λ text. text ≡ text_of (library_item_model item.now) packages own) }
 {
     let predefined = predefined_everywhere(alloc)?;
     let ends = ends_in(alloc, item)?;
@@ -42,7 +42,7 @@ fn text_of(
 
 /// Whether a unit needs a body.
 fn needs_body(alloc: Global, tree: &CompilationUnit) -> Result<bool, NoMemory>
-    ensures { IfOk result (λ needs. needs ≡ (headers.header_of (unit_seen tree.now)).needs_body) }
+    ensures { IfOk result (λ needs. needs ≡ (headers.header_of (unit_model tree.now)).needs_body) }
 {
     let header = header_of(alloc, tree)?;
     let needs = header.needs_body;
@@ -52,19 +52,19 @@ fn needs_body(alloc: Global, tree: &CompilationUnit) -> Result<bool, NoMemory>
 
 /// Where the item of a unit begins, and what is known of the unit before.
 pub(crate) struct Begun {
-    pub(crate) round: Round,
-    pub(crate) standing: Standing,
+    pub(crate) unit_facts: UnitFacts,
+    pub(crate) state: CheckState,
 }
 
 /// Where the item of a unit begins that starts so.
-#[tactic(auto, unfolding(al_tree::specs::UnitViews::unit_seen))]
+#[tactic(auto, unfolding(al_tree::specs::UnitViews::unit_model))]
 pub(crate) fn begun_at(
     alloc: Global,
     tree: &CompilationUnit,
     start: UnitStart,
 ) -> Result<Begun, NoMemory>
-    ensures round { IfOk result (λ begun. begun.round ≡ round_of (unit_seen tree.now) start) }
-    ensures standing { IfOk result (λ begun. begun.standing ≡ standing_of (unit_seen tree.now) start) }
+    ensures unit_facts { IfOk result (λ begun. begun.unit_facts ≡ round_of (unit_model tree.now) start) }
+    ensures state { IfOk result (λ begun. begun.state ≡ standing_of (unit_model tree.now) start) }
 {
     let needs_body = needs_body(alloc, tree)?;
     let UnitStart {
@@ -72,18 +72,18 @@ pub(crate) fn begun_at(
         scope,
         packages,
         progress,
-        awaiting,
+        uncompleted,
         parent,
         view,
     } = start;
     let text = text_of(alloc, &tree.item, packages, own)?;
     let line = item_line(&tree.item);
-    let round = Round {
+    let unit_facts = UnitFacts {
         needs_body,
         line,
         parent,
         view,
     };
-    let standing = Standing::new(text, scope, progress, awaiting);
-    Ok(Begun { round, standing })
+    let state = CheckState::new(text, scope, progress, uncompleted);
+    Ok(Begun { unit_facts, state })
 }

@@ -1,25 +1,25 @@
 // What is found in the item of a unit.
 ghost use Rattle.std.specs.Prelude.{◌≡◌, IfOk};
-ghost use Rattle.al_tree.specs.UnitViews.{library_item_seen, unit_seen};
-ghost use Rattle.al_query.specs.Reads.{Agrees, Told};
-ghost use Rattle.al_walk.specs.Units.{unit_walked};
-ghost use Rattle.al_walked.specs.WalkedViews.{inside_seen};
-ghost use Rattle.al_within.specs.Verdicts.{verdict_of};
-ghost use Rattle.al_ada_here.specs.Ends.{ends_of};
-ghost use Rattle.al_ada_reading.specs.Ada.{ada};
-ghost use Rattle.al_check.specs.Ada.{ended_behind, ended_text, item_verdict};
+ghost use Rattle.al_tree.specs.UnitViews.{library_item_model, unit_model};
+ghost use Rattle.al_query.specs.Reads.{Agrees, FromAnswers};
+ghost use Rattle.al_stmts_walk.specs.Units.{unit_walked};
+ghost use Rattle.al_stmts_walked.specs.WalkedViews.{inside_model};
+ghost use Rattle.al_check_within.specs.Verdicts.{verdict_of};
+ghost use Rattle.al_check_here.specs.Ends.{ends_of};
+ghost use Rattle.al_check_reading.specs.Ada.{ada};
+ghost use Rattle.al_check.specs.Ada.{ended_after, ended_text, item_verdict};
 
 use crate::start::{Begun, begun_at};
-use al_ada_here::{Ends, Standing, UnitText, into_ends};
-use al_ada_reading::AdaReader;
 use al_base::NoMemory;
+use al_check_here::{CheckState, Ends, UnitText, into_ends};
+use al_check_made::{EndedText, UnitFacts, found_after};
+use al_check_reading::AdaAnalyzer;
+use al_check_start::UnitStart;
+use al_check_walk::check_unit;
+use al_check_within::{UnitResult, UnitVerdict};
 use al_query::{Answers, Recorder};
+use al_stmts_walked::WalkedInside;
 use al_tree::{CompilationUnit, LibraryItem};
-use al_unit_at::UnitStart;
-use al_unit_made::{EndedText, Round, found_behind};
-use al_unit_walk::check_unit;
-use al_walked::WalkedInside;
-use al_within::{Finding, Found};
 use std::alloc::Global;
 
 /// What the walk left, without what it stood on.
@@ -48,16 +48,16 @@ fn without_text(ends: Ends) -> EndedText
 /// What is found in an item whose walk has come to its end there.
 fn ended_at(
     alloc: Global,
-    round: Round,
-    standing: Standing,
+    unit_facts: UnitFacts,
+    state: CheckState,
     inside: WalkedInside,
-) -> Result<Finding, NoMemory>
-    ensures { IfOk result (λ finding. verdict_of finding ≡ ended_behind round (standing, inside_seen inside)) }
+) -> Result<UnitVerdict, NoMemory>
+    ensures { IfOk result (λ finding. verdict_of finding ≡ ended_after unit_facts (state, inside_model inside)) }
 {
-    match into_ends(alloc, standing) {
-        Ok(ends) => found_behind(alloc, round, without_text(ends), inside),
+    match into_ends(alloc, state) {
+        Ok(ends) => found_after(alloc, unit_facts, without_text(ends), inside),
         Err(error) => {
-            drop(round);
+            drop(unit_facts);
             drop(inside);
             Err(error)
         }
@@ -67,18 +67,18 @@ fn ended_at(
 /// The same with what was asked.
 fn found_by<A: Answers + Drop>(
     alloc: Global,
-    round: Round,
-    reader: AdaReader<A>,
+    unit_facts: UnitFacts,
+    analyzer: AdaAnalyzer<A>,
     inside: WalkedInside,
-) -> Result<Found, NoMemory>
-    ensures agrees { IfOk result (λ found. Agrees (A.table reader.recorder.asked) found.log) }
-    ensures log { IfOk result (λ found. found.log ≡ reader.recorder.log) }
-    ensures finding { IfOk result (λ found. verdict_of found.finding ≡ ended_behind round (reader.standing, inside_seen inside)) }
+) -> Result<UnitResult, NoMemory>
+    ensures agrees { IfOk result (λ found. Agrees (A.table analyzer.recorder.asked) found.log) }
+    ensures log { IfOk result (λ found. found.log ≡ analyzer.recorder.log) }
+    ensures finding { IfOk result (λ found. verdict_of found.finding ≡ ended_after unit_facts (analyzer.state, inside_model inside)) }
 {
-    let AdaReader { standing, recorder } = reader;
+    let AdaAnalyzer { state, recorder } = analyzer;
     let log = recorder.into_log();
-    match ended_at(alloc, round, standing, inside) {
-        Ok(finding) => Ok(Found { finding, log }),
+    match ended_at(alloc, unit_facts, state, inside) {
+        Ok(finding) => Ok(UnitResult { finding, log }),
         Err(error) => {
             drop(log);
             Err(error)
@@ -89,40 +89,40 @@ fn found_by<A: Answers + Drop>(
 /// What is found in the item of a unit from that place on.
 fn walk<A: Answers + Drop>(
     alloc: Global,
-    round: Round,
-    standing: Standing,
+    unit_facts: UnitFacts,
+    state: CheckState,
     item: &LibraryItem,
     recorder: Recorder<A>,
-) -> Result<Found, NoMemory>
+) -> Result<UnitResult, NoMemory>
     ensures agrees { IfOk result (λ found. Agrees (A.table recorder.asked) found.log) }
-    ensures told { IfOk result (λ found. Told recorder.log found.log (λ t. verdict_of found.finding ≡ ended_behind round (unit_walked (ada t) standing (library_item_seen item.now)))) }
+    ensures answered { IfOk result (λ found. FromAnswers recorder.log found.log (λ t. verdict_of found.finding ≡ ended_after unit_facts (unit_walked (ada t) state (library_item_model item.now)))) }
 {
-    let mut reader = AdaReader { standing, recorder };
-    match check_unit(&mut reader, alloc, item) {
-        Ok(inside) => found_by(alloc, round, reader, inside),
+    let mut analyzer = AdaAnalyzer { state, recorder };
+    match check_unit(&mut analyzer, alloc, item) {
+        Ok(inside) => found_by(alloc, unit_facts, analyzer, inside),
         Err(error) => {
-            drop(round);
-            drop(reader);
+            drop(unit_facts);
+            drop(analyzer);
             Err(error)
         }
     }
 }
 
 /// What is found in the item of a unit that starts so.
-#[tactic(auto, unfolding(al_tree::specs::UnitViews::unit_seen))]
+#[tactic(auto, unfolding(al_tree::specs::UnitViews::unit_model))]
 pub(crate) fn walk_from<A: Answers + Drop>(
     alloc: Global,
     tree: &CompilationUnit,
     start: UnitStart,
     recorder: Recorder<A>,
-) -> Result<Found, NoMemory>
+) -> Result<UnitResult, NoMemory>
     ensures agrees { IfOk result (λ found. Agrees (A.table recorder.asked) found.log) }
-    ensures told { IfOk result (λ found. Told recorder.log found.log (λ t. verdict_of found.finding ≡ item_verdict t (unit_seen tree.now) start)) }
+    ensures answered { IfOk result (λ found. FromAnswers recorder.log found.log (λ t. verdict_of found.finding ≡ item_verdict t (unit_model tree.now) start)) }
 {
     match begun_at(alloc, tree, start) {
         Ok(begun) => {
-            let Begun { round, standing } = begun;
-            walk(alloc, round, standing, &tree.item, recorder)
+            let Begun { unit_facts, state } = begun;
+            walk(alloc, unit_facts, state, &tree.item, recorder)
         }
         Err(error) => {
             drop(recorder);

@@ -8,31 +8,31 @@ use Rattle.al_view.specs.declared.view.Mode.{Mode}
 use Rattle.al_view.specs.declared.view.Mode.TheVariants as mode
 use Rattle.al_view.specs.declared.view.ObjectPlace.{ObjectPlace}
 use Rattle.al_view.specs.declared.view.ObjectPlace.TheVariants as places
-use Rattle.al_typed.specs.declared.expression.Callee.{Callee}
-use Rattle.al_typed.specs.declared.expression.Callee.TheVariants as callee
-use Rattle.al_typed.specs.declared.label.BinaryOperator.{BinaryOperator}
-use Rattle.al_typed.specs.declared.label.BinaryOperator.TheVariants as binary
-use Rattle.al_typed.specs.declared.label.Conversion.{Conversion}
-use Rattle.al_typed.specs.declared.label.Conversion.TheVariants as conversions
-use Rattle.al_typed.specs.declared.label.ShortCircuit.{ShortCircuit}
-use Rattle.al_typed.specs.declared.label.ShortCircuit.TheVariants as short
-use Rattle.al_typed.specs.declared.label.UnaryOperator.{UnaryOperator}
-use Rattle.al_typed.specs.declared.label.UnaryOperator.TheVariants as unary
-use Rattle.al_typed.specs.ExpressionTrees.{TypedTree, FormTree, NameTree, ValueTree, ValuesTree, ActualTree, ActualsTree, CallTree}
-use Rattle.al_typed.specs.ExpressionTrees.TypedTree.{Labelled}
-use Rattle.al_typed.specs.ExpressionTrees.FormTree.{LiteralForm, NamedForm, UnaryForm, BinaryForm, ShortCircuitForm, MembershipForm, ConvertedForm, AggregateForm, OthersForm, CallForm, ClockForm}
-use Rattle.al_typed.specs.ExpressionTrees.NameTree.{ObjectName, ComponentName, IndexedName}
-use Rattle.al_typed.specs.ExpressionTrees.ValueTree.{Checked}
-use Rattle.al_typed.specs.ExpressionTrees.ValuesTree.{NoValue, MoreValues}
-use Rattle.al_typed.specs.ExpressionTrees.ActualTree.{InActual, VariableActual}
-use Rattle.al_typed.specs.ExpressionTrees.ActualsTree.{NoActual, MoreActuals}
-use Rattle.al_typed.specs.ExpressionTrees.CallTree.{Called}
+use Rattle.al_view_typed.specs.declared.expression.Callee.{Callee}
+use Rattle.al_view_typed.specs.declared.expression.Callee.TheVariants as callee
+use Rattle.al_view_typed.specs.declared.label.BinaryOperator.{BinaryOperator}
+use Rattle.al_view_typed.specs.declared.label.BinaryOperator.TheVariants as binary
+use Rattle.al_view_typed.specs.declared.label.Conversion.{Conversion}
+use Rattle.al_view_typed.specs.declared.label.Conversion.TheVariants as conversions
+use Rattle.al_view_typed.specs.declared.label.ShortCircuit.{ShortCircuit}
+use Rattle.al_view_typed.specs.declared.label.ShortCircuit.TheVariants as short
+use Rattle.al_view_typed.specs.declared.label.UnaryOperator.{UnaryOperator}
+use Rattle.al_view_typed.specs.declared.label.UnaryOperator.TheVariants as unary
+use Rattle.al_view_typed.specs.ExpressionTrees.{TypedTree, FormTree, NameTree, ValueTree, ValuesTree, ActualTree, ActualsTree, CallTree}
+use Rattle.al_view_typed.specs.ExpressionTrees.TypedTree.{Labelled}
+use Rattle.al_view_typed.specs.ExpressionTrees.FormTree.{LiteralForm, NamedForm, UnaryForm, BinaryForm, ShortCircuitForm, MembershipForm, ConvertedForm, AggregateForm, OthersForm, CallForm, ClockForm}
+use Rattle.al_view_typed.specs.ExpressionTrees.NameTree.{ObjectName, ComponentName, IndexedName}
+use Rattle.al_view_typed.specs.ExpressionTrees.ValueTree.{Checked}
+use Rattle.al_view_typed.specs.ExpressionTrees.ValuesTree.{NoValue, MoreValues}
+use Rattle.al_view_typed.specs.ExpressionTrees.ActualTree.{InActual, VariableActual}
+use Rattle.al_view_typed.specs.ExpressionTrees.ActualsTree.{NoActual, MoreActuals}
+use Rattle.al_view_typed.specs.ExpressionTrees.CallTree.{Called}
 use Rattle.al_instr.specs.declared.numbers.Plain.{Plain as PlainOne}
 use Rattle.al_instr.specs.declared.numbers.Plain.TheVariants as plain
 use Rattle.al_instr.specs.declared.numbers.Sized.{Sized as SizedOne}
 use Rattle.al_instr.specs.declared.numbers.Sized.TheVariants as sized
-use Rattle.al_output.specs.declared.piece.Construct.TheVariants as construct
-use Rattle.al_output.specs.Pieces.{Piece}
+use Rattle.al_code_output.specs.declared.piece.Construct.TheVariants as construct
+use Rattle.al_code_output.specs.Pieces.{Piece}
 use Rattle.al_code_expr.specs.Pieces.{one, of_size, number, slot, store_slot, load_slot, check_code, place_code, join, unless_zero, guarded, times}
 use Rattle.al_code_expr.specs.Templates.{kept_code, above_code, below_code, unary_code, binary_code, negation_code, short_code, step_code, words_of, static_or, flag_code, mark_code, routine_code, formal_code, copy_code, copies_code, value_of, form_code, address_of, checked_code, converted_code, components_code, variable_code, variables_code, passed_code, all_passed_code, call_code}
 use Rattle.al_code.proofs.Bounds.{Bounded, nothing, whole, using_one, waiting, then, end_of}

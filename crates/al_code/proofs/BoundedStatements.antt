@@ -9,34 +9,34 @@ use Rattle.al_view.specs.declared.view.Mode.TheVariants as mode
 use Rattle.al_view.specs.declared.view.ObjectPlace.{ObjectPlace}
 use Rattle.al_view.specs.declared.view.ObjectPlace.TheVariants as places
 use Rattle.al_instr.specs.declared.numbers.Plain.{Plain as PlainOne}
-use Rattle.al_typed.specs.DeclarationTrees.{ComponentValueTree, DeclarationTree, DeclarationFormTree, Objects, Subprogram, Elaborated, SingleTask, SingleProtected}
-use Rattle.al_typed.specs.ExpressionTrees.{TypedTree, ValueTree}
-use Rattle.al_typed.specs.StatementTrees.{PieceTree, SchemeTree, StatementTree, StatementsTree, StatementFormTree, BranchTree, BranchesTree, AlternativeTree, AlternativesTree}
-use Rattle.al_typed.specs.StatementTrees.PieceTree.{TextPiece, IntegerImage, EnumerationImage}
-use Rattle.al_typed.specs.StatementTrees.SchemeTree.{ForeverScheme, WhileScheme, ForScheme}
-use Rattle.al_typed.specs.StatementTrees.StatementTree.{Numbered}
-use Rattle.al_typed.specs.StatementTrees.StatementsTree.{NoStatement, MoreStatements}
-use Rattle.al_typed.specs.StatementTrees.StatementFormTree.{NullStatement, AssignmentStatement, CallStatement, PutStatement, ReturnStatement, ExitStatement, DelayStatement, IfStatement, CaseStatement, LoopStatement, BlockStatement}
-use Rattle.al_typed.specs.StatementTrees.BranchTree.{Branch}
-use Rattle.al_typed.specs.StatementTrees.BranchesTree.{NoBranch, MoreBranches}
-use Rattle.al_typed.specs.StatementTrees.AlternativeTree.{Alternative}
-use Rattle.al_typed.specs.StatementTrees.AlternativesTree.{NoAlternative, MoreAlternatives}
-use Rattle.al_typed.specs.StatementViews.{statements_of}
-use Rattle.al_typed.specs.UnitTrees.{ElaborationTree}
-use Rattle.al_typed.specs.declared.unit.EntryOf.{EntryOf}
-use Rattle.al_typed.specs.declared.unit.FormalWords.{FormalWords}
-use Rattle.al_output.specs.declared.piece.Construct.TheVariants as construct
-use Rattle.al_output.specs.Pieces.{Piece}
+use Rattle.al_view_typed.specs.DeclarationTrees.{ComponentValueTree, DeclarationTree, DeclarationFormTree, Objects, Subprogram, Elaborated, SingleTask, SingleProtected}
+use Rattle.al_view_typed.specs.ExpressionTrees.{TypedTree, ValueTree}
+use Rattle.al_view_typed.specs.StatementTrees.{PieceTree, SchemeTree, StatementTree, StatementsTree, StatementFormTree, BranchTree, BranchesTree, AlternativeTree, AlternativesTree}
+use Rattle.al_view_typed.specs.StatementTrees.PieceTree.{TextPiece, IntegerImage, EnumerationImage}
+use Rattle.al_view_typed.specs.StatementTrees.SchemeTree.{ForeverScheme, WhileScheme, ForScheme}
+use Rattle.al_view_typed.specs.StatementTrees.StatementTree.{Numbered}
+use Rattle.al_view_typed.specs.StatementTrees.StatementsTree.{NoStatement, MoreStatements}
+use Rattle.al_view_typed.specs.StatementTrees.StatementFormTree.{NullStatement, AssignmentStatement, CallStatement, PutStatement, ReturnStatement, ExitStatement, DelayStatement, IfStatement, CaseStatement, LoopStatement, BlockStatement}
+use Rattle.al_view_typed.specs.StatementTrees.BranchTree.{Branch}
+use Rattle.al_view_typed.specs.StatementTrees.BranchesTree.{NoBranch, MoreBranches}
+use Rattle.al_view_typed.specs.StatementTrees.AlternativeTree.{Alternative}
+use Rattle.al_view_typed.specs.StatementTrees.AlternativesTree.{NoAlternative, MoreAlternatives}
+use Rattle.al_view_typed.specs.StatementViews.{statements_of}
+use Rattle.al_view_typed.specs.UnitTrees.{ElaborationTree}
+use Rattle.al_view_typed.specs.declared.unit.EntryOf.{EntryOf}
+use Rattle.al_view_typed.specs.declared.unit.FormalWords.{FormalWords}
+use Rattle.al_code_output.specs.declared.piece.Construct.TheVariants as construct
+use Rattle.al_code_output.specs.Pieces.{Piece}
 use Rattle.al_code.specs.declared.routine.Routine.{Routine}
 use Rattle.al_code.specs.Declarations.{object_code, subprogram_code, elaborated_code, component_code, declaration_form_code, declarations_code}
-use Rattle.al_code.specs.Images.{dropped_code, image_code, images, line_code, piece_code, pieces_code, put_code}
+use Rattle.al_code.specs.Images.{dropped_code, image_code, images, line_code, piece_code, pieces_code, emit_code}
 use Rattle.al_code.specs.Loops.{bounds_code, compare_code, high_word, leave_code, low_word, mark_check, marked_code, round_code, step_operator, turn_code}
 use Rattle.al_code.specs.Routines.{barrier_code, begun_code, copied_code, ending_code, entry_call_code, formal_code, gate_code, inside_code, mode_code, served_code}
 use Rattle.al_code.specs.Statements.{alternative_code, alternatives_code, branch_code, branches_code, choice_code, choices_code, other_choice_code, others_code, return_code, statement_code, statement_form_code, statements_code, unlocked_code}
 use Rattle.al_code.proofs.Bounds.{Bounded, Inner, nothing, whole, using_one, waiting, then, last, ending, end_of, around}
 use Rattle.al_code.proofs.BoundedExpressions.{address_bounded, call_bounded, check_bounded, checked_bounded, guarded_bounded, join_bounded, load_bounded, number_bounded, one_bounded, place_bounded, slot_bounded, store_bounded, value_bounded}
 
--- a list of codes one behind the other
+-- a list of codes one after the other
 each_bounded : {A : Type 0} (f : A → List Piece) → ((x : A) → Bounded (f x)) → (xs : List A) → Bounded (flat_map f xs)
 each_bounded f h [] = nothing
 each_bounded f h (x ∷ xs) = then (h x) (each_bounded f h xs)
@@ -93,8 +93,8 @@ dropped_bounded : (n : ℕ) → Bounded (dropped_code n)
 dropped_bounded zero = nothing
 dropped_bounded (suc n) = whole refl
 
-put_bounded : (depth : ℕ) (ps : List PieceTree) (b : Bool) → Bounded (put_code depth ps b)
-put_bounded depth ps b = then (then (then (each_bounded (image_code depth) (λ p. image_bounded depth p) ps) (pieces_bounded ps)) (line_bounded b)) (dropped_bounded (images ps))
+emit_bounded : (depth : ℕ) (ps : List PieceTree) (b : Bool) → Bounded (emit_code depth ps b)
+emit_bounded depth ps b = then (then (then (each_bounded (image_code depth) (λ p. image_bounded depth p) ps) (pieces_bounded ps)) (line_bounded b)) (dropped_bounded (images ps))
 
 -- ---- loops
 
@@ -170,7 +170,7 @@ mutual
   statement_form_bounded r NullStatement = nothing
   statement_form_bounded r (AssignmentStatement target words value) = then (then (checked_bounded r.depth value) (address_bounded r.depth target)) (whole refl)
   statement_form_bounded r (CallStatement call) = call_bounded r.depth call
-  statement_form_bounded r (PutStatement pieces ends_line) = put_bounded r.depth pieces ends_line
+  statement_form_bounded r (PutStatement pieces ends_line) = emit_bounded r.depth pieces ends_line
   statement_form_bounded r (ReturnStatement value words) = return_bounded r value words
   statement_form_bounded r (ExitStatement loops condition) = leave_bounded r.depth loops condition
   statement_form_bounded r (DelayStatement moment) = then (value_bounded r.depth moment) (whole refl)

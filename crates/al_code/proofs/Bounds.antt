@@ -5,16 +5,16 @@ use Rattle.al_view.specs.declared.link.LinkSymbol.{LinkSymbol}
 use Rattle.al_instr.specs.declared.instruction.Instr.{Instr}
 use Rattle.al_instr.specs.declared.instruction.Instr.TheVariants as instr
 use Rattle.al_instr.specs.Codes.{code_bytes, size_of, encoded}
-use Rattle.al_output.specs.declared.piece.Construct.{Construct}
-use Rattle.al_output.specs.declared.piece.Target.{Target}
-use Rattle.al_output.specs.declared.piece.When.{When}
-use Rattle.al_output.specs.declared.piece.When.TheVariants as when
-use Rattle.al_object.specs.declared.object.Address.{Address}
-use Rattle.al_output.specs.Pieces.{Piece, Whole, Using, Leaving, Begins, back, bytes_of, closed, defines_from, definition_at, jump_of, over_or, repeated, size}
-use Rattle.al_output.specs.Targets.{outside}
-use Rattle.al_output.proofs.Jumps.{jump_size}
-use Rattle.al_output.proofs.Closing.{noted_closed}
-use Rattle.al_output.proofs.Writing.{noted_append, size_cons}
+use Rattle.al_code_output.specs.declared.piece.Construct.{Construct}
+use Rattle.al_code_output.specs.declared.piece.Target.{Target}
+use Rattle.al_code_output.specs.declared.piece.JumpCondition.{JumpCondition}
+use Rattle.al_code_output.specs.declared.piece.JumpCondition.TheVariants as when
+use Rattle.al_code_object.specs.declared.object.Address.{Address}
+use Rattle.al_code_output.specs.Pieces.{Piece, Whole, Using, Leaving, Begins, back, bytes_of, closed, defines_from, definition_at, jump_of, over_or, repeated, size}
+use Rattle.al_code_output.specs.Targets.{outside}
+use Rattle.al_code_output.proofs.Jumps.{jump_size}
+use Rattle.al_code_output.proofs.Closing.{noted_closed}
+use Rattle.al_code_output.proofs.Writing.{noted_append, size_cons}
 use Rattle.al_code.specs.Division.{BeginsAt, JumpsLead, jump_in}
 
 -- the instructions of pieces
@@ -140,12 +140,12 @@ last {i = i} plain = record {
   quiet = λ from. refl;
 }
 
-jump_leads : (P : ℤ → Type 0) (end : ℕ) (w : When) (d : ℤ) → P (pos end +ℤ d) → IfSome (jump_in (jump_of w d)) (λ d. P (pos end +ℤ d))
+jump_leads : (P : ℤ → Type 0) (end : ℕ) (w : JumpCondition) (d : ℤ) → P (pos end +ℤ d) → IfSome (jump_in (jump_of w d)) (λ d. P (pos end +ℤ d))
 jump_leads P end when.Always d h = h
 jump_leads P end when.IfZero d h = h
 
 -- a jump that waits leads to its own end
-pub waiting : {w : When} {t : Target} → Bounded (Leaving w t ∷ [])
+pub waiting : {w : JumpCondition} {t : Target} → Bounded (Leaving w t ∷ [])
 waiting {w = w} = record { lead = λ from. (jump_leads (BoundAt from (jump_of w (pos 0) ∷ [])) (from + size_of (jump_of w (pos 0))) w (pos 0) (inr (omega (arith, ints))), tt); quiet = λ from. refl }
 
 pub then : {p q : List Piece} → Bounded p → Bounded q → Bounded (p ++ q)
@@ -173,11 +173,11 @@ ending {p = p} {q = q} hp hq = record {
 
 -- ---- constructs
 
-jump_ends : (from : ℕ) (w : When) (d : ℤ) → from + size_of (jump_of w d) ≡ from + 5
+jump_ends : (from : ℕ) (w : JumpCondition) (d : ℤ) → from + size_of (jump_of w d) ≡ from + 5
 jump_ends from w d = omega (arith, jump_size w d)
 
 -- one jump of a construct that ends, where the rest has so many bytes
-jump_closed : (P : ℤ → Type 0) (from n : ℕ) (w : When) (t : Target) (b : Option Target) (ps : List Piece) → P (pos ((from + 5) + n))
+jump_closed : (P : ℤ → Type 0) (from n : ℕ) (w : JumpCondition) (t : Target) (b : Option Target) (ps : List Piece) → P (pos ((from + 5) + n))
     → IfSome (jump_in (jump_of w (pos 0))) (λ d. P (pos (from + size_of (jump_of w (pos 0))) +ℤ d)) → JumpsLead P (from + 5) (instrs ps) → JumpsLead P from (instrs (over_or w b n ∷ ps))
 jump_closed P from n w t None ps end head rest =
     let f : pos ((from + 5) + n) ≡ pos (from + size_of (jump_of w (pos n))) +ℤ pos n = omega (arith, ints, jump_ends from w (pos n)) in
@@ -200,7 +200,7 @@ closed_leads P c from (Leaving w t ∷ ps) end h =
     let rest : JumpsLead P (from + 5) (instrs ps) = subst (λ (k : ℕ). JumpsLead P k (instrs ps)) (jump_ends from w (pos 0)) h.1 in
     jump_closed P from (size ps) w t (outside c t) (closed c ps) last h.0 (closed_leads P c (from + 5) ps last rest)
 
-bound_closed : (from n : ℕ) (w : When) (b : Option Target) (ps : List Piece) (place : ℤ) → (place ≡ pos from) ⊎ BoundAt (from + 5) (instrs ps) place → BoundAt from (instrs (over_or w b n ∷ ps)) place
+bound_closed : (from n : ℕ) (w : JumpCondition) (b : Option Target) (ps : List Piece) (place : ℤ) → (place ≡ pos from) ⊎ BoundAt (from + 5) (instrs ps) place → BoundAt from (instrs (over_or w b n ∷ ps)) place
 bound_closed from n w None ps place h = elim h [ inl e ↦ inl e | inr r ↦ inr (subst (λ (k : ℕ). BoundAt k (instrs ps) place) (sym (jump_ends from w (pos n))) r) ]
 bound_closed from n w (Some u) ps place h = elim h [ inl e ↦ inl e | inr r ↦ inr (subst (λ (k : ℕ). BoundAt k (instrs ps) place) (sym (jump_ends from w (pos 0))) r) ]
 

@@ -12,16 +12,16 @@ use Rattle.al_view.specs.declared.link.LinkSymbol.{LinkSymbol}
 use Rattle.al_view.specs.declared.symbol.Symbol.{Symbol}
 use Rattle.al_view.specs.declared.view.ObjectPlace.{ObjectPlace}
 use Rattle.al_instr.specs.declared.numbers.Sized.TheVariants as sized
-use Rattle.al_typed.specs.UnitTrees.{BodyTree, ElaborationTree, UnitTree}
-use Rattle.al_typed.specs.declared.unit.BodyKind.{BodyKind}
-use Rattle.al_typed.specs.declared.unit.BodyKind.TheVariants as kinds
-use Rattle.al_typed.specs.declared.unit.EntryOf.{EntryOf}
-use Rattle.al_object.specs.declared.object.Address.{Address}
-use Rattle.al_object.specs.declared.object.Object.TheVariants.{Large, Compiled}
-use Rattle.al_object.specs.Objects.{CompiledCode}
-use Rattle.al_output.specs.Pieces.{Piece, Begins, bytes_of, defines_from, size}
-use Rattle.al_output.proofs.Writing.{bytes_append, noted_append}
-use Rattle.al_output.specs.Pieces.{definition_at}
+use Rattle.al_view_typed.specs.UnitTrees.{BodyTree, ElaborationTree, UnitTree}
+use Rattle.al_view_typed.specs.declared.unit.BodyKind.{BodyKind}
+use Rattle.al_view_typed.specs.declared.unit.BodyKind.TheVariants as kinds
+use Rattle.al_view_typed.specs.declared.unit.EntryOf.{EntryOf}
+use Rattle.al_code_object.specs.declared.object.Address.{Address}
+use Rattle.al_code_object.specs.declared.object.Object.TheVariants.{Large, Compiled}
+use Rattle.al_code_object.specs.Objects.{CompiledCode}
+use Rattle.al_code_output.specs.Pieces.{Piece, Begins, bytes_of, defines_from, size}
+use Rattle.al_code_output.proofs.Writing.{bytes_append, noted_append}
+use Rattle.al_code_output.specs.Pieces.{definition_at}
 use Rattle.al_code_expr.specs.Pieces.{of_size}
 use Rattle.al_code.specs.Division.{EachFallsIntoRoutines, FallsIntoRoutines, RoutineCode, StaysInside, bytes_in, kind_symbols, routine_symbols, standing_from, symbol_at}
 use Rattle.al_code.specs.ObjectOf.{compiled_of, data_addresses, object_of}

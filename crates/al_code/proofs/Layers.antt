@@ -1,18 +1,18 @@
 -- Trees of the program by their fields.
 use Rattle.std.proofs.Common.{◌≡◌, map, sym, ap, ◌∙◌}
-use Rattle.al_typed.specs.ExpressionViews.{typed_seen}
-use Rattle.al_typed.specs.StatementTrees.{StatementTree as statement_trees, BranchTree as branch_trees, AlternativeTree as alternative_trees}
-use Rattle.al_typed.specs.StatementViews.{alternative_seen, branch_seen, statement_form_seen, statement_seen, statements_of}
-use Rattle.al_typed.specs.declared.statement.TypedStatement.{TypedStatement, out-TypedStatement, roll-out-TypedStatement}
-use Rattle.al_typed.specs.declared.statement.Branch.{Branch, out-Branch, roll-out-Branch}
-use Rattle.al_typed.specs.declared.statement.Alternative.{Alternative, out-Alternative, roll-out-Alternative}
-use Rattle.al_typed.proofs.StatementsMade.{alternative_made, branch_made, statement_made}
+use Rattle.al_view_typed.specs.ExpressionViews.{typed_model}
+use Rattle.al_view_typed.specs.StatementTrees.{StatementTree as statement_trees, BranchTree as branch_trees, AlternativeTree as alternative_trees}
+use Rattle.al_view_typed.specs.StatementViews.{alternative_model, branch_model, statement_form_model, statement_model, statements_of}
+use Rattle.al_view_typed.specs.declared.statement.TypedStatement.{TypedStatement, out-TypedStatement, roll-out-TypedStatement}
+use Rattle.al_view_typed.specs.declared.statement.Branch.{Branch, out-Branch, roll-out-Branch}
+use Rattle.al_view_typed.specs.declared.statement.Alternative.{Alternative, out-Alternative, roll-out-Alternative}
+use Rattle.al_view_typed.proofs.StatementsMade.{alternative_made, branch_made, statement_made}
 
-pub statement_layers : (s : TypedStatement) → statement_seen s ≡ statement_trees.Numbered (out-TypedStatement s).line (statement_form_seen (out-TypedStatement s).form)
-statement_layers s = ap statement_seen (sym (roll-out-TypedStatement s)) ∙ statement_made (out-TypedStatement s).line (out-TypedStatement s).form
+pub statement_layers : (s : TypedStatement) → statement_model s ≡ statement_trees.Numbered (out-TypedStatement s).line (statement_form_model (out-TypedStatement s).form)
+statement_layers s = ap statement_model (sym (roll-out-TypedStatement s)) ∙ statement_made (out-TypedStatement s).line (out-TypedStatement s).form
 
-pub branch_layers : (b : Branch) → branch_seen b ≡ branch_trees.Branch (out-Branch b).line (typed_seen (out-Branch b).condition) (statements_of (map statement_seen (out-Branch b).statements.items))
-branch_layers b = ap branch_seen (sym (roll-out-Branch b)) ∙ branch_made (out-Branch b).line (out-Branch b).condition (out-Branch b).statements
+pub branch_layers : (b : Branch) → branch_model b ≡ branch_trees.Branch (out-Branch b).line (typed_model (out-Branch b).condition) (statements_of (map statement_model (out-Branch b).statements.items))
+branch_layers b = ap branch_model (sym (roll-out-Branch b)) ∙ branch_made (out-Branch b).line (out-Branch b).condition (out-Branch b).statements
 
-pub alternative_layers : (a : Alternative) → alternative_seen a ≡ alternative_trees.Alternative (out-Alternative a).choices (statements_of (map statement_seen (out-Alternative a).statements.items))
-alternative_layers a = ap alternative_seen (sym (roll-out-Alternative a)) ∙ alternative_made (out-Alternative a).choices (out-Alternative a).statements
+pub alternative_layers : (a : Alternative) → alternative_model a ≡ alternative_trees.Alternative (out-Alternative a).choices (statements_of (map statement_model (out-Alternative a).statements.items))
+alternative_layers a = ap alternative_model (sym (roll-out-Alternative a)) ∙ alternative_made (out-Alternative a).choices (out-Alternative a).statements

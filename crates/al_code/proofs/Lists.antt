@@ -4,12 +4,12 @@ use Rattle.std.specs.Prelude.{sum_by}
 use Rattle.std.specs.List.{flat_map}
 use Rattle.std.proofs.lemmas.List.{at_drop_more, get_or_default}
 use Rattle.std.proofs.lemmas.List.Sums.{sum_by-cons}
-use Rattle.al_typed.specs.StatementViews.{piece_seen, statement_seen, statements_of}
-use Rattle.al_typed.specs.declared.statement.Piece.{Piece as TextPiece}
-use Rattle.al_typed.specs.declared.statement.TypedStatement.{TypedStatement}
-use Rattle.al_output.specs.Pieces.{Piece}
-use Rattle.al_output.specs.Written.{Buffer, written}
-use Rattle.al_output.proofs.Writing.{written_all, written_append, written_more}
+use Rattle.al_view_typed.specs.StatementViews.{piece_model, statement_model, statements_of}
+use Rattle.al_view_typed.specs.declared.statement.Piece.{Piece as TextPiece}
+use Rattle.al_view_typed.specs.declared.statement.TypedStatement.{TypedStatement}
+use Rattle.al_code_output.specs.Pieces.{Piece}
+use Rattle.al_code_output.specs.Written.{Buffer, written}
+use Rattle.al_code_output.proofs.Writing.{written_all, written_append, written_more}
 use Rattle.al_code_expr.specs.Pieces.{join}
 use Rattle.al_code_expr.proofs.Lists.{flat_map-map}
 use Rattle.al_code.specs.Images.{is_image, piece_code, pieces_code}
@@ -26,28 +26,28 @@ written_copied f w now next xs i d e step less = written_more f w now next xs i 
 -- ---- what is put out
 
 -- the images of the pieces from this one on
-pub images_turn : (ps : List TextPiece) (i : ℕ) (p : TextPiece) → i < length ps → p ≡ get_or ps i p → sum_by is_image (map piece_seen (drop i ps)) ≡ is_image (piece_seen p) + sum_by is_image (map piece_seen (drop (i + 1) ps))
+pub images_turn : (ps : List TextPiece) (i : ℕ) (p : TextPiece) → i < length ps → p ≡ get_or ps i p → sum_by is_image (map piece_model (drop i ps)) ≡ is_image (piece_model p) + sum_by is_image (map piece_model (drop (i + 1) ps))
 images_turn ps i p less is =
-    at_drop_more (λ (qs : List TextPiece). sum_by is_image (map piece_seen qs)) ps i p less
-    ∙ ap (λ (q : TextPiece). sum_by is_image (map piece_seen (q ∷ drop (i + 1) ps))) (sym is)
-    ∙ sum_by-cons is_image (piece_seen p) (map piece_seen (drop (i + 1) ps))
+    at_drop_more (λ (qs : List TextPiece). sum_by is_image (map piece_model qs)) ps i p less
+    ∙ ap (λ (q : TextPiece). sum_by is_image (map piece_model (q ∷ drop (i + 1) ps))) (sym is)
+    ∙ sum_by-cons is_image (piece_model p) (map piece_model (drop (i + 1) ps))
 
 -- one piece more
-pub pieces_more : (out next all : Option Buffer) (ps : List TextPiece) (i : ℕ) (p : TextPiece) (above : ℕ) → above ≡ sum_by is_image (map piece_seen (drop (i + 1) ps)) → i < length ps → p ≡ get_or ps i p → written out (pieces_code (map piece_seen (drop i ps))) ≡ all → next ≡ written out (piece_code above (piece_seen p)) → written next (pieces_code (map piece_seen (drop (i + 1) ps))) ≡ all
+pub pieces_more : (out next all : Option Buffer) (ps : List TextPiece) (i : ℕ) (p : TextPiece) (above : ℕ) → above ≡ sum_by is_image (map piece_model (drop (i + 1) ps)) → i < length ps → p ≡ get_or ps i p → written out (pieces_code (map piece_model (drop i ps))) ≡ all → next ≡ written out (piece_code above (piece_model p)) → written next (pieces_code (map piece_model (drop (i + 1) ps))) ≡ all
 pieces_more out next all ps i p above count less is e step =
-    let turn : pieces_code (map piece_seen (drop i ps)) ≡ piece_code (sum_by is_image (map piece_seen (drop (i + 1) ps))) (piece_seen p) ++ pieces_code (map piece_seen (drop (i + 1) ps)) =
-    at_drop_more (λ (qs : List TextPiece). pieces_code (map piece_seen qs)) ps i p less
-    ∙ ap (λ (q : TextPiece). pieces_code (map piece_seen (q ∷ drop (i + 1) ps))) (sym is) in
-    ap (λ (w : Option Buffer). written w (pieces_code (map piece_seen (drop (i + 1) ps)))) (step ∙ ap (λ (n : ℕ). written out (piece_code n (piece_seen p))) count)
-    ∙ written_append out (piece_code (sum_by is_image (map piece_seen (drop (i + 1) ps))) (piece_seen p)) (pieces_code (map piece_seen (drop (i + 1) ps)))
+    let turn : pieces_code (map piece_model (drop i ps)) ≡ piece_code (sum_by is_image (map piece_model (drop (i + 1) ps))) (piece_model p) ++ pieces_code (map piece_model (drop (i + 1) ps)) =
+    at_drop_more (λ (qs : List TextPiece). pieces_code (map piece_model qs)) ps i p less
+    ∙ ap (λ (q : TextPiece). pieces_code (map piece_model (q ∷ drop (i + 1) ps))) (sym is) in
+    ap (λ (w : Option Buffer). written w (pieces_code (map piece_model (drop (i + 1) ps)))) (step ∙ ap (λ (n : ℕ). written out (piece_code n (piece_model p))) count)
+    ∙ written_append out (piece_code (sum_by is_image (map piece_model (drop (i + 1) ps))) (piece_model p)) (pieces_code (map piece_model (drop (i + 1) ps)))
     ∙ ap (λ (qs : List Piece). written out qs) (sym turn) ∙ e
 
 -- ---- `others`
 
-pub others_none : (ss : List TypedStatement) (p : List Piece) → length ss ≡ 0 → others_code (statements_of (map statement_seen ss)) p ≡ []
+pub others_none : (ss : List TypedStatement) (p : List Piece) → length ss ≡ 0 → others_code (statements_of (map statement_model ss)) p ≡ []
 others_none [] p none = refl
 others_none (s ∷ ss) p none = absurd (omega arith)
 
-pub others_some : (ss : List TypedStatement) (p : List Piece) → 0 < length ss → others_code (statements_of (map statement_seen ss)) p ≡ p ++ join
+pub others_some : (ss : List TypedStatement) (p : List Piece) → 0 < length ss → others_code (statements_of (map statement_model ss)) p ≡ p ++ join
 others_some [] p some = absurd (omega arith)
 others_some (s ∷ ss) p some = refl

@@ -8,18 +8,18 @@ use Rattle.std.proofs.lemmas.List.Elements.{All-nil, All-cons, All-head, All-tai
 use Rattle.al_view.specs.ViewUses.{link}
 use Rattle.al_view.specs.declared.link.LinkKind.{LinkKind}
 use Rattle.al_view.specs.declared.link.LinkKind.TheVariants as links
-use Rattle.al_typed.specs.UnitTrees.{UnitTree}
-use Rattle.al_typed.specs.WellFormed.{IsWellFormed}
-use Rattle.al_typed.specs.declared.unit.DataPlace.{DataPlace}
-use Rattle.al_typed.specs.declared.unit.ProtectedWords.{ProtectedWords}
-use Rattle.al_object.specs.declared.object.Address.{Address}
-use Rattle.al_object.specs.declared.object.Object.TheVariants.{Large, Compiled}
-use Rattle.al_object.specs.declared.object.Use.{Use}
-use Rattle.al_object.specs.Objects.{CompiledCode, IsCode, Keeps, LiesIn, StandsAt, StandsIn}
-use Rattle.al_output.specs.Kept.{IsCodeKind, StandsWithin}
-use Rattle.al_output.specs.Pieces.{size}
-use Rattle.al_output.specs.Written.{Buffer, empty, grown, written}
-use Rattle.al_output.proofs.Writing.{writes_all}
+use Rattle.al_view_typed.specs.UnitTrees.{UnitTree}
+use Rattle.al_view_typed.specs.WellFormed.{IsWellFormed}
+use Rattle.al_view_typed.specs.declared.unit.DataPlace.{DataPlace}
+use Rattle.al_view_typed.specs.declared.unit.ProtectedWords.{ProtectedWords}
+use Rattle.al_code_object.specs.declared.object.Address.{Address}
+use Rattle.al_code_object.specs.declared.object.Object.TheVariants.{Large, Compiled}
+use Rattle.al_code_object.specs.declared.object.Relocation.{Relocation}
+use Rattle.al_code_object.specs.Objects.{CompiledCode, IsCode, Keeps, LiesIn, StandsAt, StandsIn}
+use Rattle.al_code_output.specs.Kept.{IsCodeKind, StandsWithin}
+use Rattle.al_code_output.specs.Pieces.{size}
+use Rattle.al_code_output.specs.Written.{Buffer, empty, grown, written}
+use Rattle.al_code_output.proofs.Writing.{writes_all}
 use Rattle.al_code.specs.Images.{word_of}
 use Rattle.al_code.specs.ObjectOf.{data_addresses, object_of, place_address, protected_addresses, region_of, tasks_of}
 use Rattle.al_code.specs.Routines.{unit_code}
@@ -43,7 +43,7 @@ stands_numbered o n (p ∷ ps) few all =
     (stands_numbered o (n + 1) ps (omega arith) (All-tail (λ (q : ProtectedWords). q.word + q.words ≤ o.data_words) p ps all)))
 
 -- what is made of a well-formed unit and of code that was written keeps what each object keeps
-pub unit_keeps : (u : UnitTree) (code : List ℕ) (uses : List Use) (defines : List Address) (tasks : ℕ) → IsWellFormed u → IsCode code uses → length code ≤ 16777216 → All (StandsWithin (length code)) defines
+pub unit_keeps : (u : UnitTree) (code : List ℕ) (uses : List Relocation) (defines : List Address) (tasks : ℕ) → IsWellFormed u → IsCode code uses → length code ≤ 16777216 → All (StandsWithin (length code)) defines
     → Keeps (record { code = code; uses = uses; defines = defines ++ data_addresses u; data_words = u.words; tasks = tasks; protected = map region_of u.protected_objects })
 unit_keeps u code uses defines tasks fine is within standing =
     let o : CompiledCode = record { code = code; uses = uses; defines = defines ++ data_addresses u; data_words = u.words; tasks = tasks; protected = map region_of u.protected_objects } in
@@ -73,7 +73,7 @@ object_large u w is none =
           absurd cc
     ]
 
-pub object_small : (u : UnitTree) (w : Option Buffer) (code : List ℕ) (uses : List Use) (defines : List Address) → w ≡ written (Some empty) (unit_code u) → IsSomeAnd w (λ b. (code ≡ b.code) × (uses ≡ b.uses) × (defines ≡ b.defines))
+pub object_small : (u : UnitTree) (w : Option Buffer) (code : List ℕ) (uses : List Relocation) (defines : List Address) → w ≡ written (Some empty) (unit_code u) → IsSomeAnd w (λ b. (code ≡ b.code) × (uses ≡ b.uses) × (defines ≡ b.defines))
     → Compiled (record { code = code; uses = uses; defines = defines ++ data_addresses u; data_words = u.words; tasks = word_of (tasks_of u.elaboration); protected = map region_of u.protected_objects }) ≡ object_of u
 unfolding object_of
 object_small u w code uses defines is parts =

@@ -9,12 +9,12 @@ use Rattle.al_view.specs.declared.symbol.Symbol.{Symbol}
 use Rattle.al_instr.specs.declared.instruction.Instr.{Instr}
 use Rattle.al_instr.specs.declared.instruction.Instr.TheVariants as instr
 use Rattle.al_instr.specs.Codes.{code_bytes, size_of}
-use Rattle.al_typed.specs.UnitTrees.{UnitTree}
-use Rattle.al_typed.specs.declared.unit.BodyKind.{BodyKind}
-use Rattle.al_typed.specs.declared.unit.BodyKind.TheVariants as kinds
-use Rattle.al_object.specs.declared.object.Address.{Address}
-use Rattle.al_object.specs.declared.object.Object.TheVariants.{Compiled}
-use Rattle.al_object.specs.Objects.{CompiledCode}
+use Rattle.al_view_typed.specs.UnitTrees.{UnitTree}
+use Rattle.al_view_typed.specs.declared.unit.BodyKind.{BodyKind}
+use Rattle.al_view_typed.specs.declared.unit.BodyKind.TheVariants as kinds
+use Rattle.al_code_object.specs.declared.object.Address.{Address}
+use Rattle.al_code_object.specs.declared.object.Object.TheVariants.{Compiled}
+use Rattle.al_code_object.specs.Objects.{CompiledCode}
 use Rattle.al_code.specs.ObjectOf.{data_addresses, object_of}
 
 -- ---- instructions and jumps
@@ -67,7 +67,7 @@ abbrev pub standing_from : ℕ → List RoutineCode → List Address
 standing_from from [] = []
 standing_from from (r ∷ rs) = symbol_at r.symbol from ++ standing_from (from + length (bytes_in r)) rs
 
--- the code is that of the unit's routines one behind the other; each begins where its symbol stands, and before what stands
+-- the code is that of the unit's routines one after the other; each begins where its symbol stands, and before what stands
 -- among the unit's words no other symbol does; each jump leads to an instruction of its own routine
 pub record FallsIntoRoutines (u : UnitTree) (o : CompiledCode) : Type 0 where
   pub routines : List RoutineCode

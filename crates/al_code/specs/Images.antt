@@ -4,10 +4,10 @@ use Rattle.std.specs.List.{flat_map}
 use Rattle.al_instr.specs.declared.instruction.Instr.TheVariants as instr
 use Rattle.al_instr.specs.declared.numbers.Plain.TheVariants as plain
 use Rattle.al_instr.specs.declared.numbers.Sized.TheVariants as sized
-use Rattle.al_typed.specs.StatementTrees.{PieceTree}
-use Rattle.al_typed.specs.StatementTrees.PieceTree.{TextPiece, IntegerImage, EnumerationImage}
-use Rattle.al_output.specs.Pieces.{Piece, printed}
-use Rattle.al_output.specs.Pieces.Piece.{Whole}
+use Rattle.al_view_typed.specs.StatementTrees.{PieceTree}
+use Rattle.al_view_typed.specs.StatementTrees.PieceTree.{TextPiece, IntegerImage, EnumerationImage}
+use Rattle.al_code_output.specs.Pieces.{Piece, printed}
+use Rattle.al_code_output.specs.Pieces.Piece.{Whole}
 use Rattle.al_code_expr.specs.Pieces.{of_size, one}
 use Rattle.al_code_expr.specs.Templates.{value_of}
 
@@ -50,5 +50,5 @@ abbrev pub dropped_code : ℕ → List Piece
 dropped_code zero = []
 dropped_code (suc n) = of_size sized.Drop (word_of (suc n))
 
-abbrev pub put_code : ℕ → List PieceTree → Bool → List Piece
-put_code depth pieces ends_line = flat_map (image_code depth) pieces ++ pieces_code pieces ++ line_code ends_line ++ dropped_code (images pieces)
+abbrev pub emit_code : ℕ → List PieceTree → Bool → List Piece
+emit_code depth pieces ends_line = flat_map (image_code depth) pieces ++ pieces_code pieces ++ line_code ends_line ++ dropped_code (images pieces)

@@ -3,16 +3,16 @@ use Rattle.std.specs.Prelude.{ℕ, ◌+◌, nat_le, if◌then◌else◌, List, [
 use Rattle.al_view.specs.ViewUses.{link}
 use Rattle.al_view.specs.declared.link.LinkKind.{LinkKind}
 use Rattle.al_view.specs.declared.link.LinkKind.TheVariants as links
-use Rattle.al_typed.specs.DeclarationTrees.{DeclarationTree, DeclarationFormTree, SingleTask}
-use Rattle.al_typed.specs.UnitTrees.{ElaborationTree, UnitTree}
-use Rattle.al_typed.specs.declared.unit.DataPlace.{DataPlace}
-use Rattle.al_typed.specs.declared.unit.ProtectedWords.{ProtectedWords}
-use Rattle.al_object.specs.declared.object.Address.{Address}
-use Rattle.al_object.specs.declared.object.Object.{Object}
-use Rattle.al_object.specs.declared.object.Object.TheVariants.{Large, Compiled}
-use Rattle.al_object.specs.declared.object.Region.{Region}
-use Rattle.al_object.specs.Objects.{CompiledCode}
-use Rattle.al_output.specs.Pieces.{Piece, bytes_of, defines_from, size, uses_from}
+use Rattle.al_view_typed.specs.DeclarationTrees.{DeclarationTree, DeclarationFormTree, SingleTask}
+use Rattle.al_view_typed.specs.UnitTrees.{ElaborationTree, UnitTree}
+use Rattle.al_view_typed.specs.declared.unit.DataPlace.{DataPlace}
+use Rattle.al_view_typed.specs.declared.unit.ProtectedWords.{ProtectedWords}
+use Rattle.al_code_object.specs.declared.object.Address.{Address}
+use Rattle.al_code_object.specs.declared.object.Object.{Object}
+use Rattle.al_code_object.specs.declared.object.Object.TheVariants.{Large, Compiled}
+use Rattle.al_code_object.specs.declared.object.Region.{Region}
+use Rattle.al_code_object.specs.Objects.{CompiledCode}
+use Rattle.al_code_output.specs.Pieces.{Piece, bytes_of, defines_from, size, uses_from}
 use Rattle.al_code.specs.Images.{word_of}
 use Rattle.al_code.specs.Routines.{unit_code}
 

@@ -14,15 +14,15 @@ use Rattle.al_instr.specs.declared.numbers.Plain.TheVariants as plain
 use Rattle.al_instr.specs.declared.numbers.Protected.{Protected as ProtectedOne}
 use Rattle.al_instr.specs.declared.numbers.Protected.TheVariants as action
 use Rattle.al_instr.specs.declared.numbers.Sized.TheVariants as sized
-use Rattle.al_typed.specs.UnitTrees.{BodyTree, ElaborationTree, UnitTree}
-use Rattle.al_typed.specs.StatementViews.{statements_of}
-use Rattle.al_typed.specs.declared.unit.BodyKind.{BodyKind}
-use Rattle.al_typed.specs.declared.unit.BodyKind.TheVariants as kinds
-use Rattle.al_typed.specs.declared.unit.EntryOf.{EntryOf}
-use Rattle.al_typed.specs.declared.unit.FormalWords.{FormalWords}
-use Rattle.al_output.specs.declared.piece.Construct.TheVariants as construct
-use Rattle.al_output.specs.Pieces.{Piece, closed}
-use Rattle.al_output.specs.Pieces.Piece.{Using, Begins}
+use Rattle.al_view_typed.specs.UnitTrees.{BodyTree, ElaborationTree, UnitTree}
+use Rattle.al_view_typed.specs.StatementViews.{statements_of}
+use Rattle.al_view_typed.specs.declared.unit.BodyKind.{BodyKind}
+use Rattle.al_view_typed.specs.declared.unit.BodyKind.TheVariants as kinds
+use Rattle.al_view_typed.specs.declared.unit.EntryOf.{EntryOf}
+use Rattle.al_view_typed.specs.declared.unit.FormalWords.{FormalWords}
+use Rattle.al_code_output.specs.declared.piece.Construct.TheVariants as construct
+use Rattle.al_code_output.specs.Pieces.{Piece, closed}
+use Rattle.al_code_output.specs.Pieces.Piece.{Using, Begins}
 use Rattle.al_code_expr.specs.Pieces.{guarded, of_size, one, place_code, slot}
 use Rattle.al_code.specs.declared.routine.Routine.{Routine}
 use Rattle.al_code.specs.Declarations.{declarations_code}

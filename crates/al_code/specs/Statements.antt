@@ -4,25 +4,25 @@ use Rattle.std.specs.List.{flat_map}
 use Rattle.al_view.specs.declared.types.Bounds.{Bounds}
 use Rattle.al_instr.specs.declared.numbers.Plain.TheVariants as plain
 use Rattle.al_instr.specs.declared.numbers.Sized.TheVariants as sized
-use Rattle.al_typed.specs.ExpressionTrees.{NameTree, ValueTree}
-use Rattle.al_typed.specs.StatementTrees.{StatementTree, StatementsTree, StatementFormTree, BranchTree, BranchesTree, AlternativeTree, AlternativesTree}
-use Rattle.al_typed.specs.StatementTrees.StatementTree.{Numbered}
-use Rattle.al_typed.specs.StatementTrees.StatementsTree.{NoStatement, MoreStatements}
-use Rattle.al_typed.specs.StatementTrees.StatementFormTree.{NullStatement, AssignmentStatement, CallStatement, PutStatement, ReturnStatement, ExitStatement, DelayStatement, IfStatement, CaseStatement, LoopStatement, BlockStatement}
-use Rattle.al_typed.specs.StatementTrees.BranchTree.{Branch}
-use Rattle.al_typed.specs.StatementTrees.BranchesTree.{NoBranch, MoreBranches}
-use Rattle.al_typed.specs.StatementTrees.AlternativeTree.{Alternative}
-use Rattle.al_typed.specs.StatementTrees.AlternativesTree.{NoAlternative, MoreAlternatives}
-use Rattle.al_output.specs.declared.piece.When.TheVariants as when
-use Rattle.al_output.specs.declared.piece.Target.TheVariants as target
-use Rattle.al_output.specs.declared.piece.Construct.TheVariants as construct
-use Rattle.al_output.specs.Pieces.{Piece, closed}
-use Rattle.al_output.specs.Pieces.Piece.{Leaving}
+use Rattle.al_view_typed.specs.ExpressionTrees.{NameTree, ValueTree}
+use Rattle.al_view_typed.specs.StatementTrees.{StatementTree, StatementsTree, StatementFormTree, BranchTree, BranchesTree, AlternativeTree, AlternativesTree}
+use Rattle.al_view_typed.specs.StatementTrees.StatementTree.{Numbered}
+use Rattle.al_view_typed.specs.StatementTrees.StatementsTree.{NoStatement, MoreStatements}
+use Rattle.al_view_typed.specs.StatementTrees.StatementFormTree.{NullStatement, AssignmentStatement, CallStatement, PutStatement, ReturnStatement, ExitStatement, DelayStatement, IfStatement, CaseStatement, LoopStatement, BlockStatement}
+use Rattle.al_view_typed.specs.StatementTrees.BranchTree.{Branch}
+use Rattle.al_view_typed.specs.StatementTrees.BranchesTree.{NoBranch, MoreBranches}
+use Rattle.al_view_typed.specs.StatementTrees.AlternativeTree.{Alternative}
+use Rattle.al_view_typed.specs.StatementTrees.AlternativesTree.{NoAlternative, MoreAlternatives}
+use Rattle.al_code_output.specs.declared.piece.JumpCondition.TheVariants as when
+use Rattle.al_code_output.specs.declared.piece.Target.TheVariants as target
+use Rattle.al_code_output.specs.declared.piece.Construct.TheVariants as construct
+use Rattle.al_code_output.specs.Pieces.{Piece, closed}
+use Rattle.al_code_output.specs.Pieces.Piece.{Leaving}
 use Rattle.al_code_expr.specs.Pieces.{guarded, join, load_slot, number, of_size, one, store_slot}
 use Rattle.al_code_expr.specs.Templates.{address_of, call_code, checked_code, value_of}
 use Rattle.al_code.specs.declared.routine.Routine.{Routine}
 use Rattle.al_code.specs.Declarations.{declarations_code}
-use Rattle.al_code.specs.Images.{put_code}
+use Rattle.al_code.specs.Images.{emit_code}
 use Rattle.al_code.specs.Loops.{leave_code, round_code}
 
 abbrev pub assignment_code : ℕ → NameTree → ℕ → ValueTree → List Piece
@@ -67,7 +67,7 @@ abbrev mutual
   statement_form_code r NullStatement = []
   statement_form_code r (AssignmentStatement target words value) = assignment_code r.depth target words value
   statement_form_code r (CallStatement call) = call_code r.depth call
-  statement_form_code r (PutStatement pieces ends_line) = put_code r.depth pieces ends_line
+  statement_form_code r (PutStatement pieces ends_line) = emit_code r.depth pieces ends_line
   statement_form_code r (ReturnStatement value words) = return_code r value words
   statement_form_code r (ExitStatement loops condition) = leave_code r.depth loops condition
   statement_form_code r (DelayStatement moment) = value_of r.depth moment ++ one plain.Sleep

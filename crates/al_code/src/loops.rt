@@ -1,77 +1,77 @@
 // Loops by their schemes, and their exits (ARM 5.5, 5.7).
 ghost use Rattle.std.specs.Prelude.{◌≡◌, OnOk, option_map};
-ghost use Rattle.al_typed.specs.ExpressionViews.{typed_seen};
-ghost use Rattle.al_output.specs.Written.{written};
+ghost use Rattle.al_view_typed.specs.ExpressionViews.{typed_model};
+ghost use Rattle.al_code_output.specs.Written.{written};
 ghost use Rattle.al_code_expr.specs.Pieces.{guarded};
 ghost use Rattle.al_code.specs.Loops.{bounds_code, compare_code, exit_code, high_word, leave_code, low_word, mark_check, marked_code, step_operator, turn_code, while_code};
 
 use al_base::NoMemory;
 use al_code_expr::{
-    put_check, put_load_slot, put_number, put_plain, put_sized, put_store_slot, put_unless_zero,
-    put_value,
+    emit_check, emit_load_slot, emit_number, emit_plain, emit_sized, emit_store_slot,
+    emit_unless_zero, emit_value,
 };
+use al_code_output::{Construct, JumpCondition, Output, Target};
 use al_instr::{Plain, Sized};
-use al_output::{Construct, Output, Target, When};
-use al_typed::Typed;
 use al_view::Bounds;
+use al_view_typed::Typed;
 
 /// A loop so many loops out is left.
-pub(crate) fn put_exit(out: &mut Output, loops: u32) -> Result<(), NoMemory>
+pub(crate) fn emit_exit(out: &mut Output, loops: u32) -> Result<(), NoMemory>
     ensures { OnOk result (out.new ≡ written out.old (exit_code loops)) }
 {
-    out.put_leaving(When::Always, Target::Loop(loops))
+    out.emit_leaving(JumpCondition::Always, Target::Loop(loops))
 }
 
 /// The loop is left where the word on top is 0.
-pub(crate) fn put_while(out: &mut Output) -> Result<(), NoMemory>
+pub(crate) fn emit_while(out: &mut Output) -> Result<(), NoMemory>
     ensures { OnOk result (out.new ≡ written out.old while_code) }
 {
-    out.put_leaving(When::IfZero, Target::Loop(0))
+    out.emit_leaving(JumpCondition::IfZero, Target::Loop(0))
 }
 
 /// What is done where the word on top isn't 0: a loop so many loops out is left.
-pub(crate) fn put_exit_unless_zero(out: &mut Output, loops: u32) -> Result<(), NoMemory>
+pub(crate) fn emit_exit_unless_zero(out: &mut Output, loops: u32) -> Result<(), NoMemory>
     ensures { OnOk result (out.new ≡ written out.old (guarded (exit_code loops))) }
 {
     let first = out.leaving();
-    put_unless_zero(out)?;
-    put_exit(out, loops)?;
+    emit_unless_zero(out)?;
+    emit_exit(out, loops)?;
     out.close(first, Construct::Test)?;
     Ok(())
 }
 
 /// `exit [when condition];` of a loop so many loops out.
-#[tactic(auto, using(al_output::proofs::Writing::written_append))]
-pub(crate) fn put_leave(
+#[tactic(auto, using(al_code_output::proofs::Writing::written_append))]
+pub(crate) fn emit_leave(
     out: &mut Output,
     depth: u32,
     loops: u32,
     condition: &Option<Typed>,
 ) -> Result<(), NoMemory>
-    ensures { OnOk result (out.new ≡ written out.old (leave_code depth loops (option_map typed_seen condition.now))) }
+    ensures { OnOk result (out.new ≡ written out.old (leave_code depth loops (option_map typed_model condition.now))) }
 {
     match condition {
-        None => put_exit(out, loops),
+        None => emit_exit(out, loops),
         Some(condition) => {
-            put_value(out, depth, condition)?;
-            put_exit_unless_zero(out, loops)
+            emit_value(out, depth, condition)?;
+            emit_exit_unless_zero(out, loops)
         }
     }
 }
 
 /// Two words of the frame are compared.
-#[tactic(auto, using(al_output::proofs::Writing::written_append), unfolding(crate::specs::Loops::compare_code))]
-fn put_compare(out: &mut Output, left: u32, right: u32, operator: Plain) -> Result<(), NoMemory>
+#[tactic(auto, using(al_code_output::proofs::Writing::written_append), unfolding(crate::specs::Loops::compare_code))]
+fn emit_compare(out: &mut Output, left: u32, right: u32, operator: Plain) -> Result<(), NoMemory>
     ensures { OnOk result (out.new ≡ written out.old (compare_code left right operator)) }
 {
-    put_load_slot(out, left)?;
-    put_load_slot(out, right)?;
-    put_plain(out, operator)
+    emit_load_slot(out, left)?;
+    emit_load_slot(out, right)?;
+    emit_plain(out, operator)
 }
 
 /// The bounds of a `for` loop, and its end where there is nothing between them.
-#[tactic(auto, using(al_output::proofs::Writing::written_append), unfolding(crate::specs::Loops::bounds_code))]
-pub(crate) fn put_bounds(
+#[tactic(auto, using(al_code_output::proofs::Writing::written_append), unfolding(crate::specs::Loops::bounds_code))]
+pub(crate) fn emit_bounds(
     out: &mut Output,
     depth: u32,
     is_reverse: bool,
@@ -80,16 +80,16 @@ pub(crate) fn put_bounds(
     parameter: u32,
     last: u32,
 ) -> Result<(), NoMemory>
-    ensures { OnOk result (out.new ≡ written out.old (bounds_code depth is_reverse (typed_seen low.now) (typed_seen high.now) parameter last)) }
+    ensures { OnOk result (out.new ≡ written out.old (bounds_code depth is_reverse (typed_model low.now) (typed_model high.now) parameter last)) }
 {
     let begin = low_word(is_reverse, parameter, last);
     let end = high_word(is_reverse, parameter, last);
-    put_value(out, depth, low)?;
-    put_store_slot(out, begin)?;
-    put_value(out, depth, high)?;
-    put_store_slot(out, end)?;
-    put_compare(out, begin, end, Plain::AtMost)?;
-    put_while(out)
+    emit_value(out, depth, low)?;
+    emit_store_slot(out, begin)?;
+    emit_value(out, depth, high)?;
+    emit_store_slot(out, end)?;
+    emit_compare(out, begin, end, Plain::AtMost)?;
+    emit_while(out)
 }
 
 fn low_word(is_reverse: bool, parameter: u32, last: u32) -> u32
@@ -105,18 +105,18 @@ fn high_word(is_reverse: bool, parameter: u32, last: u32) -> u32
 }
 
 /// A bound is checked against the range of the mark.
-#[tactic(auto, using(al_output::proofs::Writing::written_append), unfolding(crate::specs::Loops::mark_check))]
-fn put_mark_check(out: &mut Output, mark: &Option<Bounds>, word: u32) -> Result<(), NoMemory>
+#[tactic(auto, using(al_code_output::proofs::Writing::written_append), unfolding(crate::specs::Loops::mark_check))]
+fn emit_mark_check(out: &mut Output, mark: &Option<Bounds>, word: u32) -> Result<(), NoMemory>
     ensures { OnOk result (out.new ≡ written out.old (mark_check mark.now word)) }
 {
-    put_load_slot(out, word)?;
-    put_check(out, mark)?;
-    put_sized(out, Sized::Drop, 1)
+    emit_load_slot(out, word)?;
+    emit_check(out, mark)?;
+    emit_sized(out, Sized::Drop, 1)
 }
 
 /// Both bounds of a loop with a mark are.
-#[tactic(auto, using(al_output::proofs::Writing::written_append, al_output::proofs::Writing::written_nothing), unfolding(crate::specs::Loops::marked_code))]
-pub(crate) fn put_marked(
+#[tactic(auto, using(al_code_output::proofs::Writing::written_append, al_code_output::proofs::Writing::written_nothing), unfolding(crate::specs::Loops::marked_code))]
+pub(crate) fn emit_marked(
     out: &mut Output,
     mark: &Option<Bounds>,
     parameter: u32,
@@ -127,15 +127,15 @@ pub(crate) fn put_marked(
     match mark {
         None => Ok(()),
         Some(_) => {
-            put_mark_check(out, mark, parameter)?;
-            put_mark_check(out, mark, last)
+            emit_mark_check(out, mark, parameter)?;
+            emit_mark_check(out, mark, last)
         }
     }
 }
 
 /// The end of a loop where its parameter has its last value, or else its next value.
-#[tactic(auto, using(al_output::proofs::Writing::written_append), unfolding(crate::specs::Loops::turn_code))]
-pub(crate) fn put_turn(
+#[tactic(auto, using(al_code_output::proofs::Writing::written_append), unfolding(crate::specs::Loops::turn_code))]
+pub(crate) fn emit_turn(
     out: &mut Output,
     is_reverse: bool,
     parameter: u32,
@@ -143,12 +143,12 @@ pub(crate) fn put_turn(
 ) -> Result<(), NoMemory>
     ensures { OnOk result (out.new ≡ written out.old (turn_code is_reverse parameter last)) }
 {
-    put_compare(out, parameter, last, Plain::Equal)?;
-    put_exit_unless_zero(out, 0)?;
-    put_load_slot(out, parameter)?;
-    put_number(out, 1)?;
-    put_plain(out, step_operator(is_reverse))?;
-    put_store_slot(out, parameter)
+    emit_compare(out, parameter, last, Plain::Equal)?;
+    emit_exit_unless_zero(out, 0)?;
+    emit_load_slot(out, parameter)?;
+    emit_number(out, 1)?;
+    emit_plain(out, step_operator(is_reverse))?;
+    emit_store_slot(out, parameter)
 }
 
 fn step_operator(is_reverse: bool) -> Plain

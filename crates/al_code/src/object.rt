@@ -3,32 +3,32 @@ ghost use Rattle.std.specs.Prelude.{◌≡◌, ◌≤◌, [], ◌++◌, IfOk, On
 ghost use Rattle.std.specs.List.{flat_map};
 ghost use Rattle.std.specs.Option.{option_map_or};
 ghost use Rattle.al_view.specs.ViewUses.{link};
-ghost use Rattle.al_typed.specs.DeclarationTrees.{declaration_seen, form_seen};
-ghost use Rattle.al_typed.specs.UnitTrees.{body_seen, elaboration_seen, unit_seen};
-ghost use Rattle.al_typed.specs.WellFormed.{IsWellFormed};
-ghost use Rattle.al_output.specs.Written.{written};
+ghost use Rattle.al_view_typed.specs.DeclarationTrees.{declaration_model, form_model};
+ghost use Rattle.al_view_typed.specs.UnitTrees.{body_model, elaboration_model, unit_model};
+ghost use Rattle.al_view_typed.specs.WellFormed.{IsWellFormed};
+ghost use Rattle.al_code_output.specs.Written.{written};
 ghost use Rattle.al_code.specs.ObjectOf.{data_addresses, is_task, object_of, place_address, protected_addresses, region_of, tasks_in, tasks_of};
 ghost use Rattle.al_code.specs.Routines.{body_code, elaboration_code, unit_code};
 
-use crate::bodies::{put_body, put_elaboration};
+use crate::bodies::{emit_body, emit_elaboration};
 use crate::images::word_of;
 use al_base::NoMemory;
-use al_object::{Address, Compiled, Object, Region};
-use al_output::Output;
-use al_typed::{
+use al_code_object::{Address, Compiled, Object, Region};
+use al_code_output::Output;
+use al_view::{LinkKind, LinkSymbol, Symbol};
+use al_view_typed::{
     DataPlace, DeclarationForm, Elaboration, ProtectedWords, TypedBody, TypedDeclaration, TypedUnit,
 };
-use al_view::{LinkKind, LinkSymbol, Symbol};
 use std::alloc::Global;
 
 /// The object of a unit that is free of faults: its code, where symbols are used and stand in it, its words, its tasks and its
 /// protected objects; large where its code is longer than that of any image.
 pub fn emit(alloc: Global, unit: &TypedUnit) -> Result<Object, NoMemory>
-    requires { IsWellFormed (unit_seen unit.now) }
-    ensures { IfOk result (λ object. object ≡ object_of (unit_seen unit.now)) }
+    requires { IsWellFormed (unit_model unit.now) }
+    ensures { IfOk result (λ object. object ≡ object_of (unit_model unit.now)) }
 {
     let mut out = Output::new(alloc);
-    put_unit(&mut out, unit)?;
+    emit_unit(&mut out, unit)?;
     let Some(written) = out.finish() else {
         return Ok(Object::Large);
     };
@@ -47,29 +47,29 @@ pub fn emit(alloc: Global, unit: &TypedUnit) -> Result<Object, NoMemory>
 }
 
 /// The elaboration of a unit, and its bodies.
-#[tactic(auto, using(al_output::proofs::Writing::written_append), unfolding(al_typed::specs::UnitTrees::unit_seen, crate::specs::Routines::unit_code))]
-fn put_unit(out: &mut Output, unit: &TypedUnit) -> Result<(), NoMemory>
-    ensures { OnOk result (out.new ≡ written out.old (unit_code (unit_seen unit.now))) }
+#[tactic(auto, using(al_code_output::proofs::Writing::written_append), unfolding(al_view_typed::specs::UnitTrees::unit_model, crate::specs::Routines::unit_code))]
+fn emit_unit(out: &mut Output, unit: &TypedUnit) -> Result<(), NoMemory>
+    ensures { OnOk result (out.new ≡ written out.old (unit_code (unit_model unit.now))) }
 {
-    put_first(out, &unit.elaboration)?;
-    put_bodies(out, &unit.bodies)
+    emit_first(out, &unit.elaboration)?;
+    emit_bodies(out, &unit.bodies)
 }
 
-#[tactic(auto, using(al_output::proofs::Writing::written_nothing))]
-fn put_first(out: &mut Output, elaboration: &Option<Elaboration>) -> Result<(), NoMemory>
-    ensures { OnOk result (out.new ≡ written out.old (option_map_or elaboration_code (option_map elaboration_seen elaboration.now) [])) }
+#[tactic(auto, using(al_code_output::proofs::Writing::written_nothing))]
+fn emit_first(out: &mut Output, elaboration: &Option<Elaboration>) -> Result<(), NoMemory>
+    ensures { OnOk result (out.new ≡ written out.old (option_map_or elaboration_code (option_map elaboration_model elaboration.now) [])) }
 {
     match elaboration {
         None => Ok(()),
-        Some(elaboration) => put_elaboration(out, elaboration),
+        Some(elaboration) => emit_elaboration(out, elaboration),
     }
 }
 
-fn put_bodies(out: &mut Output, bodies: &[TypedBody]) -> Result<(), NoMemory>
-    ensures { OnOk result (out.new ≡ written out.old (flat_map body_code (map body_seen bodies.now))) }
+fn emit_bodies(out: &mut Output, bodies: &[TypedBody]) -> Result<(), NoMemory>
+    ensures { OnOk result (out.new ≡ written out.old (flat_map body_code (map body_model bodies.now))) }
 {
     for body in bodies {
-        put_body(out, body)?;
+        emit_body(out, body)?;
     }
     Ok(())
 }
@@ -84,9 +84,9 @@ fn address(alloc: Global, kind: LinkKind, symbol: &Symbol, offset: u32) -> Resul
 }
 
 /// What stands among the unit's words too.
-#[tactic(auto, unfolding(al_typed::specs::UnitTrees::unit_seen))]
+#[tactic(auto, unfolding(al_view_typed::specs::UnitTrees::unit_model))]
 fn add_data(alloc: Global, defines: &mut Vec<Address>, unit: &TypedUnit) -> Result<(), NoMemory>
-    ensures { OnOk result (defines.new.items ≡ defines.old.items ++ data_addresses (unit_seen unit.now)) }
+    ensures { OnOk result (defines.new.items ≡ defines.old.items ++ data_addresses (unit_model unit.now)) }
 {
     add_places(alloc, defines, LinkKind::Data, unit.objects.as_slice())?;
     add_places(alloc, defines, LinkKind::Flag, unit.flags.as_slice())?;
@@ -142,9 +142,9 @@ fn regions_of(alloc: Global, objects: &[ProtectedWords]) -> Result<Vec<Region>, 
 }
 
 /// How many tasks an elaboration creates.
-#[tactic(auto, unfolding(al_typed::specs::UnitTrees::elaboration_seen))]
+#[tactic(auto, unfolding(al_view_typed::specs::UnitTrees::elaboration_model))]
 fn task_count(elaboration: &Option<Elaboration>) -> usize
-    ensures { result ≡ tasks_of (option_map elaboration_seen elaboration.now) }
+    ensures { result ≡ tasks_of (option_map elaboration_model elaboration.now) }
 {
     match elaboration {
         None => 0,
@@ -153,7 +153,7 @@ fn task_count(elaboration: &Option<Elaboration>) -> usize
 }
 
 fn tasks_in(declarations: &[TypedDeclaration]) -> usize
-    ensures { result ≡ tasks_in (map declaration_seen declarations.now) }
+    ensures { result ≡ tasks_in (map declaration_model declarations.now) }
 {
     let mut count = 0;
     for declaration in declarations {
@@ -163,7 +163,7 @@ fn tasks_in(declarations: &[TypedDeclaration]) -> usize
 }
 
 fn of_task(form: &DeclarationForm) -> usize
-    ensures value { result ≡ is_task (form_seen form.now) }
+    ensures value { result ≡ is_task (form_model form.now) }
     ensures few { result ≤ 1 }
 {
     match form {

@@ -1,14 +1,14 @@
 -- Loops over what has code.
 use Rattle.std.proofs.Common.{◌≡◌, ℕ, ◌+◌, ◌≤◌, List, [], ◌∷◌, ◌++◌, length, map, take, Option, refl, sym, ap, ◌∙◌, add-one}
 use Rattle.std.specs.List.{flat_map}
-use Rattle.al_typed.specs.Listed.{listed}
-use Rattle.al_output.specs.declared.piece.Construct.TheVariants as construct
-use Rattle.al_output.specs.Pieces.{Piece}
-use Rattle.al_output.specs.Written.{Buffer, ended, written, WaitsAt}
-use Rattle.al_output.proofs.Writing.{written_all}
-use Rattle.al_output.proofs.Closing.{closed_steps, then_steps}
+use Rattle.al_view_typed.specs.Listed.{listed}
+use Rattle.al_code_output.specs.declared.piece.Construct.TheVariants as construct
+use Rattle.al_code_output.specs.Pieces.{Piece}
+use Rattle.al_code_output.specs.Written.{Buffer, ended, written, WaitsAt}
+use Rattle.al_code_output.proofs.Writing.{written_all}
+use Rattle.al_code_output.proofs.Closing.{closed_steps, then_steps}
 use Rattle.std.specs.Prelude.{pos}
-use Rattle.al_typed.specs.declared.label.ShortCircuit.TheVariants as short
+use Rattle.al_view_typed.specs.declared.label.ShortCircuit.TheVariants as short
 use Rattle.al_code_expr.specs.Pieces.{guarded, join, number, times, unless_zero}
 use Rattle.al_code_expr.specs.Templates.{short_code}
 

@@ -9,11 +9,11 @@ use Rattle.al_instr.specs.declared.numbers.Plain.{Plain as PlainOne}
 use Rattle.al_instr.specs.declared.numbers.Sized.{Sized as SizedOne}
 use Rattle.al_instr.specs.declared.numbers.Sized.TheVariants as sized
 use Rattle.al_instr.specs.declared.instruction.Instr.TheVariants as instr
-use Rattle.al_output.specs.declared.piece.When.TheVariants as when
-use Rattle.al_output.specs.declared.piece.Target.TheVariants as target
-use Rattle.al_output.specs.declared.piece.Construct.TheVariants as construct
-use Rattle.al_output.specs.Pieces.{Piece, closed}
-use Rattle.al_output.specs.Pieces.Piece.{Whole, Using, Leaving}
+use Rattle.al_code_output.specs.declared.piece.JumpCondition.TheVariants as when
+use Rattle.al_code_output.specs.declared.piece.Target.TheVariants as target
+use Rattle.al_code_output.specs.declared.piece.Construct.TheVariants as construct
+use Rattle.al_code_output.specs.Pieces.{Piece, closed}
+use Rattle.al_code_output.specs.Pieces.Piece.{Whole, Using, Leaving}
 
 -- one instruction
 abbrev pub one : PlainOne → List Piece

@@ -7,31 +7,31 @@ use Rattle.al_view.specs.declared.types.StaticValue.{StaticValue}
 use Rattle.al_view.specs.declared.view.Mode.{Mode}
 use Rattle.al_view.specs.declared.view.Mode.TheVariants as mode
 use Rattle.al_view.specs.declared.view.ObjectPlace.{ObjectPlace}
-use Rattle.al_typed.specs.declared.expression.Callee.{Callee}
-use Rattle.al_typed.specs.declared.expression.Callee.TheVariants as callee
-use Rattle.al_typed.specs.declared.label.BinaryOperator.{BinaryOperator}
-use Rattle.al_typed.specs.declared.label.BinaryOperator.TheVariants as binary
-use Rattle.al_typed.specs.declared.label.Conversion.{Conversion}
-use Rattle.al_typed.specs.declared.label.Conversion.TheVariants as conversions
-use Rattle.al_typed.specs.declared.label.UnaryOperator.{UnaryOperator}
-use Rattle.al_typed.specs.declared.label.UnaryOperator.TheVariants as unary
-use Rattle.al_typed.specs.declared.label.ShortCircuit.{ShortCircuit}
-use Rattle.al_typed.specs.declared.label.ShortCircuit.TheVariants as short
-use Rattle.al_typed.specs.ExpressionTrees.{TypedTree, FormTree, NameTree, ValueTree, ValuesTree, ActualTree, ActualsTree, CallTree}
-use Rattle.al_typed.specs.ExpressionTrees.TypedTree.{Labelled}
-use Rattle.al_typed.specs.ExpressionTrees.FormTree.{LiteralForm, NamedForm, UnaryForm, BinaryForm, ShortCircuitForm, MembershipForm, ConvertedForm, AggregateForm, OthersForm, CallForm, ClockForm}
-use Rattle.al_typed.specs.ExpressionTrees.NameTree.{ObjectName, ComponentName, IndexedName}
-use Rattle.al_typed.specs.ExpressionTrees.ValueTree.{Checked}
-use Rattle.al_typed.specs.ExpressionTrees.ValuesTree.{NoValue, MoreValues}
-use Rattle.al_typed.specs.ExpressionTrees.ActualTree.{InActual, VariableActual}
-use Rattle.al_typed.specs.ExpressionTrees.ActualsTree.{NoActual, MoreActuals}
-use Rattle.al_typed.specs.ExpressionTrees.CallTree.{Called}
+use Rattle.al_view_typed.specs.declared.expression.Callee.{Callee}
+use Rattle.al_view_typed.specs.declared.expression.Callee.TheVariants as callee
+use Rattle.al_view_typed.specs.declared.label.BinaryOperator.{BinaryOperator}
+use Rattle.al_view_typed.specs.declared.label.BinaryOperator.TheVariants as binary
+use Rattle.al_view_typed.specs.declared.label.Conversion.{Conversion}
+use Rattle.al_view_typed.specs.declared.label.Conversion.TheVariants as conversions
+use Rattle.al_view_typed.specs.declared.label.UnaryOperator.{UnaryOperator}
+use Rattle.al_view_typed.specs.declared.label.UnaryOperator.TheVariants as unary
+use Rattle.al_view_typed.specs.declared.label.ShortCircuit.{ShortCircuit}
+use Rattle.al_view_typed.specs.declared.label.ShortCircuit.TheVariants as short
+use Rattle.al_view_typed.specs.ExpressionTrees.{TypedTree, FormTree, NameTree, ValueTree, ValuesTree, ActualTree, ActualsTree, CallTree}
+use Rattle.al_view_typed.specs.ExpressionTrees.TypedTree.{Labelled}
+use Rattle.al_view_typed.specs.ExpressionTrees.FormTree.{LiteralForm, NamedForm, UnaryForm, BinaryForm, ShortCircuitForm, MembershipForm, ConvertedForm, AggregateForm, OthersForm, CallForm, ClockForm}
+use Rattle.al_view_typed.specs.ExpressionTrees.NameTree.{ObjectName, ComponentName, IndexedName}
+use Rattle.al_view_typed.specs.ExpressionTrees.ValueTree.{Checked}
+use Rattle.al_view_typed.specs.ExpressionTrees.ValuesTree.{NoValue, MoreValues}
+use Rattle.al_view_typed.specs.ExpressionTrees.ActualTree.{InActual, VariableActual}
+use Rattle.al_view_typed.specs.ExpressionTrees.ActualsTree.{NoActual, MoreActuals}
+use Rattle.al_view_typed.specs.ExpressionTrees.CallTree.{Called}
 use Rattle.al_instr.specs.declared.numbers.Plain.TheVariants as plain
 use Rattle.al_instr.specs.declared.numbers.Sized.TheVariants as sized
 use Rattle.al_instr.specs.declared.instruction.Instr.TheVariants as instr
-use Rattle.al_output.specs.declared.piece.Construct.TheVariants as construct
-use Rattle.al_output.specs.Pieces.{Piece, closed}
-use Rattle.al_output.specs.Pieces.Piece.{Whole, Using}
+use Rattle.al_code_output.specs.declared.piece.Construct.TheVariants as construct
+use Rattle.al_code_output.specs.Pieces.{Piece, closed}
+use Rattle.al_code_output.specs.Pieces.Piece.{Whole, Using}
 use Rattle.al_code_expr.specs.Pieces.{one, of_size, number, store_slot, load_slot, check_code, place_code, join, guarded, times}
 
 -- the word on top is kept in the frame, and compared with the bounds that follow

@@ -1,19 +1,19 @@
 // Calls without what recurses (ARM 6.4).
 ghost use Rattle.std.specs.Prelude.{◌≡◌, OnOk, map};
-ghost use Rattle.al_typed.specs.ExpressionViews.{actual_seen, actuals_of};
-ghost use Rattle.al_output.specs.Written.{written};
+ghost use Rattle.al_view_typed.specs.ExpressionViews.{actual_model, actuals_of};
+ghost use Rattle.al_code_output.specs.Written.{written};
 ghost use Rattle.al_code_expr.specs.Templates.{copies_code, copy_code, flag_code, formal_code, mark_code, routine_code};
 
-use crate::pieces::{put_check, put_flag_place, put_load_slot, put_plain, put_sized};
+use crate::pieces::{emit_check, emit_flag_place, emit_load_slot, emit_plain, emit_sized};
 use al_base::NoMemory;
+use al_code_output::Output;
 use al_instr::{Instr, Plain, Sized};
-use al_output::Output;
-use al_typed::{Actual, Callee};
 use al_view::{Bounds, LinkKind, Mode, ObjectPlace};
+use al_view_typed::{Actual, Callee};
 
 /// Sees that a body is elaborated (ARM 3.11(10)).
-#[tactic(auto, using(al_output::proofs::Writing::written_append, al_output::proofs::Writing::written_nothing), unfolding(crate::specs::Templates::flag_code))]
-pub(crate) fn put_flag(
+#[tactic(auto, using(al_code_output::proofs::Writing::written_append, al_code_output::proofs::Writing::written_nothing), unfolding(crate::specs::Templates::flag_code))]
+pub(crate) fn emit_flag(
     out: &mut Output,
     depth: u32,
     flag: &Option<ObjectPlace>,
@@ -23,42 +23,42 @@ pub(crate) fn put_flag(
     match flag {
         None => Ok(()),
         Some(place) => {
-            put_flag_place(out, depth, place)?;
-            put_sized(out, Sized::Load, 1)?;
-            put_plain(out, Plain::Access)
+            emit_flag_place(out, depth, place)?;
+            emit_sized(out, Sized::Load, 1)?;
+            emit_plain(out, Plain::Access)
         }
     }
 }
 
 /// The first words of the frame of what is called.
-pub(crate) fn put_mark(out: &mut Output, depth: u32, callee: &Callee) -> Result<(), NoMemory>
+pub(crate) fn emit_mark(out: &mut Output, depth: u32, callee: &Callee) -> Result<(), NoMemory>
     ensures { OnOk result (out.new ≡ written out.old (mark_code depth callee.now)) }
 {
     match callee {
-        Callee::Subprogram { depth: 0, .. } => put_plain(out, Plain::Root),
+        Callee::Subprogram { depth: 0, .. } => emit_plain(out, Plain::Root),
         Callee::Subprogram { depth: d, .. } => {
-            put_sized(out, Sized::Mark, depth.saturating_sub(*d))
+            emit_sized(out, Sized::Mark, depth.saturating_sub(*d))
         }
-        Callee::Protected(_) => put_plain(out, Plain::Root),
-        Callee::Entry(_) => put_plain(out, Plain::Root),
+        Callee::Protected(_) => emit_plain(out, Plain::Root),
+        Callee::Entry(_) => emit_plain(out, Plain::Root),
     }
 }
 
 /// The call itself, with actuals of so many words.
-pub(crate) fn put_routine(out: &mut Output, callee: &Callee, words: u32) -> Result<(), NoMemory>
+pub(crate) fn emit_routine(out: &mut Output, callee: &Callee, words: u32) -> Result<(), NoMemory>
     ensures { OnOk result (out.new ≡ written out.old (routine_code callee.now words)) }
 {
     let call = Instr::Call { place: 0, words };
     match callee {
-        Callee::Subprogram { symbol, .. } => out.put_using(&call, LinkKind::Code, symbol),
-        Callee::Protected(symbol) => out.put_using(&call, LinkKind::Code, symbol),
-        Callee::Entry(symbol) => out.put_using(&call, LinkKind::Gate, symbol),
+        Callee::Subprogram { symbol, .. } => out.emit_using(&call, LinkKind::Code, symbol),
+        Callee::Protected(symbol) => out.emit_using(&call, LinkKind::Code, symbol),
+        Callee::Entry(symbol) => out.emit_using(&call, LinkKind::Gate, symbol),
     }
 }
 
 /// The check of what is passed to a formal of this mode.
-#[tactic(auto, using(al_output::proofs::Writing::written_nothing))]
-pub(crate) fn put_formal(
+#[tactic(auto, using(al_code_output::proofs::Writing::written_nothing))]
+pub(crate) fn emit_formal(
     out: &mut Output,
     mode: Mode,
     bounds: &Option<Bounds>,
@@ -67,26 +67,26 @@ pub(crate) fn put_formal(
 {
     match mode {
         Mode::Out => Ok(()),
-        Mode::In => put_check(out, bounds),
-        Mode::InOut => put_check(out, bounds),
+        Mode::In => emit_check(out, bounds),
+        Mode::InOut => emit_check(out, bounds),
     }
 }
 
 /// What is copied back, from the last (ARM 6.4.1(17)).
-pub(crate) fn put_copies(out: &mut Output, actuals: &[Actual]) -> Result<(), NoMemory>
-    ensures { OnOk result (out.new ≡ written out.old (copies_code (actuals_of (map actual_seen actuals.now)))) }
+pub(crate) fn emit_copies(out: &mut Output, actuals: &[Actual]) -> Result<(), NoMemory>
+    ensures { OnOk result (out.new ≡ written out.old (copies_code (actuals_of (map actual_model actuals.now)))) }
 {
     let mut rest = actuals.len();
     while rest > 0 {
         rest -= 1;
-        put_copy(out, &actuals[rest])?;
+        emit_copy(out, &actuals[rest])?;
     }
     Ok(())
 }
 
-#[tactic(auto, using(al_output::proofs::Writing::written_append, al_output::proofs::Writing::written_nothing, al_typed::proofs::ExpressionsMade::in_made, al_typed::proofs::ExpressionsMade::variable_made))]
-fn put_copy(out: &mut Output, actual: &Actual) -> Result<(), NoMemory>
-    ensures { OnOk result (out.new ≡ written out.old (copy_code (actual_seen actual.now))) }
+#[tactic(auto, using(al_code_output::proofs::Writing::written_append, al_code_output::proofs::Writing::written_nothing, al_view_typed::proofs::ExpressionsMade::in_made, al_view_typed::proofs::ExpressionsMade::variable_made))]
+fn emit_copy(out: &mut Output, actual: &Actual) -> Result<(), NoMemory>
+    ensures { OnOk result (out.new ≡ written out.old (copy_code (actual_model actual.now))) }
 {
     match actual {
         Actual::In(_) => Ok(()),
@@ -96,9 +96,9 @@ fn put_copy(out: &mut Output, actual: &Actual) -> Result<(), NoMemory>
             slot,
             ..
         } => {
-            put_check(out, bounds)?;
-            put_load_slot(out, *slot)?;
-            put_sized(out, Sized::Store, *words)
+            emit_check(out, bounds)?;
+            emit_load_slot(out, *slot)?;
+            emit_sized(out, Sized::Store, *words)
         }
     }
 }

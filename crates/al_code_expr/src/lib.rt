@@ -6,8 +6,8 @@ mod expressions;
 mod operators;
 mod pieces;
 
-pub use expressions::{put_address, put_call, put_checked, put_value};
+pub use expressions::{emit_address, emit_call, emit_checked, emit_value};
 pub use pieces::{
-    put_check, put_flag_place, put_join, put_load_slot, put_number, put_place, put_plain,
-    put_sized, put_slot, put_store_slot, put_unless_zero,
+    emit_check, emit_flag_place, emit_join, emit_load_slot, emit_number, emit_place, emit_plain,
+    emit_sized, emit_slot, emit_store_slot, emit_unless_zero,
 };

@@ -27,7 +27,7 @@ pub fn put<T: Drop>(stack: &mut Vec<T>, item: T) -> Result<(), Stop> {
 }
 
 /// The same of what wanted memory.
-pub fn put_made<T: Drop>(stack: &mut Vec<T>, made: Result<T, NoMemory>) -> Result<(), Stop> {
+pub fn emit_made<T: Drop>(stack: &mut Vec<T>, made: Result<T, NoMemory>) -> Result<(), Stop> {
     match made {
         Ok(item) => put(stack, item),
         Err(NoMemory) => Err(Stop::Memory),
@@ -123,20 +123,20 @@ impl Atoms {
             return Some(put(&mut self.numbers, number));
         }
         if let Some(text) = quoted(word) {
-            return Some(self.put_text(text));
+            return Some(self.emit_text(text));
         }
         match word.split_once("..") {
-            Some((low, high)) => Some(self.put_range(low, high)),
+            Some((low, high)) => Some(self.emit_range(low, high)),
             None => self.read_plain(word),
         }
     }
 
-    fn put_text(&mut self, text: &str) -> Result<(), Stop> {
+    fn emit_text(&mut self, text: &str) -> Result<(), Stop> {
         let bytes = spaced(self.alloc, text)?;
         put(&mut self.texts, Name::new(bytes))
     }
 
-    fn put_range(&mut self, low: &str, high: &str) -> Result<(), Stop> {
+    fn emit_range(&mut self, low: &str, high: &str) -> Result<(), Stop> {
         match (low.parse::<i64>(), high.parse::<i64>()) {
             (Ok(low), Ok(high)) => put(&mut self.ranges, Some(Bounds { low, high })),
             _ => Err(Stop::Unreadable),

@@ -1,8 +1,8 @@
 // Calls.
 use crate::atoms::{Atoms, Stop, both, pop, put, take};
 use crate::expressions::Expressions;
-use al_typed::{Actual, Callee, TypedCall};
 use al_view::Symbol;
+use al_view_typed::{Actual, Callee, TypedCall};
 
 /// An operation of a protected object.
 fn operation(symbol: Symbol, is_entry: bool) -> Callee {
@@ -19,33 +19,33 @@ impl Expressions {
     /// `call CALLEE FLAG WORDS COUNT ACTUAL..`.
     pub fn read_call(&mut self, atoms: &mut Atoms, word: &str) -> Option<Result<(), Stop>> {
         Some(match word {
-            "subprogram" => self.put_subprogram(atoms),
-            "protected" => self.put_operation(atoms, false),
-            "entry" => self.put_operation(atoms, true),
-            "passed" => self.put_passed(),
-            "variable" => self.put_variable(atoms),
-            "call" => self.put_call(atoms),
+            "subprogram" => self.emit_subprogram(atoms),
+            "protected" => self.emit_operation(atoms, false),
+            "entry" => self.emit_operation(atoms, true),
+            "passed" => self.emit_passed(),
+            "variable" => self.emit_variable(atoms),
+            "call" => self.emit_call(atoms),
             _ => return None,
         })
     }
 
-    fn put_subprogram(&mut self, atoms: &mut Atoms) -> Result<(), Stop> {
+    fn emit_subprogram(&mut self, atoms: &mut Atoms) -> Result<(), Stop> {
         let depth = atoms.word()?;
         let symbol = atoms.symbol()?;
         put(&mut self.callees, Callee::Subprogram { symbol, depth })
     }
 
-    fn put_operation(&mut self, atoms: &mut Atoms, is_entry: bool) -> Result<(), Stop> {
+    fn emit_operation(&mut self, atoms: &mut Atoms, is_entry: bool) -> Result<(), Stop> {
         let symbol = atoms.symbol()?;
         put(&mut self.callees, operation(symbol, is_entry))
     }
 
-    fn put_passed(&mut self) -> Result<(), Stop> {
+    fn emit_passed(&mut self) -> Result<(), Stop> {
         let value = pop(&mut self.checked)?;
         put(&mut self.actuals, Actual::passed(value))
     }
 
-    fn put_variable(&mut self, atoms: &mut Atoms) -> Result<(), Stop> {
+    fn emit_variable(&mut self, atoms: &mut Atoms) -> Result<(), Stop> {
         let words = atoms.word()?;
         let mode = atoms.mode()?;
         let formal = atoms.range()?;
@@ -56,7 +56,7 @@ impl Expressions {
         put(&mut self.actuals, variable)
     }
 
-    fn put_call(&mut self, atoms: &mut Atoms) -> Result<(), Stop> {
+    fn emit_call(&mut self, atoms: &mut Atoms) -> Result<(), Stop> {
         let words = atoms.word()?;
         let count = atoms.count()?;
         let actuals = take(atoms.alloc, &mut self.actuals, count);

@@ -3,12 +3,14 @@ use crate::atoms::{Atoms, Stop, both, pop, put, take};
 use crate::expressions::Expressions;
 use crate::statements::Statements;
 use al_base::NoMemory;
-use al_typed::{Alternative, Branch, LoopScheme, StatementForm, TypedDeclaration, TypedStatement};
-use al_view::{Bounds, Row};
+use al_view::{Bounds, Seq};
+use al_view_typed::{
+    Alternative, Branch, LoopScheme, StatementForm, TypedDeclaration, TypedStatement,
+};
 use std::alloc::Global;
 
 impl Statements {
-    /// Reads a word for a statement with statements in it, or a part of one. Each list stands behind its length:
+    /// Reads a word for a statement with statements in it, or a part of one. Each list stands after its length:
     ///
     /// - `if COUNT BRANCH.. COUNT STATEMENT..`, and a branch: `when VALUE COUNT STATEMENT..`;
     /// - `case VALUE SLOT COUNT ALTERNATIVE.. COUNT STATEMENT..`, and an alternative: `choice COUNT RANGE.. COUNT STATEMENT..`;
@@ -22,55 +24,55 @@ impl Statements {
         word: &str,
     ) -> Option<Result<(), Stop>> {
         Some(match word {
-            "if" => self.put_if(atoms),
-            "when" => self.put_branch(atoms, parts),
-            "case" => self.put_case(atoms, parts),
-            "choice" => self.put_alternative(atoms),
-            "loop" => self.put_loop(atoms),
+            "if" => self.emit_if(atoms),
+            "when" => self.emit_branch(atoms, parts),
+            "case" => self.emit_case(atoms, parts),
+            "choice" => self.emit_alternative(atoms),
+            "loop" => self.emit_loop(atoms),
             "forever" => put(&mut self.schemes, LoopScheme::Forever),
-            "while" => self.put_while(parts),
-            "for" => self.put_for(atoms, parts, false),
-            "for_reverse" => self.put_for(atoms, parts, true),
-            "block" => self.put_block(atoms),
+            "while" => self.emit_while(parts),
+            "for" => self.emit_for(atoms, parts, false),
+            "for_reverse" => self.emit_for(atoms, parts, true),
+            "block" => self.emit_block(atoms),
             _ => return None,
         })
     }
 
-    /// Statements behind their length.
+    /// Statements after their length.
     pub fn list(&mut self, atoms: &mut Atoms) -> Result<Vec<TypedStatement>, Stop> {
         let count = atoms.count()?;
         take(atoms.alloc, &mut self.statements, count)
     }
 
-    /// Declarations behind their length.
+    /// Declarations after their length.
     pub fn declarations(&mut self, atoms: &mut Atoms) -> Result<Vec<TypedDeclaration>, Stop> {
         let count = atoms.count()?;
         take(atoms.alloc, &mut self.declarations, count)
     }
 
-    fn put_if(&mut self, atoms: &mut Atoms) -> Result<(), Stop> {
+    fn emit_if(&mut self, atoms: &mut Atoms) -> Result<(), Stop> {
         let count = atoms.count()?;
         let branches = take(atoms.alloc, &mut self.branches, count);
         let (branches, otherwise) = both(branches, self.list(atoms))?;
-        self.put_form(StatementForm::branching(branches, otherwise))
+        self.emit_form(StatementForm::branching(branches, otherwise))
     }
 
-    fn put_branch(&mut self, atoms: &mut Atoms, parts: &mut Expressions) -> Result<(), Stop> {
+    fn emit_branch(&mut self, atoms: &mut Atoms, parts: &mut Expressions) -> Result<(), Stop> {
         let (condition, statements) = both(pop(&mut parts.values), self.list(atoms))?;
         put(&mut self.branches, Branch::new(1, condition, statements))
     }
 
-    fn put_case(&mut self, atoms: &mut Atoms, parts: &mut Expressions) -> Result<(), Stop> {
+    fn emit_case(&mut self, atoms: &mut Atoms, parts: &mut Expressions) -> Result<(), Stop> {
         let slot = atoms.word()?;
         let count = atoms.count()?;
         let alternatives = take(atoms.alloc, &mut self.alternatives, count);
         let lists = both(alternatives, self.list(atoms));
         let (selector, lists) = both(pop(&mut parts.values), lists)?;
         let (alternatives, otherwise) = lists;
-        self.put_form(StatementForm::case(selector, slot, alternatives, otherwise))
+        self.emit_form(StatementForm::case(selector, slot, alternatives, otherwise))
     }
 
-    fn put_alternative(&mut self, atoms: &mut Atoms) -> Result<(), Stop> {
+    fn emit_alternative(&mut self, atoms: &mut Atoms) -> Result<(), Stop> {
         let (choices, statements) = both(choices(atoms), self.list(atoms))?;
         put(
             &mut self.alternatives,
@@ -78,17 +80,17 @@ impl Statements {
         )
     }
 
-    fn put_loop(&mut self, atoms: &mut Atoms) -> Result<(), Stop> {
+    fn emit_loop(&mut self, atoms: &mut Atoms) -> Result<(), Stop> {
         let (scheme, statements) = both(pop(&mut self.schemes), self.list(atoms))?;
-        self.put_form(StatementForm::looping(scheme, statements))
+        self.emit_form(StatementForm::looping(scheme, statements))
     }
 
-    fn put_while(&mut self, parts: &mut Expressions) -> Result<(), Stop> {
+    fn emit_while(&mut self, parts: &mut Expressions) -> Result<(), Stop> {
         let condition = pop(&mut parts.values)?;
         put(&mut self.schemes, LoopScheme::While(condition))
     }
 
-    fn put_for(
+    fn emit_for(
         &mut self,
         atoms: &mut Atoms,
         parts: &mut Expressions,
@@ -109,16 +111,16 @@ impl Statements {
         put(&mut self.schemes, scheme)
     }
 
-    fn put_block(&mut self, atoms: &mut Atoms) -> Result<(), Stop> {
+    fn emit_block(&mut self, atoms: &mut Atoms) -> Result<(), Stop> {
         let (declarations, statements) = both(self.declarations(atoms), self.list(atoms))?;
-        self.put_form(StatementForm::block(declarations, statements))
+        self.emit_form(StatementForm::block(declarations, statements))
     }
 }
 
-/// The ranges of an alternative, behind their number.
-fn choices(atoms: &mut Atoms) -> Result<Row<Bounds>, Stop> {
+/// The ranges of an alternative, after their number.
+fn choices(atoms: &mut Atoms) -> Result<Seq<Bounds>, Stop> {
     let count = atoms.count()?;
-    let mut choices = Row::empty(atoms.alloc);
+    let mut choices = Seq::empty(atoms.alloc);
     for _ in 0..count {
         let bounds = atoms.bounds()?;
         add_choice(&mut choices, bounds)?;
@@ -126,7 +128,7 @@ fn choices(atoms: &mut Atoms) -> Result<Row<Bounds>, Stop> {
     Ok(choices)
 }
 
-fn add_choice(choices: &mut Row<Bounds>, bounds: Bounds) -> Result<(), NoMemory> {
+fn add_choice(choices: &mut Seq<Bounds>, bounds: Bounds) -> Result<(), NoMemory> {
     choices.push(bounds)?;
     Ok(())
 }

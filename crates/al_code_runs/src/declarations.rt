@@ -2,8 +2,8 @@
 use crate::atoms::{Atoms, Stop, both, pop, put, take};
 use crate::expressions::Expressions;
 use crate::statements::Statements;
-use al_typed::{CheckedValue, ComponentValue, DeclarationForm, TypedDeclaration};
-use al_view::{ObjectPlace, Priority, Row};
+use al_view::{ObjectPlace, Priority, Seq};
+use al_view_typed::{CheckedValue, ComponentValue, DeclarationForm, TypedDeclaration};
 
 /// What is told of a body: that it is elaborated, or that it isn't yet.
 fn flag_form(flag: ObjectPlace, is_elaborated: bool) -> DeclarationForm {
@@ -28,13 +28,13 @@ impl Statements {
         word: &str,
     ) -> Option<Result<(), Stop>> {
         Some(match word {
-            "objects" => self.put_objects(atoms, parts),
-            "zeros" => self.put_zeros(atoms, parts),
-            "begins_unelaborated" => self.put_flag(parts, false),
-            "is_elaborated" => self.put_flag(parts, true),
-            "task" => self.put_task(atoms),
-            "protected_object" => self.put_protected(atoms),
-            "component_value" => self.put_component(atoms, parts),
+            "objects" => self.emit_objects(atoms, parts),
+            "zeros" => self.emit_zeros(atoms, parts),
+            "begins_unelaborated" => self.emit_flag(parts, false),
+            "is_elaborated" => self.emit_flag(parts, true),
+            "task" => self.emit_task(atoms),
+            "protected_object" => self.emit_protected(atoms),
+            "component_value" => self.emit_component(atoms, parts),
             _ => return None,
         })
     }
@@ -50,13 +50,13 @@ impl Statements {
         value: Option<CheckedValue>,
     ) -> Result<(), Stop> {
         self.declare(DeclarationForm::Objects {
-            places: Row::new(places),
+            places: Seq::new(places),
             words,
             value,
         })
     }
 
-    fn put_objects(&mut self, atoms: &mut Atoms, parts: &mut Expressions) -> Result<(), Stop> {
+    fn emit_objects(&mut self, atoms: &mut Atoms, parts: &mut Expressions) -> Result<(), Stop> {
         let count = atoms.count()?;
         let words = atoms.word()?;
         let places = take(atoms.alloc, &mut parts.places, count);
@@ -64,19 +64,19 @@ impl Statements {
         self.declare_objects(places, words, Some(value))
     }
 
-    fn put_zeros(&mut self, atoms: &mut Atoms, parts: &mut Expressions) -> Result<(), Stop> {
+    fn emit_zeros(&mut self, atoms: &mut Atoms, parts: &mut Expressions) -> Result<(), Stop> {
         let count = atoms.count()?;
         let words = atoms.word()?;
         let places = take(atoms.alloc, &mut parts.places, count)?;
         self.declare_objects(places, words, None)
     }
 
-    fn put_flag(&mut self, parts: &mut Expressions, is_elaborated: bool) -> Result<(), Stop> {
+    fn emit_flag(&mut self, parts: &mut Expressions, is_elaborated: bool) -> Result<(), Stop> {
         let flag = pop(&mut parts.places)?;
         self.declare(flag_form(flag, is_elaborated))
     }
 
-    fn put_task(&mut self, atoms: &mut Atoms) -> Result<(), Stop> {
+    fn emit_task(&mut self, atoms: &mut Atoms) -> Result<(), Stop> {
         let level = atoms.word()?;
         let Some(priority) = Priority::new(u64::from(level)) else {
             return Err(Stop::Unreadable);
@@ -85,14 +85,14 @@ impl Statements {
         self.declare(DeclarationForm::Task { symbol, priority })
     }
 
-    fn put_protected(&mut self, atoms: &mut Atoms) -> Result<(), Stop> {
+    fn emit_protected(&mut self, atoms: &mut Atoms) -> Result<(), Stop> {
         let count = atoms.count()?;
         let values = take(atoms.alloc, &mut self.components, count);
         let (symbol, values) = both(atoms.symbol(), values)?;
         self.declare(DeclarationForm::Protected { symbol, values })
     }
 
-    fn put_component(&mut self, atoms: &mut Atoms, parts: &mut Expressions) -> Result<(), Stop> {
+    fn emit_component(&mut self, atoms: &mut Atoms, parts: &mut Expressions) -> Result<(), Stop> {
         let word = atoms.word()?;
         let words = atoms.word()?;
         let value = pop(&mut parts.checked)?;

@@ -1,11 +1,11 @@
 // Forms of expressions, and expressions.
-use crate::atoms::{Atoms, Stop, both, pop, put, put_made, take};
+use crate::atoms::{Atoms, Stop, both, emit_made, pop, put, take};
 use al_base::Place;
-use al_typed::{
+use al_view::{ObjectPlace, StaticValue};
+use al_view_typed::{
     Actual, BinaryOperator, Callee, CheckedValue, Conversion, ExpressionType, Form, Labels,
     ShortCircuit, Typed, TypedCall, TypedName, UnaryOperator,
 };
-use al_view::{ObjectPlace, StaticValue};
 use std::alloc::Global;
 
 /// What expressions are put together from.
@@ -109,16 +109,16 @@ impl Expressions {
             && self.calls.is_empty()
     }
 
-    /// Reads an operator or a conversion, with its operands behind it: a form.
+    /// Reads an operator or a conversion, with its operands after it: a form.
     pub fn read_operator(&mut self, alloc: Global, word: &str) -> Option<Result<(), Stop>> {
         if let Some(operator) = unary_operator(word) {
-            return Some(self.put_unary(alloc, operator));
+            return Some(self.emit_unary(alloc, operator));
         }
         if let Some(operator) = binary_operator(word) {
-            return Some(self.put_binary(alloc, operator));
+            return Some(self.emit_binary(alloc, operator));
         }
         if let Some(conversion) = conversion(word) {
-            return Some(self.put_converted(alloc, conversion));
+            return Some(self.emit_converted(alloc, conversion));
         }
         None
     }
@@ -127,16 +127,16 @@ impl Expressions {
     /// `inside VALUE LOW HIGH SLOT`, `outside VALUE LOW HIGH SLOT`, `aggregate COUNT CHECKED..`, `others COUNT CHECKED`.
     pub fn read_form(&mut self, atoms: &mut Atoms, word: &str) -> Option<Result<(), Stop>> {
         Some(match word {
-            "named" => self.put_named(),
-            "literal" => self.put_literal(atoms),
+            "named" => self.emit_named(),
+            "literal" => self.emit_literal(atoms),
             "clock" => put(&mut self.forms, Form::clock()),
-            "called" => self.put_called(),
-            "and_then" => self.put_short_circuit(atoms.alloc, ShortCircuit::AndThen),
-            "or_else" => self.put_short_circuit(atoms.alloc, ShortCircuit::OrElse),
-            "inside" => self.put_membership(atoms, false),
-            "outside" => self.put_membership(atoms, true),
-            "aggregate" => self.put_aggregate(atoms),
-            "others" => self.put_others(atoms),
+            "called" => self.emit_called(),
+            "and_then" => self.emit_short_circuit(atoms.alloc, ShortCircuit::AndThen),
+            "or_else" => self.emit_short_circuit(atoms.alloc, ShortCircuit::OrElse),
+            "inside" => self.emit_membership(atoms, false),
+            "outside" => self.emit_membership(atoms, true),
+            "aggregate" => self.emit_aggregate(atoms),
+            "others" => self.emit_others(atoms),
             _ => return None,
         })
     }
@@ -145,95 +145,95 @@ impl Expressions {
     /// `constant NUMBER FORM`, `number NUMBER`; and `checked RANGE VALUE`.
     pub fn read_value(&mut self, atoms: &mut Atoms, word: &str) -> Option<Result<(), Stop>> {
         Some(match word {
-            "value" => self.put_value(1, None),
-            "wide" => self.put_wide(atoms),
-            "constant" => self.put_constant(atoms),
-            "number" => self.put_number(atoms),
-            "checked" => self.put_checked(atoms),
+            "value" => self.emit_value(1, None),
+            "wide" => self.emit_wide(atoms),
+            "constant" => self.emit_constant(atoms),
+            "number" => self.emit_number(atoms),
+            "checked" => self.emit_checked(atoms),
             _ => return None,
         })
     }
 
-    fn put_unary(&mut self, alloc: Global, operator: UnaryOperator) -> Result<(), Stop> {
+    fn emit_unary(&mut self, alloc: Global, operator: UnaryOperator) -> Result<(), Stop> {
         let operand = pop(&mut self.values)?;
-        put_made(&mut self.forms, Form::unary(alloc, operator, operand))
+        emit_made(&mut self.forms, Form::unary(alloc, operator, operand))
     }
 
-    fn put_binary(&mut self, alloc: Global, operator: BinaryOperator) -> Result<(), Stop> {
+    fn emit_binary(&mut self, alloc: Global, operator: BinaryOperator) -> Result<(), Stop> {
         let (left, right) = both(pop(&mut self.values), pop(&mut self.values))?;
-        put_made(&mut self.forms, Form::binary(alloc, operator, left, right))
+        emit_made(&mut self.forms, Form::binary(alloc, operator, left, right))
     }
 
-    fn put_short_circuit(&mut self, alloc: Global, form: ShortCircuit) -> Result<(), Stop> {
+    fn emit_short_circuit(&mut self, alloc: Global, form: ShortCircuit) -> Result<(), Stop> {
         let (left, right) = both(pop(&mut self.values), pop(&mut self.values))?;
-        put_made(
+        emit_made(
             &mut self.forms,
             Form::short_circuit(alloc, form, left, right),
         )
     }
 
-    fn put_membership(&mut self, atoms: &mut Atoms, is_negated: bool) -> Result<(), Stop> {
+    fn emit_membership(&mut self, atoms: &mut Atoms, is_negated: bool) -> Result<(), Stop> {
         let slot = atoms.word()?;
         let value = pop(&mut self.values);
         let (value, bounds) = both(value, both(pop(&mut self.values), pop(&mut self.values)))?;
         let (low, high) = bounds;
         let form = Form::membership(atoms.alloc, value, is_negated, low, high, slot);
-        put_made(&mut self.forms, form)
+        emit_made(&mut self.forms, form)
     }
 
-    fn put_converted(&mut self, alloc: Global, conversion: Conversion) -> Result<(), Stop> {
+    fn emit_converted(&mut self, alloc: Global, conversion: Conversion) -> Result<(), Stop> {
         let operand = pop(&mut self.checked)?;
-        put_made(&mut self.forms, Form::converted(alloc, conversion, operand))
+        emit_made(&mut self.forms, Form::converted(alloc, conversion, operand))
     }
 
-    fn put_aggregate(&mut self, atoms: &mut Atoms) -> Result<(), Stop> {
+    fn emit_aggregate(&mut self, atoms: &mut Atoms) -> Result<(), Stop> {
         let count = atoms.count()?;
         let components = take(atoms.alloc, &mut self.checked, count)?;
         put(&mut self.forms, Form::aggregate(components))
     }
 
-    fn put_others(&mut self, atoms: &mut Atoms) -> Result<(), Stop> {
+    fn emit_others(&mut self, atoms: &mut Atoms) -> Result<(), Stop> {
         let count = atoms.word()?;
         let component = pop(&mut self.checked)?;
-        put_made(&mut self.forms, Form::others(atoms.alloc, count, component))
+        emit_made(&mut self.forms, Form::others(atoms.alloc, count, component))
     }
 
-    fn put_named(&mut self) -> Result<(), Stop> {
+    fn emit_named(&mut self) -> Result<(), Stop> {
         let name = pop(&mut self.names)?;
         put(&mut self.forms, Form::named(name))
     }
 
-    fn put_literal(&mut self, atoms: &mut Atoms) -> Result<(), Stop> {
+    fn emit_literal(&mut self, atoms: &mut Atoms) -> Result<(), Stop> {
         let word = atoms.number()?;
         put(&mut self.forms, Form::literal(StaticValue { word }))
     }
 
-    fn put_called(&mut self) -> Result<(), Stop> {
+    fn emit_called(&mut self) -> Result<(), Stop> {
         let call = pop(&mut self.calls)?;
         put(&mut self.forms, Form::call(call))
     }
 
-    fn put_value(&mut self, words: u32, value: Option<StaticValue>) -> Result<(), Stop> {
+    fn emit_value(&mut self, words: u32, value: Option<StaticValue>) -> Result<(), Stop> {
         let form = pop(&mut self.forms)?;
         put(&mut self.values, labelled(words, value, form))
     }
 
-    fn put_wide(&mut self, atoms: &mut Atoms) -> Result<(), Stop> {
+    fn emit_wide(&mut self, atoms: &mut Atoms) -> Result<(), Stop> {
         let words = atoms.word()?;
-        self.put_value(words, None)
+        self.emit_value(words, None)
     }
 
-    fn put_constant(&mut self, atoms: &mut Atoms) -> Result<(), Stop> {
+    fn emit_constant(&mut self, atoms: &mut Atoms) -> Result<(), Stop> {
         let word = atoms.number()?;
-        self.put_value(1, Some(StaticValue { word }))
+        self.emit_value(1, Some(StaticValue { word }))
     }
 
-    fn put_number(&mut self, atoms: &mut Atoms) -> Result<(), Stop> {
+    fn emit_number(&mut self, atoms: &mut Atoms) -> Result<(), Stop> {
         let word = atoms.number()?;
         put(&mut self.values, number(word))
     }
 
-    fn put_checked(&mut self, atoms: &mut Atoms) -> Result<(), Stop> {
+    fn emit_checked(&mut self, atoms: &mut Atoms) -> Result<(), Stop> {
         let range = atoms.range()?;
         let value = pop(&mut self.values)?;
         put(&mut self.checked, CheckedValue::new(value, range))

@@ -50,7 +50,7 @@ pub fn sized_name(sized: Sized) -> &'static [u8] {
     }
 }
 
-/// With an `Object` behind those that aren't told apart from others.
+/// With an `Object` after those that aren't told apart from others.
 pub fn action_name(action: Protected) -> &'static [u8] {
     match action {
         Protected::Enter => b"EnterObject",

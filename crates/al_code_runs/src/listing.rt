@@ -3,8 +3,8 @@
 use crate::atoms::{Stop, put};
 use crate::instructions::{action_name, plain_name, sized_name};
 use crate::text::Text;
+use al_code_object::{Address, Compiled, Relocation};
 use al_instr::{DecodeFault, Instr, Words, decode};
-use al_object::{Address, Compiled, Use};
 use al_view::{LinkKind, LinkSymbol};
 use std::alloc::Global;
 
@@ -17,12 +17,12 @@ struct Placed {
 }
 
 /// Puts the code of an object.
-pub fn put_listing(alloc: Global, text: &mut Text, compiled: &Compiled) -> Result<(), Stop> {
+pub fn emit_listing(alloc: Global, text: &mut Text, compiled: &Compiled) -> Result<(), Stop> {
     let instructions = instructions(alloc, compiled.code())?;
-    put_all(alloc, text, compiled, instructions.as_slice())
+    emit_all(alloc, text, compiled, instructions.as_slice())
 }
 
-fn put_all(
+fn emit_all(
     alloc: Global,
     text: &mut Text,
     compiled: &Compiled,
@@ -30,9 +30,9 @@ fn put_all(
 ) -> Result<(), Stop> {
     let targets = targets(alloc, instructions)?;
     for placed in instructions {
-        put_symbols(text, compiled.defines(), placed.place)?;
-        put_label(text, &targets, placed.place)?;
-        put_instr(text, compiled.uses(), &targets, placed)?;
+        emit_symbols(text, compiled.defines(), placed.place)?;
+        emit_label(text, &targets, placed.place)?;
+        emit_instr(text, compiled.uses(), &targets, placed)?;
     }
     all_used(compiled.uses(), instructions)
 }
@@ -45,10 +45,10 @@ fn instructions(alloc: Global, code: &[u8]) -> Result<Vec<Placed>, Stop> {
             break;
         }
         let place = code.len().saturating_sub(rest.len());
-        let (instr, behind) = decoded(alloc, rest)?;
-        let end = code.len().saturating_sub(behind.len());
+        let (instr, after) = decoded(alloc, rest)?;
+        let end = code.len().saturating_sub(after.len());
         put(&mut instructions, Placed { place, end, instr })?;
-        rest = behind;
+        rest = after;
     }
     Ok(instructions)
 }
@@ -94,7 +94,7 @@ fn label(targets: &[i64], place: i64) -> Option<i64> {
     i64::try_from(number).ok()
 }
 
-fn put_label(text: &mut Text, targets: &[i64], place: usize) -> Result<(), Stop> {
+fn emit_label(text: &mut Text, targets: &[i64], place: usize) -> Result<(), Stop> {
     if let Ok(place) = i64::try_from(place) {
         if let Some(label) = label(targets, place) {
             text.word(b"L")?;
@@ -120,16 +120,16 @@ fn is_code(kind: LinkKind) -> bool {
     matches!(kind, LinkKind::Code | LinkKind::Gate | LinkKind::EntryBody)
 }
 
-pub fn put_symbol(text: &mut Text, symbol: &LinkSymbol) -> Result<(), Stop> {
+pub fn emit_symbol(text: &mut Text, symbol: &LinkSymbol) -> Result<(), Stop> {
     text.word(symbol.symbol.name.as_slice())?;
     text.push(kind_name(symbol.kind))
 }
 
 /// The symbols of code that stand at a place.
-fn put_symbols(text: &mut Text, defines: &[Address], place: usize) -> Result<(), Stop> {
+fn emit_symbols(text: &mut Text, defines: &[Address], place: usize) -> Result<(), Stop> {
     for address in defines {
         if is_code(address.symbol.kind) && address.offset as usize == place {
-            put_symbol(text, &address.symbol)?;
+            emit_symbol(text, &address.symbol)?;
             text.push(b":")?;
         }
     }
@@ -137,12 +137,12 @@ fn put_symbols(text: &mut Text, defines: &[Address], place: usize) -> Result<(),
 }
 
 /// Whether this symbol is used by the first operand of that instruction.
-fn is_used(used: &Use, placed: &Placed) -> bool {
+fn is_used(used: &Relocation, placed: &Placed) -> bool {
     used.place as usize == placed.place.saturating_add(1)
 }
 
 /// An operand is used where an instruction has one.
-fn all_used(uses: &[Use], instructions: &[Placed]) -> Result<(), Stop> {
+fn all_used(uses: &[Relocation], instructions: &[Placed]) -> Result<(), Stop> {
     for used in uses {
         if !instructions.iter().any(|placed| is_used(used, placed)) {
             return Err(Stop::Damaged);
@@ -152,11 +152,16 @@ fn all_used(uses: &[Use], instructions: &[Placed]) -> Result<(), Stop> {
 }
 
 /// An operand that counts from a symbol.
-fn put_operand(text: &mut Text, uses: &[Use], placed: &Placed, number: u32) -> Result<(), Stop> {
+fn emit_operand(
+    text: &mut Text,
+    uses: &[Relocation],
+    placed: &Placed,
+    number: u32,
+) -> Result<(), Stop> {
     let mut is_first = true;
     for used in uses {
         if is_used(used, placed) {
-            put_symbol(text, &used.symbol)?;
+            emit_symbol(text, &used.symbol)?;
             text.push(b"+")?;
             is_first = false;
         }
@@ -167,76 +172,86 @@ fn put_operand(text: &mut Text, uses: &[Use], placed: &Placed, number: u32) -> R
     text.push_number(i64::from(number))
 }
 
-fn put_one(text: &mut Text, name: &[u8], number: u32) -> Result<(), Stop> {
+fn emit_one(text: &mut Text, name: &[u8], number: u32) -> Result<(), Stop> {
     text.word(name)?;
     text.number(i64::from(number))
 }
 
-fn put_instr(text: &mut Text, uses: &[Use], targets: &[i64], placed: &Placed) -> Result<(), Stop> {
+fn emit_instr(
+    text: &mut Text,
+    uses: &[Relocation],
+    targets: &[i64],
+    placed: &Placed,
+) -> Result<(), Stop> {
     match &placed.instr {
         Instr::Plain(plain) => text.word(plain_name(*plain)),
-        Instr::Sized(sized, number) => put_one(text, sized_name(*sized), *number),
+        Instr::Sized(sized, number) => emit_one(text, sized_name(*sized), *number),
         Instr::Const(word) => {
             text.word(b"Const")?;
             text.number(*word)
         }
         Instr::Frame { depth, word } => {
-            put_one(text, b"Frame", *depth)?;
+            emit_one(text, b"Frame", *depth)?;
             text.number(i64::from(*word))
         }
-        Instr::Check { low, high } => put_range(text, b"Check", *low, *high),
+        Instr::Check { low, high } => emit_range(text, b"Check", *low, *high),
         Instr::Index { low, high, words } => {
-            put_range(text, b"Index", *low, *high)?;
+            emit_range(text, b"Index", *low, *high)?;
             text.number(i64::from(*words))
         }
-        Instr::Jump(_) => put_jump(text, b"Jump", targets, placed),
-        Instr::JumpZero(_) => put_jump(text, b"JumpZero", targets, placed),
+        Instr::Jump(_) => emit_jump(text, b"Jump", targets, placed),
+        Instr::JumpZero(_) => emit_jump(text, b"JumpZero", targets, placed),
         Instr::PutText(bytes) => {
             text.word(b"PutText")?;
             text.quoted(bytes.as_slice())
         }
-        Instr::PutName { below, names } => put_names(text, *below, names),
-        other => put_using(text, uses, placed, other),
+        Instr::PutName { below, names } => emit_names(text, *below, names),
+        other => emit_using(text, uses, placed, other),
     }
 }
 
 /// An instruction whose first operand counts from a symbol.
-fn put_using(text: &mut Text, uses: &[Use], placed: &Placed, instr: &Instr) -> Result<(), Stop> {
+fn emit_using(
+    text: &mut Text,
+    uses: &[Relocation],
+    placed: &Placed,
+    instr: &Instr,
+) -> Result<(), Stop> {
     match instr {
         Instr::Protected(action, object) => {
             text.word(action_name(*action))?;
-            put_operand(text, uses, placed, *object)
+            emit_operand(text, uses, placed, *object)
         }
         Instr::Global(place) => {
             text.word(b"Global")?;
-            put_operand(text, uses, placed, *place)
+            emit_operand(text, uses, placed, *place)
         }
         Instr::Call { place, words } => {
             text.word(b"Call")?;
-            put_operand(text, uses, placed, *place)?;
+            emit_operand(text, uses, placed, *place)?;
             text.number(i64::from(*words))
         }
         Instr::Task { place, priority } => {
             text.word(b"Task")?;
-            put_operand(text, uses, placed, *place)?;
+            emit_operand(text, uses, placed, *place)?;
             text.number(i64::from(*priority))
         }
         Instr::Seed { place, words } => {
             text.word(b"Seed")?;
-            put_operand(text, uses, placed, *place)?;
+            emit_operand(text, uses, placed, *place)?;
             text.number(i64::from(*words))
         }
         _ => Ok(()),
     }
 }
 
-fn put_range(text: &mut Text, name: &[u8], low: i64, high: i64) -> Result<(), Stop> {
+fn emit_range(text: &mut Text, name: &[u8], low: i64, high: i64) -> Result<(), Stop> {
     text.word(name)?;
     text.number(low)?;
     text.number(high)
 }
 
-fn put_jump(text: &mut Text, name: &[u8], targets: &[i64], placed: &Placed) -> Result<(), Stop> {
+fn emit_jump(text: &mut Text, name: &[u8], targets: &[i64], placed: &Placed) -> Result<(), Stop> {
     text.word(name)?;
     if let Some(target) = target(placed) {
         if let Some(label) = label(targets, target) {
@@ -247,8 +262,8 @@ fn put_jump(text: &mut Text, name: &[u8], targets: &[i64], placed: &Placed) -> R
     Ok(())
 }
 
-fn put_names(text: &mut Text, below: u32, names: &Words) -> Result<(), Stop> {
-    put_one(text, b"PutName", below)?;
+fn emit_names(text: &mut Text, below: u32, names: &Words) -> Result<(), Stop> {
+    emit_one(text, b"PutName", below)?;
     for number in 0..names.len() {
         if let Some(name) = names.get(number) {
             text.quoted(name)?;

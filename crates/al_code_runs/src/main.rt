@@ -8,8 +8,8 @@
 //!
 //! The answer is `large` where the code is longer than that of any image, and `unreadable` where the line isn't written as it is to be.
 //!
-//! A unit is the body of a package P that has no words: at most one elaboration, and any bodies behind it. Each word stands before what it is
-//! made of, and each list behind its length, as in `loop forever 2 exit 0 set 'x' 1`. Numbers are `-7`, ranges `1..9` or `any` for none, modes
+//! A unit is the body of a package P that has no words: at most one elaboration, and any bodies after it. Each word stands before what it is
+//! made of, and each list after its length, as in `loop forever 2 exit 0 set 'x' 1`. Numbers are `-7`, ranges `1..9` or `any` for none, modes
 //! `in`, `out`, `in_out`; texts and names stand between quotes, with `_` for a blank. The other words are listed where they are read: `read_name`, `read_form`,
 //! `read_value`, `read_call`, `read_output`, `read_simple`, `read_control`, `read_declaration`, `read_kind`, `read_body`; operators are words of their
 //! own. All expressions have the root type, and all lines are 1.
@@ -25,22 +25,22 @@ mod expressions;
 mod instructions;
 mod listing;
 mod names;
+mod printed;
 mod statements;
 mod text;
-mod told;
 mod unit;
 mod units;
 
 use crate::atoms::Stop;
-use crate::told::answer;
+use crate::printed::answer;
 use std::alloc::{AllocError, Global};
 use std::io;
 
 fn main(rt: HostRuntime) -> io::Result<()> {
     let text = io::read_to_string(rt.alloc(), rt.reader())?;
     for line in text.as_str().lines() {
-        let told = line_told(rt.alloc(), line)?;
-        rt.println(told)?;
+        let printed = line_told(rt.alloc(), line)?;
+        rt.println(printed)?;
     }
     Ok(())
 }
@@ -50,7 +50,7 @@ fn line_told(alloc: Global, line: &str) -> Result<String, AllocError> {
         return String::from_str(alloc, line);
     }
     match answer(alloc, line) {
-        Ok(told) => Ok(told),
+        Ok(printed) => Ok(printed),
         Err(Stop::Memory) => Err(AllocError),
         Err(Stop::Unreadable) => String::from_str(alloc, "unreadable"),
         Err(Stop::Damaged) => String::from_str(alloc, "damaged"),

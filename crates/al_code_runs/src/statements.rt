@@ -1,12 +1,12 @@
 // Simple statements, and what is put out.
-use crate::atoms::{Atoms, Stop, both, pop, put, put_made, take};
+use crate::atoms::{Atoms, Stop, both, emit_made, pop, put, take};
 use crate::expressions::{Expressions, number};
 use al_base::NoMemory;
-use al_typed::{
+use al_view::{ObjectPlace, Seq};
+use al_view_typed::{
     Alternative, Branch, CheckedValue, ComponentValue, LoopScheme, Piece, StatementForm,
     TypedDeclaration, TypedName, TypedStatement,
 };
-use al_view::{ObjectPlace, Row};
 use std::alloc::Global;
 
 /// What statements and declarations are put together from.
@@ -24,7 +24,7 @@ pub struct Statements {
 /// A text of so many asterisks.
 fn asterisks(alloc: Global, count: usize) -> Result<Piece, NoMemory> {
     let bytes = vec![in alloc; b'*'; count]?;
-    Ok(Piece::Text(Row::new(bytes)))
+    Ok(Piece::Text(Seq::new(bytes)))
 }
 
 /// The assignment of a number to an object of the library, unchecked.
@@ -57,12 +57,12 @@ impl Statements {
             && self.declarations.is_empty()
     }
 
-    pub fn put_form(&mut self, form: StatementForm) -> Result<(), Stop> {
+    pub fn emit_form(&mut self, form: StatementForm) -> Result<(), Stop> {
         put(&mut self.statements, TypedStatement::new(1, form))
     }
 
     /// Reads a word for what is put out: `text 'TEXT'`, `asterisks COUNT`, `image VALUE`, `literal_image VALUE COUNT 'NAME'..`; or a statement that
-    /// puts it: `put COUNT PIECE..`, `put_line COUNT PIECE..`.
+    /// puts it: `put COUNT PIECE..`, `emit_line COUNT PIECE..`.
     pub fn read_output(
         &mut self,
         atoms: &mut Atoms,
@@ -70,45 +70,45 @@ impl Statements {
         word: &str,
     ) -> Option<Result<(), Stop>> {
         Some(match word {
-            "text" => self.put_text(atoms),
-            "asterisks" => self.put_asterisks(atoms),
-            "image" => self.put_image(parts),
-            "literal_image" => self.put_literal_image(atoms, parts),
-            "put" => self.put_output(atoms, false),
-            "put_line" => self.put_output(atoms, true),
+            "text" => self.emit_text(atoms),
+            "asterisks" => self.emit_asterisks(atoms),
+            "image" => self.emit_image(parts),
+            "literal_image" => self.emit_literal_image(atoms, parts),
+            "put" => self.emit_output(atoms, false),
+            "put_line" => self.emit_output(atoms, true),
             _ => return None,
         })
     }
 
-    fn put_text(&mut self, atoms: &mut Atoms) -> Result<(), Stop> {
+    fn emit_text(&mut self, atoms: &mut Atoms) -> Result<(), Stop> {
         let text = atoms.text()?;
-        put(&mut self.pieces, Piece::Text(Row::new(text.into_vec())))
+        put(&mut self.pieces, Piece::Text(Seq::new(text.into_vec())))
     }
 
-    fn put_asterisks(&mut self, atoms: &mut Atoms) -> Result<(), Stop> {
+    fn emit_asterisks(&mut self, atoms: &mut Atoms) -> Result<(), Stop> {
         let count = atoms.count()?;
-        put_made(&mut self.pieces, asterisks(atoms.alloc, count))
+        emit_made(&mut self.pieces, asterisks(atoms.alloc, count))
     }
 
-    fn put_image(&mut self, parts: &mut Expressions) -> Result<(), Stop> {
+    fn emit_image(&mut self, parts: &mut Expressions) -> Result<(), Stop> {
         let value = pop(&mut parts.values)?;
         put(&mut self.pieces, Piece::IntegerImage(value))
     }
 
-    fn put_literal_image(
+    fn emit_literal_image(
         &mut self,
         atoms: &mut Atoms,
         parts: &mut Expressions,
     ) -> Result<(), Stop> {
         let (value, names) = both(pop(&mut parts.values), atoms.texts())?;
-        let names = Row::new(names);
+        let names = Seq::new(names);
         put(&mut self.pieces, Piece::EnumerationImage { value, names })
     }
 
-    fn put_output(&mut self, atoms: &mut Atoms, ends_line: bool) -> Result<(), Stop> {
+    fn emit_output(&mut self, atoms: &mut Atoms, ends_line: bool) -> Result<(), Stop> {
         let count = atoms.count()?;
         let pieces = take(atoms.alloc, &mut self.pieces, count)?;
-        self.put_form(StatementForm::put(pieces, ends_line))
+        self.emit_form(StatementForm::put(pieces, ends_line))
     }
 
     /// Reads a word for another simple statement: `null`, `assign NAME WORDS CHECKED`, `sets COUNT 'NAME' NUMBER` for so many assignments of a number, or
@@ -120,60 +120,60 @@ impl Statements {
         word: &str,
     ) -> Option<Result<(), Stop>> {
         Some(match word {
-            "null" => self.put_form(StatementForm::null()),
-            "assign" => self.put_assignment(atoms, parts),
-            "sets" => self.put_sets(atoms),
-            "perform" => self.put_call(parts),
-            "delay" => self.put_delay(parts),
-            "return" => self.put_form(StatementForm::returning(None, 0)),
-            "return_value" => self.put_return(atoms, parts),
-            "exit" => self.put_exit(atoms),
-            "exit_when" => self.put_exit_when(atoms, parts),
+            "null" => self.emit_form(StatementForm::null()),
+            "assign" => self.emit_assignment(atoms, parts),
+            "sets" => self.emit_sets(atoms),
+            "perform" => self.emit_call(parts),
+            "delay" => self.emit_delay(parts),
+            "return" => self.emit_form(StatementForm::returning(None, 0)),
+            "return_value" => self.emit_return(atoms, parts),
+            "exit" => self.emit_exit(atoms),
+            "exit_when" => self.emit_exit_when(atoms, parts),
             _ => return None,
         })
     }
 
-    fn put_assignment(&mut self, atoms: &mut Atoms, parts: &mut Expressions) -> Result<(), Stop> {
+    fn emit_assignment(&mut self, atoms: &mut Atoms, parts: &mut Expressions) -> Result<(), Stop> {
         let words = atoms.word()?;
         let (target, value) = both(pop(&mut parts.names), pop(&mut parts.checked))?;
-        self.put_form(StatementForm::assignment(target, words, value))
+        self.emit_form(StatementForm::assignment(target, words, value))
     }
 
-    fn put_sets(&mut self, atoms: &mut Atoms) -> Result<(), Stop> {
+    fn emit_sets(&mut self, atoms: &mut Atoms) -> Result<(), Stop> {
         let count = atoms.count()?;
         let word = atoms.number()?;
         let symbol = atoms.symbol()?;
         for _ in 0..count {
             let symbol = symbol.copy(atoms.alloc)?;
-            self.put_form(set(ObjectPlace::Static { symbol, word: 0 }, word))?;
+            self.emit_form(set(ObjectPlace::Static { symbol, word: 0 }, word))?;
         }
         Ok(())
     }
 
-    fn put_call(&mut self, parts: &mut Expressions) -> Result<(), Stop> {
+    fn emit_call(&mut self, parts: &mut Expressions) -> Result<(), Stop> {
         let call = pop(&mut parts.calls)?;
-        self.put_form(StatementForm::call(call))
+        self.emit_form(StatementForm::call(call))
     }
 
-    fn put_delay(&mut self, parts: &mut Expressions) -> Result<(), Stop> {
+    fn emit_delay(&mut self, parts: &mut Expressions) -> Result<(), Stop> {
         let moment = pop(&mut parts.values)?;
-        self.put_form(StatementForm::delay(moment))
+        self.emit_form(StatementForm::delay(moment))
     }
 
-    fn put_return(&mut self, atoms: &mut Atoms, parts: &mut Expressions) -> Result<(), Stop> {
+    fn emit_return(&mut self, atoms: &mut Atoms, parts: &mut Expressions) -> Result<(), Stop> {
         let words = atoms.word()?;
         let value = pop(&mut parts.checked)?;
-        self.put_form(StatementForm::returning(Some(value), words))
+        self.emit_form(StatementForm::returning(Some(value), words))
     }
 
-    fn put_exit(&mut self, atoms: &mut Atoms) -> Result<(), Stop> {
+    fn emit_exit(&mut self, atoms: &mut Atoms) -> Result<(), Stop> {
         let loops = atoms.word()?;
-        self.put_form(StatementForm::exit(loops, None))
+        self.emit_form(StatementForm::exit(loops, None))
     }
 
-    fn put_exit_when(&mut self, atoms: &mut Atoms, parts: &mut Expressions) -> Result<(), Stop> {
+    fn emit_exit_when(&mut self, atoms: &mut Atoms, parts: &mut Expressions) -> Result<(), Stop> {
         let loops = atoms.word()?;
         let condition = pop(&mut parts.values)?;
-        self.put_form(StatementForm::exit(loops, Some(condition)))
+        self.emit_form(StatementForm::exit(loops, Some(condition)))
     }
 }

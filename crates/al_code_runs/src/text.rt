@@ -27,7 +27,7 @@ impl Text {
         }
     }
 
-    /// Bytes, right behind what is there.
+    /// Bytes, right after what is there.
     pub fn push(&mut self, bytes: &[u8]) -> Result<(), Stop> {
         match self.bytes.extend_from_slice(bytes) {
             Ok(()) => Ok(()),

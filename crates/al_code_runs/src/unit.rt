@@ -3,13 +3,13 @@ use crate::atoms::{Atoms, Stop};
 use crate::expressions::Expressions;
 use crate::statements::Statements;
 use crate::units::Bodies;
-use al_object::Object;
+use al_code_object::Object;
 use std::alloc::Global;
 
 /// How many bytes a unit may be written in, so that no tree is deep.
 const MOST_BYTES: usize = 10_000;
 
-/// What was read so far: all that stands behind a word before the word itself.
+/// What was read so far: all that stands after a word before the word itself.
 #[derive(Drop)]
 struct Reader {
     atoms: Atoms,
@@ -53,7 +53,7 @@ impl Reader {
         self.object()
     }
 
-    /// Reads words, the last first, so that each finds what stands behind it on the stacks.
+    /// Reads words, the last first, so that each finds what stands after it on the stacks.
     fn read(&mut self, words: &str) -> Result<(), Stop> {
         for word in words.split_whitespace().rev() {
             self.read_word(word)?;

@@ -1,19 +1,19 @@
 // Bodies, elaborations and units.
 ghost use Rattle.std.specs.Prelude.{◌≡◌, [], IfOk};
-ghost use Rattle.al_typed.specs.UnitTrees.{unit_seen};
-ghost use Rattle.al_typed.specs.WellFormed.{IsWellFormed};
+ghost use Rattle.al_view_typed.specs.UnitTrees.{unit_model};
+ghost use Rattle.al_view_typed.specs.WellFormed.{IsWellFormed};
 
 use crate::atoms::{Atoms, Stop, both, pop, put, take};
 use crate::expressions::Expressions;
 use crate::statements::Statements;
 use al_base::{Name, NoMemory, UnitKey, UnitKind};
 use al_code::emit;
-use al_object::Object;
-use al_typed::{
+use al_code_object::Object;
+use al_view::Seq;
+use al_view_typed::{
     BodyKind, Elaboration, EntryOf, FormalWords, StatementForm, TypedBody, TypedStatement,
     TypedUnit,
 };
-use al_view::Row;
 use std::alloc::Global;
 
 /// What a unit is put together from.
@@ -45,29 +45,29 @@ impl Bodies {
         word: &str,
     ) -> Option<Result<(), Stop>> {
         Some(match word {
-            "procedure" => self.put_procedure(atoms),
-            "function" => self.put_function(atoms),
+            "procedure" => self.emit_procedure(atoms),
+            "function" => self.emit_function(atoms),
             "task_body" => put(&mut self.kinds, BodyKind::Task),
-            "protected_procedure" => self.put_protected_procedure(atoms),
-            "opening_procedure" => self.put_opening(atoms, parts),
-            "protected_function" => self.put_protected_function(atoms),
-            "entry_body" => self.put_entry(atoms, parts),
+            "protected_procedure" => self.emit_protected_procedure(atoms),
+            "opening_procedure" => self.emit_opening(atoms, parts),
+            "protected_function" => self.emit_protected_function(atoms),
+            "entry_body" => self.emit_entry(atoms, parts),
             _ => return None,
         })
     }
 
-    fn put_procedure(&mut self, atoms: &mut Atoms) -> Result<(), Stop> {
+    fn emit_procedure(&mut self, atoms: &mut Atoms) -> Result<(), Stop> {
         let copied = atoms.word()?;
         put(&mut self.kinds, BodyKind::Procedure { copied })
     }
 
-    fn put_function(&mut self, atoms: &mut Atoms) -> Result<(), Stop> {
+    fn emit_function(&mut self, atoms: &mut Atoms) -> Result<(), Stop> {
         let words = atoms.word()?;
         let end = atoms.count()?;
         put(&mut self.kinds, BodyKind::Function { words, end })
     }
 
-    fn put_protected_procedure(&mut self, atoms: &mut Atoms) -> Result<(), Stop> {
+    fn emit_protected_procedure(&mut self, atoms: &mut Atoms) -> Result<(), Stop> {
         let copied = atoms.word()?;
         let object = atoms.symbol()?;
         let kind = BodyKind::ProtectedProcedure {
@@ -78,7 +78,7 @@ impl Bodies {
         put(&mut self.kinds, kind)
     }
 
-    fn put_opening(&mut self, atoms: &mut Atoms, parts: &mut Expressions) -> Result<(), Stop> {
+    fn emit_opening(&mut self, atoms: &mut Atoms, parts: &mut Expressions) -> Result<(), Stop> {
         let copied = atoms.word()?;
         let symbols = both(atoms.symbol(), atoms.symbol());
         let ((object, entry), barrier) = both(symbols, pop(&mut parts.places))?;
@@ -90,7 +90,7 @@ impl Bodies {
         put(&mut self.kinds, kind)
     }
 
-    fn put_protected_function(&mut self, atoms: &mut Atoms) -> Result<(), Stop> {
+    fn emit_protected_function(&mut self, atoms: &mut Atoms) -> Result<(), Stop> {
         let words = atoms.word()?;
         let end = atoms.count()?;
         let object = atoms.symbol()?;
@@ -100,7 +100,7 @@ impl Bodies {
         )
     }
 
-    fn put_entry(&mut self, atoms: &mut Atoms, parts: &mut Expressions) -> Result<(), Stop> {
+    fn emit_entry(&mut self, atoms: &mut Atoms, parts: &mut Expressions) -> Result<(), Stop> {
         let (object, barrier) = both(atoms.symbol(), pop(&mut parts.places))?;
         put(&mut self.kinds, BodyKind::Entry { object, barrier })
     }
@@ -117,40 +117,40 @@ impl Bodies {
         word: &str,
     ) -> Option<Result<(), Stop>> {
         Some(match word {
-            "elaborate" => self.put_elaboration(atoms, inside),
-            "formal" => self.put_formal(atoms),
-            "body" => self.put_body(atoms),
+            "elaborate" => self.emit_elaboration(atoms, inside),
+            "formal" => self.emit_formal(atoms),
+            "body" => self.emit_body(atoms),
             _ => return None,
         })
     }
 
-    fn put_elaboration(&mut self, atoms: &mut Atoms, inside: &mut Statements) -> Result<(), Stop> {
+    fn emit_elaboration(&mut self, atoms: &mut Atoms, inside: &mut Statements) -> Result<(), Stop> {
         let frame = atoms.word()?;
         let (declarations, statements) = both(inside.declarations(atoms), inside.list(atoms))?;
         let made = Elaboration::new(1, frame, declarations, statements);
         put(&mut self.elaborations, made)
     }
 
-    fn put_formal(&mut self, atoms: &mut Atoms) -> Result<(), Stop> {
+    fn emit_formal(&mut self, atoms: &mut Atoms) -> Result<(), Stop> {
         let mode = atoms.mode()?;
         let word = atoms.word()?;
         let words = atoms.word()?;
         put(&mut self.formals, FormalWords { mode, word, words })
     }
 
-    /// The formals of a body, behind their number.
+    /// The formals of a body, after their number.
     fn formals(&mut self, atoms: &mut Atoms) -> Result<Vec<FormalWords>, Stop> {
         let count = atoms.count()?;
         take(atoms.alloc, &mut self.formals, count)
     }
 
-    fn put_body(&mut self, atoms: &mut Atoms) -> Result<(), Stop> {
+    fn emit_body(&mut self, atoms: &mut Atoms) -> Result<(), Stop> {
         let depth = atoms.word()?;
         let formals = self.formals(atoms);
         let named = both(atoms.symbol(), pop(&mut self.kinds));
         let within = both(formals, pop(&mut self.elaborations));
         let ((symbol, kind), (formals, inside)) = both(named, within)?;
-        let made = TypedBody::new(symbol, kind, depth, Row::new(formals), inside);
+        let made = TypedBody::new(symbol, kind, depth, Seq::new(formals), inside);
         put(&mut self.bodies, made)
     }
 
@@ -167,13 +167,13 @@ impl Bodies {
 }
 
 /// A unit without words.
-#[tactic(auto, unfolding(al_typed::specs::UnitTrees::unit_seen))]
+#[tactic(auto, unfolding(al_view_typed::specs::UnitTrees::unit_model))]
 fn unit(
     alloc: Global,
     elaboration: Option<Elaboration>,
     bodies: Vec<TypedBody>,
 ) -> Result<TypedUnit, NoMemory>
-    ensures { IfOk result (λ unit. IsWellFormed (unit_seen unit)) }
+    ensures { IfOk result (λ unit. IsWellFormed (unit_model unit)) }
 {
     let name = Name::from_slice(alloc, b"p")?;
     let kind = UnitKind::Body;
@@ -182,9 +182,9 @@ fn unit(
         elaboration,
         bodies,
         0,
-        Row::empty(alloc),
-        Row::empty(alloc),
-        Row::empty(alloc),
+        Seq::empty(alloc),
+        Seq::empty(alloc),
+        Seq::empty(alloc),
     ))
 }
 

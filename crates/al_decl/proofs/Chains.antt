@@ -1,26 +1,26 @@
 -- A declaration by what was asked, begun and read before it, and what was declared then.
 use Rattle.std.proofs.Common.{◌≡◌, ℕ, Bool, List, [], ◌∷◌, slice_get, Option, Some, None, IfOk, Result, Ok, Err, refl, ap, ◌∙◌, rules}
-use Rattle.al_declared.specs.Declaring.{DeclaredTree, joined}
-use Rattle.al_declared.specs.DefiningNames.{names_of}
-use Rattle.al_declared.specs.Objects.{new_objects, objects_declared, objects_fault, placed_objects}
-use Rattle.al_declared.specs.Progressing.{with_all_counted}
-use Rattle.al_declared.specs.declared.new_object.ObjectType.{ObjectType}
-use Rattle.al_declaring.specs.Declaring.{begun, duplicates}
-use Rattle.al_declared.specs.Rules.{optional}
-use Rattle.al_declared.specs.declared.names.DefiningName.{DefiningName}
-use Rattle.al_declared.specs.declared.new_object.NewObject.{NewObject}
-use Rattle.al_declared.specs.declared.progress.Progress.{Progress}
-use Rattle.al_declaring.specs.declared.here.Here.{Here}
-use Rattle.al_judged.specs.Judging.{both, next, seen_by, unless}
-use Rattle.al_judged.specs.declared.fault.Fault.{Fault}
-use Rattle.al_part_reader.specs.PartReadings.{PartReading}
+use Rattle.al_decl_judged.specs.Declaring.{DeclaredTree, joined}
+use Rattle.al_decl_judged.specs.DefiningNames.{names_of}
+use Rattle.al_decl_judged.specs.Objects.{new_objects, objects_declared, objects_fault, placed_objects}
+use Rattle.al_decl_judged.specs.Progressing.{with_all_counted}
+use Rattle.al_decl_judged.specs.declared.new_object.ObjectType.{ObjectType}
+use Rattle.al_decl_here.specs.Declaring.{begun, duplicates}
+use Rattle.al_decl_judged.specs.Rules.{optional}
+use Rattle.al_decl_judged.specs.declared.names.DefiningName.{DefiningName}
+use Rattle.al_decl_judged.specs.declared.new_object.NewObject.{NewObject}
+use Rattle.al_decl_judged.specs.declared.progress.Progress.{Progress}
+use Rattle.al_decl_here.specs.declared.env.Environment.{Environment}
+use Rattle.al_base_fault.specs.Judging.{both, next, map_ok, unless}
+use Rattle.al_base_fault.specs.declared.fault.Fault.{Fault}
+use Rattle.al_decl_reader.specs.PartReadings.{PartReading}
 use Rattle.al_scope.specs.Places.{Place}
 use Rattle.al_query.specs.Reads.{Table}
-use Rattle.al_syntax.specs.DeclarationTrees.{ObjectTypeTree}
-use Rattle.al_syntax.specs.ExpressionTrees.{ExpressionTree}
+use Rattle.al_tree_syntax.specs.DeclarationTrees.{ObjectTypeTree}
+use Rattle.al_tree_syntax.specs.ExpressionTrees.{ExpressionTree}
 use Rattle.al_view.specs.declared.view.ViewKind.TheVariants.{OfComponent}
-use Rattle.al_typed.specs.DeclarationTrees.{DeclarationTree}
-use Rattle.al_typed.specs.ExpressionTrees.{TypedTree}
+use Rattle.al_view_typed.specs.DeclarationTrees.{DeclarationTree}
+use Rattle.al_view_typed.specs.ExpressionTrees.{TypedTree}
 use Rattle.al_decl.specs.Checking.{finished, with_progress}
 use Rattle.al_decl.specs.Forms.{first_read, objects_read, type_read, value_read}
 
@@ -34,11 +34,11 @@ if_ok_both (Ok a) P Q S f h k = f a h k
 if_ok_both (Err e) P Q S f h k = search rules
 
 -- two that are judged are seen as one is
-pub both_seen : {A B C D : Type 0} (f : A → C) (g : B → D) (a : Result A Fault) (b : Result B Fault) → both (seen_by f a) (seen_by g b) ≡ seen_by (λ (p : A × B). (f p.0, g p.1)) (both a b)
-both_seen {A} {B} {C} {D} f g (Ok a) (Ok b) = refl
-both_seen {A} {B} {C} {D} f g (Ok a) (Err e) = refl
-both_seen {A} {B} {C} {D} f g (Err e) (Ok b) = refl
-both_seen {A} {B} {C} {D} f g (Err e) (Err x) = refl
+pub both_model : {A B C D : Type 0} (f : A → C) (g : B → D) (a : Result A Fault) (b : Result B Fault) → both (map_ok f a) (map_ok g b) ≡ map_ok (λ (p : A × B). (f p.0, g p.1)) (both a b)
+both_model {A} {B} {C} {D} f g (Ok a) (Ok b) = refl
+both_model {A} {B} {C} {D} f g (Ok a) (Err e) = refl
+both_model {A} {B} {C} {D} f g (Err e) (Ok b) = refl
+both_model {A} {B} {C} {D} f g (Err e) (Err x) = refl
 
 -- the value of the first of several objects
 pub first_is : (R : PartReading) (place : Place) (os : List NewObject) (o : NewObject) (e : ExpressionTree) → slice_get os 0 ≡ Some o → first_read R place os e ≡ Some (R.value place o.subtype e)
@@ -48,18 +48,18 @@ first_is R place (x ∷ xs) o e h =
     ap (λ (y : NewObject). Some (R.value place y.subtype e)) same
 
 -- the end of a declaration at a place where something was begun
-pub finishes : (inner start : Here) (p : Progress) (J : Result DeclaredTree Fault) (D : Result (Progress × DeclaredTree) Fault) (X : Result (Here × Option DeclarationTree) Fault) → X ≡ finished inner (joined inner.progress J) → joined inner.progress J ≡ D → with_progress inner p ≡ start → X ≡ finished start D
-finishes inner start p J D X made is same = made ∙ ap (finished inner) is ∙ ap (λ (h : Here). finished h D) same
+pub finishes : (inner start : Environment) (p : Progress) (J : Result DeclaredTree Fault) (D : Result (Progress × DeclaredTree) Fault) (X : Result (Environment × Option DeclarationTree) Fault) → X ≡ finished inner (joined inner.progress J) → joined inner.progress J ≡ D → with_progress inner p ≡ start → X ≡ finished start D
+finishes inner start p J D X made is same = made ∙ ap (finished inner) is ∙ ap (λ (h : Environment). finished h D) same
 
 -- objects of a faulty type declare nothing, whatever was counted
-faulty : (p q : Progress) (line : ℕ) (constant : Bool) (d : Option Fault) (f : Fault) (v : Result (Option TypedTree) Fault) → seen_by (λ (o : List NewObject × Option TypedTree). placed_objects p line constant o.0 o.1) (unless d (both (Err f) v)) ≡ seen_by (λ (o : List NewObject × Option TypedTree). placed_objects q line constant o.0 o.1) (unless d (both (Err f) v))
+faulty : (p q : Progress) (line : ℕ) (constant : Bool) (d : Option Fault) (f : Fault) (v : Result (Option TypedTree) Fault) → map_ok (λ (o : List NewObject × Option TypedTree). placed_objects p line constant o.0 o.1) (unless d (both (Err f) v)) ≡ map_ok (λ (o : List NewObject × Option TypedTree). placed_objects q line constant o.0 o.1) (unless d (both (Err f) v))
 faulty p q line constant None f (Ok v) = refl
 faulty p q line constant None f (Err g) = refl
 faulty p q line constant (Some d) f (Ok v) = refl
 faulty p q line constant (Some d) f (Err g) = refl
 
 -- objects that were judged, with what was counted for them
-pub objects_on : (p q : Progress) (line : ℕ) (constant : Bool) (d : Option Fault) (names : List DefiningName) (os O : Result (List NewObject) Fault) (V : Result (List NewObject) Fault → Option (Result TypedTree Fault)) → joined p os ≡ seen_by (λ (x : List NewObject). (q, x)) O → objects_declared p line constant d names os (V os) ≡ objects_declared q line constant d names O (V O)
+pub objects_on : (p q : Progress) (line : ℕ) (constant : Bool) (d : Option Fault) (names : List DefiningName) (os O : Result (List NewObject) Fault) (V : Result (List NewObject) Fault → Option (Result TypedTree Fault)) → joined p os ≡ map_ok (λ (x : List NewObject). (q, x)) O → objects_declared p line constant d names os (V os) ≡ objects_declared q line constant d names O (V O)
 objects_on p q line constant d names (Ok a) (Ok b) V e =
     let pair : (p, a) ≡ (q, b) = cc in
     let same = ap (λ (x : Progress × List NewObject). x.0) pair in
@@ -74,9 +74,9 @@ objects_on p q line constant d names (Err f) (Err g) V e =
     ∙ ap (λ (x : Fault). objects_declared q line constant d names (Err x) (V (Err x))) same
 
 -- the objects of a type and a value that were read
-pub objects_chain : (R : PartReading) (t : Table) (h : Here) (line : ℕ) (constant : Bool) (names : List DefiningName) (type : ObjectTypeTree) (initial : Option ExpressionTree) (place : Place) (p : Progress) (d : Option Fault) (of : Result ObjectType Fault) (os : Result (List NewObject) Fault) (X : Result (Progress × DeclaredTree) Fault)
+pub objects_chain : (R : PartReading) (t : Table) (h : Environment) (line : ℕ) (constant : Bool) (names : List DefiningName) (type : ObjectTypeTree) (initial : Option ExpressionTree) (place : Place) (p : Progress) (d : Option Fault) (of : Result ObjectType Fault) (os : Result (List NewObject) Fault) (X : Result (Progress × DeclaredTree) Fault)
     → X ≡ objects_declared p line constant d names os (value_read R place os initial)
-    → joined p os ≡ seen_by (λ (x : List NewObject). (with_all_counted h.progress (names_of names), x)) (next of (λ (o : ObjectType). new_objects h.progress o names))
+    → joined p os ≡ map_ok (λ (x : List NewObject). (with_all_counted h.progress (names_of names), x)) (next of (λ (o : ObjectType). new_objects h.progress o names))
     → d ≡ duplicates t h.scope OfComponent names
     → of ≡ type_read R place type
     → place ≡ begun h.scope names

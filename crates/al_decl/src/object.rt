@@ -2,37 +2,37 @@
 ghost use Rattle.std.specs.Prelude.{◌≡◌, ◌<◌, length, option_map, IfOk};
 ghost use Rattle.al_decl.specs.Checking.{at_place, with_progress};
 ghost use Rattle.al_decl.specs.Forms.{anonymous_array, first_read, objects_checked, type_read, value_read};
-ghost use Rattle.al_declared.specs.Declaring.{declared_seen, joined};
-ghost use Rattle.al_declared.specs.DefiningNames.{names_of};
-ghost use Rattle.al_declared.specs.Objects.{new_objects, objects_declared};
-ghost use Rattle.al_declared.specs.Progressing.{with_all_counted};
-ghost use Rattle.al_declared.specs.declared.new_object.ObjectType.TheVariants as object_types;
-ghost use Rattle.al_judged.specs.Judging.{both, next, seen_by};
-ghost use Rattle.al_query.specs.Reads.{Told};
-ghost use Rattle.al_tree.specs.DeclarationViews.{object_type_seen};
-ghost use Rattle.al_tree.specs.ExpressionViews.{expression_seen};
-ghost use Rattle.al_typed.specs.DeclarationTrees.{declaration_seen};
-ghost use Rattle.al_typed.specs.ExpressionViews.{typed_seen};
+ghost use Rattle.al_decl_judged.specs.Declaring.{declared_model, joined};
+ghost use Rattle.al_decl_judged.specs.DefiningNames.{names_of};
+ghost use Rattle.al_decl_judged.specs.Objects.{new_objects, objects_declared};
+ghost use Rattle.al_decl_judged.specs.Progressing.{with_all_counted};
+ghost use Rattle.al_decl_judged.specs.declared.new_object.ObjectType.TheVariants as object_types;
+ghost use Rattle.al_base_fault.specs.Judging.{both, next, map_ok};
+ghost use Rattle.al_query.specs.Reads.{FromAnswers};
+ghost use Rattle.al_tree.specs.DeclarationViews.{object_type_model};
+ghost use Rattle.al_tree.specs.ExpressionViews.{expression_model};
+ghost use Rattle.al_view_typed.specs.DeclarationTrees.{declaration_model};
+ghost use Rattle.al_view_typed.specs.ExpressionViews.{typed_model};
 
 use crate::definition::array_parts;
 use crate::ending::finish;
 use al_base::NoMemory;
-use al_declared::{
+use al_base_fault::{CheckResult, Fault, both};
+use al_decl_here::{Environment, begin, fixed_duplicates};
+use al_decl_judged::{
     Declared, DefiningName, NewObject, ObjectType, Progress, declare_objects, new_objects,
 };
-use al_declaring::{Here, begin, fixed_duplicates};
-use al_judged::{Fault, Judged, both};
-use al_part_reader::PartReader;
-use al_predefined::StandardTypes;
+use al_decl_reader::PartAnalyzer;
 use al_query::{Answers, Recorder};
 use al_scope::Scope;
 use al_tree::{Expression, ObjectType as ObjectTypeText};
-use al_typed::{Typed, TypedDeclaration};
-use al_view::{Row, SubtypeView};
+use al_view::{Seq, SubtypeView};
+use al_view_predefined::StandardTypes;
+use al_view_typed::{Typed, TypedDeclaration};
 use std::alloc::Global;
 
-fn marked(of: Judged<SubtypeView>) -> Judged<ObjectType>
-    ensures { result ≡ seen_by object_types.Marked of }
+fn marked(of: CheckResult<SubtypeView>) -> CheckResult<ObjectType>
+    ensures { result ≡ map_ok object_types.Marked of }
 {
     match of {
         Ok(of) => Ok(ObjectType::Marked(of)),
@@ -40,8 +40,11 @@ fn marked(of: Judged<SubtypeView>) -> Judged<ObjectType>
     }
 }
 
-fn anonymous(index: Judged<SubtypeView>, component: Judged<SubtypeView>) -> Judged<ObjectType>
-    ensures { result ≡ seen_by anonymous_array (both index component) }
+fn anonymous(
+    index: CheckResult<SubtypeView>,
+    component: CheckResult<SubtypeView>,
+) -> CheckResult<ObjectType>
+    ensures { result ≡ map_ok anonymous_array (both index component) }
 {
     match both(index, component) {
         Ok((index, component)) => Ok(ObjectType::AnonymousArray { index, component }),
@@ -49,24 +52,24 @@ fn anonymous(index: Judged<SubtypeView>, component: Judged<SubtypeView>) -> Judg
     }
 }
 
-/// What stands behind the colon, at a place.
-fn type_read<R: PartReader, A: Answers>(
+/// What stands after the colon, at a place.
+fn type_read<R: PartAnalyzer, A: Answers>(
     alloc: Global,
-    reader: &R,
+    analyzer: &R,
     scope: &Scope,
     of: &ObjectTypeText,
     recorder: &mut Recorder<A>,
-) -> Result<Judged<ObjectType>, NoMemory>
+) -> Result<CheckResult<ObjectType>, NoMemory>
     ensures asked { recorder.new.asked ≡ recorder.old.asked }
-    ensures told { IfOk result (λ judged. Told recorder.old.log recorder.new.log (λ t. judged ≡ type_read (R.reading reader.now t) scope.now (object_type_seen of.now))) }
+    ensures answered { IfOk result (λ checked. FromAnswers recorder.old.log recorder.new.log (λ t. checked ≡ type_read (R.reading analyzer.now t) scope.now (object_type_model of.now))) }
 {
     match of {
         ObjectTypeText::Named(indication) => {
-            let of = reader.indication(alloc, scope, indication, recorder)?;
+            let of = analyzer.indication(alloc, scope, indication, recorder)?;
             Ok(marked(of))
         }
         ObjectTypeText::Array(array) => {
-            let (index, component) = array_parts(alloc, reader, scope, array, recorder)?;
+            let (index, component) = array_parts(alloc, analyzer, scope, array, recorder)?;
             Ok(anonymous(index, component))
         }
     }
@@ -78,9 +81,9 @@ fn objects_of(
     standard: &StandardTypes,
     progress: &mut Progress,
     names: &[DefiningName],
-    of: Judged<ObjectType>,
-) -> Result<Judged<Row<NewObject>>, NoMemory>
-    ensures { IfOk result (λ judged. joined progress.new judged ≡ seen_by (λ os. (with_all_counted progress.old (names_of names.now), os)) (next of (λ o. new_objects progress.old o names.now))) }
+    of: CheckResult<ObjectType>,
+) -> Result<CheckResult<Seq<NewObject>>, NoMemory>
+    ensures { IfOk result (λ checked. joined progress.new checked ≡ map_ok (λ os. (with_all_counted progress.old (names_of names.now), os)) (next of (λ o. new_objects progress.old o names.now))) }
 {
     match of {
         Ok(of) => new_objects(alloc, standard, progress, &of, names),
@@ -89,20 +92,20 @@ fn objects_of(
 }
 
 /// The value of these objects, at the subtype of the first.
-fn first_value<R: PartReader, A: Answers>(
+fn first_value<R: PartAnalyzer, A: Answers>(
     alloc: Global,
-    reader: &R,
+    analyzer: &R,
     scope: &Scope,
     objects: &[NewObject],
     value: &Expression,
     recorder: &mut Recorder<A>,
-) -> Result<Option<Judged<Typed>>, NoMemory>
+) -> Result<Option<CheckResult<Typed>>, NoMemory>
     ensures asked { recorder.new.asked ≡ recorder.old.asked }
-    ensures told { IfOk result (λ judged. Told recorder.old.log recorder.new.log (λ t. option_map (seen_by typed_seen) judged ≡ first_read (R.reading reader.now t) scope.now objects.now (expression_seen value.now))) }
+    ensures answered { IfOk result (λ checked. FromAnswers recorder.old.log recorder.new.log (λ t. option_map (map_ok typed_model) checked ≡ first_read (R.reading analyzer.now t) scope.now objects.now (expression_model value.now))) }
 {
     match objects.first() {
         Some(object) => {
-            let value = reader.value(alloc, scope, &object.subtype, value, recorder)?;
+            let value = analyzer.value(alloc, scope, &object.subtype, value, recorder)?;
             Ok(Some(value))
         }
         None => Ok(None),
@@ -110,52 +113,52 @@ fn first_value<R: PartReader, A: Answers>(
 }
 
 /// The value of objects that were judged.
-fn value_read<R: PartReader, A: Answers>(
+fn value_read<R: PartAnalyzer, A: Answers>(
     alloc: Global,
-    reader: &R,
+    analyzer: &R,
     scope: &Scope,
-    objects: &Judged<Row<NewObject>>,
+    objects: &CheckResult<Seq<NewObject>>,
     initial: &Option<Expression>,
     recorder: &mut Recorder<A>,
-) -> Result<Option<Judged<Typed>>, NoMemory>
+) -> Result<Option<CheckResult<Typed>>, NoMemory>
     ensures asked { recorder.new.asked ≡ recorder.old.asked }
-    ensures told { IfOk result (λ judged. Told recorder.old.log recorder.new.log (λ t. option_map (seen_by typed_seen) judged ≡ value_read (R.reading reader.now t) scope.now objects.now (option_map expression_seen initial.now))) }
+    ensures answered { IfOk result (λ checked. FromAnswers recorder.old.log recorder.new.log (λ t. option_map (map_ok typed_model) checked ≡ value_read (R.reading analyzer.now t) scope.now objects.now (option_map expression_model initial.now))) }
 {
     match (initial, objects) {
         (None, _) => Ok(None),
         (Some(_), Err(fault)) => Ok(Some(Err(*fault))),
         (Some(value), Ok(objects)) => {
-            first_value(alloc, reader, scope, objects.as_slice(), value, recorder)
+            first_value(alloc, analyzer, scope, objects.as_slice(), value, recorder)
         }
     }
 }
 
 /// Objects are let go.
-fn let_go(_objects: Judged<Row<NewObject>>) {}
+fn let_go(_objects: CheckResult<Seq<NewObject>>) {}
 
 /// Objects that were judged, with their value.
-fn valued<R: PartReader, A: Answers>(
+fn valued<R: PartAnalyzer, A: Answers>(
     alloc: Global,
     standard: &StandardTypes,
-    reader: &R,
-    here: &mut Here,
+    analyzer: &R,
+    env: &mut Environment,
     line: usize,
     is_constant: bool,
     duplicate: Option<Fault>,
     names: &[DefiningName],
-    objects: Judged<Row<NewObject>>,
+    objects: CheckResult<Seq<NewObject>>,
     initial: &Option<Expression>,
     recorder: &mut Recorder<A>,
-) -> Result<Judged<Declared>, NoMemory>
+) -> Result<CheckResult<Declared>, NoMemory>
     ensures asked { recorder.new.asked ≡ recorder.old.asked }
-    ensures told { IfOk result (λ judged. Told recorder.old.log recorder.new.log (λ t. joined here.new.progress (seen_by declared_seen judged) ≡ objects_declared here.old.progress line is_constant duplicate names.now objects (value_read (R.reading reader.now t) here.old.scope objects (option_map expression_seen initial.now)))) }
-    ensures rest { here.new ≡ with_progress here.old here.new.progress }
+    ensures answered { IfOk result (λ checked. FromAnswers recorder.old.log recorder.new.log (λ t. joined env.new.progress (map_ok declared_model checked) ≡ objects_declared env.old.progress line is_constant duplicate names.now objects (value_read (R.reading analyzer.now t) env.old.scope objects (option_map expression_model initial.now)))) }
+    ensures rest { env.new ≡ with_progress env.old env.new.progress }
 {
-    match value_read(alloc, reader, &here.scope, &objects, initial, recorder) {
+    match value_read(alloc, analyzer, &env.scope, &objects, initial, recorder) {
         Ok(value) => declare_objects(
             alloc,
             standard,
-            &mut here.progress,
+            &mut env.progress,
             line,
             is_constant,
             duplicate,
@@ -171,32 +174,32 @@ fn valued<R: PartReader, A: Answers>(
 }
 
 /// `names : [constant] type [:= value];`, whose first token stands on that line (ARM 3.3.1).
-pub fn check_objects<R: PartReader, A: Answers>(
+pub fn check_objects<R: PartAnalyzer, A: Answers>(
     alloc: Global,
     standard: &StandardTypes,
-    reader: &R,
-    here: &mut Here,
+    analyzer: &R,
+    env: &mut Environment,
     line: usize,
     names: &[DefiningName],
     is_constant: bool,
     of: &ObjectTypeText,
     initial: &Option<Expression>,
     recorder: &mut Recorder<A>,
-) -> Result<Judged<Option<TypedDeclaration>>, NoMemory>
-    requires { 0 < length here.old.scope.regions }
+) -> Result<CheckResult<Option<TypedDeclaration>>, NoMemory>
+    requires { 0 < length env.old.scope.regions }
     ensures asked { recorder.new.asked ≡ recorder.old.asked }
-    ensures told { IfOk result (λ judged. Told recorder.old.log recorder.new.log (λ t. at_place here.new (seen_by (option_map declaration_seen) judged) ≡ objects_checked (R.reading reader.now t) t here.old line names.now is_constant (object_type_seen of.now) (option_map expression_seen initial.now))) }
-    ensures depth { length here.new.scope.regions ≡ length here.old.scope.regions }
+    ensures answered { IfOk result (λ checked. FromAnswers recorder.old.log recorder.new.log (λ t. at_place env.new (map_ok (option_map declaration_model) checked) ≡ objects_checked (R.reading analyzer.now t) t env.old line names.now is_constant (object_type_model of.now) (option_map expression_model initial.now))) }
+    ensures depth { length env.new.scope.regions ≡ length env.old.scope.regions }
 {
-    let duplicate = fixed_duplicates(alloc, &here.scope, names, recorder)?;
-    begin(&mut here.scope, names)?;
-    let of = type_read(alloc, reader, &here.scope, of, recorder)?;
-    let objects = objects_of(alloc, standard, &mut here.progress, names, of)?;
+    let duplicate = fixed_duplicates(alloc, &env.scope, names, recorder)?;
+    begin(&mut env.scope, names)?;
+    let of = type_read(alloc, analyzer, &env.scope, of, recorder)?;
+    let objects = objects_of(alloc, standard, &mut env.progress, names, of)?;
     let declared = valued(
         alloc,
         standard,
-        reader,
-        here,
+        analyzer,
+        env,
         line,
         is_constant,
         duplicate,
@@ -205,5 +208,5 @@ pub fn check_objects<R: PartReader, A: Answers>(
         initial,
         recorder,
     )?;
-    finish(here, declared)
+    finish(env, declared)
 }

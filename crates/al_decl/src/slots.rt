@@ -1,26 +1,26 @@
 // The words of temporaries in what a declaration does.
 ghost use Rattle.std.specs.Prelude.{◌≡◌, option_map};
-ghost use Rattle.al_decl.specs.Effects.{after_effect, effect_behind, effect_numbered, form_behind, form_numbered, optional_behind};
-ghost use Rattle.al_slots.specs.Slots.{value_behind, value_numbered};
-ghost use Rattle.al_typed.specs.DeclarationTrees.{declaration_seen, form_seen};
-ghost use Rattle.al_typed.specs.ExpressionViews.{value_seen};
+ghost use Rattle.al_decl.specs.Effects.{after_effect, effect_after, effect_numbered, form_after, form_numbered, optional_after};
+ghost use Rattle.al_overload_slots.specs.Slots.{value_after, value_numbered};
+ghost use Rattle.al_view_typed.specs.DeclarationTrees.{declaration_model, form_model};
+ghost use Rattle.al_view_typed.specs.ExpressionViews.{value_model};
 
-use al_declared::Progress;
-use al_slots::number_slots;
-use al_typed::{CheckedValue, DeclarationForm, TypedDeclaration};
+use al_decl_judged::Progress;
+use al_overload_slots::number_slots;
+use al_view_typed::{CheckedValue, DeclarationForm, TypedDeclaration};
 
-/// A value takes words from this one on: the next word behind them.
-#[tactic(auto, using(al_slots::proofs::Layers::value_layers, al_typed::proofs::ExpressionsMade::value_made))]
+/// A value takes words from this one on: the next word after them.
+#[tactic(auto, using(al_overload_slots::proofs::Layers::value_layers, al_view_typed::proofs::ExpressionsMade::value_made))]
 fn number_value(value: &mut CheckedValue, word: u32) -> u32
-    ensures tree { value_seen value.new ≡ value_numbered word (value_seen value.old) }
-    ensures word { result ≡ value_behind word (value_seen value.old) }
+    ensures tree { value_model value.new ≡ value_numbered word (value_model value.old) }
+    ensures word { result ≡ value_after word (value_model value.old) }
 {
     number_slots(&mut value.value, word)
 }
 
 fn number_optional(value: &mut Option<CheckedValue>, word: u32) -> u32
-    ensures tree { option_map value_seen value.new ≡ option_map (value_numbered word) (option_map value_seen value.old) }
-    ensures word { result ≡ optional_behind word (option_map value_seen value.old) }
+    ensures tree { option_map value_model value.new ≡ option_map (value_numbered word) (option_map value_model value.old) }
+    ensures word { result ≡ optional_after word (option_map value_model value.old) }
 {
     match value {
         Some(value) => number_value(value, word),
@@ -29,8 +29,8 @@ fn number_optional(value: &mut Option<CheckedValue>, word: u32) -> u32
 }
 
 fn number_form(form: &mut DeclarationForm, word: u32) -> u32
-    ensures tree { form_seen form.new ≡ form_numbered word (form_seen form.old) }
-    ensures word { result ≡ form_behind word (form_seen form.old) }
+    ensures tree { form_model form.new ≡ form_numbered word (form_model form.old) }
+    ensures word { result ≡ form_after word (form_model form.old) }
 {
     match form {
         DeclarationForm::Objects { value, .. } => number_optional(value, word),
@@ -42,8 +42,8 @@ fn number_form(form: &mut DeclarationForm, word: u32) -> u32
 }
 
 fn number_effect(effect: &mut Option<TypedDeclaration>, word: u32) -> u32
-    ensures tree { option_map declaration_seen effect.new ≡ effect_numbered word (option_map declaration_seen effect.old) }
-    ensures word { result ≡ effect_behind word (option_map declaration_seen effect.old) }
+    ensures tree { option_map declaration_model effect.new ≡ effect_numbered word (option_map declaration_model effect.old) }
+    ensures word { result ≡ effect_after word (option_map declaration_model effect.old) }
 {
     match effect {
         Some(done) => number_form(&mut done.form, word),
@@ -53,8 +53,8 @@ fn number_effect(effect: &mut Option<TypedDeclaration>, word: u32) -> u32
 
 /// What a declaration does takes its temporaries' words of the innermost frame.
 pub(crate) fn take_slots(progress: &mut Progress, effect: &mut Option<TypedDeclaration>)
-    ensures tree { option_map declaration_seen effect.new ≡ effect_numbered progress.old.words.frame (option_map declaration_seen effect.old) }
-    ensures taken { progress.new ≡ after_effect progress.old (option_map declaration_seen effect.old) }
+    ensures tree { option_map declaration_model effect.new ≡ effect_numbered progress.old.words.frame (option_map declaration_model effect.old) }
+    ensures taken { progress.new ≡ after_effect progress.old (option_map declaration_model effect.old) }
 {
     progress.words.frame = number_effect(effect, progress.words.frame);
 }

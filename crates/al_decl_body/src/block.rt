@@ -4,52 +4,58 @@ ghost use Rattle.al_decl_body.specs.Regions.{block_entered, block_left, outside_
 ghost use Rattle.al_scope.specs.declared.region.Region.{Region};
 
 use al_base::NoMemory;
-use al_completion::Awaiting;
-use al_declaring::{Here, enter_region, leave_region};
+use al_decl_completion::Uncompleted;
+use al_decl_here::{Environment, enter_region, leave_region};
 use al_view::Interface;
 use std::alloc::Global;
 use std::mem;
 
-/// What waits and what is declared round a block or a body, and goes on behind it.
+/// What waits and what is declared round a block or a body, and goes on after it.
 #[derive(Drop)]
 pub struct Outside {
-    pub awaiting: Awaiting,
+    pub uncompleted: Uncompleted,
     pub declared: Interface,
 }
 
 /// Nothing waits and nothing is declared from here on.
-pub(crate) fn set_aside(alloc: Global, here: &mut Here) -> Outside
-    ensures here { here.new ≡ set_aside here.old }
-    ensures outside { result ≡ outside_of here.old }
+pub(crate) fn set_aside(alloc: Global, env: &mut Environment) -> Outside
+    ensures env { env.new ≡ set_aside env.old }
+    ensures outside { result ≡ outside_of env.old }
 {
-    let awaiting = mem::replace(&mut here.awaiting, Awaiting::new(alloc));
-    let declared = mem::replace(&mut here.declared, Interface::new(alloc));
-    Outside { awaiting, declared }
+    let uncompleted = mem::replace(&mut env.uncompleted, Uncompleted::new(alloc));
+    let declared = mem::replace(&mut env.declared, Interface::new(alloc));
+    Outside {
+        uncompleted,
+        declared,
+    }
 }
 
 /// What waited and was declared goes on.
-pub(crate) fn take_back(here: &mut Here, outside: Outside)
-    ensures { here.new ≡ taken_back here.old outside }
+pub(crate) fn take_back(env: &mut Environment, outside: Outside)
+    ensures { env.new ≡ taken_back env.old outside }
 {
-    let Outside { awaiting, declared } = outside;
-    here.awaiting = awaiting;
-    here.declared = declared;
+    let Outside {
+        uncompleted,
+        declared,
+    } = outside;
+    env.uncompleted = uncompleted;
+    env.declared = declared;
 }
 
 /// Enters a block: a region that continues nothing, in which nothing waits.
-pub fn enter_block(alloc: Global, here: &mut Here) -> Result<Outside, NoMemory>
-    ensures here { OnOk result (here.new ≡ block_entered here.old) }
-    ensures outside { IfOk result (λ outside. outside ≡ outside_of here.old) }
+pub fn enter_block(alloc: Global, env: &mut Environment) -> Result<Outside, NoMemory>
+    ensures env { OnOk result (env.new ≡ block_entered env.old) }
+    ensures outside { IfOk result (λ outside. outside ≡ outside_of env.old) }
 {
-    enter_region(alloc, &mut here.scope)?;
-    Ok(set_aside(alloc, here))
+    enter_region(alloc, &mut env.scope)?;
+    Ok(set_aside(alloc, env))
 }
 
 /// Leaves it: the regions round it, what waited there and what was declared are as they were; the words that it took are taken.
-pub fn leave_block(here: &mut Here, outside: Outside)
-    requires { 0 < length here.old.scope.regions }
-    ensures { (outer : List Region) (inner : Region) → here.old.scope.regions ≡ outer ++ inner ∷ [] → here.new ≡ block_left here.old outer outside }
+pub fn leave_block(env: &mut Environment, outside: Outside)
+    requires { 0 < length env.old.scope.regions }
+    ensures { (outer : List Region) (inner : Region) → env.old.scope.regions ≡ outer ++ inner ∷ [] → env.new ≡ block_left env.old outer outside }
 {
-    leave_region(&mut here.scope);
-    take_back(here, outside);
+    leave_region(&mut env.scope);
+    take_back(env, outside);
 }

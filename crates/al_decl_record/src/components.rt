@@ -1,24 +1,24 @@
 // Components of a record type at a place (ARM 3.8).
 ghost use Rattle.std.specs.Prelude.{◌≡◌, ◌<◌, ◌++◌, [], length, map, IfOk, OnOk, Ok};
 ghost use Rattle.al_decl_record.specs.Components.{after_component, after_components, component_parts, named_parts, names_fault, part, parts_after, parts_behind};
-ghost use Rattle.al_decl_record.specs.Founds.{found_seen};
-ghost use Rattle.al_declaring.specs.Declaring.{begun};
-ghost use Rattle.al_declaring.specs.Inner.{made_visible};
-ghost use Rattle.al_judged.specs.Judging.{seen_by, unless};
-ghost use Rattle.al_query.specs.Reads.{Told};
-ghost use Rattle.al_tree.specs.DeclarationViews.{component_seen};
+ghost use Rattle.al_decl_record.specs.Founds.{found_model};
+ghost use Rattle.al_decl_here.specs.Declaring.{begun};
+ghost use Rattle.al_decl_here.specs.Inner.{made_visible};
+ghost use Rattle.al_base_fault.specs.Judging.{map_ok, unless};
+ghost use Rattle.al_query.specs.Reads.{FromAnswers};
+ghost use Rattle.al_tree.specs.DeclarationViews.{component_model};
 
 use al_base::{Name, NoMemory};
+use al_base_fault::{CheckResult, Fault, earlier, unless};
+use al_decl_here::{begin, fixed_duplicates, make_visible};
+use al_decl_judged::{DefiningName, copied_subtype, repeated};
+use al_decl_names::defining_names;
+use al_decl_reader::PartAnalyzer;
 use al_decl_type::Part;
-use al_declared::{DefiningName, copied_subtype, repeated};
-use al_declaring::{begin, fixed_duplicates, make_visible};
-use al_defining::defining_names;
-use al_judged::{Fault, Judged, earlier, unless};
-use al_part_reader::PartReader;
 use al_query::{Answers, Recorder};
 use al_scope::Scope;
 use al_tree::ComponentDeclaration;
-use al_view::{Row, SubtypeView};
+use al_view::{Seq, SubtypeView};
 use std::alloc::Global;
 
 fn part(alloc: Global, of: &SubtypeView, name: &DefiningName) -> Result<Part, NoMemory>
@@ -29,10 +29,10 @@ fn part(alloc: Global, of: &SubtypeView, name: &DefiningName) -> Result<Part, No
     Ok(Part { name, of })
 }
 
-/// A part for each of these names, behind others.
+/// A part for each of these names, after others.
 fn add_parts(
     alloc: Global,
-    parts: &mut Row<Part>,
+    parts: &mut Seq<Part>,
     of: &SubtypeView,
     names: &[DefiningName],
 ) -> Result<(), NoMemory>
@@ -46,18 +46,18 @@ fn add_parts(
 
 /// The components so far, and the first rule that one of them breaks.
 #[derive(Drop)]
-pub struct Found {
-    pub parts: Row<Part>,
+pub struct ComponentList {
+    pub parts: Seq<Part>,
     pub fault: Option<Fault>,
 }
 
-impl Found {
+impl ComponentList {
     /// Nothing so far.
-    pub(crate) fn new(alloc: Global) -> Found
-        ensures { found_seen result ≡ Ok [] }
+    pub(crate) fn new(alloc: Global) -> ComponentList
+        ensures { found_model result ≡ Ok [] }
     {
-        Found {
-            parts: Row::empty(alloc),
+        ComponentList {
+            parts: Seq::empty(alloc),
             fault: None,
         }
     }
@@ -67,10 +67,10 @@ impl Found {
         &mut self,
         alloc: Global,
         fault: Option<Fault>,
-        of: Judged<SubtypeView>,
+        of: CheckResult<SubtypeView>,
         names: &[DefiningName],
     ) -> Result<(), NoMemory>
-        ensures { OnOk result (found_seen self.new ≡ parts_behind (found_seen self.old) (unless fault (seen_by (λ s. map (part s) names.now) of))) }
+        ensures { OnOk result (found_model self.new ≡ parts_behind (found_model self.old) (unless fault (map_ok (λ s. map (part s) names.now) of))) }
     {
         match unless(fault, of) {
             Ok(of) => add_parts(alloc, &mut self.parts, &of, names),
@@ -82,10 +82,10 @@ impl Found {
     }
 
     /// The components, or the first fault.
-    pub(crate) fn judged(self) -> Judged<Row<Part>>
-        ensures { result ≡ found_seen self }
+    pub(crate) fn checked(self) -> CheckResult<Seq<Part>>
+        ensures { result ≡ found_model self }
     {
-        let Found { parts, fault } = self;
+        let ComponentList { parts, fault } = self;
         unless(fault, Ok(parts))
     }
 }
@@ -99,72 +99,72 @@ fn names_fault<A: Answers>(
 ) -> Result<Option<Fault>, NoMemory>
     requires { 0 < length scope.now.regions }
     ensures asked { recorder.new.asked ≡ recorder.old.asked }
-    ensures told { IfOk result (λ fault. Told recorder.old.log recorder.new.log (λ t. fault ≡ names_fault t scope.now names.now)) }
+    ensures answered { IfOk result (λ fault. FromAnswers recorder.old.log recorder.new.log (λ t. fault ≡ names_fault t scope.now names.now)) }
 {
     let duplicate = fixed_duplicates(alloc, scope, names, recorder)?;
     Ok(earlier(duplicate, repeated(names)))
 }
 
-/// The components of these names behind others: the names are begun, and then visible.
-fn named_parts<R: PartReader, A: Answers>(
+/// The components of these names after others: the names are begun, and then visible.
+fn named_parts<R: PartAnalyzer, A: Answers>(
     alloc: Global,
-    reader: &R,
+    analyzer: &R,
     scope: &mut Scope,
-    found: &mut Found,
+    found: &mut ComponentList,
     component: &ComponentDeclaration,
     names: &[DefiningName],
     recorder: &mut Recorder<A>,
 ) -> Result<(), NoMemory>
     requires { 0 < length scope.old.regions }
     ensures asked { recorder.new.asked ≡ recorder.old.asked }
-    ensures told { OnOk result (Told recorder.old.log recorder.new.log (λ t. found_seen found.new ≡ parts_behind (found_seen found.old) (named_parts (R.reading reader.now t) t scope.old (component_seen component.now) names.now))) }
+    ensures answered { OnOk result (FromAnswers recorder.old.log recorder.new.log (λ t. found_model found.new ≡ parts_behind (found_model found.old) (named_parts (R.reading analyzer.now t) t scope.old (component_model component.now) names.now))) }
     ensures scope { OnOk result (scope.new ≡ made_visible (begun scope.old names.now) names.now) }
     ensures depth { length scope.new.regions ≡ length scope.old.regions }
 {
     let fault = names_fault(alloc, scope, names, recorder)?;
     begin(scope, names)?;
-    let of = reader.indication(alloc, scope, &component.indication, recorder)?;
+    let of = analyzer.indication(alloc, scope, &component.indication, recorder)?;
     found.add(alloc, fault, of, names)?;
     make_visible(alloc, scope, names)
 }
 
-/// The components of one list of names behind others.
-pub(crate) fn check_component<R: PartReader, A: Answers>(
+/// The components of one list of names after others.
+pub(crate) fn check_component<R: PartAnalyzer, A: Answers>(
     alloc: Global,
-    reader: &R,
+    analyzer: &R,
     scope: &mut Scope,
-    found: &mut Found,
+    found: &mut ComponentList,
     component: &ComponentDeclaration,
     recorder: &mut Recorder<A>,
 ) -> Result<(), NoMemory>
     requires { 0 < length scope.old.regions }
     ensures asked { recorder.new.asked ≡ recorder.old.asked }
-    ensures told { OnOk result (Told recorder.old.log recorder.new.log (λ t. found_seen found.new ≡ parts_behind (found_seen found.old) (component_parts (R.reading reader.now t) t scope.old (component_seen component.now)))) }
-    ensures scope { OnOk result (scope.new ≡ after_component scope.old (component_seen component.now)) }
+    ensures answered { OnOk result (FromAnswers recorder.old.log recorder.new.log (λ t. found_model found.new ≡ parts_behind (found_model found.old) (component_parts (R.reading analyzer.now t) t scope.old (component_model component.now)))) }
+    ensures scope { OnOk result (scope.new ≡ after_component scope.old (component_model component.now)) }
     ensures depth { length scope.new.regions ≡ length scope.old.regions }
 {
     let names = defining_names(alloc, &component.names)?;
     let names = names.as_slice();
-    named_parts(alloc, reader, scope, found, component, names, recorder)
+    named_parts(alloc, analyzer, scope, found, component, names, recorder)
 }
 
 /// Those of all lists, in the order of the text.
-pub(crate) fn check_components<R: PartReader, A: Answers>(
+pub(crate) fn check_components<R: PartAnalyzer, A: Answers>(
     alloc: Global,
-    reader: &R,
+    analyzer: &R,
     scope: &mut Scope,
-    found: &mut Found,
+    found: &mut ComponentList,
     components: &[ComponentDeclaration],
     recorder: &mut Recorder<A>,
 ) -> Result<(), NoMemory>
     requires { 0 < length scope.old.regions }
     ensures asked { recorder.new.asked ≡ recorder.old.asked }
-    ensures told { OnOk result (Told recorder.old.log recorder.new.log (λ t. found_seen found.new ≡ parts_after (R.reading reader.now t) t scope.old (found_seen found.old) (map component_seen components.now))) }
-    ensures scope { OnOk result (scope.new ≡ after_components scope.old (map component_seen components.now)) }
+    ensures answered { OnOk result (FromAnswers recorder.old.log recorder.new.log (λ t. found_model found.new ≡ parts_after (R.reading analyzer.now t) t scope.old (found_model found.old) (map component_model components.now))) }
+    ensures scope { OnOk result (scope.new ≡ after_components scope.old (map component_model components.now)) }
     ensures depth { length scope.new.regions ≡ length scope.old.regions }
 {
     for component in components {
-        check_component(alloc, reader, scope, found, component, recorder)?;
+        check_component(alloc, analyzer, scope, found, component, recorder)?;
     }
     Ok(())
 }

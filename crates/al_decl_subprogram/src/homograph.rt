@@ -2,19 +2,19 @@
 ghost use Rattle.std.specs.Prelude.{◌≡◌, ◌<◌, length, is_ok, IfOk, None};
 ghost use Rattle.std.specs.List.{list_all};
 ghost use Rattle.al_decl_subprogram.specs.Placing.{has_right_marks, head_duplicate, head_view, is_right_return};
-ghost use Rattle.al_declaring.specs.Declaring.{duplicate};
-ghost use Rattle.al_query.specs.Reads.{Told};
-ghost use Rattle.al_subprogram.specs.Subprograms.{subprogram_view};
+ghost use Rattle.al_decl_here.specs.Declaring.{duplicate};
+ghost use Rattle.al_query.specs.Reads.{FromAnswers};
+ghost use Rattle.al_decl_profile.specs.Subprograms.{subprogram_view};
 ghost use Rattle.al_view.specs.declared.symbol.Symbol.{Symbol};
 
 use al_base::{Name, NoMemory};
-use al_declared::Progress;
-use al_declaring::{Here, duplicate, overloaded_duplicate};
-use al_judged::Fault;
-use al_predefined::StandardTypes;
+use al_base_fault::Fault;
+use al_decl_here::{Environment, duplicate, overloaded_duplicate};
+use al_decl_judged::Progress;
+use al_decl_profile::{FormalPart, Heading, ReturnedPart, subprogram_view};
 use al_query::{Answers, Recorder};
-use al_subprogram::{FormalPart, Heading, ReturnedPart, subprogram_view};
 use al_view::{Symbol, View, copied_unit};
+use al_view_predefined::StandardTypes;
 use std::alloc::Global;
 
 fn has_right_formals(formals: &[FormalPart]) -> bool
@@ -67,32 +67,32 @@ fn view_of_types(
 fn typed_duplicate<A: Answers>(
     alloc: Global,
     standard: &StandardTypes,
-    here: &Here,
+    env: &Environment,
     heading: &Heading,
     recorder: &mut Recorder<A>,
 ) -> Result<Option<Fault>, NoMemory>
-    requires { 0 < length here.now.scope.regions }
+    requires { 0 < length env.now.scope.regions }
     ensures asked { recorder.new.asked ≡ recorder.old.asked }
-    ensures told { IfOk result (λ fault. Told recorder.old.log recorder.new.log (λ t. fault ≡ duplicate t here.now.scope (head_view here.now heading.now) heading.now.name)) }
+    ensures answered { IfOk result (λ fault. FromAnswers recorder.old.log recorder.new.log (λ t. fault ≡ duplicate t env.now.scope (head_view env.now heading.now) heading.now.name)) }
 {
-    let view = view_of_types(alloc, standard, &here.progress, heading)?;
-    duplicate(&here.scope, &view, &heading.name, recorder)
+    let view = view_of_types(alloc, standard, &env.progress, heading)?;
+    duplicate(&env.scope, &view, &heading.name, recorder)
 }
 
 /// E301 at the name of a subprogram whose region has a homograph. Where a mark has a fault its types aren't known: then what may not be overloaded is one.
 pub(crate) fn head_duplicate<A: Answers>(
     alloc: Global,
     standard: &StandardTypes,
-    here: &Here,
+    env: &Environment,
     heading: &Heading,
     recorder: &mut Recorder<A>,
 ) -> Result<Option<Fault>, NoMemory>
-    requires { 0 < length here.now.scope.regions }
+    requires { 0 < length env.now.scope.regions }
     ensures asked { recorder.new.asked ≡ recorder.old.asked }
-    ensures told { IfOk result (λ fault. Told recorder.old.log recorder.new.log (λ t. fault ≡ head_duplicate t here.now heading.now)) }
+    ensures answered { IfOk result (λ fault. FromAnswers recorder.old.log recorder.new.log (λ t. fault ≡ head_duplicate t env.now heading.now)) }
 {
     if has_right_marks(heading) {
-        return typed_duplicate(alloc, standard, here, heading, recorder);
+        return typed_duplicate(alloc, standard, env, heading, recorder);
     }
-    overloaded_duplicate(&here.scope, &heading.name, recorder)
+    overloaded_duplicate(&env.scope, &heading.name, recorder)
 }

@@ -2,67 +2,67 @@
 ghost use Rattle.std.specs.Prelude.{◌≡◌, ◌<◌, length, option_map, IfOk, OnOk};
 ghost use Rattle.al_decl.specs.Checking.{at_place};
 ghost use Rattle.al_decl_subprogram.specs.Placing.{subprogram_checked, subprogram_placed};
-ghost use Rattle.al_judged.specs.Judging.{seen_by};
-ghost use Rattle.al_query.specs.Reads.{Told};
-ghost use Rattle.al_tree.specs.DeclarationViews.{specification_seen};
-ghost use Rattle.al_typed.specs.DeclarationTrees.{declaration_seen};
+ghost use Rattle.al_base_fault.specs.Judging.{map_ok};
+ghost use Rattle.al_query.specs.Reads.{FromAnswers};
+ghost use Rattle.al_tree.specs.DeclarationViews.{specification_model};
+ghost use Rattle.al_view_typed.specs.DeclarationTrees.{declaration_model};
 
 use crate::homograph::head_duplicate;
 use al_base::NoMemory;
+use al_base_fault::CheckResult;
 use al_decl::finish;
-use al_declaring::Here;
-use al_headings::heading_at;
-use al_judged::Judged;
-use al_part_reader::PartReader;
-use al_predefined::StandardTypes;
+use al_decl_headings::heading_at;
+use al_decl_here::Environment;
+use al_decl_profile::{Heading, declare_subprogram};
+use al_decl_reader::PartAnalyzer;
 use al_query::{Answers, Recorder};
-use al_subprogram::{Heading, declare_subprogram};
 use al_tree::Specification;
-use al_typed::TypedDeclaration;
+use al_view_predefined::StandardTypes;
+use al_view_typed::TypedDeclaration;
 use std::alloc::Global;
 
 /// A subprogram's declaration by its head, whose first token stands on that line: it waits for its body.
 pub fn place_subprogram<A: Answers>(
     alloc: Global,
     standard: &StandardTypes,
-    here: &mut Here,
+    env: &mut Environment,
     line: usize,
     heading: &Heading,
     recorder: &mut Recorder<A>,
-) -> Result<Judged<Option<TypedDeclaration>>, NoMemory>
-    requires { 0 < length here.old.scope.regions }
+) -> Result<CheckResult<Option<TypedDeclaration>>, NoMemory>
+    requires { 0 < length env.old.scope.regions }
     ensures asked { recorder.new.asked ≡ recorder.old.asked }
-    ensures told { IfOk result (λ judged. Told recorder.old.log recorder.new.log (λ t. at_place here.new (seen_by (option_map declaration_seen) judged) ≡ subprogram_placed t here.old line heading.now)) }
-    ensures depth { length here.new.scope.regions ≡ length here.old.scope.regions }
+    ensures answered { IfOk result (λ checked. FromAnswers recorder.old.log recorder.new.log (λ t. at_place env.new (map_ok (option_map declaration_model) checked) ≡ subprogram_placed t env.old line heading.now)) }
+    ensures depth { length env.new.scope.regions ≡ length env.old.scope.regions }
 {
-    let duplicate = head_duplicate(alloc, standard, here, heading, recorder)?;
+    let duplicate = head_duplicate(alloc, standard, env, heading, recorder)?;
     let declared = declare_subprogram(
         alloc,
         standard,
-        &mut here.progress,
-        &mut here.awaiting,
+        &mut env.progress,
+        &mut env.uncompleted,
         line,
         duplicate,
         heading,
     )?;
-    finish(here, declared)
+    finish(env, declared)
 }
 
 /// A specification alone, whose first token stands on that line.
-pub fn check_subprogram<R: PartReader, A: Answers>(
+pub fn check_subprogram<R: PartAnalyzer, A: Answers>(
     alloc: Global,
     standard: &StandardTypes,
-    reader: &R,
-    here: &mut Here,
+    analyzer: &R,
+    env: &mut Environment,
     line: usize,
     specification: &Specification,
     recorder: &mut Recorder<A>,
-) -> Result<Judged<Option<TypedDeclaration>>, NoMemory>
-    requires { 0 < length here.old.scope.regions }
+) -> Result<CheckResult<Option<TypedDeclaration>>, NoMemory>
+    requires { 0 < length env.old.scope.regions }
     ensures asked { recorder.new.asked ≡ recorder.old.asked }
-    ensures told { IfOk result (λ judged. Told recorder.old.log recorder.new.log (λ t. at_place here.new (seen_by (option_map declaration_seen) judged) ≡ subprogram_checked (R.reading reader.now t) t here.old line (specification_seen specification.now))) }
-    ensures depth { OnOk result (length here.new.scope.regions ≡ length here.old.scope.regions) }
+    ensures answered { IfOk result (λ checked. FromAnswers recorder.old.log recorder.new.log (λ t. at_place env.new (map_ok (option_map declaration_model) checked) ≡ subprogram_checked (R.reading analyzer.now t) t env.old line (specification_model specification.now))) }
+    ensures depth { OnOk result (length env.new.scope.regions ≡ length env.old.scope.regions) }
 {
-    let heading = heading_at(alloc, reader, &mut here.scope, specification, recorder)?;
-    place_subprogram(alloc, standard, here, line, &heading, recorder)
+    let heading = heading_at(alloc, analyzer, &mut env.scope, specification, recorder)?;
+    place_subprogram(alloc, standard, env, line, &heading, recorder)
 }

@@ -1,11 +1,11 @@
--- One more literal or operator behind others.
+-- One more literal or operator after others.
 use Rattle.std.proofs.Common.{◌≡◌, ℕ, ◌+◌, ◌<◌, List, [], ◌∷◌, ◌++◌, length, take, get_or, refl, sym, ◌∙◌, ap, append_assoc, arith}
 use Rattle.std.proofs.lemmas.List.{length-take, map_push, take_more}
 use Rattle.std.proofs.lemmas.List.Sums.{fold_push}
 use Rattle.al_view.specs.declared.symbol.Symbol.{Symbol}
 use Rattle.al_view.specs.declared.types.TypeView.{TypeView}
-use Rattle.al_predefined.specs.Operators.{operator_view, spelling}
-use Rattle.al_predefined.specs.Standard.{literal}
+use Rattle.al_view_predefined.specs.Operators.{operator_view, spelling}
+use Rattle.al_view_predefined.specs.Standard.{literal}
 use Rattle.al_decl_type.specs.declared.declaration.Declaration.{Declaration}
 use Rattle.al_decl_type.specs.Homonyms.{Counts, count_of, with_name}
 use Rattle.al_decl_type.specs.TypeDeclarations.{Sign, declared_as, literals_from, operators_from, spellings, with_names}
@@ -17,12 +17,12 @@ operators_from-push t types counts (u ∷ us) s =
 
 pub literals_from-push : (t : Symbol) (types : List TypeView) (position : ℕ) (ns : List (List ℕ)) (n : List ℕ) → literals_from t types position (ns ++ n ∷ []) ≡ literals_from t types position ns ++ declared_as n (literal t types (position + length ns)) ∷ []
 literals_from-push t types position [] n =
-    let here : position ≡ position + 0 = omega arith in
-    ap (λ (p : ℕ). declared_as n (literal t types p) ∷ []) here
+    let env : position ≡ position + 0 = omega arith in
+    ap (λ (p : ℕ). declared_as n (literal t types p) ∷ []) env
 literals_from-push t types position (m ∷ ms) n =
-    let here : position + 1 + length ms ≡ position + length (m ∷ ms) = omega arith in
+    let env : position + 1 + length ms ≡ position + length (m ∷ ms) = omega arith in
     ap (λ (l : List Declaration). declared_as m (literal t types position) ∷ l)
-    (literals_from-push t types (position + 1) ms n ∙ ap (λ (p : ℕ). literals_from t types (position + 1) ms ++ declared_as n (literal t types p) ∷ []) here)
+    (literals_from-push t types (position + 1) ms n ∙ ap (λ (p : ℕ). literals_from t types (position + 1) ms ++ declared_as n (literal t types p) ∷ []) env)
 
 -- the next name of a list is counted
 pub names_more : (first counts new : Counts) (names : List (List ℕ)) (i : ℕ) (name : List ℕ) → i < length names → name ≡ get_or names i name → new ≡ with_name counts name → counts ≡ with_names first (take i names) → new ≡ with_names first (take (i + 1) names)
@@ -37,11 +37,11 @@ names_more first counts new names i name inside is made before =
 pub literals_more : (t : Symbol) (types : List TypeView) (first declared new : List Declaration) (names : List (List ℕ)) (i : ℕ) (name : List ℕ) → i < length names → name ≡ get_or names i name → new ≡ declared ++ declared_as name (literal t types i) ∷ [] → declared ≡ first ++ literals_from t types 0 (take i names) → new ≡ first ++ literals_from t types 0 (take (i + 1) names)
 literals_more t types first declared new names i name inside is made before =
     let more = take_more names i name inside ∙ ap (λ (n : List ℕ). take i names ++ n ∷ []) (sym is) in
-    let here : i ≡ 0 + length (take i names) = omega (arith, length-take i names) in
+    let env : i ≡ 0 + length (take i names) = omega (arith, length-take i names) in
     made
     ∙ ap (λ (d : List Declaration). d ++ declared_as name (literal t types i) ∷ []) before
     ∙ append_assoc first (literals_from t types 0 (take i names)) (declared_as name (literal t types i) ∷ [])
-    ∙ ap (λ (p : ℕ). first ++ (literals_from t types 0 (take i names) ++ declared_as name (literal t types p) ∷ [])) here
+    ∙ ap (λ (p : ℕ). first ++ (literals_from t types 0 (take i names) ++ declared_as name (literal t types p) ∷ [])) env
     ∙ ap (λ (l : List Declaration). first ++ l) (sym (literals_from-push t types 0 (take i names) name))
     ∙ ap (λ (l : List (List ℕ)). first ++ literals_from t types 0 l) (sym more)
 

@@ -33,8 +33,8 @@ sum-front (w ∷ ws) (suc i) (suc j) h k =
 
 pub components_are_apart : ComponentsAreApart
 components_are_apart words i j h k =
-    let here = offsets_from-at 0 words i (omega arith) in
+    let env = offsets_from-at 0 words i (omega arith) in
     let there = offsets_from-at 0 words j k in
     let front = sum-front words i j h k in
     let whole = sum_by_more_le (λ (x : ℕ). x) words j 0 k in
-    (omega (arith, here, there, front), omega (arith, there, whole))
+    (omega (arith, env, there, front), omega (arith, there, whole))

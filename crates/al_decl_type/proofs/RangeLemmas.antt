@@ -2,8 +2,8 @@
 use Rattle.std.proofs.Common.{◌≡◌, ℤ, ◌+◌, ◌<◌, Bool, true, false, cond, not, Ok, Err, refl, arith}
 use Rattle.std.specs.Prelude.{◌-ℤ◌, unsigned_abs, int_lt, int_le, is_ok}
 use Rattle.std.proofs.lemmas.Int.{ints}
-use Rattle.al_judged.specs.declared.fault.Fault.{Fault}
-use Rattle.al_judged.specs.Faults.{fault_at}
+use Rattle.al_base_fault.specs.declared.fault.Fault.{Fault}
+use Rattle.al_base_fault.specs.Faults.{fault_at}
 use Rattle.al_view.specs.declared.types.Bounds.{Bounds}
 use Rattle.al_view.proofs.SymbolLemmas.{and_both, both}
 use Rattle.al_decl_type.specs.declared.subtype.StaticRange.{StaticRange}

@@ -10,10 +10,10 @@ use Rattle.al_view.specs.declared.types.TypeView.{TypeView}
 use Rattle.al_view.specs.Symbols.{same_symbol}
 use Rattle.al_view.specs.ViewSymbols.{definition_symbols}
 use Rattle.al_view.proofs.SymbolLemmas.{and_both, both, same_symbol-one, same_symbol-self}
-use Rattle.al_predefined.specs.StandardTypes.{standard_types}
+use Rattle.al_view_predefined.specs.StandardTypes.{standard_types}
 use Rattle.al_view.specs.Types.{type_in}
 use Rattle.al_decl_type.specs.TypeLists.{is_known, joined, other_types, with_type}
-use Rattle.al_decl_type.specs.Laws.{each_once, has_components, closed_behind, TypesStandOnce, TypesAreThere}
+use Rattle.al_decl_type.specs.Laws.{each_once, has_components, closed_after, TypesStandOnce, TypesAreThere}
 
 -- whether one of these has the symbol
 abbrev pub has : List TypeView → Symbol → Bool
@@ -47,14 +47,14 @@ neither : (a b : Bool) → (a || b) ≡ false → (a ≡ false) × (b ≡ false)
 neither true b h = absurd (cc)
 neither false b h = (refl, h)
 
--- behind one more type
+-- after one more type
 has-push : (types : List TypeView) (t : TypeView) (s : Symbol) → has (types ++ t ∷ []) s ≡ (has types s || (same_symbol t.symbol s || false))
 has-push types t s = list_any-append (λ u. same_symbol u.symbol s) types (t ∷ [])
 
 from_has : (types : List TypeView) (s : Symbol) → has types s ≡ true → is_known types s ≡ true
 from_has types s h = known_is types s ∙ or_left (has types s) (is_some (type_in standard_types s)) h
 
--- a symbol that is known stays known behind one more type
+-- a symbol that is known stays known after one more type
 known-push : (types : List TypeView) (t : TypeView) (s : Symbol) → is_known types s ≡ true → is_known (types ++ t ∷ []) s ≡ true
 known-push types t s h = at (or_cases (has types s) (is_some (type_in standard_types s)) (sym (known_is types s) ∙ h))
   where
@@ -158,22 +158,22 @@ stand_once types (t ∷ ts) h = stand_once (with_type types t) ts (each_once-wit
 
 -- whatever is known here is known there
 abbrev Known : List TypeView → List TypeView → Type 0
-Known here there = (s : Symbol) → is_known here s ≡ true → is_known there s ≡ true
+Known env there = (s : Symbol) → is_known env s ≡ true → is_known there s ≡ true
 
-all_known : (here there : List TypeView) (symbols : List Symbol) → Known here there → list_all (is_known here) symbols ≡ true → list_all (is_known there) symbols ≡ true
-all_known here there [] known h = refl
-all_known here there (s ∷ ss) known h =
-    let parts = both (is_known here s) (list_all (is_known here) ss) h in
-    and_both (is_known there s) (list_all (is_known there) ss) (known s parts.0) (all_known here there ss known parts.1)
+all_known : (env there : List TypeView) (symbols : List Symbol) → Known env there → list_all (is_known env) symbols ≡ true → list_all (is_known there) symbols ≡ true
+all_known env there [] known h = refl
+all_known env there (s ∷ ss) known h =
+    let parts = both (is_known env s) (list_all (is_known env) ss) h in
+    and_both (is_known there s) (list_all (is_known there) ss) (known s parts.0) (all_known env there ss known parts.1)
 
-closed-push : (before types all : List TypeView) (t : TypeView) → all ≡ before ++ types → closed_behind before types ≡ true → has_components all t ≡ true → closed_behind before (types ++ t ∷ []) ≡ true
+closed-push : (before types all : List TypeView) (t : TypeView) → all ≡ before ++ types → closed_after before types ≡ true → has_components all t ≡ true → closed_after before (types ++ t ∷ []) ≡ true
 closed-push before [] all t is h k =
     let same : all ≡ before = is ∙ append-nil before in
     and_both (has_components before t) true (subst (λ (l : List TypeView). has_components l t ≡ true) same k) refl
 closed-push before (u ∷ us) all t is h k =
-    let parts = both (has_components before u) (closed_behind (before ++ u ∷ []) us) h in
+    let parts = both (has_components before u) (closed_after (before ++ u ∷ []) us) h in
     let longer : all ≡ (before ++ u ∷ []) ++ us = is ∙ sym (append_assoc before (u ∷ []) us) in
-    and_both (has_components before u) (closed_behind (before ++ u ∷ []) (us ++ t ∷ [])) parts.0 (closed-push (before ++ u ∷ []) us all t longer parts.1 k)
+    and_both (has_components before u) (closed_after (before ++ u ∷ []) (us ++ t ∷ [])) parts.0 (closed-push (before ++ u ∷ []) us all t longer parts.1 k)
 
 known-with : (before types : List TypeView) (t : TypeView) → Known before types → Known (before ++ t ∷ []) (with_type types t)
 known-with before types t known s h = at (pushed_cases before t s h)
@@ -182,17 +182,17 @@ known-with before types t known s h = at (pushed_cases before t s h)
     at (inl k) = known-with_type types t s (known s k)
     at (inr k) = subst (λ (x : Symbol). is_known (with_type types t) x ≡ true) k (with_type-self types t)
 
-closed-with : (before types : List TypeView) (t : TypeView) → Known before types → has_components before t ≡ true → closed_behind [] types ≡ true → closed_behind [] (with_type types t) ≡ true
+closed-with : (before types : List TypeView) (t : TypeView) → Known before types → has_components before t ≡ true → closed_after [] types ≡ true → closed_after [] (with_type types t) ≡ true
 closed-with before types t known h k = at (is_known types t.symbol)
   where
-    at : (b : Bool) → closed_behind [] (cond b types (types ++ t ∷ [])) ≡ true
+    at : (b : Bool) → closed_after [] (cond b types (types ++ t ∷ [])) ≡ true
     at true = k
     at false = closed-push [] types types t refl k (all_known before types (definition_symbols t.definition) known h)
 
-closed-joined : (before types others : List TypeView) → Known before types → closed_behind before others ≡ true → closed_behind [] types ≡ true → closed_behind [] (joined types others) ≡ true
+closed-joined : (before types others : List TypeView) → Known before types → closed_after before others ≡ true → closed_after [] types ≡ true → closed_after [] (joined types others) ≡ true
 closed-joined before types [] known h k = k
 closed-joined before types (t ∷ ts) known h k =
-    let parts = both (has_components before t) (closed_behind (before ++ t ∷ []) ts) h in
+    let parts = both (has_components before t) (closed_after (before ++ t ∷ []) ts) h in
     closed-joined (before ++ t ∷ []) (with_type types t) ts (known-with before types t known) parts.1 (closed-with before types t known parts.0 k)
 
 known-none : (types : List TypeView) → Known [] types

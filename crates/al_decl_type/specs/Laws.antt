@@ -26,7 +26,7 @@ ConstraintsNarrow = (range : StaticRange) (within : Bounds) → (is_ok (fitted r
 abbrev pub IndexesLieInside : Type 0
 IndexesLieInside = (range : Bounds) (value : ℤ) → is_within value range ≡ true → unsigned_abs (value -ℤ range.low) < values_in range
 
--- components begin behind those before them, and end within the words of the record
+-- components begin after those before them, and end within the words of the record
 abbrev pub ComponentsAreApart : Type 0
 ComponentsAreApart =
     (words : List ℕ) (i j : ℕ) → i < j → j < length words →
@@ -46,15 +46,15 @@ TypesStandOnce = (types others : List TypeView) → each_once types ≡ true →
 abbrev pub has_components : List TypeView → TypeView → Bool
 has_components types of = list_all (is_known types) (definition_symbols of.definition)
 
--- each type stands behind all types that it is of, where those are known
-abbrev pub closed_behind : List TypeView → List TypeView → Bool
-closed_behind before [] = true
-closed_behind before (t ∷ ts) = has_components before t && closed_behind (before ++ t ∷ []) ts
+-- each type stands after all types that it is of, where those are known
+abbrev pub closed_after : List TypeView → List TypeView → Bool
+closed_after before [] = true
+closed_after before (t ∷ ts) = has_components before t && closed_after (before ++ t ∷ []) ts
 
 -- where the components of all types of two lists stand before them, they do so in both together, and no type is missing
 abbrev pub TypesAreThere : Type 0
 TypesAreThere =
-    (types others : List TypeView) → closed_behind [] types ≡ true → closed_behind [] others ≡ true →
-    (closed_behind [] (joined types others) ≡ true)
+    (types others : List TypeView) → closed_after [] types ≡ true → closed_after [] others ≡ true →
+    (closed_after [] (joined types others) ≡ true)
     × ((symbol : Symbol) → is_known types symbol ≡ true → is_known (joined types others) symbol ≡ true)
     × ((symbol : Symbol) → is_known others symbol ≡ true → is_known (joined types others) symbol ≡ true)

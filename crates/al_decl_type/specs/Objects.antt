@@ -1,8 +1,8 @@
 -- What declarations of objects declare (ARM 3.3.1, 3.3.2, 6.1).
 use Rattle.std.specs.Prelude.{Bool, true, false, not, ◌&&◌, List, [], Option, Some, None, if◌then◌else◌}
 use Rattle.al_base.specs.declared.place.Place.{Place}
-use Rattle.al_judged.specs.declared.fault.Fault.{Fault}
-use Rattle.al_judged.specs.Faults.{fault_at}
+use Rattle.al_base_fault.specs.declared.fault.Fault.{Fault}
+use Rattle.al_base_fault.specs.Faults.{fault_at}
 use Rattle.al_view.specs.declared.types.Bounds.{Bounds}
 use Rattle.al_view.specs.declared.types.StaticValue.{StaticValue}
 use Rattle.al_view.specs.declared.types.TypeView.{TypeView}

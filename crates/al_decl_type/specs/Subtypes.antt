@@ -2,15 +2,15 @@
 use Rattle.std.specs.Prelude.{ℤ, int_lt, int_le, Bool, not, ◌&&◌, List, Option, Some, None, Result, Ok, Err, if◌then◌else◌}
 use Rattle.std.specs.Option.{option_and_then, option_or}
 use Rattle.al_base.specs.declared.place.Place.{Place}
-use Rattle.al_judged.specs.declared.fault.Fault.{Fault}
-use Rattle.al_judged.specs.Faults.{fault_at}
-use Rattle.al_judged.specs.Judging.{next, seen_by}
+use Rattle.al_base_fault.specs.declared.fault.Fault.{Fault}
+use Rattle.al_base_fault.specs.Faults.{fault_at}
+use Rattle.al_base_fault.specs.Judging.{next, map_ok}
 use Rattle.al_view.specs.declared.types.Bounds.{Bounds}
 use Rattle.al_view.specs.declared.types.Subtype.{Subtype}
 use Rattle.al_view.specs.declared.types.TypeView.{TypeView}
 use Rattle.al_view.specs.declared.view.SubtypeView.{SubtypeView}
 use Rattle.al_view.specs.Types.{definition_bounds}
-use Rattle.al_predefined.specs.StandardTypes.{type_of}
+use Rattle.al_view_predefined.specs.StandardTypes.{type_of}
 use Rattle.al_decl_type.specs.declared.subtype.StaticRange.{StaticRange}
 use Rattle.al_decl_type.specs.TypeLists.{other_types}
 
@@ -50,4 +50,4 @@ with_bounds mark bounds = record {
 abbrev pub subtype_of : SubtypeView → Place → Option StaticRange → Result SubtypeView Fault
 subtype_of mark place None = Ok (with_bounds mark (subtype_bounds mark.types mark.subtype))
 subtype_of mark place (Some range) =
-    seen_by (λ bounds. with_bounds mark (Some bounds)) (next (scalar_bounds place (subtype_bounds mark.types mark.subtype)) (fitted range))
+    map_ok (λ bounds. with_bounds mark (Some bounds)) (next (scalar_bounds place (subtype_bounds mark.types mark.subtype)) (fitted range))

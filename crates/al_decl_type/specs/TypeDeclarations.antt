@@ -6,10 +6,10 @@ use Rattle.al_view.specs.declared.symbol.Symbol.{Symbol}
 use Rattle.al_view.specs.declared.types.TypeDefinition.{TypeDefinition}
 use Rattle.al_view.specs.declared.types.TypeView.{TypeView}
 use Rattle.al_view.specs.declared.view.ViewKind.{ViewKind}
-use Rattle.al_predefined.specs.declared.operators.OperatorProfile.{OperatorProfile}
-use Rattle.al_predefined.specs.declared.operators.OperatorSymbol.{OperatorSymbol}
-use Rattle.al_predefined.specs.Operators.{operators_of, operator_view, spelling}
-use Rattle.al_predefined.specs.Standard.{literal, of_type}
+use Rattle.al_view_predefined.specs.declared.operators.OperatorProfile.{OperatorProfile}
+use Rattle.al_view_predefined.specs.declared.operators.OperatorSymbol.{OperatorSymbol}
+use Rattle.al_view_predefined.specs.Operators.{operators_of, operator_view, spelling}
+use Rattle.al_view_predefined.specs.Standard.{literal, of_type}
 use Rattle.al_decl_type.specs.declared.declaration.Declaration.{Declaration}
 use Rattle.al_decl_type.specs.Homonyms.{Counts, count_of, with_name}
 

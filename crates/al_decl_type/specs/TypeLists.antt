@@ -2,7 +2,7 @@
 use Rattle.std.specs.Prelude.{Bool, not, List, [], ◌∷◌, ◌++◌, fold, filter, is_some, if◌then◌else◌}
 use Rattle.al_view.specs.declared.symbol.Symbol.{Symbol}
 use Rattle.al_view.specs.declared.types.TypeView.{TypeView}
-use Rattle.al_predefined.specs.StandardTypes.{type_of}
+use Rattle.al_view_predefined.specs.StandardTypes.{type_of}
 
 -- whether the type with this symbol is known where these are: it is one of them, or one of Standard's
 abbrev pub is_known : List TypeView → Symbol → Bool

@@ -1,8 +1,8 @@
 -- What type definitions define (ARM 3.5.1, 3.5.4, 3.6, 3.8).
 use Rattle.std.specs.Prelude.{ℕ, nat_le, List, [], ◌∷◌, ◌++◌, map, fold, Result, Ok, Err, unwrap_or, option_map, if◌then◌else◌}
 use Rattle.al_base.specs.declared.place.Place.{Place}
-use Rattle.al_judged.specs.declared.fault.Fault.{Fault}
-use Rattle.al_judged.specs.Faults.{fault_at}
+use Rattle.al_base_fault.specs.declared.fault.Fault.{Fault}
+use Rattle.al_base_fault.specs.Faults.{fault_at}
 use Rattle.al_view.specs.declared.symbol.Symbol.{Symbol}
 use Rattle.al_view.specs.declared.types.Bounds.{Bounds}
 use Rattle.al_view.specs.declared.types.Component.{Component}
@@ -10,8 +10,8 @@ use Rattle.al_view.specs.declared.types.TypeDefinition.TheVariants.{Integer, Enu
 use Rattle.al_view.specs.declared.types.TypeView.{TypeView}
 use Rattle.al_view.specs.declared.view.SubtypeView.{SubtypeView}
 use Rattle.al_view.specs.Types.{layout_words}
-use Rattle.al_predefined.specs.Standard.{scalar}
-use Rattle.al_predefined.specs.StandardTypes.{type_of}
+use Rattle.al_view_predefined.specs.Standard.{scalar}
+use Rattle.al_view_predefined.specs.StandardTypes.{type_of}
 use Rattle.al_decl_type.specs.declared.record.Part.{Part}
 use Rattle.al_decl_type.specs.Layouts.{array_layout, record_layout, values_in}
 use Rattle.al_decl_type.specs.Subtypes.{subtype_bounds}
@@ -25,7 +25,7 @@ words_of of = unwrap_or (option_map (λ t. layout_words t.layout) (type_of of.ty
 abbrev pub values_of : SubtypeView → ℕ
 values_of of = unwrap_or (option_map values_in (subtype_bounds of.types of.subtype)) 0
 
--- a type behind those that it is of, where a value has at most 4,096 words; else its defining name is where this is out of limits
+-- a type after those that it is of, where a value has at most 4,096 words; else its defining name is where this is out of limits
 abbrev pub within_limits : Place → List TypeView → TypeView → Result (List TypeView) Fault
 within_limits name types of = if nat_le (layout_words of.layout) 4096 then Ok (types ++ of ∷ []) else Err (fault_at name 305)
 

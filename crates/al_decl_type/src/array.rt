@@ -6,9 +6,9 @@ ghost use Rattle.al_decl_type.specs.Types.{array_type};
 use crate::subtype::{bounds_of, is_null};
 use crate::type_list::{add_types, words_of};
 use al_base::{NoMemory, Place};
-use al_judged::{Fault, Judged};
-use al_predefined::StandardTypes;
-use al_view::{Bounds, Layout, Row, SubtypeView, Symbol, TypeDefinition, TypeView, Types};
+use al_base_fault::{CheckResult, Fault};
+use al_view::{Bounds, Layout, Seq, SubtypeView, Symbol, TypeDefinition, TypeView, Types};
+use al_view_predefined::StandardTypes;
 use std::alloc::Global;
 
 /// The most words that a value of a type may have.
@@ -43,7 +43,7 @@ fn array_words(index: Option<Bounds>, component: u32) -> Option<u32>
     }
 }
 
-/// An array type behind the types that it is of (ARM 3.6), each once and those of Standard left out: of an index subtype
+/// An array type after the types that it is of (ARM 3.6), each once and those of Standard left out: of an index subtype
 /// and a component subtype. E305 at its defining name where a value would have more than 4,096 words.
 pub fn array_type(
     alloc: Global,
@@ -52,8 +52,8 @@ pub fn array_type(
     name: Place,
     index: &SubtypeView,
     component: &SubtypeView,
-) -> Result<Judged<Types>, NoMemory>
-    ensures { IfOk result (λ judged. judged ≡ array_type symbol.now name index.now component.now) }
+) -> Result<CheckResult<Types>, NoMemory>
+    ensures { IfOk result (λ checked. checked ≡ array_type symbol.now name index.now component.now) }
 {
     let each = words_of(standard, component);
     let Some(words) = array_words(bounds_of(standard, index), each) else {
@@ -62,7 +62,7 @@ pub fn array_type(
             code: 305,
         }));
     };
-    let mut types = Row::empty(alloc);
+    let mut types = Seq::empty(alloc);
     add_types(alloc, standard, &mut types, index.types.as_slice())?;
     add_types(alloc, standard, &mut types, component.types.as_slice())?;
     let symbol = symbol.copy(alloc)?;

@@ -2,7 +2,7 @@
 ghost use Rattle.std.specs.Prelude.{◌≡◌, IfOk};
 
 use al_base::{Name, NoMemory};
-use al_view::{Component, Layout, Row, TypeDefinition, TypeView};
+use al_view::{Component, Layout, Seq, TypeDefinition, TypeView};
 use std::alloc::Global;
 
 pub(crate) fn copied_component(alloc: Global, of: &Component) -> Result<Component, NoMemory>
@@ -13,10 +13,10 @@ pub(crate) fn copied_component(alloc: Global, of: &Component) -> Result<Componen
     Ok(Component { name, subtype })
 }
 
-fn copied_components(alloc: Global, of: &[Component]) -> Result<Row<Component>, NoMemory>
+fn copied_components(alloc: Global, of: &[Component]) -> Result<Seq<Component>, NoMemory>
     ensures { IfOk result (λ copies. copies ≡ of.now) }
 {
-    let mut copies = Row::empty(alloc);
+    let mut copies = Seq::empty(alloc);
     for component in of {
         copies.push(copied_component(alloc, component)?)?;
     }
@@ -45,11 +45,11 @@ fn copied_definition(alloc: Global, of: &TypeDefinition) -> Result<TypeDefinitio
     }
 }
 
-fn copied_offsets(alloc: Global, of: &[u32]) -> Result<Row<u32>, NoMemory>
+fn copied_offsets(alloc: Global, of: &[u32]) -> Result<Seq<u32>, NoMemory>
     ensures { IfOk result (λ copies. copies ≡ of.now) }
 {
     let offsets = Vec::from_slice(alloc, of)?;
-    Ok(Row::new(offsets))
+    Ok(Seq::new(offsets))
 }
 
 fn copied_layout(alloc: Global, of: &Layout) -> Result<Layout, NoMemory>

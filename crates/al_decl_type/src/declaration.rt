@@ -1,16 +1,16 @@
 // What the declaration of a type declares, in order (ARM 3.2.1(9), 3.5.1(3), 3.2.3(6)).
 ghost use Rattle.std.specs.Prelude.{◌≡◌, ◌-◌, ◌++◌, [], ◌∷◌, IfOk, OnOk, length, slice_get};
 ghost use Rattle.std.specs.Option.{option_copied};
-ghost use Rattle.al_predefined.specs.Operators.{operator_view, spelling};
-ghost use Rattle.al_predefined.specs.Standard.{literal};
+ghost use Rattle.al_view_predefined.specs.Operators.{operator_view, spelling};
+ghost use Rattle.al_view_predefined.specs.Standard.{literal};
 ghost use Rattle.al_decl_type.specs.Homonyms.{count_of, with_name};
 ghost use Rattle.al_decl_type.specs.TypeDeclarations.{declared_as, declared_by, literals_from, next_symbol, operators_from, signs_of, spellings, with_names};
 
 use crate::homonyms::Homonyms;
 use crate::signs::{Sign, signs_of};
 use al_base::{Name, NoMemory, UnitKey};
-use al_predefined::{of_type, operator_view};
-use al_view::{LiteralView, Names, Row, Symbol, TypeView, Types, View, ViewKind, copied_unit};
+use al_view::{LiteralView, Names, Seq, Symbol, TypeView, Types, View, ViewKind, copied_unit};
+use al_view_predefined::{of_type, operator_view};
 use std::alloc::Global;
 
 /// A declaration: its name in lower case, or the sign of an operator, and its view.
@@ -68,7 +68,7 @@ fn literal(alloc: Global, symbol: &Symbol, types: &Types, position: u32) -> Resu
 fn declare_literals(
     alloc: Global,
     homonyms: &mut Homonyms,
-    declared: &mut Row<Declaration>,
+    declared: &mut Seq<Declaration>,
     symbol: &Symbol,
     types: &Types,
     literals: &[Name],
@@ -91,7 +91,7 @@ fn declare_literals(
 fn declare_sign(
     alloc: Global,
     homonyms: &mut Homonyms,
-    declared: &mut Row<Declaration>,
+    declared: &mut Seq<Declaration>,
     symbol: &Symbol,
     types: &Types,
     sign: Sign,
@@ -109,7 +109,7 @@ fn declare_sign(
 fn declare_signs(
     alloc: Global,
     homonyms: &mut Homonyms,
-    declared: &mut Row<Declaration>,
+    declared: &mut Seq<Declaration>,
     symbol: &Symbol,
     types: &Types,
     signs: &[Sign],
@@ -131,11 +131,11 @@ pub fn declared_by(
     types: &Types,
     of: &TypeView,
     literals: &Names,
-) -> Result<Row<Declaration>, NoMemory>
+) -> Result<Seq<Declaration>, NoMemory>
     ensures declared { IfOk result (λ declared. declared ≡ declared_by of.now types.now literals.now homonyms.old) }
     ensures counted { OnOk result (homonyms.new ≡ with_names (with_names homonyms.old literals.now) (spellings (signs_of of.now.definition))) }
 {
-    let mut declared = Row::empty(alloc);
+    let mut declared = Seq::empty(alloc);
     let view = of_type(alloc, types, literals.share()?)?;
     declared.push(declared_as(alloc, of.symbol.name.as_slice(), view)?)?;
     let symbol = &of.symbol;

@@ -16,7 +16,7 @@ pub fn indexes_lie_inside()
     ensures { IndexesLieInside }
 {}
 
-/// The components of a record begin behind those before them, and end within its words.
+/// The components of a record begin after those before them, and end within its words.
 pub fn components_are_apart()
     ensures { ComponentsAreApart }
 {}
@@ -26,7 +26,7 @@ pub fn types_stand_once()
     ensures { TypesStandOnce }
 {}
 
-/// And each stands behind all types that it is of, where that holds of the two lists.
+/// And each stands after all types that it is of, where that holds of the two lists.
 pub fn types_are_there()
     ensures { TypesAreThere }
 {}

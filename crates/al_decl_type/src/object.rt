@@ -4,12 +4,12 @@ ghost use Rattle.al_decl_type.specs.Objects.{constant_value, formal_view, is_inp
 
 use crate::subtype::is_within;
 use al_base::{NoMemory, Place};
-use al_judged::Fault;
-use al_predefined::no_names;
+use al_base_fault::Fault;
 use al_view::{
     Bounds, Mode, ObjectPlace, ObjectView, StaticValue, Subtype, SubtypeView, TypeView, Types,
     View, ViewKind,
 };
+use al_view_predefined::no_names;
 use std::alloc::Global;
 
 /// A constant without a value is E309 at its name (ARM 3.3.1(6)).

@@ -6,9 +6,9 @@ ghost use Rattle.al_decl_type.specs.Types.{component_of, components_of, part_typ
 use crate::array::MOST_WORDS;
 use crate::type_list::{add_types, words_of};
 use al_base::{Name, NoMemory, Place};
-use al_judged::{Fault, Judged};
-use al_predefined::StandardTypes;
-use al_view::{Component, Layout, Row, SubtypeView, Symbol, TypeDefinition, TypeView, Types};
+use al_base_fault::{CheckResult, Fault};
+use al_view::{Component, Layout, Seq, SubtypeView, Symbol, TypeDefinition, TypeView, Types};
+use al_view_predefined::StandardTypes;
 use std::alloc::Global;
 
 /// A component of a record type where it is declared: its name in lower case, and its subtype.
@@ -48,11 +48,11 @@ fn total(words: &[u32]) -> Option<u32>
 }
 
 /// Where components of so many words begin: each where the one before it ends.
-fn offsets(alloc: Global, words: &[u32]) -> Result<Row<u32>, NoMemory>
+fn offsets(alloc: Global, words: &[u32]) -> Result<Seq<u32>, NoMemory>
     requires { sum words.now ≤ 4096 }
     ensures { IfOk result (λ offsets. offsets ≡ offsets_from 0 words.now) }
 {
-    let mut offsets = Row::empty(alloc);
+    let mut offsets = Seq::empty(alloc);
     let mut place: u32 = 0;
     for more in words {
         offsets.push(place)?;
@@ -61,10 +61,10 @@ fn offsets(alloc: Global, words: &[u32]) -> Result<Row<u32>, NoMemory>
     Ok(offsets)
 }
 
-fn components_of(alloc: Global, parts: &[Part]) -> Result<Row<Component>, NoMemory>
+fn components_of(alloc: Global, parts: &[Part]) -> Result<Seq<Component>, NoMemory>
     ensures { IfOk result (λ components. components ≡ components_of parts.now) }
 {
-    let mut components = Row::empty(alloc);
+    let mut components = Seq::empty(alloc);
     for part in parts {
         components.push(component_of(alloc, part)?)?;
     }
@@ -84,17 +84,17 @@ fn part_types(
     alloc: Global,
     standard: &StandardTypes,
     parts: &[Part],
-) -> Result<Row<TypeView>, NoMemory>
+) -> Result<Seq<TypeView>, NoMemory>
     ensures { IfOk result (λ types. types ≡ part_types parts.now) }
 {
-    let mut types = Row::empty(alloc);
+    let mut types = Seq::empty(alloc);
     for part in parts {
         add_types(alloc, standard, &mut types, part.of.types.as_slice())?;
     }
     Ok(types)
 }
 
-/// A record type behind the types that it is of (ARM 3.8), each once and those of Standard left out: of these
+/// A record type after the types that it is of (ARM 3.8), each once and those of Standard left out: of these
 /// components, none of a null record. E305 at its defining name where a value would have more than 4,096 words.
 pub fn record_type(
     alloc: Global,
@@ -102,8 +102,8 @@ pub fn record_type(
     symbol: &Symbol,
     name: Place,
     parts: &[Part],
-) -> Result<Judged<Types>, NoMemory>
-    ensures { IfOk result (λ judged. judged ≡ record_type symbol.now name parts.now) }
+) -> Result<CheckResult<Types>, NoMemory>
+    ensures { IfOk result (λ checked. checked ≡ record_type symbol.now name parts.now) }
 {
     let each = words_of_parts(alloc, standard, parts)?;
     let Some(words) = total(each.as_slice()) else {

@@ -2,9 +2,9 @@
 ghost use Rattle.std.specs.Prelude.{◌≡◌};
 ghost use Rattle.al_decl_type.specs.TypeDeclarations.{signs_of};
 
-use al_predefined::OperatorProfile::{Binary, Power, Relation, Unary};
-use al_predefined::{OperatorProfile, OperatorSymbol};
 use al_view::TypeDefinition;
+use al_view_predefined::OperatorProfile::{Binary, Power, Relation, Unary};
+use al_view_predefined::{OperatorProfile, OperatorSymbol};
 
 /// An operator by its profile and its sign.
 pub type Sign = (OperatorProfile, OperatorSymbol);

@@ -4,9 +4,9 @@ ghost use Rattle.al_decl_type.specs.Subtypes.{fitted, is_null, is_within, scalar
 
 use crate::type_list::other_types;
 use al_base::{NoMemory, Place};
-use al_judged::{Fault, Judged};
-use al_predefined::StandardTypes;
+use al_base_fault::{CheckResult, Fault};
 use al_view::{Bounds, Subtype, SubtypeView};
+use al_view_predefined::StandardTypes;
 use std::alloc::Global;
 
 /// A range with static bounds, and where its bounds stand.
@@ -41,7 +41,11 @@ pub(crate) fn bounds_of(standard: &StandardTypes, of: &SubtypeView) -> Option<Bo
 }
 
 /// The bounds of the mark at that place, which is constrained; E404 where it is not scalar (ARM 3.2.2(11)).
-pub fn scalar_bounds(standard: &StandardTypes, mark: &SubtypeView, place: Place) -> Judged<Bounds>
+pub fn scalar_bounds(
+    standard: &StandardTypes,
+    mark: &SubtypeView,
+    place: Place,
+) -> CheckResult<Bounds>
     ensures { result ≡ scalar_bounds place (subtype_bounds mark.now.types mark.now.subtype) }
 {
     match bounds_of(standard, mark) {
@@ -51,7 +55,7 @@ pub fn scalar_bounds(standard: &StandardTypes, mark: &SubtypeView, place: Place)
 }
 
 /// The bounds of a range that is null or lies in these (ARM 3.5(6)); else E305 at its first bound that lies outside.
-fn fitted(range: StaticRange, within: Bounds) -> Judged<Bounds>
+fn fitted(range: StaticRange, within: Bounds) -> CheckResult<Bounds>
     ensures { result ≡ fitted range within }
 {
     if is_null(range.bounds) {
@@ -99,8 +103,8 @@ pub fn subtype_of(
     mark: &SubtypeView,
     place: Place,
     constraint: Option<StaticRange>,
-) -> Result<Judged<SubtypeView>, NoMemory>
-    ensures { IfOk result (λ judged. judged ≡ subtype_of mark.now place constraint) }
+) -> Result<CheckResult<SubtypeView>, NoMemory>
+    ensures { IfOk result (λ checked. checked ≡ subtype_of mark.now place constraint) }
 {
     let Some(range) = constraint else {
         let whole = with_bounds(alloc, standard, mark, bounds_of(standard, mark))?;

@@ -7,8 +7,8 @@ ghost use Rattle.al_decl_type.specs.Types.{enumeration_type, integer_type, words
 
 use crate::copies::copied_type;
 use al_base::NoMemory;
-use al_predefined::{StandardTypes, scalar};
-use al_view::{Bounds, Names, Row, SubtypeView, Symbol, TypeDefinition, TypeView, Types};
+use al_view::{Bounds, Names, Seq, SubtypeView, Symbol, TypeDefinition, TypeView, Types};
+use al_view_predefined::{StandardTypes, scalar};
 use std::alloc::Global;
 
 /// An integer type with these bounds (ARM 3.5.4).
@@ -76,7 +76,7 @@ pub(crate) fn other_types(
 ) -> Result<Types, NoMemory>
     ensures { IfOk result (λ others. others ≡ other_types types.now) }
 {
-    let none = Types::new(alloc, Row::empty(alloc))?;
+    let none = Types::new(alloc, Seq::empty(alloc))?;
     if !has_standard(standard, &none, types.as_slice()) {
         return Ok(types.share()?);
     }
@@ -90,11 +90,11 @@ fn copied_others(
     standard: &StandardTypes,
     none: &Types,
     types: &[TypeView],
-) -> Result<Row<TypeView>, NoMemory>
+) -> Result<Seq<TypeView>, NoMemory>
     requires { none.now ≡ [] }
     ensures { IfOk result (λ others. others ≡ other_types types.now) }
 {
-    let mut others = Row::empty(alloc);
+    let mut others = Seq::empty(alloc);
     for of in types {
         if !is_standard(standard, none, &of.symbol) {
             others.push(copied_type(alloc, of)?)?;
@@ -108,7 +108,7 @@ fn add_type(
     alloc: Global,
     standard: &StandardTypes,
     none: &Types,
-    types: &mut Row<TypeView>,
+    types: &mut Seq<TypeView>,
     of: &TypeView,
 ) -> Result<(), NoMemory>
     requires { none.now ≡ [] }
@@ -120,16 +120,16 @@ fn add_type(
     Ok(())
 }
 
-/// The other types behind these, those apart that are known there: among these, or Standard's, which every unit has.
+/// The other types after these, those apart that are known there: among these, or Standard's, which every unit has.
 pub fn add_types(
     alloc: Global,
     standard: &StandardTypes,
-    types: &mut Row<TypeView>,
+    types: &mut Seq<TypeView>,
     others: &[TypeView],
 ) -> Result<(), NoMemory>
     ensures { OnOk result (types.new ≡ joined types.old others.now) }
 {
-    let none = Types::new(alloc, Row::empty(alloc))?;
+    let none = Types::new(alloc, Seq::empty(alloc))?;
     for of in others {
         add_type(alloc, standard, &none, types, of)?;
     }

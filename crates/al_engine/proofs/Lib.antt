@@ -1,6 +1,1 @@
-pub mod BuildLemmas
-pub mod Decided
-pub mod HandleLemmas
-pub mod Kept
-pub mod LoopLemmas
-pub mod Moves
+mod Obsolete

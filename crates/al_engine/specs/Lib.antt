@@ -1,2 +1,4 @@
+pub mod States
 pub mod Builds
-pub mod Handling
+pub mod Reports
+pub mod Runs

@@ -1,8 +1,11 @@
-//! Checks the units of a library again that an edit reaches, and uses what was kept of the others.
+//! A library of compilation units, for every checker of units and every way of reading files: its files are edited and built again
+//! and again, and a build checks again only what an edit reaches.
 #![tactic(auto)]
 
-mod present;
-mod refreshed;
-mod unit;
+mod building;
+mod engine;
+mod last_build;
+mod read_files;
 
-pub use refreshed::{Refreshed, refresh};
+pub use engine::Engine;
+pub use read_files::ReadFiles;

@@ -2,7 +2,7 @@
 use Rattle.std.proofs.Common.{◌≡◌, [], ◌∷◌, refl, sym, ap, ◌∙◌}
 use Rattle.al_base.specs.Files.{Texts}
 use Rattle.al_unit_graph.specs.Headers.{Library}
-use Rattle.al_toy.specs.Toys.{AreToys, texts_of, toy_library}
+use Rattle.al_engine_toy.specs.Toys.{AreToys, texts_of, toy_library}
 
 texts_of-library : (files : Texts) → texts_of (toy_library files) ≡ files
 unfolding toy_library

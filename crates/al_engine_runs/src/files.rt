@@ -1,10 +1,10 @@
 // Files of the small language as a library reads them.
-ghost use Rattle.al_library.specs.States.{AreReadFor};
-ghost use Rattle.al_toy.specs.Toys.{header_in, toy_library};
+ghost use Rattle.al_engine.specs.States.{AreReadFor};
+ghost use Rattle.al_engine_toy.specs.Toys.{header_in, toy_library};
 
 use al_base::{Files, NoMemory};
-use al_library::ReadFiles;
-use al_toy::{sources_after, sources_of, toys_are_read};
+use al_engine::ReadFiles;
+use al_engine_toy::{sources_after, sources_of, toys_are_read};
 use al_unit_graph::Sources;
 use std::alloc::Global;
 use std::marker::Model;
@@ -17,7 +17,7 @@ pub(crate) struct ToyFiles {
 
 impl Model for ToyFiles {
     ghost use Rattle.al_base.specs.Files.{Texts};
-    ghost use Rattle.al_toy.specs.Toys.{AreToys, texts_of};
+    ghost use Rattle.al_engine_toy.specs.Toys.{AreToys, texts_of};
 
     ghost Value = { Texts };
 

@@ -2,11 +2,11 @@
 ghost use Rattle.std.specs.Prelude.{◌≡◌};
 
 use crate::files::ToyFiles;
-use crate::told::{push_gave, push_keys, push_number, push_ran};
+use crate::printed::{push_gave, push_keys, push_number, push_ran};
 use al_base::{NoMemory, Refusal, UnitKey};
-use al_library::Engine;
-use al_run::Ran;
-use al_toy::{Packages, Toy};
+use al_engine::Engine;
+use al_engine_toy::{Packages, Toy};
+use al_tasks_run::RunReport;
 use std::alloc::Global;
 
 /// A library, and the allocator of what it tells.
@@ -92,9 +92,9 @@ impl Library {
         match done {
             Done::Edited => self.text(b""),
             Done::Refused => self.text(b"refused\n"),
-            Done::Built(more) => self.tell_build(more),
-            Done::Obsolete => self.tell_obsolete(),
-            Done::Run(events) => self.tell_run(events),
+            Done::Built(more) => self.print_build(more),
+            Done::Obsolete => self.print_obsolete(),
+            Done::Run(events) => self.print_run(events),
         }
     }
 
@@ -104,7 +104,7 @@ impl Library {
     }
 
     /// What the last build gave, the units that it checked, and by how much the count of checks rose.
-    fn tell_build(&self, more: u64) -> Result<String, NoMemory> {
+    fn print_build(&self, more: u64) -> Result<String, NoMemory> {
         let mut text = Vec::new(self.alloc);
         if let Some((main, compiled)) = self.engine.last() {
             push_gave(self.alloc, &mut text, main, compiled)?;
@@ -118,14 +118,14 @@ impl Library {
     }
 
     /// The units that are obsolete since the last build.
-    fn tell_obsolete(&self) -> Result<String, NoMemory> {
+    fn print_obsolete(&self) -> Result<String, NoMemory> {
         match given(self.engine.obsolete())? {
-            Some(units) => self.tell_units(units.as_slice()),
+            Some(units) => self.print_units(units.as_slice()),
             None => self.text(b"not built\n"),
         }
     }
 
-    fn tell_units(&self, units: &[UnitKey]) -> Result<String, NoMemory> {
+    fn print_units(&self, units: &[UnitKey]) -> Result<String, NoMemory> {
         let mut text = Vec::new(self.alloc);
         text.extend_from_slice(b"obsolete")?;
         push_keys(&mut text, units)?;
@@ -134,14 +134,14 @@ impl Library {
     }
 
     /// A run of the last build's image, if there is one.
-    fn tell_run(&self, events: u64) -> Result<String, NoMemory> {
+    fn print_run(&self, events: u64) -> Result<String, NoMemory> {
         match given(self.engine.run(100, events))? {
-            Some(ran) => self.tell_ran(&ran),
+            Some(ran) => self.print_ran(&ran),
             None => self.text(b"no image\n"),
         }
     }
 
-    fn tell_ran(&self, ran: &Ran) -> Result<String, NoMemory> {
+    fn print_ran(&self, ran: &RunReport) -> Result<String, NoMemory> {
         let mut text = Vec::new(self.alloc);
         push_ran(&mut text, ran)?;
         self.text(text.as_slice())

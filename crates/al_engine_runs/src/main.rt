@@ -7,7 +7,7 @@ ghost use Rattle.std.specs.Prelude.{◌≡◌};
 
 mod files;
 mod library;
-mod told;
+mod printed;
 
 use crate::library::{Done, Library};
 use std::alloc::AllocError;
@@ -26,11 +26,11 @@ fn act(library: &mut Library, word: &str, rest: &str) -> Result<Done, AllocError
 
 /// Tells what was done.
 fn tell(library: &Library, done: Done) -> Result<String, AllocError> {
-    if let Ok(told) = library.tell(done) {
-        return Ok(told);
+    if let Ok(printed) = library.tell(done) {
+        return Ok(printed);
     }
     match library.tell(done) {
-        Ok(told) => Ok(told),
+        Ok(printed) => Ok(printed),
         Err(_) => Err(AllocError),
     }
 }
@@ -40,8 +40,8 @@ fn carry_out(rt: HostRuntime, library: &mut Library, text: &str) -> io::Result<(
     for line in text.lines() {
         let (word, rest) = line.split_once(' ').unwrap_or((line, ""));
         let done = act(library, word, rest)?;
-        let told = tell(library, done)?;
-        rt.print(told)?;
+        let printed = tell(library, done)?;
+        rt.print(printed)?;
     }
     Ok(())
 }

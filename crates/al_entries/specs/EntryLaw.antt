@@ -6,9 +6,9 @@ use Rattle.al_query.specs.Reads.{Agrees}
 use Rattle.al_query.specs.declared.answer.AnswerKind.{AnswerKind}
 use Rattle.al_query.specs.declared.query.Query.{Query}
 use Rattle.al_unit_graph.specs.Headers.{Header}
-use Rattle.al_outcome.specs.Defines.{DefinesOwn, ShowsOnly}
-use Rattle.al_outcome.specs.ReadsLaw.{AsksOthers, FaultsFit, HasCode, NamesOnly, UsesOnly, named_by}
-use Rattle.al_outcome.specs.Results.{Outcome}
+use Rattle.al_query_outcome.specs.Defines.{DefinesOwn, ShowsOnly}
+use Rattle.al_query_outcome.specs.ReadsLaw.{AsksOthers, FaultsFit, HasCode, NamesOnly, UsesOnly, named_by}
+use Rattle.al_query_outcome.specs.Results.{Outcome}
 use Rattle.al_entries.specs.Stored.{Stored, outcome_of}
 
 -- the outcome of a unit with a text under a table of answers

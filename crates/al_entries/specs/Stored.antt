@@ -2,8 +2,8 @@
 use Rattle.std.specs.Prelude.{ℕ, List}
 use Rattle.al_query.specs.declared.answer.AnswerKind.{AnswerKind}
 use Rattle.al_query.specs.declared.query.Query.{Query}
-use Rattle.al_outcome.specs.Results.{Outcome, checked_seen}
-use Rattle.al_outcome.specs.declared.checked.Checked.{Checked}
+use Rattle.al_query_outcome.specs.Results.{Outcome, checked_model}
+use Rattle.al_query_outcome.specs.declared.checked.Checked.{Checked}
 
 -- a text, the questions that its check asked with their answers, and what the check gave
 pub record Stored : Type 0 where
@@ -12,4 +12,4 @@ pub record Stored : Type 0 where
   pub checked : Checked
 
 abbrev pub outcome_of : Stored → Outcome
-outcome_of e = checked_seen e.checked
+outcome_of e = checked_model e.checked

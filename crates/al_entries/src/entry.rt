@@ -1,13 +1,13 @@
 // What is kept of a unit.
 ghost use Rattle.std.specs.Prelude.{◌≡◌, ◌↔◌, IfOk, IsTrue};
 ghost use Rattle.al_query.specs.Reads.{Agrees};
-ghost use Rattle.al_outcome.specs.Results.{table_entry};
+ghost use Rattle.al_query_outcome.specs.Results.{table_entry};
 ghost use Rattle.al_entries.specs.EntryLaw.{IsCurrent};
 ghost use Rattle.al_entries.specs.Stored.{outcome_of};
 
 use al_base::NoMemory;
-use al_outcome::Checked;
 use al_query::{Answer, Answers, Query, ReadLog};
+use al_query_outcome::Checked;
 use al_view::Same;
 use std::alloc::Global;
 use std::marker::Model;
@@ -37,8 +37,8 @@ impl Drop for Entry {
 
 impl Model for Entry {
     ghost use Rattle.std.specs.Coded.{codes};
-    ghost use Rattle.al_typed.specs.contracts.expression.Typed as expression;
-    ghost use Rattle.al_typed.specs.contracts.statement.TypedStatement as statement;
+    ghost use Rattle.al_view_typed.specs.contracts.expression.Typed as expression;
+    ghost use Rattle.al_view_typed.specs.contracts.statement.TypedStatement as statement;
     ghost use Rattle.al_entries.specs.Stored.{Stored};
 
     ghost Value = { Stored };

@@ -57,11 +57,11 @@ name_fits : (bytes name rest : List ℕ) → IsBytes bytes → name_at bytes ≡
 unfolding name_at
 name_fits [] name rest fits e = absurd cc
 name_fits (n ∷ bytes) name rest fits e =
-    let behind : IsBytes bytes = λ k. fits (suc k) in
+    let after : IsBytes bytes = λ k. fits (suc k) in
     let byte : n < 256 = fits 0 in
     let g = guard_some (ltb (length bytes) n) (take n bytes, drop n bytes) (name, rest) e in
     let short : length (take n bytes) < 256 = omega (arith, length-take n bytes) in
-    subst (λ (p : List ℕ × List ℕ). IsName p.0 × IsBytes p.1) g.1 (short, IsBytes-drop n bytes behind)
+    subst (λ (p : List ℕ × List ℕ). IsName p.0 × IsBytes p.1) g.1 (short, IsBytes-drop n bytes after)
 
 more_fit : (names : List (List ℕ)) (n : ℕ) (bytes : List ℕ) (all : List (List ℕ)) (rest : List ℕ) → IsBytes bytes → All IsName names → names_after names n bytes ≡ Some (all, rest) → (length all ≡ length names + n) × All IsName all × IsBytes rest
 unfolding names_after

@@ -11,12 +11,12 @@ name_takes : (bytes name rest : List ℕ) → IsBytes bytes → name_at bytes �
 unfolding name_at
 name_takes [] name rest fits e = absurd cc
 name_takes (n ∷ bytes) name rest fits e =
-    let behind : IsBytes bytes = λ k. fits (suc k) in
+    let after : IsBytes bytes = λ k. fits (suc k) in
     let g = guard_some (ltb (length bytes) n) (take n bytes, drop n bytes) (name, rest) e in
     let long : n ≤ length bytes = ltb-false _ _ g.0 in
     let len : length (take n bytes) ≡ n = omega (arith, length-take n bytes) in
     let parts : n ∷ bytes ≡ name_bytes (take n bytes) ++ drop n bytes = ap (λ (xs : List ℕ). n ∷ xs) (sym (take-append-drop n bytes)) ∙ ap (λ k. k ∷ (take n bytes ++ drop n bytes)) (sym len) in
-    subst (λ (p : List ℕ × List ℕ). Takes (n ∷ bytes) (name_bytes p.0) p.1) g.1 (record { parts = parts; rest_fits = IsBytes-drop n bytes behind })
+    subst (λ (p : List ℕ × List ℕ). Takes (n ∷ bytes) (name_bytes p.0) p.1) g.1 (record { parts = parts; rest_fits = IsBytes-drop n bytes after })
 
 name_again : (name rest : List ℕ) → name_at (name_bytes name ++ rest) ≡ Some (name, rest)
 unfolding name_at
@@ -24,7 +24,7 @@ name_again name rest =
     let long : ltb (length (name ++ rest)) (length name) ≡ false = le-ltb _ _ (omega (arith, length-append name rest)) in
     rw (long, take_at name rest (length name) refl, drop_at name rest (length name) refl) refl
 
--- the names that were found, behind those that were there
+-- the names that were found, after those that were there
 record More (names : List (List ℕ)) (n : ℕ) (bytes : List ℕ) (all : List (List ℕ)) (rest : List ℕ) : Type 0 where
   more : List (List ℕ)
   all_is : all ≡ names ++ more
@@ -82,16 +82,16 @@ pub record NamesSoFar (names : List (List ℕ)) (index count : ℕ) (rest bytes 
 count_less : (count index : ℕ) → index < count → count - index ≡ suc (count - (index + 1))
 count_less count index lt = omega arith
 
-after_name : (names : List (List ℕ)) (index count : ℕ) (rest bytes name behind : List ℕ) → NamesSoFar names index count rest bytes → index < count → name_at rest ≡ Some (name, behind) → names_after (names ++ name ∷ []) (count - (index + 1)) behind ≡ names_after [] count bytes
+after_name : (names : List (List ℕ)) (index count : ℕ) (rest bytes name after : List ℕ) → NamesSoFar names index count rest bytes → index < count → name_at rest ≡ Some (name, after) → names_after (names ++ name ∷ []) (count - (index + 1)) after ≡ names_after [] count bytes
 unfolding names_after
-after_name names index count rest bytes name behind h lt e =
-    let now : names_after names (suc (count - (index + 1))) rest ≡ names_after (names ++ name ∷ []) (count - (index + 1)) behind = rw e refl in
+after_name names index count rest bytes name after h lt e =
+    let now : names_after names (suc (count - (index + 1))) rest ≡ names_after (names ++ name ∷ []) (count - (index + 1)) after = rw e refl in
     sym now ∙ ap (λ n. names_after names n rest) (sym (count_less count index lt)) ∙ h.later
 
-pub one_more : (names : List (List ℕ)) (index count : ℕ) (rest bytes name behind : List ℕ) → NamesSoFar names index count rest bytes → index < count → name_at rest ≡ Some (name, behind) → NamesSoFar (names ++ name ∷ []) (index + 1) count behind bytes
-one_more names index count rest bytes name behind h lt e = record {
+pub one_more : (names : List (List ℕ)) (index count : ℕ) (rest bytes name after : List ℕ) → NamesSoFar names index count rest bytes → index < count → name_at rest ≡ Some (name, after) → NamesSoFar (names ++ name ∷ []) (index + 1) count after bytes
+one_more names index count rest bytes name after h lt e = record {
   number = omega (arith, length-append names (name ∷ []), h.number);
-  later = after_name names index count rest bytes name behind h lt e;
+  later = after_name names index count rest bytes name after h lt e;
 }
 
 pub no_name : (names : List (List ℕ)) (index count : ℕ) (rest bytes : List ℕ) → NamesSoFar names index count rest bytes → index < count → name_at rest ≡ None → names_after [] count bytes ≡ None

@@ -83,7 +83,7 @@ find_passes t (y ∷ ys) x e =
       | inr h ↦ find_passes t ys x h.1
     ]
 
--- the bytes behind what was read already are those of the instruction, and the rest
+-- the bytes after what was read already are those of the instruction, and the rest
 abbrev Reads : List ℕ → List ℕ → Instr → List ℕ → Type 0
 Reads front bytes i rest = front ++ bytes ≡ encoded i ++ rest
 

@@ -26,7 +26,7 @@ pub enum Instr {
     Check { low: i64, high: i64 },
     /// Replaces an address and an index by the address of a component.
     Index { low: i64, high: i64, words: u32 },
-    /// Goes on so many bytes behind the end of the instruction.
+    /// Goes on so many bytes after the end of the instruction.
     Jump(i32),
     /// The same where the popped word is 0.
     JumpZero(i32),
@@ -93,7 +93,7 @@ impl Instr {
     }
 }
 
-/// Appends names, each behind the number of its bytes.
+/// Appends names, each after the number of its bytes.
 fn push_names(out: &mut Vec<u8>, names: &[Word]) -> Result<(), NoMemory>
     ensures { OnOk result (out.new.items ≡ out.old.items ++ flat_map name_bytes names.now) }
 {

@@ -10,7 +10,7 @@ use crate::numbers::{Plain, Protected, Sized};
 use crate::text::{Text, Word, Words};
 use std::alloc::Global;
 
-/// The instruction whose bytes stand at the front, and what is behind them.
+/// The instruction whose bytes stand at the front, and what is after them.
 pub fn decode(alloc: Global, bytes: &[u8]) -> Result<(Instr, &[u8]), DecodeFault>
     ensures found { IfOk result (λ x. bytes.now ≡ encoded x.0 ++ x.1.now) }
     ensures fits { IfOk result (λ x. IsInstr x.0) }
@@ -109,7 +109,7 @@ fn other(alloc: Global, number: u8, bytes: &[u8]) -> Result<(Instr, &[u8]), Deco
     Err(DecodeFault::Damaged)
 }
 
-/// The number in four bytes at the front, and what is behind it.
+/// The number in four bytes at the front, and what is after it.
 #[tactic(auto, unfolding(crate::specs::Reading::word_at))]
 fn word_at(bytes: &[u8]) -> Result<(u32, &[u8]), DecodeFault>
     ensures { Gives (λ x. (x.0, x.1.now)) result (word_at bytes.now) }
@@ -195,9 +195,9 @@ fn many_names(alloc: Global, count: u32, bytes: &[u8]) -> Result<(Words, &[u8]),
     let mut names = Words::new(alloc);
     let mut rest = bytes;
     for index in 0..count {
-        let (name, behind) = name_at(alloc, rest)?;
+        let (name, after) = name_at(alloc, rest)?;
         names.push(name)?;
-        rest = behind;
+        rest = after;
     }
     Ok((names, rest))
 }

@@ -3,7 +3,7 @@ use Rattle.std.proofs.Common.{ℕ, suc, ◌≡◌, ◌+◌, ◌<◌, ◌≤◌, 
 use Rattle.al_lex.specs.Strings.{body_len}
 use Rattle.al_lex.specs.Bytes.{is_printable}
 
--- behind i bytes that were passed
+-- after i bytes that were passed
 abbrev pub farther : ℕ → Option ℕ → Option ℕ
 farther i o = option_map (λ n. i + n) o
 

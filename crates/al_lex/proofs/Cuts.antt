@@ -7,7 +7,7 @@ use Rattle.al_lex.specs.declared.token.Sort.{Sort}
 use Rattle.al_lex.specs.declared.token.Sort.TheVariants.{Gap, LineEnd, Lexeme}
 use Rattle.al_lex.specs.declared.token.LexCode.{LexCode}
 use Rattle.al_lex.specs.Pieces.{front_piece}
-use Rattle.al_lex.specs.Tokens.{Pieces, behind, with_token, with_piece, cut_from, cut, lexed, tokens_of, ending_place, end_place_of, mark_len, first_place}
+use Rattle.al_lex.specs.Tokens.{Pieces, after, with_token, with_piece, cut_from, cut, lexed, tokens_of, ending_place, end_place_of, mark_len, first_place}
 use Rattle.al_lex.specs.Tokens.Ending.{Whole, Broken}
 
 -- tokens in front of those of the rest
@@ -35,18 +35,18 @@ in_front (Lexeme k) at n p c d e = ap (preceded (with_token (Lexeme k) at n p []
 
 -- one piece more
 pub step : (at : ℕ) (p : Place) (b : ℕ) (bs : List ℕ) (q : Piece) → front_piece (b ∷ bs) ≡ Ok q → 0 < q.len
-    → cut_from 0 at p (b ∷ bs) ≡ preceded (with_token q.sort at q.len p []) (cut_from 0 (at + q.len) (behind q.sort q.len p) (drop q.len (b ∷ bs)))
+    → cut_from 0 at p (b ∷ bs) ≡ preceded (with_token q.sort at q.len p []) (cut_from 0 (at + q.len) (after q.sort q.len p) (drop q.len (b ∷ bs)))
 unfolding cut_from
 step at p b bs q e l =
-    ap (λ (r : Result Piece LexCode). with_piece at p r (λ (q : Piece). cut_from (q.len - 1) (at + 1) (behind q.sort q.len p) bs)) e
-    ∙ in_front q.sort at q.len p _ _ (pass q.len at (behind q.sort q.len p) b bs l)
+    ap (λ (r : Result Piece LexCode). with_piece at p r (λ (q : Piece). cut_from (q.len - 1) (at + 1) (after q.sort q.len p) bs)) e
+    ∙ in_front q.sort at q.len p _ _ (pass q.len at (after q.sort q.len p) b bs l)
 
 pub stop : (at : ℕ) (p : Place) (b : ℕ) (bs : List ℕ) (c : LexCode) → front_piece (b ∷ bs) ≡ Err c
     → cut_from 0 at p (b ∷ bs) ≡ record { tokens = []; ending = Broken (record { place = p; code = c }) }
 unfolding cut_from
-stop at p b bs c e = ap (λ (r : Result Piece LexCode). with_piece at p r (λ (q : Piece). cut_from (q.len - 1) (at + 1) (behind q.sort q.len p) bs)) e
+stop at p b bs c e = ap (λ (r : Result Piece LexCode). with_piece at p r (λ (q : Piece). cut_from (q.len - 1) (at + 1) (after q.sort q.len p) bs)) e
 
--- where the loop stands: what is cut off the rest, behind the tokens so far, is cut off the text
+-- where the loop stands: what is cut off the rest, after the tokens so far, is cut off the text
 abbrev pub Completes : ℕ → Place → List ℕ → List Token → List ℕ → Type 0
 Completes at p rest sofar text = preceded sofar (cut_from 0 at p rest) ≡ cut text
 
@@ -55,12 +55,12 @@ unfolding cut
 starts text = ap (λ (n : ℕ). cut_from 0 n first_place (drop (mark_len text) text)) (omega arith) ∙ sym (passed (mark_len text) 0 first_place text)
 
 pub goes_on : (at : ℕ) (p p' : Place) (rest rest' : List ℕ) (sofar sofar' : List Token) (text : List ℕ) (q : Piece) → Completes at p rest sofar text → 0 < length rest → Ok q ≡ front_piece rest → 0 < q.len
-    → sofar' ≡ sofar ++ with_token q.sort at q.len p [] → p' ≡ behind q.sort q.len p → rest' ≡ drop q.len rest → Completes (at + q.len) p' rest' sofar' text
+    → sofar' ≡ sofar ++ with_token q.sort at q.len p [] → p' ≡ after q.sort q.len p → rest' ≡ drop q.len rest → Completes (at + q.len) p' rest' sofar' text
 goes_on at p p' [] rest' sofar sofar' text q c l e some t m r = absurd (omega arith)
 goes_on at p p' (b ∷ bs) rest' sofar sofar' text q c l e some t m r =
     let ts : List Token = with_token q.sort at q.len p [] in
-    let here : cut_from 0 (at + q.len) p' rest' ≡ cut_from 0 (at + q.len) (behind q.sort q.len p) (drop q.len (b ∷ bs)) = cc in
-    let d : Pieces = cut_from 0 (at + q.len) (behind q.sort q.len p) (drop q.len (b ∷ bs)) in
+    let here : cut_from 0 (at + q.len) p' rest' ≡ cut_from 0 (at + q.len) (after q.sort q.len p) (drop q.len (b ∷ bs)) = cc in
+    let d : Pieces = cut_from 0 (at + q.len) (after q.sort q.len p) (drop q.len (b ∷ bs)) in
     ap (preceded sofar') here ∙ ap (λ (z : List Token). preceded z d) t
     ∙ ap (λ (z : List Token). record { tokens = z; ending = d.ending }) (append_assoc sofar ts d.tokens)
     ∙ ap (preceded sofar) (sym (step at p b bs q (sym e) some)) ∙ c
@@ -88,7 +88,7 @@ pub record IsNear (p : Place) (at : ℕ) : Type 0 where
   pub line : p.line ≤ 1 + at
   pub column : p.col ≤ 1 + at
 
-pub moved : (s : Sort) (n at : ℕ) (p : Place) → 0 < n → p.line ≤ 1 + at → p.col ≤ 1 + at → IsNear (behind s n p) (at + n)
+pub moved : (s : Sort) (n at : ℕ) (p : Place) → 0 < n → p.line ≤ 1 + at → p.col ≤ 1 + at → IsNear (after s n p) (at + n)
 moved Gap n at p l h k = record { line = omega arith; column = omega arith }
 moved LineEnd n at p l h k = record { line = omega arith; column = omega arith }
 moved (Lexeme s) n at p l h k = record { line = omega arith; column = omega arith }

@@ -6,10 +6,10 @@ use Rattle.al_lex.specs.declared.token.Piece.{Piece}
 use Rattle.al_lex.specs.declared.token.LexCode.{LexCode}
 use Rattle.al_lex.specs.declared.token.LexFault.{LexFault}
 use Rattle.al_lex.specs.Pieces.{front_piece}
-use Rattle.al_lex.specs.Tokens.{Cut, Ending, Pieces, IsCutInto, behind, cut_from, cut, lexed, tokens_of, ending_place, end_place_of, mark_len, first_place}
+use Rattle.al_lex.specs.Tokens.{Cut, Ending, Pieces, IsCutInto, after, cut_from, cut, lexed, tokens_of, ending_place, end_place_of, mark_len, first_place}
 use Rattle.al_lex.specs.Tokens.Ending.{Whole, Broken}
 use Rattle.al_lex.specs.Tokens.Cut.{ended, malformed, next}
-use Rattle.al_lex.specs.Laws.{TokensAreCut, FaultEndsCut, EndIsBehind}
+use Rattle.al_lex.specs.Laws.{TokensAreCut, FaultEndsCut, EndIsAfter}
 use Rattle.al_lex.proofs.Cuts.{step, stop, starts, in_front}
 use Rattle.al_lex.proofs.Positive.{HasByte, front_has}
 
@@ -23,7 +23,7 @@ one_more n at p b bs l more (Err c) e h = subst (λ (z : Pieces). IsCut at p (b 
 one_more n at p b bs l more (Ok q) e h =
     let rest : List ℕ = drop q.len (b ∷ bs) in
     let fits : length rest ≤ n = omega (arith, length-drop q.len (b ∷ bs)) in
-    subst (λ (z : Pieces). IsCut at p (b ∷ bs) z) (in_front q.sort at q.len p _ _ refl ∙ sym (step at p b bs q e h)) (next q e (more (at + q.len) (behind q.sort q.len p) rest fits))
+    subst (λ (z : Pieces). IsCut at p (b ∷ bs) z) (in_front q.sort at q.len p _ _ refl ∙ sym (step at p b bs q e h)) (next q e (more (at + q.len) (after q.sort q.len p) rest fits))
 
 cut_is : (n at : ℕ) (p : Place) (bs : List ℕ) → length bs ≤ n → IsCut at p bs (cut_from 0 at p bs)
 unfolding cut_from
@@ -38,7 +38,7 @@ only at p [] ts e (ended) = refl
 only at p (b ∷ bs) ts e (malformed {c = c} h) = sym (stop at p b bs c h)
 only at p (b ∷ bs) ts e (next {ts = us} q h k) =
     let some : HasByte (Ok q) = subst HasByte h (front_has (b ∷ bs)) in
-    in_front q.sort at q.len p (record { tokens = us; ending = e }) _ (only (at + q.len) (behind q.sort q.len p) (drop q.len (b ∷ bs)) us e k) ∙ sym (step at p b bs q h some)
+    in_front q.sort at q.len p (record { tokens = us; ending = e }) _ (only (at + q.len) (after q.sort q.len p) (drop q.len (b ∷ bs)) us e k) ∙ sym (step at p b bs q h some)
 
 whole : (text : List ℕ) → IsCutInto text (cut text).tokens (cut text).ending
 whole text = subst (λ (z : Pieces). IsCut (mark_len text) first_place (drop (mark_len text) text) z) (starts text) (cut_is (length (drop (mark_len text) text)) (mark_len text) first_place (drop (mark_len text) text) (omega arith))
@@ -67,6 +67,6 @@ pub fault_ends_cut : FaultEndsCut
 unfolding lexed
 fault_ends_cut text f = (λ h. ((cut text).tokens, from_fault (cut text) f text (whole text) (cut text).ending refl h), λ k. sym (ap (λ (c : Pieces). tokens_of c c.ending) (alone text k.0 (Broken f) k.1)))
 
-pub end_is_behind : EndIsBehind
+pub end_is_after : EndIsAfter
 unfolding end_place_of
-end_is_behind text ts p k = ap (λ (c : Pieces). ending_place c.ending) (alone text ts (Whole p) k)
+end_is_after text ts p k = ap (λ (c : Pieces). ending_place c.ending) (alone text ts (Whole p) k)

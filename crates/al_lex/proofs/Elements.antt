@@ -10,7 +10,7 @@ use Rattle.al_lex.proofs.Bodies.{farther, plain, bad, twice, last}
 use Rattle.al_lex.proofs.Found.{Found}
 use Rattle.al_lex.proofs.Prefixes.{head_of_front, left_part, parts_length}
 
--- the elements of a string behind its opening quote, as far as they go
+-- the elements of a string after its opening quote, as far as they go
 pub record Elements (bs : List ℕ) : Type 0 where
   pub len : ℕ
   pub front : IsLongest AreElements bs len

@@ -12,7 +12,7 @@ use Rattle.al_lex.proofs.Numerals.{goes, ends, numeral_is}
 use Rattle.al_lex.proofs.Prefixes.{left_part, parts_length, right_part}
 use Rattle.al_lex.proofs.Joined.{both_left, both_right}
 
--- neither the byte behind the end nor an underscore is a digit
+-- neither the byte after the end nor an underscore is a digit
 no_digit : (d : Digits) → is_digit d 0 ≡ true → ⊥
 no_digit Decimal h = absurd (cc)
 no_digit Hexadecimal h = absurd (cc)
@@ -286,14 +286,14 @@ based_max bs m l n e x wn we wx s =
     let inner_most = numeral_max Hexadecimal zs (length x) (omega arith) digits in
     let inner_first = head_digit Hexadecimal (length x) zs (numeral_first Hexadecimal (take (length x) zs) digits) in
     let inner_whole = numeral_is Hexadecimal zs inner_first in
-    let behind : take (suc (length e)) (drop (length x) zs) ≡ 35 ∷ e = right_part x (35 ∷ e) zs (length tail) room inner in
-    let second : get_or zs (length x) 0 ≡ 35 = sym (byte_at (length x) zs) ∙ head_of (suc (length e)) (drop (length x) zs) 35 e behind in
+    let after : take (suc (length e)) (drop (length x) zs) ≡ 35 ∷ e = right_part x (35 ∷ e) zs (length tail) room inner in
+    let second : get_or zs (length x) 0 ≡ 35 = sym (byte_at (length x) zs) ∙ head_of (suc (length e)) (drop (length x) zs) 35 e after in
     let inner_all : length x ≡ run_len Hexadecimal zs = ends_run Hexadecimal zs (length x) inner_most (λ h. no_digit_hash Hexadecimal (ap (is_digit Hexadecimal) (sym second) ∙ h)) (λ h. absurd (omega arith)) in
     let some : 0 < length x = omega (arith, inner_all, some_run Hexadecimal zs inner_first) in
     let hashes : with_hashes (based_len ys) ≡ length x + 2 = ap with_hashes (is_based ys (length x) (inner_whole ∙ sym inner_all) hash second) ∙ some_hashes (length x) some in
     let at_end : drop 1 (drop (length x) zs) ≡ drop (length n + (length x + 2)) bs =
     drop-drop 1 (length x) zs ∙ drop-drop (length x + 1) 1 ys ∙ drop-drop (1 + (length x + 1)) (length n) bs ∙ ap (λ (k : ℕ). drop k bs) (let q : length n + (1 + (length x + 1)) ≡ length n + (length x + 2) = omega arith in q) in
-    let last : take (length e) (drop (length n + (length x + 2)) bs) ≡ e = ap (λ (ks : List ℕ). take (length e) ks) (sym at_end) ∙ tail_of_front (length e) (drop (length x) zs) 35 e behind in
+    let last : take (length e) (drop (length n + (length x + 2)) bs) ≡ e = ap (λ (ks : List ℕ). take (length e) ks) (sym at_end) ∙ tail_of_front (length e) (drop (length x) zs) 35 e after in
     let last_room : length e ≤ length (drop (length n + (length x + 2)) bs) = omega (arith, length-drop (length n + (length x + 2)) bs, lens, inner_lens) in
     omega (arith, lens, inner_lens, reaches bs (length n) (length x + 2) (length e) (whole ∙ sym all) hashes (exponent_max (drop (length n + (length x + 2)) bs) (length e) last_room (subst IsExponent (sym last) we)))
 

@@ -10,7 +10,7 @@ use Rattle.al_lex.specs.declared.token.Sort.TheVariants.{Gap, LineEnd, Lexeme}
 use Rattle.al_lex.specs.declared.token.Token.{Token}
 use Rattle.al_lex.specs.Laws.{LieBetween, TokensLieInText}
 use Rattle.al_lex.specs.Shapes.{Describes}
-use Rattle.al_lex.specs.Tokens.{Cut, Ending, behind, end_place_of, first_place, mark_len, with_token}
+use Rattle.al_lex.specs.Tokens.{Cut, Ending, after, end_place_of, first_place, mark_len, with_token}
 use Rattle.al_lex.specs.Tokens.Ending.{Whole}
 use Rattle.al_lex.specs.Tokens.Cut.{ended, malformed, next}
 use Rattle.al_lex.proofs.Cutting.{tokens_are_cut}
@@ -30,7 +30,7 @@ pieces_lie at p (b ∷ bs) ts e (next {ts = us} q g k) from to l h =
     let is : Describes (Ok q) (b ∷ bs) = subst (λ (r : Result Piece LexCode). Describes r (b ∷ bs)) g (pieces_are_longest (b ∷ bs) (omega arith)) in
     let within : q.len ≤ length (b ∷ bs) = is.0.within in
     let room : at + q.len + length (drop q.len (b ∷ bs)) ≤ to = omega (arith, within, length-drop q.len (b ∷ bs)) in
-    piece_lies q.sort from to at q.len p us l some (omega arith) (λ i j. pieces_lie (at + q.len) (behind q.sort q.len p) (drop q.len (b ∷ bs)) us e k i to j room)
+    piece_lies q.sort from to at q.len p us l some (omega arith) (λ i j. pieces_lie (at + q.len) (after q.sort q.len p) (drop q.len (b ∷ bs)) us e k i to j room)
 
 mark_from : (text : List ℕ) (t : Bool) → bytes_eq (take 3 text) (239 ∷ 187 ∷ 191 ∷ []) ≡ t → (if t then 3 else 0) + length (drop (if t then 3 else 0) text) ≤ length text
 mark_from text true e =

@@ -8,7 +8,7 @@ head_of_front v p zero xs h = absurd (omega arith)
 head_of_front v p (suc m) [] h = absurd (omega arith)
 head_of_front v p (suc m) (x ∷ xs) h = h
 
--- the left part of a front is a front, and the right part is the front of what is behind it
+-- the left part of a front is a front, and the right part is the front of what is after it
 pub left_part : (xs ys zs : List ℕ) (m : ℕ) → take m zs ≡ xs ++ ys → take (length xs) zs ≡ xs
 left_part [] ys zs m e = refl
 left_part (x ∷ xs) ys zs zero e = absurd (cc)

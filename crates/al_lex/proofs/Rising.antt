@@ -9,13 +9,13 @@ use Rattle.al_lex.specs.declared.token.Sort.{Sort}
 use Rattle.al_lex.specs.declared.token.Sort.TheVariants.{Gap, LineEnd, Lexeme}
 use Rattle.al_lex.specs.declared.token.Token.{Token}
 use Rattle.al_lex.specs.Laws.{PlacesRise, place_cmp}
-use Rattle.al_lex.specs.Tokens.{Cut, Ending, behind, end_place_of, first_place, mark_len, with_token}
+use Rattle.al_lex.specs.Tokens.{Cut, Ending, after, end_place_of, first_place, mark_len, with_token}
 use Rattle.al_lex.specs.Tokens.Ending.{Whole}
 use Rattle.al_lex.specs.Tokens.Cut.{ended, malformed, next}
 use Rattle.al_lex.proofs.Cutting.{tokens_are_cut}
 use Rattle.al_lex.proofs.Positive.{HasByte, front_has}
 
--- q stands at p or behind it
+-- q stands at p or after it
 abbrev NotBefore : Place → Place → Type 0
 NotBefore p q = (p.line < q.line) ⊎ ((p.line ≡ q.line) × (p.col ≤ q.col))
 
@@ -45,13 +45,13 @@ places ts = map (λ t. t.span.place) ts
 abbrev Rises : Place → List Token → Type 0
 Rises p ts = AllByRecursion (NotBefore p) (places ts) × IsStrictlySortedBy place_cmp (places ts)
 
-piece_rises : (s : Sort) (at n : ℕ) (p : Place) (ts : List Token) → 0 < n → Rises (behind s n p) ts → Rises p (with_token s at n p ts)
+piece_rises : (s : Sort) (at n : ℕ) (p : Place) (ts : List Token) → 0 < n → Rises (after s n p) ts → Rises p (with_token s at n p ts)
 unfolding IsStrictlySortedBy
-piece_rises Gap at n p ts some more = (each (NotBefore (behind Gap n p)) (NotBefore p) (λ q. not_before p (behind Gap n p) q (inr (refl, omega arith))) (places ts) more.0, more.1)
-piece_rises LineEnd at n p ts some more = (each (NotBefore (behind LineEnd n p)) (NotBefore p) (λ q. not_before p (behind LineEnd n p) q (inl (omega arith))) (places ts) more.0, more.1)
+piece_rises Gap at n p ts some more = (each (NotBefore (after Gap n p)) (NotBefore p) (λ q. not_before p (after Gap n p) q (inr (refl, omega arith))) (places ts) more.0, more.1)
+piece_rises LineEnd at n p ts some more = (each (NotBefore (after LineEnd n p)) (NotBefore p) (λ q. not_before p (after LineEnd n p) q (inl (omega arith))) (places ts) more.0, more.1)
 piece_rises (Lexeme k) at n p ts some more = (
-  (inr (refl, omega arith), each (NotBefore (behind (Lexeme k) n p)) (NotBefore p) (λ q. not_before p (behind (Lexeme k) n p) q (inr (refl, omega arith))) (places ts) more.0),
-  (each (NotBefore (behind (Lexeme k) n p)) (λ q. place_cmp p q ≡ Less) (λ q. before p q n some) (places ts) more.0, more.1),
+  (inr (refl, omega arith), each (NotBefore (after (Lexeme k) n p)) (NotBefore p) (λ q. not_before p (after (Lexeme k) n p) q (inr (refl, omega arith))) (places ts) more.0),
+  (each (NotBefore (after (Lexeme k) n p)) (λ q. place_cmp p q ≡ Less) (λ q. before p q n some) (places ts) more.0, more.1),
 )
 
 pieces_rise : (at : ℕ) (p : Place) (bs : List ℕ) (ts : List Token) (e : Ending) → Cut at p bs ts e → Rises p ts
@@ -60,7 +60,7 @@ pieces_rise at p [] ts e (ended) = (tt, tt)
 pieces_rise at p (b ∷ bs) ts e (malformed g) = (tt, tt)
 pieces_rise at p (b ∷ bs) ts e (next {ts = us} q g k) =
     let some : HasByte (Ok q) = subst HasByte g (front_has (b ∷ bs)) in
-    piece_rises q.sort at q.len p us some (pieces_rise (at + q.len) (behind q.sort q.len p) (drop q.len (b ∷ bs)) us e k)
+    piece_rises q.sort at q.len p us some (pieces_rise (at + q.len) (after q.sort q.len p) (drop q.len (b ∷ bs)) us e k)
 
 pub places_rise : PlacesRise
 places_rise text ts h = (pieces_rise (mark_len text) first_place (drop (mark_len text) text) ts (Whole (end_place_of text)) ((tokens_are_cut text ts).0 h)).1

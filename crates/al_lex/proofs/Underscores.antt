@@ -58,8 +58,8 @@ module _ (bs : List ℕ) (i : ℕ) (inside : i < length bs) where
   pub stops_here : is_word_byte (get_or bs i 0) ≡ false → prefix_len is_word_byte (drop i bs) ≡ 0
   stops_here h = prefix_len-drop_no is_word_byte bs i 0 inside h
 
-pub stops_behind : (bs : List ℕ) (i : ℕ) → length bs ≤ i → prefix_len is_word_byte (drop i bs) ≡ 0
-stops_behind bs i l = prefix_len-drop_all is_word_byte bs i l
+pub stops_after : (bs : List ℕ) (i : ℕ) → length bs ≤ i → prefix_len is_word_byte (drop i bs) ≡ 0
+stops_after bs i l = prefix_len-drop_all is_word_byte bs i l
 
 -- where the word is over
 pub bad_end : (f : Bool) (bs : List ℕ) → prefix_len is_word_byte bs ≡ 0 → is_bad f (front bs) ≡ f

@@ -19,15 +19,15 @@ TokensAreCut = (text : List ℕ) (tokens : List Token) → (lexed text ≡ Ok to
 abbrev pub FaultEndsCut : Type 0
 FaultEndsCut = (text : List ℕ) (fault : LexFault) → (lexed text ≡ Err fault) ↔ ((tokens : List Token) × IsCutInto text tokens (Broken fault))
 
--- behind the last byte is one place
-abbrev pub EndIsBehind : Type 0
-EndIsBehind = (text : List ℕ) (tokens : List Token) (place : Place) → IsCutInto text tokens (Whole place) → place ≡ end_place_of text
+-- after the last byte is one place
+abbrev pub EndIsAfter : Type 0
+EndIsAfter = (text : List ℕ) (tokens : List Token) (place : Place) → IsCutInto text tokens (Whole place) → place ≡ end_place_of text
 
 -- the piece at the front of bytes is the longest, or has a fault
 abbrev pub PiecesAreLongest : Type 0
 PiecesAreLongest = (bs : List ℕ) → 0 < length bs → Describes (front_piece bs) bs
 
--- the tokens lie between these bytes, each behind the one before
+-- the tokens lie between these bytes, each after the one before
 abbrev pub LieBetween : ℕ → ℕ → List Token → Type 0
 LieBetween from to [] = Unit {0}
 LieBetween from to (t ∷ ts) = (from ≤ t.span.start) × (0 < t.span.len) × (t.span.start + t.span.len ≤ to) × LieBetween (t.span.start + t.span.len) to ts
@@ -40,6 +40,6 @@ TokensLieInText = (text : List ℕ) (tokens : List Token) → lexed text ≡ Ok 
 abbrev pub place_cmp : Place → Place → Ordering
 place_cmp = then_cmp (λ p q. nat_cmp p.line q.line) (λ p q. nat_cmp p.col q.col)
 
--- each token stands before those behind it
+-- each token stands before those after it
 abbrev pub PlacesRise : Type 0
 PlacesRise = (text : List ℕ) (tokens : List Token) → lexed text ≡ Ok tokens → IsStrictlySortedBy place_cmp (map (λ t. t.span.place) tokens)

@@ -16,7 +16,7 @@ abbrev pub is_digit : Digits → ℕ → Bool
 is_digit Decimal b = is_ascii_digit b
 is_digit Hexadecimal b = is_ascii_hexdigit b
 
--- a byte b that goes on with a numeral, c behind it: a digit, or an underscore between digits
+-- a byte b that goes on with a numeral, c after it: a digit, or an underscore between digits
 abbrev pub goes_on : Digits → ℕ → ℕ → Bool
 goes_on d b c = is_digit d b || (b == 95 && is_digit d c)
 
@@ -54,8 +54,8 @@ unfoldable pub parts_of : List ℕ → Parts
 parts_of bs =
     let n = numeral_len Decimal bs in
     let x = based_len (drop n bs) in
-    let behind = drop (n + with_hashes x) bs in
-    record { numeral = n; based = x; start = exponent_start behind; exponent = exponent_len behind }
+    let after = drop (n + with_hashes x) bs in
+    record { numeral = n; based = x; start = exponent_start after; exponent = exponent_len after }
 
 abbrev pub number_len : Parts → ℕ
 number_len p = p.numeral + with_hashes p.based + with_start p.start p.exponent

@@ -1,4 +1,4 @@
--- A text as its pieces, one behind the other.
+-- A text as its pieces, one after the other.
 use Rattle.std.specs.Prelude.{ℕ, zero, suc, ◌≡◌, ◌+◌, ◌-◌, List, [], ◌∷◌, take, drop, Result, Ok, Err, if◌then◌else◌, bytes_eq}
 use Rattle.al_base.specs.declared.place.Place.{Place}
 use Rattle.al_lex.specs.declared.token.Token.{Token}
@@ -15,11 +15,11 @@ use Rattle.al_lex.specs.Pieces.{front_piece}
 abbrev pub first_place : Place
 first_place = record { line = 1; col = 1 }
 
--- the place behind a piece
-abbrev pub behind : Sort → ℕ → Place → Place
-behind Gap n p = record { line = p.line; col = p.col + n }
-behind LineEnd n p = record { line = p.line + 1; col = 1 }
-behind (Lexeme k) n p = record { line = p.line; col = p.col + n }
+-- the place after a piece
+abbrev pub after : Sort → ℕ → Place → Place
+after Gap n p = record { line = p.line; col = p.col + n }
+after LineEnd n p = record { line = p.line + 1; col = 1 }
+after (Lexeme k) n p = record { line = p.line; col = p.col + n }
 
 -- the token that a piece is, where it is a lexeme, in front of the others
 abbrev pub with_token : Sort → ℕ → ℕ → Place → List Token → List Token
@@ -31,17 +31,17 @@ with_token (Lexeme k) at n p ts = record { kind = k; span = record { start = at;
 abbrev pub mark_len : List ℕ → ℕ
 mark_len bs = if bytes_eq (take 3 bs) (239 ∷ 187 ∷ 191 ∷ []) then 3 else 0
 
--- how a text ends: all of it is well formed, and this is the place behind its last byte; or it has this first fault
+-- how a text ends: all of it is well formed, and this is the place after its last byte; or it has this first fault
 pub data Ending : Type 0 where
   Whole : Place → Ending
   Broken : LexFault → Ending
 
--- The bytes bs, which stand behind the first `at` bytes of a text and at p, are cut into pieces, each the longest that
+-- The bytes bs, which stand after the first `at` bytes of a text and at p, are cut into pieces, each the longest that
 -- begins where the one before ended. ts are the lexemes among them, up to the first fault.
 pub data Cut : ℕ → Place → List ℕ → List Token → Ending → Type 0 where
   ended : {at : ℕ} {p : Place} → Cut at p [] [] (Whole p)
   malformed : {at b : ℕ} {p : Place} {bs : List ℕ} {c : LexCode} → front_piece (b ∷ bs) ≡ Err c → Cut at p (b ∷ bs) [] (Broken (record { place = p; code = c }))
-  next : {at b : ℕ} {p : Place} {bs : List ℕ} {ts : List Token} {e : Ending} (q : Piece) → front_piece (b ∷ bs) ≡ Ok q → Cut (at + q.len) (behind q.sort q.len p) (drop q.len (b ∷ bs)) ts e → Cut at p (b ∷ bs) (with_token q.sort at q.len p ts) e
+  next : {at b : ℕ} {p : Place} {bs : List ℕ} {ts : List Token} {e : Ending} (q : Piece) → front_piece (b ∷ bs) ≡ Ok q → Cut (at + q.len) (after q.sort q.len p) (drop q.len (b ∷ bs)) ts e → Cut at p (b ∷ bs) (with_token q.sort at q.len p ts) e
 
 -- the mark is not counted in columns
 abbrev pub IsCutInto : List ℕ → List Token → Ending → Type 0
@@ -60,7 +60,7 @@ with_piece at p (Ok q) more = record { tokens = with_token q.sort at q.len p (mo
 unfoldable pub cut_from : ℕ → ℕ → Place → List ℕ → Pieces
 cut_from k at p [] = record { tokens = []; ending = Whole p }
 cut_from (suc k) at p (b ∷ bs) = cut_from k (at + 1) p bs
-cut_from zero at p (b ∷ bs) = with_piece at p (front_piece (b ∷ bs)) (λ q. cut_from (q.len - 1) (at + 1) (behind q.sort q.len p) bs)
+cut_from zero at p (b ∷ bs) = with_piece at p (front_piece (b ∷ bs)) (λ q. cut_from (q.len - 1) (at + 1) (after q.sort q.len p) bs)
 
 unfoldable pub cut : List ℕ → Pieces
 cut bs = cut_from (mark_len bs) 0 first_place bs
@@ -77,7 +77,7 @@ abbrev pub ending_place : Ending → Place
 ending_place (Whole p) = p
 ending_place (Broken f) = f.place
 
--- the place behind the last byte, or of the first fault
+-- the place after the last byte, or of the first fault
 unfoldable pub end_place_of : List ℕ → Place
 end_place_of bs = ending_place (cut bs).ending
 

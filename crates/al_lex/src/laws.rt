@@ -1,12 +1,12 @@
 // What holds of the tokens of every text. The functions have no code: their contracts are the laws.
-ghost use Rattle.al_lex.specs.Laws.{EndIsBehind, FaultEndsCut, PiecesAreLongest, PlacesRise, TokensAreCut, TokensLieInText};
+ghost use Rattle.al_lex.specs.Laws.{EndIsAfter, FaultEndsCut, PiecesAreLongest, PlacesRise, TokensAreCut, TokensLieInText};
 
 /// A text is cut into pieces in one way: each is the longest that begins where the one before ended.
 
 pub fn texts_are_cut()
     ensures tokens { TokensAreCut }
     ensures fault { FaultEndsCut }
-    ensures end { EndIsBehind }
+    ensures end { EndIsAfter }
 {}
 
 /// Each piece is the longest that begins there, and well formed; or the fault says what is wrong with it.
@@ -14,7 +14,7 @@ pub fn pieces_are_longest()
     ensures { PiecesAreLongest }
 {}
 
-/// The spans of a text's tokens lie in the text, each behind the one before.
+/// The spans of a text's tokens lie in the text, each after the one before.
 pub fn tokens_lie_in_text()
     ensures { TokensLieInText }
 {}

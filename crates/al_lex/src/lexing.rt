@@ -1,6 +1,6 @@
 // The tokens of a text.
 ghost use Rattle.std.specs.Prelude.{◌≡◌, ◌≤◌, ◌<◌, ◌+◌, ◌^◌, ◌++◌, [], length, Ok, IfOk, IfErr, OnOk};
-ghost use Rattle.al_lex.specs.Tokens.{FaultOf, behind, end_place_of, lexed, mark_len, with_token};
+ghost use Rattle.al_lex.specs.Tokens.{FaultOf, after, end_place_of, lexed, mark_len, with_token};
 
 use crate::pieces::front_piece;
 use crate::token::{LexError, LexFault, Piece, Sort, Token};
@@ -21,12 +21,12 @@ fn mark_len(text: &[u8]) -> usize
     }
 }
 
-/// The place behind a piece that stands at `place`.
+/// The place after a piece that stands at `place`.
 #[inline(always)]
-fn behind(place: Place, piece: Piece) -> Place
+fn after(place: Place, piece: Piece) -> Place
     requires line { place.line + 1 < 2 ^ 32 }
     requires column { place.col + piece.len < 2 ^ 32 }
-    ensures { result ≡ behind piece.sort piece.len place }
+    ensures { result ≡ after piece.sort piece.len place }
 {
     match piece.sort {
         Sort::LineEnd => Place {
@@ -40,7 +40,7 @@ fn behind(place: Place, piece: Piece) -> Place
     }
 }
 
-/// Adds the token, where the piece is a lexeme, and gives the place behind the piece.
+/// Adds the token, where the piece is a lexeme, and gives the place after the piece.
 #[inline(always)]
 fn note(
     tokens: &mut Vec<Token>,
@@ -52,10 +52,10 @@ fn note(
     requires line { place.line + 1 < 2 ^ 32 }
     requires column { place.col + piece.len < 2 ^ 32 }
     ensures tokens { OnOk result (tokens.new.items ≡ tokens.old.items ++ with_token piece.sort start piece.len place []) }
-    ensures place { IfOk result (λ p. p ≡ behind piece.sort piece.len place) }
+    ensures place { IfOk result (λ p. p ≡ after piece.sort piece.len place) }
 {
     let Sort::Lexeme(kind) = piece.sort else {
-        return Ok(behind(place, piece));
+        return Ok(after(place, piece));
     };
     tokens.push(Token {
         kind,
@@ -65,12 +65,12 @@ fn note(
             place,
         },
     })?;
-    Ok(behind(place, piece))
+    Ok(after(place, piece))
 }
 
 /// The lexemes of the text, or its first fault (ARM 2.1 to 2.9).
 ///
-/// Each lexeme is the longest that begins where the one before and the separators behind it end. The mark EF BB BF is
+/// Each lexeme is the longest that begins where the one before and the separators after it end. The mark EF BB BF is
 /// skipped at the front. Lines and columns count from 1, columns in bytes, the mark uncounted. So many bytes have places whose
 /// numbers are below 2^32.
 ///
@@ -99,7 +99,7 @@ pub fn lex(alloc: Global, text: &[u8]) -> Result<Vec<Token>, LexError>
     Ok(tokens)
 }
 
-/// The place behind the last byte of a text, or of its first lexical fault.
+/// The place after the last byte of a text, or of its first lexical fault.
 pub fn end_place(text: &[u8]) -> Place
     requires { length text.now ≤ 4294967294 }
     ensures { result ≡ end_place_of text.now }
@@ -110,7 +110,7 @@ pub fn end_place(text: &[u8]) -> Place
         let Ok(piece) = front_piece(rest) else {
             return place;
         };
-        place = behind(place, piece);
+        place = after(place, piece);
         (_, rest) = rest.split_at(piece.len);
     }
     place

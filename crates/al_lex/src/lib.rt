@@ -1,7 +1,7 @@
 //! Cuts a text into tokens.
 //!
 //! `lexed` (`specs/Tokens.antt`) is what a text means: its tokens, or its first fault; `lex` computes it, and `end_place`
-//! the place behind the text. `specs/Shapes.antt` says what words, numbers, strings, delimiters, comments and line ends
+//! the place after the text. `specs/Shapes.antt` says what words, numbers, strings, delimiters, comments and line ends
 //! are as whole lists of bytes. The functions of `laws` have no code: their contracts say that a text is cut in one way
 //! into pieces, each the longest of any sort that begins where the one before ended.
 #![tactic(auto)]

@@ -33,7 +33,7 @@ pub(crate) struct Parts {
     pub(crate) exponent: usize,
 }
 
-/// The byte there, or 0 behind the end.
+/// The byte there, or 0 after the end.
 #[inline(always)]
 fn byte_at(bytes: &[u8], i: usize) -> u8
     ensures { result ≡ slice_index bytes.now i }
@@ -51,7 +51,7 @@ fn is_digit(digits: Digits, b: u8) -> bool
     }
 }
 
-/// Whether a byte, with `next` behind it, goes on with a numeral.
+/// Whether a byte, with `next` after it, goes on with a numeral.
 #[inline(always)]
 fn goes_on(digits: Digits, b: u8, next: u8) -> bool
     ensures { result ≡ goes_on digits b next }
@@ -133,9 +133,9 @@ fn parts_of(bytes: &[u8]) -> Parts
     let numeral = numeral_len(Digits::Decimal, bytes);
     let (_, rest) = bytes.split_at(numeral);
     let based = based_len(rest);
-    let (_, behind) = bytes.split_at(numeral + with_hashes(based));
-    let start = exponent_start(behind);
-    let exponent = exponent_len(behind);
+    let (_, after) = bytes.split_at(numeral + with_hashes(based));
+    let start = exponent_start(after);
+    let exponent = exponent_len(after);
     Parts {
         numeral,
         based,
@@ -238,8 +238,8 @@ fn is_well_formed(parts: Parts, bytes: &[u8]) -> bool
     ensures { result ≡ is_well_formed parts bytes.now }
 {
     let base = base_value(parts, bytes);
-    let (_, behind) = bytes.split_at(number_len(parts));
-    (2..=16).contains(&base) && is_below(base, digits_of(parts, bytes)) && !runs_on(behind)
+    let (_, after) = bytes.split_at(number_len(parts));
+    (2..=16).contains(&base) && is_below(base, digits_of(parts, bytes)) && !runs_on(after)
 }
 
 /// `mantissa` times `base` to the `exponent`; the largest `u64` stands for all above it.
@@ -296,8 +296,8 @@ fn plain_len(bytes: &[u8]) -> Option<usize>
     ensures within { IfSome result (λ n. n ≤ length bytes.now) }
 {
     let len = digit_count(bytes);
-    let (_, behind) = bytes.split_at(len);
-    if len <= FEW_DIGITS && !runs_on(behind) {
+    let (_, after) = bytes.split_at(len);
+    if len <= FEW_DIGITS && !runs_on(after) {
         Some(len)
     } else {
         None

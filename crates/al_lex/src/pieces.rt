@@ -80,7 +80,7 @@ pub(crate) fn front_piece(bytes: &[u8]) -> Result<Piece, LexCode>
             len: comment_len(bytes),
         }),
         [b, ..] if b.is_ascii_alphabetic() => word(bytes),
-        [b'"', behind @ ..] => match body_len(behind) {
+        [b'"', after @ ..] => match body_len(after) {
             None => Err(LexCode::BadString),
             Some(len) => Ok(Piece {
                 sort: Sort::Lexeme(Kind::Str),

@@ -4,7 +4,7 @@ ghost use Rattle.al_lex.specs.Strings.{body_len};
 
 use crate::bytes::is_printable;
 
-/// The length of a string behind its opening quote, with the closing one.
+/// The length of a string after its opening quote, with the closing one.
 pub(crate) fn body_len(bytes: &[u8]) -> Option<usize>
     ensures exact { result ≡ body_len bytes.now }
     ensures within { IfSome result (λ n. n ≤ length bytes.now) }

@@ -39,7 +39,7 @@ fn is_in_word(b: u8) -> bool
     WORD_BYTES[usize::from(b)]
 }
 
-/// How long the word at the front is; none where an underscore stands at an end of it or behind another.
+/// How long the word at the front is; none where an underscore stands at an end of it or after another.
 fn word_len(bytes: &[u8]) -> Option<usize>
     ensures exact { IfSome result (λ n. n ≡ prefix_len is_word_byte bytes.now) }
     ensures joined { IfSome result (λ n. has_bad_underscore (take n bytes.now) ≡ false) }

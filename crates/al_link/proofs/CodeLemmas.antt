@@ -5,12 +5,12 @@ use Rattle.std.proofs.lemmas.List.Elements.{All-head, All-tail, All-nil, All-con
 use Rattle.al_instr.specs.declared.instruction.Instr.{Instr}
 use Rattle.al_instr.specs.declared.instruction.Instr.TheVariants as instr
 use Rattle.al_instr.specs.Codes.{encoded, code_bytes, IsInstr}
-use Rattle.al_object.specs.declared.object.Use.{Use}
-use Rattle.al_object.specs.Objects.{CompiledCode, Keeps}
-use Rattle.al_object.specs.Parts as parts
-use Rattle.al_object.specs.Parts.{Part, Whole, Using, IsPart, instr_of, uses_from}
-use Rattle.al_partition.specs.Parts.{IsCode, code_of}
-use Rattle.al_partition.proofs.CodeLemmas.{is_code, code_bytes-append}
+use Rattle.al_code_object.specs.declared.object.Relocation.{Relocation}
+use Rattle.al_code_object.specs.Objects.{CompiledCode, Keeps}
+use Rattle.al_code_object.specs.Parts as parts
+use Rattle.al_code_object.specs.Parts.{Part, Whole, Using, IsPart, instr_of, uses_from}
+use Rattle.al_link_image.specs.Parts.{IsCode, code_of}
+use Rattle.al_link_image.proofs.CodeLemmas.{is_code, code_bytes-append}
 use Rattle.al_link.specs.Symbols.{Places, place_in}
 use Rattle.al_link.specs.Linking.{patched}
 use Rattle.al_link.specs.LinkedParts.{shifted, linked_part}
@@ -60,7 +60,7 @@ linked_is_code places code o new is keeps e =
     let more : List Instr = instrs places ps in
     let whole : new ≡ code ++ code_bytes more =
     e ∙ ap (λ (xs : List ℕ). patched places xs (length code) (code ++ xs) o.uses) keeps.code.code_is
-    ∙ ap (λ (us : List Use). patched places (parts.code_of ps) (length code) (code ++ parts.code_of ps) us) keeps.code.uses_are
+    ∙ ap (λ (us : List Relocation). patched places (parts.code_of ps) (length code) (code ++ parts.code_of ps) us) keeps.code.uses_are
     ∙ ap (λ (xs : List ℕ). patched places (parts.code_of ps) (length code) (code ++ xs) (uses_from 0 ps)) (sym (append-nil (parts.code_of ps)))
     ∙ links_parts places code [] ps keeps.code.are_parts
     ∙ ap (λ (xs : List ℕ). code ++ xs) (append-nil (parts.code_of (map (linked_part places) ps)) ∙ bytes_same places ps) in

@@ -7,13 +7,13 @@ use Rattle.al_instr.specs.declared.instruction.Instr.{Instr}
 use Rattle.al_instr.specs.declared.instruction.Instr.TheVariants.{Plain}
 use Rattle.al_instr.specs.declared.numbers.Plain.TheVariants as plain
 use Rattle.al_instr.specs.Codes.{encoded, code_bytes, word_bytes}
-use Rattle.al_partition.specs.declared.parts.ImageObject.{ImageObject}
-use Rattle.al_partition.specs.declared.parts.ImageParts.{ImageParts}
-use Rattle.al_partition.specs.declared.parts.Region.{Region}
-use Rattle.al_partition.specs.Images.{Image, IsObject, IsRegion}
-use Rattle.al_partition.specs.Parts as parts
-use Rattle.al_partition.specs.Parts.{IsCode, IsWhole, code_of}
-use Rattle.al_partition.proofs.CodeLemmas.{code_bytes-append}
+use Rattle.al_link_image.specs.declared.parts.ImageObject.{ImageObject}
+use Rattle.al_link_image.specs.declared.parts.ImageParts.{ImageParts}
+use Rattle.al_link_image.specs.declared.parts.Region.{Region}
+use Rattle.al_link_image.specs.Images.{Image, IsObject, IsRegion}
+use Rattle.al_link_image.specs.Parts as parts
+use Rattle.al_link_image.specs.Parts.{IsCode, IsWhole, code_of}
+use Rattle.al_link_image.proofs.CodeLemmas.{code_bytes-append}
 use Rattle.al_link.specs.declared.bases.Bases.{Bases}
 use Rattle.al_link.specs.Bases.{next_bases}
 use Rattle.al_link.specs.Images.{called, calls_of, start_code, starting, code_linked, image_of, object_of, regions_of}

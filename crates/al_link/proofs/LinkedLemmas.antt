@@ -13,8 +13,8 @@ use Rattle.al_instr.specs.Numbers.{protected_number}
 use Rattle.al_instr.specs.Codes.{IsInstr}
 use Rattle.al_view.specs.declared.link.LinkKind.{LinkKind}
 use Rattle.al_view.specs.declared.link.LinkSymbol.{LinkSymbol}
-use Rattle.al_object.specs.declared.object.Use.{Use}
-use Rattle.al_object.specs.Parts.{Part, Whole, Using, code_of, uses_from, IsPart, MayUse}
+use Rattle.al_code_object.specs.declared.object.Relocation.{Relocation}
+use Rattle.al_code_object.specs.Parts.{Part, Whole, Using, code_of, uses_from, IsPart, MayUse}
 use Rattle.al_link.specs.Symbols.{Places, place_in}
 use Rattle.al_link.specs.Linking.{number_at, patched, with_word}
 use Rattle.al_link.specs.LinkedParts.{shifted, linked_part, LinksParts}
@@ -36,7 +36,7 @@ word_back : (n : ℕ) → n < 0x1_0000_0000 → from_be_bytes w32 (word_bytes n)
 unfolding word_bytes
 word_back n lt = from_be_bytes-to_be_bytes_4 n lt
 
--- a number behind so many bytes
+-- a number after so many bytes
 number_there : (start rest : List ℕ) (n place : ℕ) → place ≡ length start → n < 0x1_0000_0000 → number_at (start ++ (word_bytes n ++ rest)) place ≡ n
 unfolding number_at
 number_there start rest n place at lt =
@@ -97,7 +97,7 @@ has_word : (i : Instr) (symbol : LinkSymbol) → IsPart (Using i symbol) → Has
 has_word i symbol h = word_of i symbol.kind h.0 h.1
 
 -- one operand
-operand_linked : (places : Places) (before after done rest_after : List ℕ) (base k : ℕ) (u : Use) (i : Instr) (h : HasWord i) → length done ≡ base + k → length before ≡ k → u.place ≡ k + 1
+operand_linked : (places : Places) (before after done rest_after : List ℕ) (base k : ℕ) (u : Relocation) (i : Instr) (h : HasWord i) → length done ≡ base + k → length before ≡ k → u.place ≡ k + 1
     → with_word (done ++ (encoded i ++ rest_after)) (base + u.place) ((number_at (before ++ (encoded i ++ after)) u.place + place_in places u.symbol) % 2 ^ 32) ≡ done ++ (encoded (shifted (place_in places u.symbol) i) ++ rest_after)
 operand_linked places before after done rest_after base k u i h dl bl ul =
     let v = place_in places u.symbol in
@@ -117,7 +117,7 @@ shifted_length i h v =
     ap length (h.moves v) ∙ omega (arith, length-append (word_bytes ((h.number + v) % 2 ^ 32)) h.tail, length-append (word_bytes h.number) h.tail, word_length ((h.number + v) % 2 ^ 32), word_length h.number) ∙ sym (ap length h.is)
 
 -- the first piece's bytes, on either side of where linking has come to
-moved : (places : Places) (base : ℕ) (before done rest_after x y : List ℕ) (us : List Use) (ps : List Part) (qs : List ℕ)
+moved : (places : Places) (base : ℕ) (before done rest_after x y : List ℕ) (us : List Relocation) (ps : List Part) (qs : List ℕ)
     → patched places ((before ++ x) ++ code_of ps) base ((done ++ y) ++ (code_of ps ++ rest_after)) us ≡ (done ++ y) ++ (qs ++ rest_after)
     → patched places (before ++ (x ++ code_of ps)) base (done ++ ((y ++ code_of ps) ++ rest_after)) us ≡ done ++ ((y ++ qs) ++ rest_after)
 moved places base before done rest_after x y us ps qs ih =
@@ -125,7 +125,7 @@ moved places base before done rest_after x y us ps qs ih =
     ∙ ap (λ (xs : List ℕ). patched places ((before ++ x) ++ code_of ps) base xs us) (ap (λ (xs : List ℕ). done ++ xs) (append_assoc y (code_of ps) rest_after) ∙ sym (append_assoc done y (code_of ps ++ rest_after)))
     ∙ ih ∙ append_assoc done y (qs ++ rest_after) ∙ ap (λ (xs : List ℕ). done ++ xs) (sym (append_assoc y qs rest_after))
 
--- behind what is linked already
+-- after what is linked already
 rest_linked : (places : Places) (base : ℕ) (rest_after before done : List ℕ) (ps : List Part) → length done ≡ base + length before → All IsPart ps → patched places (before ++ code_of ps) base (done ++ (code_of ps ++ rest_after)) (uses_from (length before) ps) ≡ done ++ (code_of (map (linked_part places) ps) ++ rest_after)
 rest_linked places base rest_after before done [] len all = refl
 rest_linked places base rest_after before done (Whole i ∷ ps) len all =
@@ -135,7 +135,7 @@ rest_linked places base rest_after before done (Whole i ∷ ps) len all =
     moved places base before done rest_after (encoded i) (encoded i) (uses_from (length before + length (encoded i)) ps) ps (code_of (map (linked_part places) ps)) (rw b at ih)
 rest_linked places base rest_after before done (Using i symbol ∷ ps) len all =
     let v = place_in places symbol in
-    let u : Use = record { place = length before + 1; symbol = symbol } in
+    let u : Relocation = record { place = length before + 1; symbol = symbol } in
     let y : List ℕ = encoded (shifted v i) in
     let same : length y ≡ length (encoded i) = shifted_length i (has_word i symbol (All-head IsPart (Using i symbol) ps all)) v in
     let b : length (before ++ encoded i) ≡ length before + length (encoded i) = length-append before (encoded i) in

@@ -2,7 +2,7 @@
 use Rattle.std.specs.Prelude.{ℕ, ◌+◌, ◌≤◌, length}
 use Rattle.al_view.specs.declared.link.LinkKind.{LinkKind}
 use Rattle.al_view.specs.declared.link.LinkKind.TheVariants as kind
-use Rattle.al_object.specs.Objects.{CompiledCode}
+use Rattle.al_code_object.specs.Objects.{CompiledCode}
 use Rattle.al_link.specs.declared.bases.Bases.{Bases}
 
 -- what stands before the next object

@@ -1,7 +1,7 @@
 -- Why there is no image.
 use Rattle.al_link.specs.declared.bases.Bases.{Bases}
-use Rattle.al_partition.specs.declared.fault.LinkFault.{LinkFault}
-use Rattle.al_partition.specs.declared.fault.LinkFault.TheVariants as faults
+use Rattle.al_link_image.specs.declared.fault.LinkFault.{LinkFault}
+use Rattle.al_link_image.specs.declared.fault.LinkFault.TheVariants as faults
 use Rattle.al_link.specs.Bases.{AreSmall}
 
 -- a sum passes a limit, or memory was wanted

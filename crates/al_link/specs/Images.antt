@@ -6,13 +6,13 @@ use Rattle.al_instr.specs.declared.instruction.Instr.{Instr}
 use Rattle.al_instr.specs.declared.instruction.Instr.TheVariants.{Plain, Call}
 use Rattle.al_instr.specs.declared.numbers.Plain.TheVariants as plain
 use Rattle.al_instr.specs.Codes.{code_bytes}
-use Rattle.al_object.specs.declared.object.Region.{Region as ObjectRegion}
-use Rattle.al_partition.specs.declared.parts.Region.{Region}
-use Rattle.al_partition.specs.declared.parts.ImageObject.{ImageObject}
-use Rattle.al_partition.specs.declared.fault.LinkFault.{LinkFault}
-use Rattle.al_partition.specs.declared.fault.LinkFault.TheVariants as faults
-use Rattle.al_partition.specs.Images.{Image}
-use Rattle.al_partition.specs.Parts.{code_of}
+use Rattle.al_code_object.specs.declared.object.Region.{Region as ObjectRegion}
+use Rattle.al_link_image.specs.declared.parts.Region.{Region}
+use Rattle.al_link_image.specs.declared.parts.ImageObject.{ImageObject}
+use Rattle.al_link_image.specs.declared.fault.LinkFault.{LinkFault}
+use Rattle.al_link_image.specs.declared.fault.LinkFault.TheVariants as faults
+use Rattle.al_link_image.specs.Images.{Image}
+use Rattle.al_link_image.specs.Parts.{code_of}
 use Rattle.al_link.specs.Symbols.{Places, place_in}
 use Rattle.al_link.specs.Units.{UnitObject, Located, located, is_item, first_bases, totals, AreWithin}
 use Rattle.al_link.specs.Linking.{places_of, linked}

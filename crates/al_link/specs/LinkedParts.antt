@@ -2,7 +2,7 @@
 use Rattle.std.specs.Prelude.{ℕ, ◌≡◌, ◌+◌, ◌%◌, ◌^◌, List, ◌++◌, length, map, All}
 use Rattle.al_instr.specs.declared.instruction.Instr.{Instr}
 use Rattle.al_instr.specs.declared.instruction.Instr.TheVariants as instr
-use Rattle.al_object.specs.Parts.{Part, Whole, Using, code_of, uses_from, IsPart}
+use Rattle.al_code_object.specs.Parts.{Part, Whole, Using, code_of, uses_from, IsPart}
 use Rattle.al_link.specs.Symbols.{Places, place_in}
 use Rattle.al_link.specs.Linking.{patched}
 

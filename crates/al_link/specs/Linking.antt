@@ -2,8 +2,8 @@
 use Rattle.std.specs.Prelude.{ℕ, ◌+◌, ◌%◌, ◌^◌, nat_le, if◌then◌else◌, List, [], ◌∷◌, ◌++◌, length, take, drop, fold}
 use Rattle.std.specs.Int.{w32, from_be_bytes}
 use Rattle.al_instr.specs.Codes.{word_bytes}
-use Rattle.al_object.specs.declared.object.Address.{Address}
-use Rattle.al_object.specs.declared.object.Use.{Use}
+use Rattle.al_code_object.specs.declared.object.Address.{Address}
+use Rattle.al_code_object.specs.declared.object.Relocation.{Relocation}
 use Rattle.al_link.specs.declared.bases.Bases.{Bases}
 use Rattle.al_link.specs.Bases.{base_of}
 use Rattle.al_link.specs.Symbols.{Places, place_in, with_place}
@@ -34,7 +34,7 @@ with_word code place n = if nat_le (place + 4) (length code) then take place cod
 
 -- each operand counts from where its symbol stands. What it counts is read in the object and never in the image, so an image
 -- that was linked before is linked again just so
-abbrev pub patched : Places → List ℕ → ℕ → List ℕ → List Use → List ℕ
+abbrev pub patched : Places → List ℕ → ℕ → List ℕ → List Relocation → List ℕ
 patched places from base code [] = code
 patched places from base code (u ∷ us) =
     patched places from base (with_word code (base + u.place) ((number_at from u.place + place_in places u.symbol) % 2 ^ 32)) us

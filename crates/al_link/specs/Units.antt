@@ -3,7 +3,7 @@ use Rattle.std.specs.Prelude.{ℕ, ◌+◌, ◌≤◌, Bool, true, false, if◌t
 use Rattle.al_base.specs.declared.unit_key.UnitKey.{UnitKey}
 use Rattle.al_base.specs.declared.unit_key.UnitKind.{UnitKind}
 use Rattle.al_base.specs.declared.unit_key.UnitKind.TheVariants.{Decl, Body, Sub}
-use Rattle.al_object.specs.Objects.{CompiledCode}
+use Rattle.al_code_object.specs.Objects.{CompiledCode}
 use Rattle.al_link.specs.declared.bases.Bases.{Bases}
 use Rattle.al_link.specs.declared.units.LinkUnit.{LinkUnit}
 use Rattle.al_link.specs.declared.units.Located.{Located as LocatedUnit}
@@ -19,11 +19,11 @@ pub record Located : Type 0 where
   pub object : CompiledCode
   pub before : Bases
 
-abbrev pub unit_seen : LinkUnit → UnitObject
-unit_seen u = record { key = u.key.now; object = u.object.now }
+abbrev pub unit_model : LinkUnit → UnitObject
+unit_model u = record { key = u.key.now; object = u.object.now }
 
-abbrev pub located_seen : LocatedUnit → Located
-located_seen l = record { key = l.key.now; object = l.object.now; before = l.before }
+abbrev pub located_model : LocatedUnit → Located
+located_model l = record { key = l.key.now; object = l.object.now; before = l.before }
 
 -- each unit with the sum of what the units before it hold
 abbrev pub located : Bases → List UnitObject → List Located

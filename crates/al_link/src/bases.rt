@@ -2,8 +2,8 @@
 ghost use Rattle.std.specs.Prelude.{◌≡◌, ◌+◌, ◌≤◌, ◌<◌, length, MatchOption};
 ghost use Rattle.al_link.specs.Bases.{AreSmall, base_of, next_bases};
 
-use al_object::Compiled;
-use al_partition::{MAX_CODE, MAX_DATA_WORDS, MAX_PROTECTED, MAX_TASKS};
+use al_code_object::Compiled;
+use al_link_image::{MAX_CODE, MAX_DATA_WORDS, MAX_PROTECTED, MAX_TASKS};
 use al_view::LinkKind;
 
 /// How many bytes of code, data words, protected objects and tasks stand before an object.

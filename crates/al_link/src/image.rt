@@ -1,18 +1,18 @@
 // The image of units.
 ghost use Rattle.std.specs.Prelude.{◌≡◌, ◌+◌, ◌≤◌, ◌++◌, length, map, sum_by, IfOk, IfErr, OnOk};
 ghost use Rattle.std.specs.List.{All, flat_map};
-ghost use Rattle.al_partition.specs.Images.{IsObject, IsRegion, IsUnitName};
+ghost use Rattle.al_link_image.specs.Images.{IsObject, IsRegion, IsUnitName};
 ghost use Rattle.al_link.specs.Bases.{AreSmall, next_bases};
 ghost use Rattle.al_link.specs.Images.{IsLinkFault, image_of, object_of, region_at, regions_of};
-ghost use Rattle.al_link.specs.Units.{AreWithin, located_seen, unit_seen};
+ghost use Rattle.al_link.specs.Units.{AreWithin, located_model, unit_model};
 
 use crate::patch::link_code;
 use crate::places::Places;
 use crate::start::start_bytes;
 use crate::units::{LinkUnit, Located, first_bases, locate};
 use al_base::{Name, NoMemory};
-use al_object::Region as CompiledRegion;
-use al_partition::{Image, ImageObject, ImageParts, LinkFault, MAX_OBJECTS, Region};
+use al_code_object::Region as CompiledRegion;
+use al_link_image::{Image, ImageObject, ImageParts, LinkFault, MAX_OBJECTS, Region};
 use al_view::LinkSymbol;
 use std::alloc::Global;
 
@@ -20,7 +20,7 @@ use std::alloc::Global;
 fn object_of(alloc: Global, unit: &Located<'_>) -> Result<ImageObject, NoMemory>
     requires name { IsUnitName unit.now.key.now.name }
     requires place { AreSmall (next_bases unit.now.before unit.now.object.now) }
-    ensures value { IfOk result (λ object. object ≡ object_of (located_seen unit.now)) }
+    ensures value { IfOk result (λ object. object ≡ object_of (located_model unit.now)) }
     ensures fit { IfOk result (λ object. IsObject object) }
 {
     let name = Name::from_slice(alloc, unit.key.name.as_slice())?;
@@ -35,7 +35,7 @@ fn object_of(alloc: Global, unit: &Located<'_>) -> Result<ImageObject, NoMemory>
 fn objects_of(alloc: Global, units: &[Located<'_>]) -> Result<Vec<ImageObject>, NoMemory>
     requires names { All (λ l. IsUnitName l.key.now.name) units.now }
     requires places { All (λ l. AreSmall (next_bases l.before l.object.now)) units.now }
-    ensures value { IfOk result (λ objects. objects.items ≡ map object_of (map located_seen units.now)) }
+    ensures value { IfOk result (λ objects. objects.items ≡ map object_of (map located_model units.now)) }
     ensures fit { IfOk result (λ objects. All IsObject objects.items) }
 {
     let mut objects = Vec::new(alloc);
@@ -63,7 +63,7 @@ fn region_at(base: u32, region: CompiledRegion, total: u32) -> Region
 fn push_regions(regions: &mut Vec<Region>, unit: &Located<'_>, total: u32) -> Result<(), NoMemory>
     requires words { unit.now.before.words + unit.now.object.now.data_words ≤ total }
     requires fit { All (IsRegion total) regions.old.items }
-    ensures value { OnOk result (regions.new.items ≡ regions.old.items ++ regions_of (located_seen unit.now)) }
+    ensures value { OnOk result (regions.new.items ≡ regions.old.items ++ regions_of (located_model unit.now)) }
     ensures fit { OnOk result (All (IsRegion total) regions.new.items) }
 {
     unit.object.keeps();
@@ -77,7 +77,7 @@ fn push_regions(regions: &mut Vec<Region>, unit: &Located<'_>, total: u32) -> Re
 // The words of all protected objects, which are among so many.
 fn regions_of(alloc: Global, units: &[Located<'_>], total: u32) -> Result<Vec<Region>, NoMemory>
     requires { All (λ l. l.before.words + l.object.now.data_words ≤ total) units.now }
-    ensures value { IfOk result (λ regions. regions.items ≡ flat_map regions_of (map located_seen units.now)) }
+    ensures value { IfOk result (λ regions. regions.items ≡ flat_map regions_of (map located_model units.now)) }
     ensures fit { IfOk result (λ regions. All (IsRegion total) regions.items) }
     ensures count { IfOk result (λ regions. length regions.items ≡ sum_by (λ l. length l.object.now.protected) units.now) }
 {
@@ -100,9 +100,9 @@ pub fn image_of(
     units: &[LinkUnit<'_>],
 ) -> Result<Image, LinkFault>
     requires { All (λ u. IsUnitName u.key.now.name) units.now }
-    ensures image { IfOk result (λ image. image ≡ image_of main.now (map unit_seen units.now)) }
-    ensures within { OnOk result (AreWithin (map unit_seen units.now)) }
-    ensures fault { IfErr result (λ fault. IsLinkFault (map unit_seen units.now) fault) }
+    ensures image { IfOk result (λ image. image ≡ image_of main.now (map unit_model units.now)) }
+    ensures within { OnOk result (AreWithin (map unit_model units.now)) }
+    ensures fault { IfErr result (λ fault. IsLinkFault (map unit_model units.now) fault) }
 {
     if units.len() > MAX_OBJECTS as usize {
         return Err(LinkFault::TooLarge);

@@ -11,8 +11,8 @@ mod places;
 mod start;
 mod units;
 
-pub use al_partition::{Image, LinkFault};
+pub use al_link_image::{Image, LinkFault};
 pub use image::image_of;
 pub use laws::links_parts;
-pub use linking::{LeftUnit, link};
+pub use linking::{CompiledUnit, link};
 pub use units::LinkUnit;

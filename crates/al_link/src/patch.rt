@@ -1,13 +1,13 @@
 // The code of an image.
 ghost use Rattle.std.specs.Prelude.{◌≡◌, ◌≤◌, ◌+◌, length, map, sum_by, IfOk, OnOk};
-ghost use Rattle.al_partition.specs.Parts.{IsCode};
+ghost use Rattle.al_link_image.specs.Parts.{IsCode};
 ghost use Rattle.al_link.specs.Linking.{linked, number_at, patched, with_object, with_word};
-ghost use Rattle.al_link.specs.Units.{located_seen};
+ghost use Rattle.al_link.specs.Units.{located_model};
 
 use crate::places::Places;
 use crate::units::Located;
 use al_base::NoMemory;
-use al_object::Use;
+use al_code_object::Relocation;
 
 // The number in the four bytes at a place.
 #[tactic(auto, unfolding(crate::specs::Linking::number_at))]
@@ -32,7 +32,7 @@ fn write_word(code: &mut [u8], place: usize, number: u32)
 }
 
 // Fills in the operands of an object whose code begins at the base.
-fn patch(code: &mut [u8], base: usize, from: &[u8], uses: &[Use], places: &Places)
+fn patch(code: &mut [u8], base: usize, from: &[u8], uses: &[Relocation], places: &Places)
     requires { base ≤ 4294967296 }
     ensures { code.new ≡ patched places.now from.now base code.old uses.now }
 {
@@ -47,7 +47,7 @@ fn patch(code: &mut [u8], base: usize, from: &[u8], uses: &[Use], places: &Place
 // Appends an object's code.
 fn append_object(code: &mut Vec<u8>, unit: &Located<'_>, places: &Places) -> Result<(), NoMemory>
     requires { length code.old.items ≤ 16777216 }
-    ensures code { OnOk result (code.new.items ≡ with_object places.now code.old.items (located_seen unit.now)) }
+    ensures code { OnOk result (code.new.items ≡ with_object places.now code.old.items (located_model unit.now)) }
     ensures size { OnOk result (length code.new.items ≡ length code.old.items + length unit.now.object.now.code) }
 {
     let base = code.len();
@@ -61,7 +61,7 @@ fn append_object(code: &mut Vec<u8>, unit: &Located<'_>, places: &Places) -> Res
 fn push_object(code: &mut Vec<u8>, unit: &Located<'_>, places: &Places) -> Result<(), NoMemory>
     requires size { length code.old.items ≤ 16777216 }
     requires code { IsCode code.old.items }
-    ensures code { OnOk result (code.new.items ≡ with_object places.now code.old.items (located_seen unit.now)) }
+    ensures code { OnOk result (code.new.items ≡ with_object places.now code.old.items (located_model unit.now)) }
     ensures is_code { OnOk result (IsCode code.new.items) }
     ensures size { OnOk result (length code.new.items ≡ length code.old.items + length unit.now.object.now.code) }
 {
@@ -78,7 +78,7 @@ pub(crate) fn link_code(
 ) -> Result<Vec<u8>, NoMemory>
     requires size { length start.items + sum_by (λ l. length l.object.now.code) units.now ≤ 16777216 }
     requires code { IsCode start.items }
-    ensures code { IfOk result (λ code. code.items ≡ linked places.now start.items (map located_seen units.now)) }
+    ensures code { IfOk result (λ code. code.items ≡ linked places.now start.items (map located_model units.now)) }
     ensures is_code { IfOk result (λ code. IsCode code.items) }
     ensures size { IfOk result (λ code. length code.items ≤ 16777216) }
 {

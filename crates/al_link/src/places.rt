@@ -4,12 +4,12 @@ ghost use Rattle.std.specs.List.{All};
 ghost use Rattle.al_link.specs.Bases.{AreSmall, base_of, next_bases};
 ghost use Rattle.al_link.specs.Linking.{places_of, with_address, with_defines};
 ghost use Rattle.al_link.specs.Symbols.{place_in};
-ghost use Rattle.al_link.specs.Units.{located_seen};
+ghost use Rattle.al_link.specs.Units.{located_model};
 
 use crate::bases::{Bases, base_of};
 use crate::units::Located;
 use al_base::NoMemory;
-use al_object::{Address, Compiled};
+use al_code_object::{Address, Compiled};
 use al_view::LinkSymbol;
 use indexmap::IndexMap;
 use std::alloc::Global;
@@ -70,7 +70,7 @@ impl Places {
     /// The places of the symbols of all units.
     pub(crate) fn of(alloc: Global, units: &[Located<'_>]) -> Result<Places, NoMemory>
         requires { All (λ l. AreSmall (next_bases l.before l.object.now)) units.now }
-        ensures { IfOk result (λ places. places ≡ places_of (map located_seen units.now)) }
+        ensures { IfOk result (λ places. places ≡ places_of (map located_model units.now)) }
     {
         let mut places = Places::new(alloc);
         for unit in units {

@@ -2,9 +2,9 @@
 ghost use Rattle.std.specs.Prelude.{◌≡◌, ◌++◌, map, IfOk, OnOk};
 ghost use Rattle.std.specs.List.{All, flat_map};
 ghost use Rattle.al_instr.specs.Codes.{IsInstr, code_bytes};
-ghost use Rattle.al_partition.specs.Parts.{IsCode};
+ghost use Rattle.al_link_image.specs.Parts.{IsCode};
 ghost use Rattle.al_link.specs.Images.{called, calls_of, start_code};
-ghost use Rattle.al_link.specs.Units.{located_seen};
+ghost use Rattle.al_link.specs.Units.{located_model};
 
 use crate::units::{Located, is_item};
 use al_base::NoMemory;
@@ -24,7 +24,7 @@ fn push_call(code: &mut Vec<Instr>, place: u32) -> Result<(), NoMemory>
 
 // The calls of the items' elaborations.
 fn item_calls(alloc: Global, units: &[Located<'_>]) -> Result<Vec<Instr>, NoMemory>
-    ensures code { IfOk result (λ code. code.items ≡ flat_map calls_of (map located_seen units.now)) }
+    ensures code { IfOk result (λ code. code.items ≡ flat_map calls_of (map located_model units.now)) }
     ensures fits { IfOk result (λ code. All IsInstr code.items) }
 {
     let mut code = Vec::new(alloc);
@@ -38,7 +38,7 @@ fn item_calls(alloc: Global, units: &[Located<'_>]) -> Result<Vec<Instr>, NoMemo
 
 // The starting code, which calls the main subprogram at a place.
 fn start_code(alloc: Global, units: &[Located<'_>], main: u32) -> Result<Vec<Instr>, NoMemory>
-    ensures code { IfOk result (λ code. code.items ≡ start_code (map located_seen units.now) main) }
+    ensures code { IfOk result (λ code. code.items ≡ start_code (map located_model units.now) main) }
     ensures fits { IfOk result (λ code. All IsInstr code.items) }
 {
     let mut code = item_calls(alloc, units)?;
@@ -65,7 +65,7 @@ pub(crate) fn start_bytes(
     units: &[Located<'_>],
     main: u32,
 ) -> Result<Vec<u8>, NoMemory>
-    ensures code { IfOk result (λ bytes. bytes.items ≡ code_bytes (start_code (map located_seen units.now) main)) }
+    ensures code { IfOk result (λ bytes. bytes.items ≡ code_bytes (start_code (map located_model units.now) main)) }
     ensures is_code { IfOk result (λ bytes. IsCode bytes.items) }
 {
     let code = start_code(alloc, units, main)?;

@@ -2,15 +2,15 @@
 ghost use Rattle.std.specs.Prelude.{◌≡◌, ◌+◌, ◌≤◌, length, map, sum_by, IfOk, IfErr};
 ghost use Rattle.std.specs.List.{All};
 ghost use Rattle.al_link.specs.Bases.{AreSmall, next_bases};
-ghost use Rattle.al_link.specs.Units.{bases_after, located, located_seen, unit_seen};
-ghost use Rattle.al_partition.specs.Images.{IsUnitName};
+ghost use Rattle.al_link.specs.Units.{bases_after, located, located_model, unit_model};
+ghost use Rattle.al_link_image.specs.Images.{IsUnitName};
 ghost use Rattle.al_link.specs.Units as sums;
 ghost use Rattle.al_link.specs.Faults.{IsPassing};
 
 use crate::bases::{Bases, next_bases};
 use al_base::{UnitKey, UnitKind};
-use al_object::Compiled;
-use al_partition::LinkFault;
+use al_code_object::Compiled;
+use al_link_image::LinkFault;
 use std::alloc::Global;
 
 /// A unit with its object.
@@ -41,7 +41,7 @@ pub(crate) fn is_item(kind: UnitKind) -> bool
 // What stands before the first object: the starting code.
 pub(crate) fn first_bases(units: &[LinkUnit<'_>]) -> Bases
     requires { length units.now ≤ 65535 }
-    ensures value { result ≡ sums.first_bases (map unit_seen units.now) }
+    ensures value { result ≡ sums.first_bases (map unit_model units.now) }
     ensures small { AreSmall result }
 {
     let mut size = 12;
@@ -66,8 +66,8 @@ pub(crate) fn locate<'a>(
 ) -> Result<(Vec<Located<'a>>, Bases), LinkFault>
     requires small { AreSmall first }
     requires names { All (λ u. IsUnitName u.key.now.name) units.now }
-    ensures located { IfOk result (λ x. map located_seen x.0.items ≡ located first (map unit_seen units.now)) }
-    ensures after { IfOk result (λ x. x.1 ≡ bases_after first (map unit_seen units.now)) }
+    ensures located { IfOk result (λ x. map located_model x.0.items ≡ located first (map unit_model units.now)) }
+    ensures after { IfOk result (λ x. x.1 ≡ bases_after first (map unit_model units.now)) }
     ensures small { IfOk result (λ x. AreSmall x.1) }
     ensures each { IfOk result (λ x. All (λ l. AreSmall (next_bases l.before l.object.now)) x.0.items) }
     ensures names { IfOk result (λ x. All (λ l. IsUnitName l.key.now.name) x.0.items) }
@@ -75,7 +75,7 @@ pub(crate) fn locate<'a>(
     ensures code { IfOk result (λ x. first.code + sum_by (λ l. length l.object.now.code) x.0.items ≡ x.1.code) }
     ensures objects { IfOk result (λ x. first.objects + sum_by (λ l. length l.object.now.protected) x.0.items ≡ x.1.objects) }
     ensures count { IfOk result (λ x. length x.0.items ≡ length units.now) }
-    ensures fault { IfErr result (λ fault. IsPassing (bases_after first (map unit_seen units.now)) fault) }
+    ensures fault { IfErr result (λ fault. IsPassing (bases_after first (map unit_model units.now)) fault) }
 {
     let mut list = Vec::new(alloc);
     let mut before = first;

@@ -4,11 +4,11 @@ use Rattle.std.proofs.lemmas.List.Elements.{All-nil, All-push, All-weaker}
 use Rattle.al_view.specs.declared.link.LinkKind.{LinkKind}
 use Rattle.al_view.specs.declared.link.LinkKind.TheVariants as links
 use Rattle.al_view.specs.declared.symbol.Symbol.{Symbol}
-use Rattle.al_object.specs.Objects.{CompiledCode, IsCode, Keeps, LiesIn, StandsAt, StandsIn}
-use Rattle.al_object.specs.declared.object.Address.{Address}
-use Rattle.al_object.specs.declared.object.Region.{Region}
-use Rattle.al_object.specs.declared.object.Use.{Use}
-use Rattle.al_output.specs.Kept.{IsCodeKind, StandsWithin}
+use Rattle.al_code_object.specs.Objects.{CompiledCode, IsCode, Keeps, LiesIn, StandsAt, StandsIn}
+use Rattle.al_code_object.specs.declared.object.Address.{Address}
+use Rattle.al_code_object.specs.declared.object.Region.{Region}
+use Rattle.al_code_object.specs.declared.object.Relocation.{Relocation}
+use Rattle.al_code_output.specs.Kept.{IsCodeKind, StandsWithin}
 
 stands : (o : CompiledCode) (a : Address) → StandsWithin (length o.code) a → StandsIn o a
 stands o a h = at a.symbol.kind h.0 where
@@ -18,16 +18,16 @@ stands o a h = at a.symbol.kind h.0 where
   at links.EntryBody is = h.1
   at _ is = absurd is
 
-abbrev object : List ℕ → List Use → List Address → ℕ → List Region → CompiledCode
+abbrev object : List ℕ → List Relocation → List Address → ℕ → List Region → CompiledCode
 object code uses defines words regions = record { code = code; uses = uses; defines = defines; data_words = words; tasks = 0; protected = regions }
 
 no_regions : (words : ℕ) (regions : List Region) → regions ≡ [] → All (LiesIn words) regions
 no_regions words regions none = subst (λ (rs : List Region). All (LiesIn words) rs) (sym none) (All-nil (LiesIn words))
 
-all_stand : (code : List ℕ) (uses : List Use) (defines others : List Address) (words : ℕ) (regions : List Region) → All (StandsWithin (length code)) defines → All (StandsIn (object code uses others words regions)) defines
+all_stand : (code : List ℕ) (uses : List Relocation) (defines others : List Address) (words : ℕ) (regions : List Region) → All (StandsWithin (length code)) defines → All (StandsIn (object code uses others words regions)) defines
 all_stand code uses defines others words regions standing = All-weaker (StandsWithin (length code)) (StandsIn (object code uses others words regions)) (λ a h. stands (object code uses others words regions) a h) defines standing
 
-pub plain_keeps : (code : List ℕ) (uses : List Use) (defines : List Address) (regions : List Region) → IsCode code uses → length code ≤ 16777216 → All (StandsWithin (length code)) defines → regions ≡ []
+pub plain_keeps : (code : List ℕ) (uses : List Relocation) (defines : List Address) (regions : List Region) → IsCode code uses → length code ≤ 16777216 → All (StandsWithin (length code)) defines → regions ≡ []
     → Keeps (record { code = code; uses = uses; defines = defines; data_words = 0; tasks = 0; protected = regions })
 plain_keeps code uses defines regions is within standing none = record {
   code = is;
@@ -36,7 +36,7 @@ plain_keeps code uses defines regions is within standing none = record {
   regions = no_regions 0 regions none;
 }
 
-pub word_keeps : (code : List ℕ) (uses : List Use) (defines all : List Address) (place : Symbol) (regions : List Region) → IsCode code uses → length code ≤ 16777216 → All (StandsWithin (length code)) defines → regions ≡ []
+pub word_keeps : (code : List ℕ) (uses : List Relocation) (defines all : List Address) (place : Symbol) (regions : List Region) → IsCode code uses → length code ≤ 16777216 → All (StandsWithin (length code)) defines → regions ≡ []
     → all ≡ defines ++ record { symbol = record { symbol = place; kind = links.Data }; offset = 0 } ∷ []
     → Keeps (record { code = code; uses = uses; defines = all; data_words = 1; tasks = 0; protected = regions })
 word_keeps code uses defines all place regions is within standing none same =

@@ -1,13 +1,13 @@
 ghost use Rattle.std.specs.Prelude.{◌≡◌, true};
 ghost use Rattle.std.specs.List.{All, list_all};
-ghost use Rattle.al_partition.specs.Images.{IsUnitName, is_name_byte};
+ghost use Rattle.al_link_image.specs.Images.{IsUnitName, is_name_byte};
 
 use crate::objects::{
     key, package, package_with_value, package_without_value, procedure, procedure_that_sets, symbol,
 };
 use al_base::UnitKind;
-use al_link::{LeftUnit, LinkFault, link, links_parts};
-use al_object::Object;
+use al_code_object::Object;
+use al_link::{CompiledUnit, LinkFault, link, links_parts};
 use al_view::{LinkKind, LinkSymbol, Symbol};
 use std::alloc::Global;
 use std::test::Fail;
@@ -37,7 +37,7 @@ fn is_named(name: &[u8]) -> bool
     !name.is_empty() && name.len() <= 255 && is_of_name_bytes(name)
 }
 
-fn are_named(units: &[LeftUnit<'_>]) -> bool
+fn are_named(units: &[CompiledUnit<'_>]) -> bool
     ensures { result ≡ true → All (λ u. IsUnitName u.key.now.name) units.now }
 {
     for unit in units {
@@ -52,7 +52,7 @@ fn are_named(units: &[LeftUnit<'_>]) -> bool
 fn image_bytes(
     alloc: Global,
     main: &LinkSymbol,
-    units: &[LeftUnit<'_>],
+    units: &[CompiledUnit<'_>],
 ) -> Result<Option<Vec<u8>>, LinkFault> {
     if !are_named(units) {
         return Ok(None);
@@ -83,7 +83,7 @@ fn alone(alloc: Global, large: bool) -> Result<Option<Vec<u8>>, LinkFault> {
     let kind = LinkKind::Code;
     let main = LinkSymbol { symbol, kind };
     let key = key(alloc, b"n", UnitKind::Body)?;
-    let units = [LeftUnit {
+    let units = [CompiledUnit {
         key: &key,
         object: &object,
     }];
@@ -121,15 +121,15 @@ fn empty_packages(alloc: Global, second: &[u8], kind: UnitKind) -> Result<usize,
     let two = key(alloc, second, kind)?;
     let three = key(alloc, b"m", UnitKind::Body)?;
     let units = [
-        LeftUnit {
+        CompiledUnit {
             key: &one,
             object: &package,
         },
-        LeftUnit {
+        CompiledUnit {
             key: &two,
             object: &package,
         },
-        LeftUnit {
+        CompiledUnit {
             key: &three,
             object: &body,
         },
@@ -176,15 +176,15 @@ fn client(alloc: Global, q_has_one: bool, sets_q: bool) -> Result<Option<Vec<u8>
     let two = key(alloc, b"q", UnitKind::Decl)?;
     let three = key(alloc, b"client", UnitKind::Body)?;
     let units = [
-        LeftUnit {
+        CompiledUnit {
             key: &one,
             object: &p,
         },
-        LeftUnit {
+        CompiledUnit {
             key: &two,
             object: &q,
         },
-        LeftUnit {
+        CompiledUnit {
             key: &three,
             object: &body,
         },
@@ -213,7 +213,7 @@ fn symbols_are_sums(rt: HostRuntime) -> Result<(), Fail> {
     let alloc = rt.alloc();
     assert_eq!(rt; length_and_operand(client(alloc, false, false)?), (206, 0));
     assert_eq!(rt; length_and_operand(client(alloc, true, false)?), (216, 0));
-    // the object of Q stands behind that of P
+    // the object of Q stands after that of P
     assert_eq!(rt; length_and_operand(client(alloc, true, true)?), (216, 1));
     Ok(())
 }

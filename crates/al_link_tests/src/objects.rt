@@ -1,8 +1,8 @@
 // Objects by hand.
 use al_base::{Name, NoMemory, UnitKey, UnitKind};
+use al_code_object::{Address, Compiled, Object, Region};
+use al_code_output::Output;
 use al_instr::{Instr, Sized};
-use al_object::{Address, Compiled, Object, Region};
-use al_output::Output;
 use al_view::{LinkKind, LinkSymbol, Symbol};
 use std::alloc::Global;
 
@@ -59,19 +59,19 @@ fn object_with(alloc: Global, out: Output, data: Symbol) -> Result<Object, NoMem
     Ok(Object::Compiled(Compiled::new(written.code, written.uses, defines, 1, 0, protected)))
 }
 
-fn put_sized(out: &mut Output, sized: Sized, number: u32) -> Result<(), NoMemory> {
+fn emit_sized(out: &mut Output, sized: Sized, number: u32) -> Result<(), NoMemory> {
     let instr = Instr::Sized(sized, number);
     out.put(&instr)
 }
 
 /// A routine that does nothing.
-fn put_nothing(out: &mut Output) -> Result<(), NoMemory> {
-    put_sized(out, Sized::Enter, 0)?;
-    put_sized(out, Sized::Return, 0)
+fn emit_nothing(out: &mut Output) -> Result<(), NoMemory> {
+    emit_sized(out, Sized::Enter, 0)?;
+    emit_sized(out, Sized::Return, 0)
 }
 
 /// A word of Integer into the object of this symbol.
-fn put_assignment(out: &mut Output, word: i64, data: &Symbol) -> Result<(), NoMemory> {
+fn emit_assignment(out: &mut Output, word: i64, data: &Symbol) -> Result<(), NoMemory> {
     let value = Instr::Const(word);
     out.put(&value)?;
     let check = Instr::Check {
@@ -80,43 +80,43 @@ fn put_assignment(out: &mut Output, word: i64, data: &Symbol) -> Result<(), NoMe
     };
     out.put(&check)?;
     let address = Instr::Global(0);
-    out.put_using(&address, LinkKind::Data, data)?;
-    put_sized(out, Sized::Store, 1)
+    out.emit_using(&address, LinkKind::Data, data)?;
+    emit_sized(out, Sized::Store, 1)
 }
 
 /// The object of a package without declarations.
 pub(crate) fn package(alloc: Global) -> Result<Object, NoMemory> {
     let mut out = Output::new(alloc);
-    put_nothing(&mut out)?;
+    emit_nothing(&mut out)?;
     Ok(object_of(alloc, out))
 }
 
 /// The object of a package with an object of Integer that has a value.
 pub(crate) fn package_with_value(alloc: Global, data: Symbol) -> Result<Object, NoMemory> {
     let mut out = Output::new(alloc);
-    put_sized(&mut out, Sized::Enter, 0)?;
-    put_assignment(&mut out, 1, &data)?;
-    put_sized(&mut out, Sized::Return, 0)?;
+    emit_sized(&mut out, Sized::Enter, 0)?;
+    emit_assignment(&mut out, 1, &data)?;
+    emit_sized(&mut out, Sized::Return, 0)?;
     object_with(alloc, out, data)
 }
 
 /// The object of a package with an object of Integer without a value.
 pub(crate) fn package_without_value(alloc: Global, data: Symbol) -> Result<Object, NoMemory> {
     let mut out = Output::new(alloc);
-    put_sized(&mut out, Sized::Enter, 0)?;
+    emit_sized(&mut out, Sized::Enter, 0)?;
     let address = Instr::Global(0);
-    out.put_using(&address, LinkKind::Data, &data)?;
-    put_sized(&mut out, Sized::Zero, 1)?;
-    put_sized(&mut out, Sized::Return, 0)?;
+    out.emit_using(&address, LinkKind::Data, &data)?;
+    emit_sized(&mut out, Sized::Zero, 1)?;
+    emit_sized(&mut out, Sized::Return, 0)?;
     object_with(alloc, out, data)
 }
 
 /// The object of a library procedure that does nothing.
 pub(crate) fn procedure(alloc: Global, main: &Symbol) -> Result<Object, NoMemory> {
     let mut out = Output::new(alloc);
-    put_nothing(&mut out)?;
+    emit_nothing(&mut out)?;
     out.begin(LinkKind::Code, main)?;
-    put_nothing(&mut out)?;
+    emit_nothing(&mut out)?;
     Ok(object_of(alloc, out))
 }
 
@@ -127,10 +127,10 @@ pub(crate) fn procedure_that_sets(
     data: &Symbol,
 ) -> Result<Object, NoMemory> {
     let mut out = Output::new(alloc);
-    put_nothing(&mut out)?;
+    emit_nothing(&mut out)?;
     out.begin(LinkKind::Code, main)?;
-    put_sized(&mut out, Sized::Enter, 0)?;
-    put_assignment(&mut out, 2, data)?;
-    put_sized(&mut out, Sized::Return, 0)?;
+    emit_sized(&mut out, Sized::Enter, 0)?;
+    emit_assignment(&mut out, 2, data)?;
+    emit_sized(&mut out, Sized::Return, 0)?;
     Ok(object_of(alloc, out))
 }

@@ -4,3 +4,4 @@ pub mod MemoryLemmas
 pub mod MoveLemmas
 pub mod PowerLemmas
 pub mod CodeLemmas
+pub mod BurstLemmas

@@ -8,3 +8,4 @@ pub mod Table
 pub mod Operations
 pub mod Output
 pub mod Code
+pub mod Bursts

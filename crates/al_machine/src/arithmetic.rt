@@ -14,7 +14,7 @@ pub(crate) fn bit(holds: bool) -> i64
     if holds { 1 } else { 0 }
 }
 
-fn divided(a: i64, b: i64) -> Result<i64, Trap>
+pub(crate) fn divided(a: i64, b: i64) -> Result<i64, Trap>
     ensures { result ≡ by_divisor b (int_div a b) }
 {
     a.checked_div(b).ok_or(CONSTRAINT)
@@ -39,7 +39,7 @@ fn are_opposite(a: i64, b: i64) -> bool
 }
 
 #[tactic(auto, using(crate::proofs::WordLemmas::word_of_some, crate::proofs::WordLemmas::word_is))]
-fn modulus(a: i64, b: i64) -> Result<i64, Trap>
+pub(crate) fn modulus(a: i64, b: i64) -> Result<i64, Trap>
     ensures { result ≡ by_divisor b (int_mod a b) }
 {
     let rest = remainder(a, b)?;

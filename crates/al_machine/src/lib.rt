@@ -2,6 +2,8 @@
 #![tactic(auto)]
 
 mod arithmetic;
+mod burst;
+mod bursts;
 mod code;
 mod frames;
 mod instruction;
@@ -9,9 +11,12 @@ mod memory;
 mod operation;
 mod output;
 mod regions;
+mod spot;
 mod stack;
 mod table;
 
+pub use burst::{Carried, carry_on};
+pub use bursts::Bursts;
 pub use code::{Code, Step};
 pub use instruction::{BinaryOperator, Exception, Flow, Instruction, Trap, UnaryOperator};
 pub use memory::{clear, copy};

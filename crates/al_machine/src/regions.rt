@@ -3,7 +3,7 @@ ghost use Rattle.std.specs.Prelude.{◌≡◌, ◌==◌, ◌+◌, ◌<◌, ◌^�
 ghost use Rattle.std.specs.List.{list_any};
 ghost use Rattle.al_machine.specs.Memory.{lies_apart, is_entered, is_open};
 
-use al_partition::Region;
+use al_link_image::Region;
 
 /// A protected object that a task is inside, by its number, and the task's priority before it entered.
 #[derive(Clone, Copy)]

@@ -8,7 +8,7 @@ use crate::instruction::{Exception, Flow, Instruction, Trap};
 use crate::memory::{field, index, load, store, zero};
 use crate::regions::Entered;
 use crate::stack::{Registers, binary, check, drop_words, push, same, unary};
-use al_partition::Region;
+use al_link_image::Region;
 
 /// What the exception of a code makes of the step; a code of none has no effect.
 fn trap_of(code: u32) -> Trap

@@ -3,8 +3,8 @@ use Rattle.std.proofs.Common.{◌≡◌, ◌≤◌, List, [], ◌∷◌, length,
 use Rattle.al_base.specs.declared.place.Place.{Place}
 use Rattle.al_base.specs.declared.rule.Rule.TheVariants.{Ambiguous, NoInterpretation}
 use Rattle.al_base.specs.Rules.{number_of}
-use Rattle.al_choice.specs.Labelling.{Label, acceptable, labellings}
-use Rattle.al_judged.specs.declared.fault.Fault.{Fault}
+use Rattle.al_overload_choice.specs.Labelling.{Label, acceptable, labellings}
+use Rattle.al_base_fault.specs.declared.fault.Fault.{Fault}
 use Rattle.al_overload.specs.Meanings.{FaultsTellWhy, OneIsAcceptable, meaning, nothing_fits, several_fit}
 
 pub meaning_none : (place : Place) (all : List Label) → all ≡ [] → meaning place all ≡ Err (nothing_fits place)
@@ -42,10 +42,10 @@ several_back place (m ∷ []) e = absurd cc
 several_back place (m ∷ (n ∷ more)) e = omega arith
 
 pub one_acceptable : OneIsAcceptable
-one_acceptable place tree wanted l =
-    (one_back place (acceptable (labellings tree wanted)) l, meaning_one place (acceptable (labellings tree wanted)) l)
+one_acceptable place tree expected l =
+    (one_back place (acceptable (labellings tree expected)) l, meaning_one place (acceptable (labellings tree expected)) l)
 
 pub faults_tell : FaultsTellWhy
-faults_tell place tree wanted =
-    let all = acceptable (labellings tree wanted) in
+faults_tell place tree expected =
+    let all = acceptable (labellings tree expected) in
     ((none_back place all, meaning_none place all), (several_back place all, meaning_several place all))

@@ -1,18 +1,18 @@
 -- What each kind of complete context wants of its expression (ARM 8.6(4 to 9, 20 to 25)).
 use Rattle.std.specs.Prelude.{if◌then◌else◌}
-use Rattle.al_choice.specs.Fitting.{is_integer}
-use Rattle.al_choice.specs.declared.types.ValueType.{ValueType}
-use Rattle.al_choice.specs.declared.types.Wanted.{Wanted}
-use Rattle.al_choice.specs.declared.types.Wanted.TheVariants as w
+use Rattle.al_overload_choice.specs.Fitting.{is_integer}
+use Rattle.al_overload_choice.specs.declared.types.ValueType.{ValueType}
+use Rattle.al_overload_choice.specs.declared.types.Expected.{Expected}
+use Rattle.al_overload_choice.specs.declared.types.Expected.TheVariants as w
 use Rattle.al_overload.specs.declared.context.Context.{Context}
 use Rattle.al_overload.specs.declared.context.Context.TheVariants as contexts
 use Rattle.al_overload.specs.declared.context.PredefinedTypes.{PredefinedTypes}
 
 -- the operand of a conversion: where the target is an integer type, of any one
-abbrev pub converted_to : ValueType → Wanted
+abbrev pub converted_to : ValueType → Expected
 converted_to target = if is_integer target.class then w.AnyInteger else w.Value target
 
-abbrev pub wanted_in : PredefinedTypes → Context → Wanted
+abbrev pub wanted_in : PredefinedTypes → Context → Expected
 wanted_in types (contexts.InitialValue t) = w.Value t
 wanted_in types contexts.NumberValue = w.AnyInteger
 wanted_in types contexts.PairOfBounds = w.AnyDiscrete

@@ -3,10 +3,10 @@ use Rattle.std.specs.Prelude.{◌≡◌, ◌≤◌, ◌↔◌, List, [], ◌∷�
 use Rattle.al_base.specs.declared.place.Place.{Place}
 use Rattle.al_base.specs.declared.rule.Rule.TheVariants.{Ambiguous, NoInterpretation}
 use Rattle.al_base.specs.Rules.{number_of}
-use Rattle.al_choice.specs.Labelling.{Label, Tree, acceptable, labellings}
-use Rattle.al_choice.specs.declared.types.Wanted.{Wanted}
-use Rattle.al_judged.specs.Faults.{fault_at}
-use Rattle.al_judged.specs.declared.fault.Fault.{Fault}
+use Rattle.al_overload_choice.specs.Labelling.{Label, Tree, acceptable, labellings}
+use Rattle.al_overload_choice.specs.declared.types.Expected.{Expected}
+use Rattle.al_base_fault.specs.Faults.{fault_at}
+use Rattle.al_base_fault.specs.declared.fault.Fault.{Fault}
 
 -- where nothing fits, and where several interpretations are acceptable, at the context's first token
 abbrev pub nothing_fits : Place → Fault
@@ -23,19 +23,19 @@ meaning place (l ∷ (m ∷ more)) = Err (several_fit place)
 
 -- Where a name of the context's text denotes nothing, or no thing of the right kind, that is what is wrong. Else the
 -- expression means its only acceptable interpretation.
-abbrev pub resolved : Place → Option Fault → Tree → Wanted → Result Label Fault
-resolved place (Some fault) tree wanted = Err fault
-resolved place None tree wanted = meaning place (acceptable (labellings tree wanted))
+abbrev pub resolved : Place → Option Fault → Tree → Expected → Result Label Fault
+resolved place (Some fault) tree expected = Err fault
+resolved place None tree expected = meaning place (acceptable (labellings tree expected))
 
 -- an expression has a meaning exactly where one interpretation is acceptable, and this is it
 abbrev pub OneIsAcceptable : Type 0
 OneIsAcceptable =
-    (place : Place) (tree : Tree) (wanted : Wanted) (l : Label)
-    → (resolved place None tree wanted ≡ Ok l) ↔ (acceptable (labellings tree wanted) ≡ l ∷ [])
+    (place : Place) (tree : Tree) (expected : Expected) (l : Label)
+    → (resolved place None tree expected ≡ Ok l) ↔ (acceptable (labellings tree expected) ≡ l ∷ [])
 
 -- the fault tells which it is: none is acceptable, or at least two are
 abbrev pub FaultsTellWhy : Type 0
 FaultsTellWhy =
-    (place : Place) (tree : Tree) (wanted : Wanted)
-    → ((resolved place None tree wanted ≡ Err (nothing_fits place)) ↔ (acceptable (labellings tree wanted) ≡ []))
-    × ((resolved place None tree wanted ≡ Err (several_fit place)) ↔ (2 ≤ length (acceptable (labellings tree wanted))))
+    (place : Place) (tree : Tree) (expected : Expected)
+    → ((resolved place None tree expected ≡ Err (nothing_fits place)) ↔ (acceptable (labellings tree expected) ≡ []))
+    × ((resolved place None tree expected ≡ Err (several_fit place)) ↔ (2 ≤ length (acceptable (labellings tree expected))))

@@ -1,10 +1,10 @@
 // What each kind of complete context wants of its expression (ARM 8.6).
 ghost use Rattle.std.specs.Prelude.{◌≡◌, IfOk};
-ghost use Rattle.al_choice.specs.declared.types.Wanted.TheVariants as w;
+ghost use Rattle.al_overload_choice.specs.declared.types.Expected.TheVariants as w;
 ghost use Rattle.al_overload.specs.Contexts.{converted_to, wanted_in};
 
 use al_base::NoMemory;
-use al_choice::{ValueType, Wanted};
+use al_overload_choice::{Expected, ValueType};
 use std::alloc::Global;
 
 /// The predefined types that contexts want (ARM A.1, D.8).
@@ -26,7 +26,7 @@ pub enum Context {
     PairOfBounds,
     /// One of the bounds of an integer type, which may be of different types (ARM 3.5.4(4)).
     IntegerBound,
-    /// Both bounds behind a mark of this type, as one head (ARM 3.5(5)).
+    /// Both bounds after a mark of this type, as one head (ARM 3.5(5)).
     BoundOf(ValueType),
     /// ARM 5.3(4), 5.5(5), 5.7(4)
     Condition,
@@ -56,19 +56,19 @@ pub enum Context {
     QualifiedOperand(ValueType),
 }
 
-fn value(alloc: Global, of: &ValueType) -> Result<Wanted, NoMemory>
-    ensures { IfOk result (λ wanted. wanted ≡ w.Value of.now) }
+fn value(alloc: Global, of: &ValueType) -> Result<Expected, NoMemory>
+    ensures { IfOk result (λ expected. expected ≡ w.Value of.now) }
 {
     let of = of.copy(alloc)?;
-    Ok(Wanted::Value(of))
+    Ok(Expected::Value(of))
 }
 
 /// The operand of a conversion: where the target is an integer type, of any one.
-pub fn converted_to(alloc: Global, target: &ValueType) -> Result<Wanted, NoMemory>
-    ensures { IfOk result (λ wanted. wanted ≡ converted_to target.now) }
+pub fn converted_to(alloc: Global, target: &ValueType) -> Result<Expected, NoMemory>
+    ensures { IfOk result (λ expected. expected ≡ converted_to target.now) }
 {
     if target.class.is_integer() {
-        return Ok(Wanted::AnyInteger);
+        return Ok(Expected::AnyInteger);
     }
     value(alloc, target)
 }
@@ -78,25 +78,25 @@ pub fn wanted_in(
     alloc: Global,
     types: &PredefinedTypes,
     context: &Context,
-) -> Result<Wanted, NoMemory>
-    ensures { IfOk result (λ wanted. wanted ≡ wanted_in types.now context.now) }
+) -> Result<Expected, NoMemory>
+    ensures { IfOk result (λ expected. expected ≡ wanted_in types.now context.now) }
 {
     match context {
         Context::InitialValue(of) => value(alloc, of),
-        Context::NumberValue => Ok(Wanted::AnyInteger),
-        Context::PairOfBounds => Ok(Wanted::AnyDiscrete),
-        Context::IntegerBound => Ok(Wanted::AnyInteger),
+        Context::NumberValue => Ok(Expected::AnyInteger),
+        Context::PairOfBounds => Ok(Expected::AnyDiscrete),
+        Context::IntegerBound => Ok(Expected::AnyInteger),
         Context::BoundOf(of) => value(alloc, of),
         Context::Condition => value(alloc, &types.boolean),
-        Context::Selector => Ok(Wanted::AnyDiscrete),
+        Context::Selector => Ok(Expected::AnyDiscrete),
         Context::ChoiceOf(of) => value(alloc, of),
         Context::Moment => value(alloc, &types.time),
         Context::PriorityValue => value(alloc, &types.integer),
-        Context::Target => Ok(Wanted::AnyValue),
+        Context::Target => Ok(Expected::AnyValue),
         Context::Source(of) => value(alloc, of),
-        Context::ProcedureCall => Ok(Wanted::Nothing),
+        Context::ProcedureCall => Ok(Expected::Nothing),
         Context::ReturnValue(of) => value(alloc, of),
-        Context::PutArgument => Ok(Wanted::Text),
+        Context::PutArgument => Ok(Expected::Text),
         Context::ImageArgument(of) => value(alloc, of),
         Context::ConversionOperand(target) => converted_to(alloc, target),
         Context::QualifiedOperand(of) => value(alloc, of),

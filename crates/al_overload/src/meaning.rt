@@ -1,12 +1,12 @@
 // The one interpretation of a complete context, or what is wrong with it (ARM 8.6(29 to 31)).
 ghost use Rattle.std.specs.Prelude.{◌≡◌, IfOk};
-ghost use Rattle.al_choice.specs.Counts.{label_of, plain};
-ghost use Rattle.al_judged.specs.Judging.{seen_by};
+ghost use Rattle.al_overload_choice.specs.Counts.{label_of, plain};
+ghost use Rattle.al_base_fault.specs.Judging.{map_ok};
 ghost use Rattle.al_overload.specs.Meanings.{nothing_fits, resolved, several_fit};
 
 use al_base::{NoMemory, Place, Rule};
-use al_choice::{Expression, Interpretation, Labelled, Wanted, interpret};
-use al_judged::{Fault, Judged};
+use al_base_fault::{CheckResult, Fault};
+use al_overload_choice::{Expected, Expression, Interpretation, Labelled, interpret};
 use std::alloc::Global;
 
 fn nothing_fits(place: Place) -> Fault
@@ -36,14 +36,14 @@ pub fn resolve(
     place: Place,
     missing: Option<Fault>,
     expression: &Expression,
-    wanted: &Wanted,
-) -> Result<Judged<Labelled>, NoMemory>
-    ensures { IfOk result (λ judged. seen_by label_of judged ≡ resolved place missing (plain expression.now) wanted.now) }
+    expected: &Expected,
+) -> Result<CheckResult<Labelled>, NoMemory>
+    ensures { IfOk result (λ checked. map_ok label_of checked ≡ resolved place missing (plain expression.now) expected.now) }
 {
     if let Some(fault) = missing {
         return Ok(Err(fault));
     }
-    match interpret(alloc, expression, wanted)? {
+    match interpret(alloc, expression, expected)? {
         Interpretation::Nothing => Ok(Err(nothing_fits(place))),
         Interpretation::One(labelled) => Ok(Ok(labelled)),
         Interpretation::Several => Ok(Err(several_fit(place))),

@@ -1,14 +1,14 @@
 -- Whole texts.
 use Rattle.std.proofs.Common.{ℕ, ◌≡◌, ◌-◌, ◌≤◌, ◌<◌, List, [], ◌∷◌, ◌++◌, length, Some, Ok, Err, refl, sym, ap, ◌∙◌, subst, append-nil, length-append, arith}
-use Rattle.al_grammar.specs.Grammar.{lexemes_of}
-use Rattle.al_grammar.specs.Growing.{fault_before, fault_of}
-use Rattle.al_grammar.proofs.Layers.{reads}
-use Rattle.al_grammar.proofs.Language.{Reads}
-use Rattle.al_syntax.specs.Rules.{grammar, most}
-use Rattle.al_syntax.specs.Units.{unit_rule}
-use Rattle.al_syntax.specs.UnitTrees.{CompilationUnitTree, tokens_of}
-use Rattle.al_syntax.proofs.Clear.{closed, unit_clear}
-use Rattle.al_syntax.proofs.Laws.{faults_found}
+use Rattle.al_tree_grammar.specs.Grammar.{lexemes_of}
+use Rattle.al_tree_grammar.specs.Growing.{fault_before, fault_of}
+use Rattle.al_tree_grammar.proofs.Layers.{reads}
+use Rattle.al_tree_grammar.proofs.Language.{Reads}
+use Rattle.al_tree_syntax.specs.Rules.{grammar, most}
+use Rattle.al_tree_syntax.specs.Units.{unit_rule}
+use Rattle.al_tree_syntax.specs.UnitTrees.{CompilationUnitTree, tokens_of}
+use Rattle.al_tree_syntax.proofs.Clear.{closed, unit_clear}
+use Rattle.al_tree_syntax.proofs.Laws.{faults_found}
 use Rattle.al_parse_expr.specs.declared.stop.Stop.{Stop}
 use Rattle.al_parse_expr.specs.declared.stop.Stop.TheVariants.{Memory, Fault}
 use Rattle.al_parse_expr.specs.Parses.{Lexemes, Stops, Took, reading}
@@ -36,7 +36,7 @@ refuses (Fault n) xs s = (
   fault_is xs ∙ ap (fault_before (length xs)) s.1 ∙ ap (λ (k : ℕ). Some (length xs - k)) s.2,
 )
 
--- more is behind a unit
+-- more is after a unit
 pub goes_over : (xs u : Lexemes) (n : ℕ) → reading most unit_rule xs ≡ Ok u → length u ≡ n → 0 < n → Refuses (Fault n) xs
 goes_over xs [] n h e l = absurd (omega arith)
 goes_over xs (c ∷ u) n h e l = (

@@ -1,11 +1,11 @@
 -- What a parse of a whole text says.
 use Rattle.std.specs.Prelude.{ℕ, ◌≡◌, ◌-◌, ◌≤◌, List, length, Option, Some}
-use Rattle.al_grammar.specs.Grammar.{Lexeme, Sentence}
-use Rattle.al_grammar.specs.Growing.{fault_of}
-use Rattle.al_grammar.specs.Place.{IsFaultAt}
-use Rattle.al_syntax.specs.Rules.{grammar, most}
-use Rattle.al_syntax.specs.Units.{unit_rule}
-use Rattle.al_syntax.specs.UnitTrees.{CompilationUnitTree, tokens_of}
+use Rattle.al_tree_grammar.specs.Grammar.{Lexeme, Sentence}
+use Rattle.al_tree_grammar.specs.Growing.{fault_of}
+use Rattle.al_tree_grammar.specs.Place.{IsFaultAt}
+use Rattle.al_tree_syntax.specs.Rules.{grammar, most}
+use Rattle.al_tree_syntax.specs.Units.{unit_rule}
+use Rattle.al_tree_syntax.specs.UnitTrees.{CompilationUnitTree, tokens_of}
 use Rattle.al_parse_expr.specs.declared.stop.Stop.{Stop}
 use Rattle.al_parse_expr.specs.declared.stop.Stop.TheVariants.{Memory, Fault}
 use Rattle.al_parse.specs.declared.parsing.ParseError.{ParseError}

@@ -1,7 +1,7 @@
 // Whole texts.
 ghost use Rattle.std.specs.Prelude.{IfErr, IfOk};
 ghost use Rattle.al_tree.specs.Lexemes.{lexemes};
-ghost use Rattle.al_tree.specs.UnitViews.{unit_seen};
+ghost use Rattle.al_tree.specs.UnitViews.{unit_model};
 ghost use Rattle.al_parse.specs.Faults.{FaultOf, IsTreeOf, Refuses};
 
 use al_lex::Token;
@@ -29,7 +29,7 @@ pub enum ParseError {
 }
 
 fn whole(alloc: Global, source: &[u8], tokens: &[Token]) -> Result<CompilationUnit, Stop>
-    ensures found { IfOk result (λ u. IsTreeOf (unit_seen u) (lexemes source.now tokens.now)) }
+    ensures found { IfOk result (λ u. IsTreeOf (unit_model u) (lexemes source.now tokens.now)) }
     ensures fault { IfErr result (λ e. Refuses e (lexemes source.now tokens.now)) }
 {
     let (unit, rest) = compilation_unit(alloc, source, MOST_OPEN, tokens)?;
@@ -44,7 +44,7 @@ fn whole(alloc: Global, source: &[u8], tokens: &[Token]) -> Result<CompilationUn
 /// # Errors
 /// `Syntax` where the tokens are no compilation unit; `NoMemory` where memory is wanted and not given.
 pub fn parse(alloc: Global, source: &[u8], tokens: &[Token]) -> Result<CompilationUnit, ParseError>
-    ensures found { IfOk result (λ u. IsTreeOf (unit_seen u) (lexemes source.now tokens.now)) }
+    ensures found { IfOk result (λ u. IsTreeOf (unit_model u) (lexemes source.now tokens.now)) }
     ensures fault { IfErr result (λ e. FaultOf e (lexemes source.now tokens.now)) }
 {
     match whole(alloc, source, tokens) {

@@ -1,14 +1,14 @@
 // Worked values, and trees made by hand with their lexemes.
 ghost use Rattle.std.specs.Prelude.{◌≡◌, ◌∷◌, ◌++◌, [], None, IfOk, option_map};
-ghost use Rattle.al_syntax.specs.DeclarationTrees.{end_name_tokens, pragma_tokens};
-ghost use Rattle.al_syntax.specs.ExpressionTrees.{expression_tokens};
-ghost use Rattle.al_syntax.specs.StatementTrees.{statement_tokens};
-ghost use Rattle.al_syntax.specs.Symbols.{Symbol as symbols};
-ghost use Rattle.al_syntax.specs.Words.{labelled, word};
-ghost use Rattle.al_tree.specs.DeclarationViews.{pragma_seen};
-ghost use Rattle.al_tree.specs.ExpressionViews.{expression_seen};
+ghost use Rattle.al_tree_syntax.specs.DeclarationTrees.{end_name_tokens, pragma_tokens};
+ghost use Rattle.al_tree_syntax.specs.ExpressionTrees.{expression_tokens};
+ghost use Rattle.al_tree_syntax.specs.StatementTrees.{statement_tokens};
+ghost use Rattle.al_tree_syntax.specs.Symbols.{Symbol as symbols};
+ghost use Rattle.al_tree_syntax.specs.Words.{labelled, word};
+ghost use Rattle.al_tree.specs.DeclarationViews.{pragma_model};
+ghost use Rattle.al_tree.specs.ExpressionViews.{expression_model};
 ghost use Rattle.al_tree.specs.Lexemes.{identifier_label, place_label};
-ghost use Rattle.al_tree.specs.StatementViews.{statement_seen};
+ghost use Rattle.al_tree.specs.StatementViews.{statement_model};
 
 use al_base::{NoMemory, Place, ReservedWord, Span};
 use al_lex::{Delimiter, Kind, Token};
@@ -40,7 +40,7 @@ fn negated(
     place: Place,
     name: Identifier,
 ) -> Result<Expression, AllocFailed<Prefixed>>
-    ensures { IfOk result (λ e. expression_tokens (expression_seen e) ≡ labelled symbols.Minus (place_label place) ∷ labelled symbols.Identifier (identifier_label name) ∷ []) }
+    ensures { IfOk result (λ e. expression_tokens (expression_model e) ≡ labelled symbols.Minus (place_label place) ∷ labelled symbols.Identifier (identifier_label name) ∷ []) }
 {
     let negative = Prefixed::new(
         PrefixOperator::Sign(Sign::Minus(place)),
@@ -52,14 +52,14 @@ fn negated(
 /// `exit name;`
 fn exit(statement: Box<ExitStatement>) -> Statement
     requires { statement.value.condition ≡ None }
-    ensures { statement_tokens (statement_seen result) ≡ labelled symbols.Exit (place_label statement.value.opening) ∷ (end_name_tokens (option_map identifier_label statement.value.name) ++ word symbols.Semicolon ∷ []) }
+    ensures { statement_tokens (statement_model result) ≡ labelled symbols.Exit (place_label statement.value.opening) ∷ (end_name_tokens (option_map identifier_label statement.value.name) ++ word symbols.Semicolon ∷ []) }
 {
     Statement::exit(statement)
 }
 
 /// `pragma name;`
 fn pragma(name: Identifier) -> Pragma
-    ensures { pragma_tokens (pragma_seen result) ≡ word symbols.Pragma ∷ labelled symbols.Identifier (identifier_label name) ∷ word symbols.Semicolon ∷ [] }
+    ensures { pragma_tokens (pragma_model result) ≡ word symbols.Pragma ∷ labelled symbols.Identifier (identifier_label name) ∷ word symbols.Semicolon ∷ [] }
 {
     Pragma {
         name,

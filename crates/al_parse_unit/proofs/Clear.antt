@@ -1,11 +1,11 @@
 -- The next lexeme alone decides whether a loop goes on.
 use Rattle.std.proofs.Common.{◌≡◌, true, false, refl}
-use Rattle.al_grammar.specs.Grammar.Rule.{One, Any, Seq, Many}
-use Rattle.al_grammar.specs.Reading.{is_clear}
-use Rattle.al_syntax.specs.Declarations.{array_rule, aspect_rule, common_rule, component_rule, declaration_rule, element_rule, formal_rule, formals_rule, initial_rule, item_rule, object_rule, operation_body_rule, operation_rule, pragma_rule, specification_rule, subprogram_rule, subtype_indication_rule, subtype_rule, task_rule, type_rule, typed_rule, use_rule}
-use Rattle.al_syntax.specs.Expressions.{adding_rule, and_rule, compound_name_rule, compound_names_rule, designator_rule, discrete_range_rule, expression_rule, factor_rule, identifier_rule, identifiers_rule, membership_rule, multiplying_rule, name_rest_rule, name_rule, or_rule, parentheses_rule, primary_rule, range_rule, relation_rule, relational_rule, selection_rule, simple_expression_rule, term_rule, xor_rule}
-use Rattle.al_syntax.specs.Statements.{alternative_rule, block_rule, branch_rule, choice_rule, delay_rule, exit_rule, loop_rule, named_rule, return_rule, statement_rule, statements_rule}
-use Rattle.al_syntax.specs.Units.{context_rule}
+use Rattle.al_tree_grammar.specs.Grammar.Rule.{One, Any, Seq, Many}
+use Rattle.al_tree_grammar.specs.Reading.{is_clear}
+use Rattle.al_tree_syntax.specs.Declarations.{array_rule, aspect_rule, common_rule, component_rule, declaration_rule, element_rule, formal_rule, formals_rule, initial_rule, item_rule, object_rule, operation_body_rule, operation_rule, pragma_rule, specification_rule, subprogram_rule, subtype_indication_rule, subtype_rule, task_rule, type_rule, typed_rule, use_rule}
+use Rattle.al_tree_syntax.specs.Expressions.{adding_rule, and_rule, compound_name_rule, compound_names_rule, designator_rule, discrete_range_rule, expression_rule, factor_rule, identifier_rule, identifiers_rule, membership_rule, multiplying_rule, name_rest_rule, name_rule, or_rule, parentheses_rule, primary_rule, range_rule, relation_rule, relational_rule, selection_rule, simple_expression_rule, term_rule, xor_rule}
+use Rattle.al_tree_syntax.specs.Statements.{alternative_rule, block_rule, branch_rule, choice_rule, delay_rule, exit_rule, loop_rule, named_rule, return_rule, statement_rule, statements_rule}
+use Rattle.al_tree_syntax.specs.Units.{context_rule}
 
 pub more_statements_clear : is_clear false (Many statement_rule) ≡ true
 unfolding identifier_rule selection_rule designator_rule name_rest_rule parentheses_rule name_rule primary_rule factor_rule multiplying_rule term_rule adding_rule simple_expression_rule relational_rule membership_rule relation_rule and_rule or_rule xor_rule expression_rule initial_rule loop_rule block_rule named_rule return_rule exit_rule delay_rule statement_rule

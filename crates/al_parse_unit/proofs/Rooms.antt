@@ -1,10 +1,10 @@
 -- Where one more construct may be open, and where none may.
 use Rattle.std.proofs.Common.{ℕ, ◌≡◌, ◌<◌, zero, suc, Ok, Err, refl, ap, ◌∙◌, arith}
-use Rattle.al_grammar.specs.Grammar.{Rule}
-use Rattle.al_grammar.specs.Grammar.Rule.{Room, RoomOr, Seq}
-use Rattle.al_grammar.specs.Reading.{◌>>=◌}
-use Rattle.al_grammar.proofs.Turns.{with_room, without_room}
-use Rattle.al_syntax.specs.Rules.{grammar}
+use Rattle.al_tree_grammar.specs.Grammar.{Rule}
+use Rattle.al_tree_grammar.specs.Grammar.Rule.{Room, RoomOr, Seq}
+use Rattle.al_tree_grammar.specs.Reading.{◌>>=◌}
+use Rattle.al_tree_grammar.proofs.Turns.{with_room, without_room}
+use Rattle.al_tree_syntax.specs.Rules.{grammar}
 use Rattle.al_parse_expr.specs.declared.stop.Stop.{Stop}
 use Rattle.al_parse_expr.specs.declared.stop.Stop.TheVariants.{Memory, Fault}
 use Rattle.al_parse_expr.specs.Parses.{Lexemes, Took, Stops, reading}

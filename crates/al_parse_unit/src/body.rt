@@ -1,20 +1,20 @@
 // Statements, declarative parts and bodies, which hold each other (ARM 3.11, 5, 6.3, 9.1).
-ghost use Rattle.al_grammar.specs.Grammar.{each};
-ghost use Rattle.al_grammar.specs.Grammar.Rule.{Many, Opt, Room, RoomOr};
+ghost use Rattle.al_tree_grammar.specs.Grammar.{each};
+ghost use Rattle.al_tree_grammar.specs.Grammar.Rule.{Many, Opt, Room, RoomOr};
 ghost use Rattle.al_parse_expr.specs.Parses.{Gives, reading};
-ghost use Rattle.al_syntax.specs.Constructs.{Construct as constructs, place};
-ghost use Rattle.al_syntax.specs.DeclarationTrees.{identifier_token, specification_tokens};
-ghost use Rattle.al_syntax.specs.Declarations.{item_rule, specification_rule, subprogram_rule, task_rule};
-ghost use Rattle.al_syntax.specs.Notation.{any, opens, opens_at, the, ◌∣◌, ◌⨾◌};
-ghost use Rattle.al_syntax.specs.Rules.{grammar};
-ghost use Rattle.al_syntax.specs.StatementTrees.{alternative_tokens, block_tokens, body_tokens, branch_tokens, else_tokens, handled_tokens, item_tokens, loop_end_tokens, loop_tokens, named_end_tokens, statement_tokens, statements_tokens};
-ghost use Rattle.al_syntax.specs.Statements.{alternative_rule, block_rule, branch_rule, declare_rule, for_rule, loop_rule, named_rule, plain_block_rule, plain_loop_rule, statement_rule, statements_rule, while_rule};
-ghost use Rattle.al_syntax.specs.Symbols.{Symbol as symbols};
-ghost use Rattle.al_syntax.specs.Units.{subprogram_body_rule};
-ghost use Rattle.al_syntax.specs.Words.{labelled, word};
-ghost use Rattle.al_tree.specs.DeclarationViews.{specification_seen};
+ghost use Rattle.al_tree_syntax.specs.Constructs.{Construct as constructs, place};
+ghost use Rattle.al_tree_syntax.specs.DeclarationTrees.{identifier_token, specification_tokens};
+ghost use Rattle.al_tree_syntax.specs.Declarations.{item_rule, specification_rule, subprogram_rule, task_rule};
+ghost use Rattle.al_tree_syntax.specs.Notation.{any, opens, opens_at, the, ◌∣◌, ◌⨾◌};
+ghost use Rattle.al_tree_syntax.specs.Rules.{grammar};
+ghost use Rattle.al_tree_syntax.specs.StatementTrees.{alternative_tokens, block_tokens, body_tokens, branch_tokens, else_tokens, handled_tokens, item_tokens, loop_end_tokens, loop_tokens, named_end_tokens, statement_tokens, statements_tokens};
+ghost use Rattle.al_tree_syntax.specs.Statements.{alternative_rule, block_rule, branch_rule, declare_rule, for_rule, loop_rule, named_rule, plain_block_rule, plain_loop_rule, statement_rule, statements_rule, while_rule};
+ghost use Rattle.al_tree_syntax.specs.Symbols.{Symbol as symbols};
+ghost use Rattle.al_tree_syntax.specs.Units.{subprogram_body_rule};
+ghost use Rattle.al_tree_syntax.specs.Words.{labelled, word};
+ghost use Rattle.al_tree.specs.DeclarationViews.{specification_model};
 ghost use Rattle.al_tree.specs.Lexemes.{identifier_label, lexemes, place_label};
-ghost use Rattle.al_tree.specs.StatementViews.{alternative_seen, block_seen, body_seen, branch_seen, case_seen, else_of, elsif_tokens, handled_seen, if_seen, item_seen, loop_end_seen, loop_seen, named_end_seen, statement_seen, statements_seen};
+ghost use Rattle.al_tree.specs.StatementViews.{alternative_model, block_model, body_model, branch_model, case_model, else_of, elsif_tokens, handled_model, if_model, item_model, loop_end_model, loop_model, named_end_model, statement_model, statements_model};
 ghost use Rattle.std.specs.Prelude.{option_map, ◌++◌, ◌∷◌};
 
 use crate::declaration::common_declaration;
@@ -44,14 +44,14 @@ use std::alloc::Global;
 
 /// Statements, one at least (ARM 5.1).
 #[cycle(body)]
-#[tactic(auto, unfolding(al_syntax::specs::Statements::statements_rule))]
+#[tactic(auto, unfolding(al_tree_syntax::specs::Statements::statements_rule))]
 pub(crate) fn statements<'a>(
     alloc: Global,
     source: &[u8],
     depth: u32,
     tokens: &'a [Token],
 ) -> Result<(Statements, &'a [Token]), Stop>
-    ensures { Gives (λ x. statements_tokens (statements_seen x.0)) (λ x. lexemes source.now x.1.now) result (lexemes source.now tokens.now) (reading depth statements_rule (lexemes source.now tokens.now)) }
+    ensures { Gives (λ x. statements_tokens (statements_model x.0)) (λ x. lexemes source.now x.1.now) result (lexemes source.now tokens.now) (reading depth statements_rule (lexemes source.now tokens.now)) }
 {
     let (first, rest) = statement(alloc, source, depth, tokens)?;
     let (others, rest) = read_or_drop!(more_statements(alloc, source, depth, rest), first);
@@ -65,7 +65,7 @@ fn more_statements<'a>(
     depth: u32,
     tokens: &'a [Token],
 ) -> Result<(Vec<Statement>, &'a [Token]), Stop>
-    ensures { Gives (λ x. each (λ y. statement_tokens (statement_seen y)) x.0.items) (λ x. lexemes source.now x.1.now) result (lexemes source.now tokens.now) (reading depth (Many statement_rule) (lexemes source.now tokens.now)) }
+    ensures { Gives (λ x. each (λ y. statement_tokens (statement_model y)) x.0.items) (λ x. lexemes source.now x.1.now) result (lexemes source.now tokens.now) (reading depth (Many statement_rule) (lexemes source.now tokens.now)) }
 {
     let mut items = Vec::new(alloc);
     let mut rest = tokens;
@@ -79,14 +79,14 @@ fn more_statements<'a>(
 
 /// A statement (ARM 5.1).
 #[cycle(body)]
-#[tactic(auto, unfolding(al_syntax::specs::Statements::statement_rule, al_syntax::specs::Expressions::identifier_rule, al_syntax::specs::Statements::return_rule, al_syntax::specs::Statements::exit_rule, al_syntax::specs::Statements::delay_rule))]
+#[tactic(auto, unfolding(al_tree_syntax::specs::Statements::statement_rule, al_tree_syntax::specs::Expressions::identifier_rule, al_tree_syntax::specs::Statements::return_rule, al_tree_syntax::specs::Statements::exit_rule, al_tree_syntax::specs::Statements::delay_rule))]
 fn statement<'a>(
     alloc: Global,
     source: &[u8],
     depth: u32,
     tokens: &'a [Token],
 ) -> Result<(Statement, &'a [Token]), Stop>
-    ensures { Gives (λ x. statement_tokens (statement_seen x.0)) (λ x. lexemes source.now x.1.now) result (lexemes source.now tokens.now) (reading depth statement_rule (lexemes source.now tokens.now)) }
+    ensures { Gives (λ x. statement_tokens (statement_model x.0)) (λ x. lexemes source.now x.1.now) result (lexemes source.now tokens.now) (reading depth statement_rule (lexemes source.now tokens.now)) }
 {
     if let Some(rest) = skip(source, tokens, Symbol::Null) {
         let rest = expect(source, rest, Symbol::Semicolon)?;
@@ -115,7 +115,7 @@ fn statement<'a>(
 
 /// Behind the identifier that a statement begins with: a call, an assignment, or a loop or block of that name.
 #[cycle(body)]
-#[tactic(auto, unfolding(al_syntax::specs::Statements::named_rule))]
+#[tactic(auto, unfolding(al_tree_syntax::specs::Statements::named_rule))]
 fn named_statement<'a>(
     alloc: Global,
     source: &[u8],
@@ -123,7 +123,7 @@ fn named_statement<'a>(
     name: Identifier,
     tokens: &'a [Token],
 ) -> Result<(Statement, &'a [Token]), Stop>
-    ensures { Gives (λ x. statement_tokens (statement_seen x.0)) (λ x. lexemes source.now x.1.now) result (labelled symbols.Identifier (identifier_label name) ∷ lexemes source.now tokens.now) (reading depth named_rule (lexemes source.now tokens.now)) }
+    ensures { Gives (λ x. statement_tokens (statement_model x.0)) (λ x. lexemes source.now x.1.now) result (labelled symbols.Identifier (identifier_label name) ∷ lexemes source.now tokens.now) (reading depth named_rule (lexemes source.now tokens.now)) }
 {
     if is_rest_next(source, tokens) {
         let (statement, rest) = call_or_assignment(alloc, source, depth, name, tokens)?;
@@ -142,25 +142,25 @@ fn labelled_statement<'a>(
     name: Identifier,
     tokens: &'a [Token],
 ) -> Result<(Statement, &'a [Token]), Stop>
-    ensures { Gives (λ x. statement_tokens (statement_seen x.0)) (λ x. lexemes source.now x.1.now) result (labelled symbols.Identifier (identifier_label name) ∷ lexemes source.now tokens.now) (reading depth (Room (the symbols.Colon ⨾ (loop_rule ∣ block_rule))) (lexemes source.now tokens.now)) }
+    ensures { Gives (λ x. statement_tokens (statement_model x.0)) (λ x. lexemes source.now x.1.now) result (labelled symbols.Identifier (identifier_label name) ∷ lexemes source.now tokens.now) (reading depth (Room (the symbols.Colon ⨾ (loop_rule ∣ block_rule))) (lexemes source.now tokens.now)) }
 {
     if depth == 0 {
         return Err(Stop::Fault(tokens.len()));
     }
-    let (statement, rest) = behind_label(alloc, source, depth, name, tokens)?;
+    let (statement, rest) = after_label(alloc, source, depth, name, tokens)?;
     Ok((statement, rest))
 }
 
 /// A colon, and a loop or block of this name.
 #[cycle(body)]
-fn behind_label<'a>(
+fn after_label<'a>(
     alloc: Global,
     source: &[u8],
     depth: u32,
     name: Identifier,
     tokens: &'a [Token],
 ) -> Result<(Statement, &'a [Token]), Stop>
-    ensures { Gives (λ x. statement_tokens (statement_seen x.0)) (λ x. lexemes source.now x.1.now) result (labelled symbols.Identifier (identifier_label name) ∷ lexemes source.now tokens.now) (reading depth (the symbols.Colon ⨾ (loop_rule ∣ block_rule)) (lexemes source.now tokens.now)) }
+    ensures { Gives (λ x. statement_tokens (statement_model x.0)) (λ x. lexemes source.now x.1.now) result (labelled symbols.Identifier (identifier_label name) ∷ lexemes source.now tokens.now) (reading depth (the symbols.Colon ⨾ (loop_rule ∣ block_rule)) (lexemes source.now tokens.now)) }
 {
     let rest = read_or_drop!(expect(source, tokens, Symbol::Colon), name);
     if is_loop_next(source, rest) {
@@ -182,7 +182,7 @@ fn compound_statement<'a>(
     depth: u32,
     tokens: &'a [Token],
 ) -> Result<(Statement, &'a [Token]), Stop>
-    ensures { Gives (λ x. statement_tokens (statement_seen x.0)) (λ x. lexemes source.now x.1.now) result (lexemes source.now tokens.now) (reading depth (opens_at symbols.If constructs.IfStatement ∣ opens_at symbols.Case constructs.CaseStatement ∣ loop_rule ∣ block_rule) (lexemes source.now tokens.now)) }
+    ensures { Gives (λ x. statement_tokens (statement_model x.0)) (λ x. lexemes source.now x.1.now) result (lexemes source.now tokens.now) (reading depth (opens_at symbols.If constructs.IfStatement ∣ opens_at symbols.Case constructs.CaseStatement ∣ loop_rule ∣ block_rule) (lexemes source.now tokens.now)) }
 {
     if is_next(source, tokens, Symbol::If) {
         let (inner, opening, rest) = enter_at(source, depth, tokens, Symbol::If)?;
@@ -204,7 +204,7 @@ fn compound_statement<'a>(
 
 /// Behind `if` (ARM 5.3).
 #[cycle(body)]
-#[tactic(auto, unfolding(al_syntax::specs::Rules::grammar, al_syntax::specs::Rules::inside, al_syntax::specs::Constructs::construct_at, al_syntax::specs::Statements::if_rule))]
+#[tactic(auto, unfolding(al_tree_syntax::specs::Rules::grammar, al_tree_syntax::specs::Rules::inside, al_tree_syntax::specs::Constructs::construct_at, al_tree_syntax::specs::Statements::if_rule))]
 fn if_statement<'a>(
     alloc: Global,
     source: &[u8],
@@ -212,7 +212,7 @@ fn if_statement<'a>(
     opening: Place,
     tokens: &'a [Token],
 ) -> Result<(IfStatement, &'a [Token]), Stop>
-    ensures { Gives (λ x. statement_tokens (if_seen x.0)) (λ x. lexemes source.now x.1.now) result (labelled symbols.If (place_label opening) ∷ lexemes source.now tokens.now) (reading depth (grammar (place constructs.IfStatement)) (lexemes source.now tokens.now)) }
+    ensures { Gives (λ x. statement_tokens (if_model x.0)) (λ x. lexemes source.now x.1.now) result (labelled symbols.If (place_label opening) ∷ lexemes source.now tokens.now) (reading depth (grammar (place constructs.IfStatement)) (lexemes source.now tokens.now)) }
 {
     let (first, rest) = branch(alloc, source, depth, tokens)?;
     let (others, rest) = read_or_drop!(elsifs(alloc, source, depth, rest), first);
@@ -229,14 +229,14 @@ fn if_statement<'a>(
 
 /// `condition then statements`
 #[cycle(body)]
-#[tactic(auto, unfolding(al_syntax::specs::Statements::branch_rule))]
+#[tactic(auto, unfolding(al_tree_syntax::specs::Statements::branch_rule))]
 fn branch<'a>(
     alloc: Global,
     source: &[u8],
     depth: u32,
     tokens: &'a [Token],
 ) -> Result<(Branch, &'a [Token]), Stop>
-    ensures { Gives (λ x. branch_tokens (branch_seen x.0)) (λ x. lexemes source.now x.1.now) result (lexemes source.now tokens.now) (reading depth branch_rule (lexemes source.now tokens.now)) }
+    ensures { Gives (λ x. branch_tokens (branch_model x.0)) (λ x. lexemes source.now x.1.now) result (lexemes source.now tokens.now) (reading depth branch_rule (lexemes source.now tokens.now)) }
 {
     let (condition, rest) = expression(alloc, source, depth, tokens)?;
     let rest = read_or_drop!(expect(source, rest, Symbol::Then), condition);
@@ -244,7 +244,7 @@ fn branch<'a>(
     Ok((Branch::new(condition, statements), rest))
 }
 
-/// A branch behind `elsif`.
+/// A branch after `elsif`.
 #[cycle(body)]
 fn elsif<'a>(
     alloc: Global,
@@ -259,7 +259,7 @@ fn elsif<'a>(
     Ok((ElsifBranch::new(opening, branch), rest))
 }
 
-/// Branches behind `elsif`.
+/// Branches after `elsif`.
 #[cycle(body)]
 fn elsifs<'a>(
     alloc: Global,
@@ -287,7 +287,7 @@ fn otherwise<'a>(
     depth: u32,
     tokens: &'a [Token],
 ) -> Result<(Option<Statements>, &'a [Token]), Stop>
-    ensures { Gives (λ x. else_tokens (else_of (option_map statements_seen x.0))) (λ x. lexemes source.now x.1.now) result (lexemes source.now tokens.now) (reading depth (Opt (the symbols.Else ⨾ statements_rule)) (lexemes source.now tokens.now)) }
+    ensures { Gives (λ x. else_tokens (else_of (option_map statements_model x.0))) (λ x. lexemes source.now x.1.now) result (lexemes source.now tokens.now) (reading depth (Opt (the symbols.Else ⨾ statements_rule)) (lexemes source.now tokens.now)) }
 {
     match skip(source, tokens, Symbol::Else) {
         None => Ok((None, tokens)),
@@ -300,7 +300,7 @@ fn otherwise<'a>(
 
 /// Behind `case` (ARM 5.4).
 #[cycle(body)]
-#[tactic(auto, unfolding(al_syntax::specs::Rules::grammar, al_syntax::specs::Rules::inside, al_syntax::specs::Constructs::construct_at, al_syntax::specs::Statements::case_rule))]
+#[tactic(auto, unfolding(al_tree_syntax::specs::Rules::grammar, al_tree_syntax::specs::Rules::inside, al_tree_syntax::specs::Constructs::construct_at, al_tree_syntax::specs::Statements::case_rule))]
 fn case_statement<'a>(
     alloc: Global,
     source: &[u8],
@@ -308,7 +308,7 @@ fn case_statement<'a>(
     opening: Place,
     tokens: &'a [Token],
 ) -> Result<(CaseStatement, &'a [Token]), Stop>
-    ensures { Gives (λ x. statement_tokens (case_seen x.0)) (λ x. lexemes source.now x.1.now) result (labelled symbols.Case (place_label opening) ∷ lexemes source.now tokens.now) (reading depth (grammar (place constructs.CaseStatement)) (lexemes source.now tokens.now)) }
+    ensures { Gives (λ x. statement_tokens (case_model x.0)) (λ x. lexemes source.now x.1.now) result (labelled symbols.Case (place_label opening) ∷ lexemes source.now tokens.now) (reading depth (grammar (place constructs.CaseStatement)) (lexemes source.now tokens.now)) }
 {
     let (selector, rest) = expression(alloc, source, depth, tokens)?;
     let rest = read_or_drop!(expect(source, rest, Symbol::Is), selector);
@@ -329,14 +329,14 @@ fn case_statement<'a>(
 
 /// `when choice {| choice} => statements`
 #[cycle(body)]
-#[tactic(auto, unfolding(al_syntax::specs::Statements::alternative_rule))]
+#[tactic(auto, unfolding(al_tree_syntax::specs::Statements::alternative_rule))]
 fn alternative<'a>(
     alloc: Global,
     source: &[u8],
     depth: u32,
     tokens: &'a [Token],
 ) -> Result<(Alternative, &'a [Token]), Stop>
-    ensures { Gives (λ x. alternative_tokens (alternative_seen x.0)) (λ x. lexemes source.now x.1.now) result (lexemes source.now tokens.now) (reading depth alternative_rule (lexemes source.now tokens.now)) }
+    ensures { Gives (λ x. alternative_tokens (alternative_model x.0)) (λ x. lexemes source.now x.1.now) result (lexemes source.now tokens.now) (reading depth alternative_rule (lexemes source.now tokens.now)) }
 {
     let rest = expect(source, tokens, Symbol::When)?;
     let (first, others, rest) = choices(alloc, source, depth, rest)?;
@@ -352,7 +352,7 @@ fn more_alternatives<'a>(
     depth: u32,
     tokens: &'a [Token],
 ) -> Result<(Vec<Alternative>, &'a [Token]), Stop>
-    ensures { Gives (λ x. each (λ y. alternative_tokens (alternative_seen y)) x.0.items) (λ x. lexemes source.now x.1.now) result (lexemes source.now tokens.now) (reading depth (Many alternative_rule) (lexemes source.now tokens.now)) }
+    ensures { Gives (λ x. each (λ y. alternative_tokens (alternative_model y)) x.0.items) (λ x. lexemes source.now x.1.now) result (lexemes source.now tokens.now) (reading depth (Many alternative_rule) (lexemes source.now tokens.now)) }
 {
     let mut items = Vec::new(alloc);
     let mut rest = tokens;
@@ -366,14 +366,14 @@ fn more_alternatives<'a>(
 
 /// ARM 5.5
 #[cycle(body)]
-#[tactic(auto, unfolding(al_syntax::specs::Statements::loop_rule, al_syntax::specs::Rules::grammar, al_syntax::specs::Rules::inside, al_syntax::specs::Constructs::construct_at))]
+#[tactic(auto, unfolding(al_tree_syntax::specs::Statements::loop_rule, al_tree_syntax::specs::Rules::grammar, al_tree_syntax::specs::Rules::inside, al_tree_syntax::specs::Constructs::construct_at))]
 fn loop_statement<'a>(
     alloc: Global,
     source: &[u8],
     depth: u32,
     tokens: &'a [Token],
 ) -> Result<(LoopStatement, &'a [Token]), Stop>
-    ensures { Gives (λ x. loop_tokens (loop_seen x.0)) (λ x. lexemes source.now x.1.now) result (lexemes source.now tokens.now) (reading depth loop_rule (lexemes source.now tokens.now)) }
+    ensures { Gives (λ x. loop_tokens (loop_model x.0)) (λ x. lexemes source.now x.1.now) result (lexemes source.now tokens.now) (reading depth loop_rule (lexemes source.now tokens.now)) }
 {
     if is_next(source, tokens, Symbol::Loop) {
         let (inner, opening, rest) = enter_at(source, depth, tokens, Symbol::Loop)?;
@@ -391,14 +391,14 @@ fn loop_statement<'a>(
 }
 
 #[cycle(body)]
-#[tactic(auto, unfolding(al_syntax::specs::Statements::plain_loop_rule, al_syntax::specs::Expressions::identifier_rule))]
+#[tactic(auto, unfolding(al_tree_syntax::specs::Statements::plain_loop_rule, al_tree_syntax::specs::Expressions::identifier_rule))]
 fn loop_body<'a>(
     alloc: Global,
     source: &[u8],
     depth: u32,
     tokens: &'a [Token],
 ) -> Result<(Statements, LoopEnd, &'a [Token]), Stop>
-    ensures { Gives (λ x. statements_tokens (statements_seen x.0) ++ loop_end_tokens (loop_end_seen x.1)) (λ x. lexemes source.now x.2.now) result (lexemes source.now tokens.now) (reading depth plain_loop_rule (lexemes source.now tokens.now)) }
+    ensures { Gives (λ x. statements_tokens (statements_model x.0) ++ loop_end_tokens (loop_end_model x.1)) (λ x. lexemes source.now x.2.now) result (lexemes source.now tokens.now) (reading depth plain_loop_rule (lexemes source.now tokens.now)) }
 {
     let (statements, rest) = statements(alloc, source, depth, tokens)?;
     let (end, rest) = read_or_drop!(loop_end(alloc, source, rest), statements);
@@ -406,7 +406,7 @@ fn loop_body<'a>(
 }
 
 #[cycle(body)]
-#[tactic(auto, unfolding(al_syntax::specs::Statements::while_rule))]
+#[tactic(auto, unfolding(al_tree_syntax::specs::Statements::while_rule))]
 fn while_loop<'a>(
     alloc: Global,
     source: &[u8],
@@ -414,7 +414,7 @@ fn while_loop<'a>(
     opening: Place,
     tokens: &'a [Token],
 ) -> Result<(LoopStatement, &'a [Token]), Stop>
-    ensures { Gives (λ x. loop_tokens (loop_seen x.0)) (λ x. lexemes source.now x.1.now) result (labelled symbols.While (place_label opening) ∷ lexemes source.now tokens.now) (reading depth while_rule (lexemes source.now tokens.now)) }
+    ensures { Gives (λ x. loop_tokens (loop_model x.0)) (λ x. lexemes source.now x.1.now) result (labelled symbols.While (place_label opening) ∷ lexemes source.now tokens.now) (reading depth while_rule (lexemes source.now tokens.now)) }
 {
     let (condition, rest) = expression(alloc, source, depth, tokens)?;
     let (body, rest) = read_or_drop!(word_at(source, rest, Symbol::Loop), condition);
@@ -426,7 +426,7 @@ fn while_loop<'a>(
 }
 
 #[cycle(body)]
-#[tactic(auto, unfolding(al_syntax::specs::Statements::for_rule, al_syntax::specs::Expressions::identifier_rule))]
+#[tactic(auto, unfolding(al_tree_syntax::specs::Statements::for_rule, al_tree_syntax::specs::Expressions::identifier_rule))]
 fn for_loop<'a>(
     alloc: Global,
     source: &[u8],
@@ -434,7 +434,7 @@ fn for_loop<'a>(
     opening: Place,
     tokens: &'a [Token],
 ) -> Result<(LoopStatement, &'a [Token]), Stop>
-    ensures { Gives (λ x. loop_tokens (loop_seen x.0)) (λ x. lexemes source.now x.1.now) result (labelled symbols.For (place_label opening) ∷ lexemes source.now tokens.now) (reading depth for_rule (lexemes source.now tokens.now)) }
+    ensures { Gives (λ x. loop_tokens (loop_model x.0)) (λ x. lexemes source.now x.1.now) result (labelled symbols.For (place_label opening) ∷ lexemes source.now tokens.now) (reading depth for_rule (lexemes source.now tokens.now)) }
 {
     let (parameter, rest) = identifier(alloc, source, tokens)?;
     let rest = read_or_drop!(expect(source, rest, Symbol::In), parameter);
@@ -453,14 +453,14 @@ fn for_loop<'a>(
 
 /// ARM 5.6
 #[cycle(body)]
-#[tactic(auto, unfolding(al_syntax::specs::Statements::block_rule, al_syntax::specs::Rules::grammar, al_syntax::specs::Rules::inside, al_syntax::specs::Constructs::construct_at))]
+#[tactic(auto, unfolding(al_tree_syntax::specs::Statements::block_rule, al_tree_syntax::specs::Rules::grammar, al_tree_syntax::specs::Rules::inside, al_tree_syntax::specs::Constructs::construct_at))]
 fn block_statement<'a>(
     alloc: Global,
     source: &[u8],
     depth: u32,
     tokens: &'a [Token],
 ) -> Result<(BlockStatement, &'a [Token]), Stop>
-    ensures { Gives (λ x. block_tokens (block_seen x.0)) (λ x. lexemes source.now x.1.now) result (lexemes source.now tokens.now) (reading depth block_rule (lexemes source.now tokens.now)) }
+    ensures { Gives (λ x. block_tokens (block_model x.0)) (λ x. lexemes source.now x.1.now) result (lexemes source.now tokens.now) (reading depth block_rule (lexemes source.now tokens.now)) }
 {
     if is_next(source, tokens, Symbol::Declare) {
         let (inner, opening, rest) = enter_at(source, depth, tokens, Symbol::Declare)?;
@@ -474,14 +474,14 @@ fn block_statement<'a>(
 
 /// Behind `begin`.
 #[cycle(body)]
-#[tactic(auto, unfolding(al_syntax::specs::Statements::plain_block_rule, al_syntax::specs::Expressions::identifier_rule))]
+#[tactic(auto, unfolding(al_tree_syntax::specs::Statements::plain_block_rule, al_tree_syntax::specs::Expressions::identifier_rule))]
 fn plain_block<'a>(
     alloc: Global,
     source: &[u8],
     depth: u32,
     tokens: &'a [Token],
 ) -> Result<(Statements, NamedEnd, &'a [Token]), Stop>
-    ensures { Gives (λ x. statements_tokens (statements_seen x.0) ++ named_end_tokens (named_end_seen x.1)) (λ x. lexemes source.now x.2.now) result (lexemes source.now tokens.now) (reading depth plain_block_rule (lexemes source.now tokens.now)) }
+    ensures { Gives (λ x. statements_tokens (statements_model x.0) ++ named_end_tokens (named_end_model x.1)) (λ x. lexemes source.now x.2.now) result (lexemes source.now tokens.now) (reading depth plain_block_rule (lexemes source.now tokens.now)) }
 {
     let (statements, rest) = statements(alloc, source, depth, tokens)?;
     let (end, rest) = read_or_drop!(named_end(alloc, source, rest), statements);
@@ -490,14 +490,14 @@ fn plain_block<'a>(
 
 /// `declarations begin statements end [name];`
 #[cycle(body)]
-#[tactic(auto, unfolding(al_syntax::specs::Statements::declare_rule))]
+#[tactic(auto, unfolding(al_tree_syntax::specs::Statements::declare_rule))]
 pub(crate) fn declared_statements<'a>(
     alloc: Global,
     source: &[u8],
     depth: u32,
     tokens: &'a [Token],
 ) -> Result<(DeclaredStatements, &'a [Token]), Stop>
-    ensures { Gives (λ x. handled_tokens (handled_seen x.0)) (λ x. lexemes source.now x.1.now) result (lexemes source.now tokens.now) (reading depth declare_rule (lexemes source.now tokens.now)) }
+    ensures { Gives (λ x. handled_tokens (handled_model x.0)) (λ x. lexemes source.now x.1.now) result (lexemes source.now tokens.now) (reading depth declare_rule (lexemes source.now tokens.now)) }
 {
     let (items, rest) = items(alloc, source, depth, tokens)?;
     let (begin, rest) = read_or_drop!(word_at(source, rest, Symbol::Begin), items);
@@ -513,7 +513,7 @@ pub(crate) fn items<'a>(
     depth: u32,
     tokens: &'a [Token],
 ) -> Result<(Vec<Item>, &'a [Token]), Stop>
-    ensures { Gives (λ x. each (λ y. item_tokens (item_seen y)) x.0.items) (λ x. lexemes source.now x.1.now) result (lexemes source.now tokens.now) (reading depth (Many item_rule) (lexemes source.now tokens.now)) }
+    ensures { Gives (λ x. each (λ y. item_tokens (item_model y)) x.0.items) (λ x. lexemes source.now x.1.now) result (lexemes source.now tokens.now) (reading depth (Many item_rule) (lexemes source.now tokens.now)) }
 {
     let mut items = Vec::new(alloc);
     let mut rest = tokens;
@@ -527,14 +527,14 @@ pub(crate) fn items<'a>(
 
 /// What stands in a declarative part.
 #[cycle(body)]
-#[tactic(auto, unfolding(al_syntax::specs::Declarations::item_rule))]
+#[tactic(auto, unfolding(al_tree_syntax::specs::Declarations::item_rule))]
 fn item<'a>(
     alloc: Global,
     source: &[u8],
     depth: u32,
     tokens: &'a [Token],
 ) -> Result<(Item, &'a [Token]), Stop>
-    ensures { Gives (λ x. item_tokens (item_seen x.0)) (λ x. lexemes source.now x.1.now) result (lexemes source.now tokens.now) (reading depth item_rule (lexemes source.now tokens.now)) }
+    ensures { Gives (λ x. item_tokens (item_model x.0)) (λ x. lexemes source.now x.1.now) result (lexemes source.now tokens.now) (reading depth item_rule (lexemes source.now tokens.now)) }
 {
     if is_common_next(source, tokens) {
         let (declaration, rest) = common_declaration(alloc, source, depth, tokens)?;
@@ -556,7 +556,7 @@ fn item<'a>(
 
 /// Behind the specification of a subprogram: a declaration, a stub or a body.
 #[cycle(body)]
-#[tactic(auto, unfolding(al_syntax::specs::Declarations::subprogram_rule))]
+#[tactic(auto, unfolding(al_tree_syntax::specs::Declarations::subprogram_rule))]
 fn completion<'a>(
     alloc: Global,
     source: &[u8],
@@ -564,7 +564,7 @@ fn completion<'a>(
     specification: Specification,
     tokens: &'a [Token],
 ) -> Result<(Item, &'a [Token]), Stop>
-    ensures { Gives (λ x. item_tokens (item_seen x.0)) (λ x. lexemes source.now x.1.now) result (specification_tokens (specification_seen specification) ++ lexemes source.now tokens.now) (reading depth subprogram_rule (lexemes source.now tokens.now)) }
+    ensures { Gives (λ x. item_tokens (item_model x.0)) (λ x. lexemes source.now x.1.now) result (specification_tokens (specification_model specification) ++ lexemes source.now tokens.now) (reading depth subprogram_rule (lexemes source.now tokens.now)) }
 {
     if let Some(rest) = skip(source, tokens, Symbol::Semicolon) {
         return Ok((Item::subprogram(specification), rest));
@@ -582,7 +582,7 @@ fn body_or_stub<'a>(
     specification: Specification,
     tokens: &'a [Token],
 ) -> Result<(Item, &'a [Token]), Stop>
-    ensures { Gives (λ x. item_tokens (item_seen x.0)) (λ x. lexemes source.now x.1.now) result (specification_tokens (specification_seen specification) ++ lexemes source.now tokens.now) (reading depth (RoomOr (opens symbols.Is constructs.BodyOrStub) (the symbols.Is ⨾ any symbols.Separate ⨾ the symbols.Semicolon)) (lexemes source.now tokens.now)) }
+    ensures { Gives (λ x. item_tokens (item_model x.0)) (λ x. lexemes source.now x.1.now) result (specification_tokens (specification_model specification) ++ lexemes source.now tokens.now) (reading depth (RoomOr (opens symbols.Is constructs.BodyOrStub) (the symbols.Is ⨾ any symbols.Separate ⨾ the symbols.Semicolon)) (lexemes source.now tokens.now)) }
 {
     if depth == 0 {
         let (item, rest) = stub(source, specification, tokens)?;
@@ -592,9 +592,9 @@ fn body_or_stub<'a>(
     Ok((item, rest))
 }
 
-/// `is`, and a stub or a body behind it.
+/// `is`, and a stub or a body after it.
 #[cycle(body)]
-#[tactic(auto, unfolding(al_syntax::specs::Rules::grammar, al_syntax::specs::Rules::inside, al_syntax::specs::Constructs::construct_at))]
+#[tactic(auto, unfolding(al_tree_syntax::specs::Rules::grammar, al_tree_syntax::specs::Rules::inside, al_tree_syntax::specs::Constructs::construct_at))]
 fn opened_body<'a>(
     alloc: Global,
     source: &[u8],
@@ -602,7 +602,7 @@ fn opened_body<'a>(
     specification: Specification,
     tokens: &'a [Token],
 ) -> Result<(Item, &'a [Token]), Stop>
-    ensures { Gives (λ x. item_tokens (item_seen x.0)) (λ x. lexemes source.now x.1.now) result (specification_tokens (specification_seen specification) ++ lexemes source.now tokens.now) (reading depth (opens symbols.Is constructs.BodyOrStub) (lexemes source.now tokens.now)) }
+    ensures { Gives (λ x. item_tokens (item_model x.0)) (λ x. lexemes source.now x.1.now) result (specification_tokens (specification_model specification) ++ lexemes source.now tokens.now) (reading depth (opens symbols.Is constructs.BodyOrStub) (lexemes source.now tokens.now)) }
 {
     let (inner, rest) = enter(source, depth, tokens, Symbol::Is)?;
     if let Some((separate, rest)) = skip_at(source, rest, Symbol::Separate) {
@@ -613,16 +613,16 @@ fn opened_body<'a>(
     Ok((Item::body(specification, body), rest))
 }
 
-/// What a subprogram's body has behind `is` (ARM 6.3).
+/// What a subprogram's body has after `is` (ARM 6.3).
 #[cycle(body)]
-#[tactic(auto, unfolding(al_syntax::specs::Units::subprogram_body_rule, al_syntax::specs::Expressions::compound_name_rule, al_syntax::specs::Expressions::identifier_rule))]
+#[tactic(auto, unfolding(al_tree_syntax::specs::Units::subprogram_body_rule, al_tree_syntax::specs::Expressions::compound_name_rule, al_tree_syntax::specs::Expressions::identifier_rule))]
 pub(crate) fn subprogram_body<'a>(
     alloc: Global,
     source: &[u8],
     depth: u32,
     tokens: &'a [Token],
 ) -> Result<(SubprogramBody, &'a [Token]), Stop>
-    ensures { Gives (λ x. body_tokens (body_seen x.0)) (λ x. lexemes source.now x.1.now) result (lexemes source.now tokens.now) (reading depth subprogram_body_rule (lexemes source.now tokens.now)) }
+    ensures { Gives (λ x. body_tokens (body_model x.0)) (λ x. lexemes source.now x.1.now) result (lexemes source.now tokens.now) (reading depth subprogram_body_rule (lexemes source.now tokens.now)) }
 {
     let (items, rest) = items(alloc, source, depth, tokens)?;
     let (begin, rest) = read_or_drop!(word_at(source, rest, Symbol::Begin), items);
@@ -633,14 +633,14 @@ pub(crate) fn subprogram_body<'a>(
 
 /// The body of a subprogram (ARM 6.3).
 #[cycle(body)]
-#[tactic(auto, unfolding(al_syntax::specs::Rules::grammar, al_syntax::specs::Rules::inside, al_syntax::specs::Constructs::construct_at))]
+#[tactic(auto, unfolding(al_tree_syntax::specs::Rules::grammar, al_tree_syntax::specs::Rules::inside, al_tree_syntax::specs::Constructs::construct_at))]
 pub(crate) fn proper_body<'a>(
     alloc: Global,
     source: &[u8],
     depth: u32,
     tokens: &'a [Token],
 ) -> Result<(Specification, SubprogramBody, &'a [Token]), Stop>
-    ensures { Gives (λ x. specification_tokens (specification_seen x.0) ++ word symbols.Is ∷ body_tokens (body_seen x.1)) (λ x. lexemes source.now x.2.now) result (lexemes source.now tokens.now) (reading depth (specification_rule ⨾ opens symbols.Is constructs.SubprogramBody) (lexemes source.now tokens.now)) }
+    ensures { Gives (λ x. specification_tokens (specification_model x.0) ++ word symbols.Is ∷ body_tokens (body_model x.1)) (λ x. lexemes source.now x.2.now) result (lexemes source.now tokens.now) (reading depth (specification_rule ⨾ opens symbols.Is constructs.SubprogramBody) (lexemes source.now tokens.now)) }
 {
     let (specification, rest) = specification(alloc, source, depth, tokens)?;
     let (inner, rest) = read_or_drop!(enter(source, depth, rest, Symbol::Is), specification);
@@ -657,7 +657,7 @@ fn task_item<'a>(
     opening: Place,
     tokens: &'a [Token],
 ) -> Result<(Item, &'a [Token]), Stop>
-    ensures { Gives (λ x. item_tokens (item_seen x.0)) (λ x. lexemes source.now x.1.now) result (labelled symbols.Task (place_label opening) ∷ lexemes source.now tokens.now) (reading depth (task_rule ∣ opens symbols.Body constructs.TaskBody) (lexemes source.now tokens.now)) }
+    ensures { Gives (λ x. item_tokens (item_model x.0)) (λ x. lexemes source.now x.1.now) result (labelled symbols.Task (place_label opening) ∷ lexemes source.now tokens.now) (reading depth (task_rule ∣ opens symbols.Body constructs.TaskBody) (lexemes source.now tokens.now)) }
 {
     if is_task_next(source, tokens) {
         let (name, aspect, rest) = task_declaration(alloc, source, depth, tokens)?;
@@ -677,14 +677,14 @@ fn task_item<'a>(
 
 /// Behind `task body`.
 #[cycle(body)]
-#[tactic(auto, unfolding(al_syntax::specs::Rules::grammar, al_syntax::specs::Rules::inside, al_syntax::specs::Constructs::construct_at, al_syntax::specs::Expressions::identifier_rule))]
+#[tactic(auto, unfolding(al_tree_syntax::specs::Rules::grammar, al_tree_syntax::specs::Rules::inside, al_tree_syntax::specs::Constructs::construct_at, al_tree_syntax::specs::Expressions::identifier_rule))]
 fn task_body<'a>(
     alloc: Global,
     source: &[u8],
     depth: u32,
     tokens: &'a [Token],
 ) -> Result<(Identifier, DeclaredStatements, &'a [Token]), Stop>
-    ensures { Gives (λ x. identifier_token (identifier_label x.0) ∷ word symbols.Is ∷ handled_tokens (handled_seen x.1)) (λ x. lexemes source.now x.2.now) result (lexemes source.now tokens.now) (reading depth (grammar (place constructs.TaskBody)) (lexemes source.now tokens.now)) }
+    ensures { Gives (λ x. identifier_token (identifier_label x.0) ∷ word symbols.Is ∷ handled_tokens (handled_model x.1)) (λ x. lexemes source.now x.2.now) result (lexemes source.now tokens.now) (reading depth (grammar (place constructs.TaskBody)) (lexemes source.now tokens.now)) }
 {
     let (name, rest) = identifier(alloc, source, tokens)?;
     let rest = read_or_drop!(expect(source, rest, Symbol::Is), name);

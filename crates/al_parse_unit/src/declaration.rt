@@ -1,17 +1,17 @@
 // Declarations that packages and bodies have alike (ARM 2.8, 3, 8.4).
-ghost use Rattle.al_grammar.specs.Grammar.{each, maybe};
-ghost use Rattle.al_grammar.specs.Grammar.Rule.{Many, Opt};
+ghost use Rattle.al_tree_grammar.specs.Grammar.{each, maybe};
+ghost use Rattle.al_tree_grammar.specs.Grammar.Rule.{Many, Opt};
 ghost use Rattle.al_parse_expr.specs.Parses.{Gives, reading};
-ghost use Rattle.al_syntax.specs.Constructs.{Construct as constructs, place};
-ghost use Rattle.al_syntax.specs.DeclarationTrees.{array_tokens, common_tokens, component_tokens, components_tokens, compounds_tokens, discrete_range_tokens, identifiers_tokens, initial_tokens, object_form_tokens, object_tokens, object_type_tokens, pragma_arguments_tokens, pragma_tokens, range_tokens, subtype_indication_tokens, subtype_tokens, type_definition_tokens, type_tokens, use_tokens};
-ghost use Rattle.al_syntax.specs.Declarations.{array_rule, common_rule, component_rule, initial_rule, object_rule, pragma_rule, subtype_indication_rule, subtype_rule, type_rule, typed_rule, use_rule};
-ghost use Rattle.al_syntax.specs.Expressions.{range_rule};
-ghost use Rattle.al_syntax.specs.Notation.{opens, opens_at, the, ◌∣◌, ◌⨾◌};
-ghost use Rattle.al_syntax.specs.Rules.{grammar};
-ghost use Rattle.al_syntax.specs.Symbols.{Symbol as symbols};
-ghost use Rattle.al_syntax.specs.Words.{labelled, word};
-ghost use Rattle.al_tree.specs.DeclarationViews.{array_seen, boxed_range_seen, common_seen, component_seen, components_seen, compounds_seen, discrete_range_seen, identifiers_seen, indication_seen, object_form_seen, object_seen, object_type_seen, pragma_arguments_seen, pragma_seen, subtype_seen, type_definition_seen, type_seen, use_seen};
-ghost use Rattle.al_tree.specs.ExpressionViews.{expression_seen};
+ghost use Rattle.al_tree_syntax.specs.Constructs.{Construct as constructs, place};
+ghost use Rattle.al_tree_syntax.specs.DeclarationTrees.{array_tokens, common_tokens, component_tokens, components_tokens, compounds_tokens, discrete_range_tokens, identifiers_tokens, initial_tokens, object_form_tokens, object_tokens, object_type_tokens, pragma_arguments_tokens, pragma_tokens, range_tokens, subtype_indication_tokens, subtype_tokens, type_definition_tokens, type_tokens, use_tokens};
+ghost use Rattle.al_tree_syntax.specs.Declarations.{array_rule, common_rule, component_rule, initial_rule, object_rule, pragma_rule, subtype_indication_rule, subtype_rule, type_rule, typed_rule, use_rule};
+ghost use Rattle.al_tree_syntax.specs.Expressions.{range_rule};
+ghost use Rattle.al_tree_syntax.specs.Notation.{opens, opens_at, the, ◌∣◌, ◌⨾◌};
+ghost use Rattle.al_tree_syntax.specs.Rules.{grammar};
+ghost use Rattle.al_tree_syntax.specs.Symbols.{Symbol as symbols};
+ghost use Rattle.al_tree_syntax.specs.Words.{labelled, word};
+ghost use Rattle.al_tree.specs.DeclarationViews.{array_model, boxed_range_model, common_model, component_model, components_model, compounds_model, discrete_range_model, identifiers_model, indication_model, object_form_model, object_model, object_type_model, pragma_arguments_model, pragma_model, subtype_model, type_definition_model, type_model, use_model};
+ghost use Rattle.al_tree.specs.ExpressionViews.{expression_model};
 ghost use Rattle.al_tree.specs.Lexemes.{lexemes, place_label};
 ghost use Rattle.std.specs.Prelude.{[], map, option_map, ◌++◌, ◌∷◌};
 
@@ -35,14 +35,14 @@ use al_tree::{
 use std::alloc::Global;
 
 /// `[range low .. high]`
-#[tactic(auto, unfolding(al_syntax::specs::Expressions::range_rule))]
+#[tactic(auto, unfolding(al_tree_syntax::specs::Expressions::range_rule))]
 fn constraint<'a>(
     alloc: Global,
     source: &[u8],
     depth: u32,
     tokens: &'a [Token],
 ) -> Result<(Option<Box<Range>>, &'a [Token]), Stop>
-    ensures { Gives (λ x. maybe range_tokens (option_map boxed_range_seen x.0)) (λ x. lexemes source.now x.1.now) result (lexemes source.now tokens.now) (reading depth (Opt range_rule) (lexemes source.now tokens.now)) }
+    ensures { Gives (λ x. maybe range_tokens (option_map boxed_range_model x.0)) (λ x. lexemes source.now x.1.now) result (lexemes source.now tokens.now) (reading depth (Opt range_rule) (lexemes source.now tokens.now)) }
 {
     if !is_next(source, tokens, Symbol::Range) {
         return Ok((None, tokens));
@@ -52,29 +52,29 @@ fn constraint<'a>(
 }
 
 /// `mark [range low .. high]` (ARM 3.2.2)
-#[tactic(auto, unfolding(al_syntax::specs::Declarations::subtype_indication_rule, al_syntax::specs::Expressions::compound_name_rule, al_syntax::specs::Expressions::identifier_rule))]
+#[tactic(auto, unfolding(al_tree_syntax::specs::Declarations::subtype_indication_rule, al_tree_syntax::specs::Expressions::compound_name_rule, al_tree_syntax::specs::Expressions::identifier_rule))]
 pub(crate) fn subtype_indication<'a>(
     alloc: Global,
     source: &[u8],
     depth: u32,
     tokens: &'a [Token],
 ) -> Result<(SubtypeIndication, &'a [Token]), Stop>
-    ensures { Gives (λ x. subtype_indication_tokens (indication_seen x.0)) (λ x. lexemes source.now x.1.now) result (lexemes source.now tokens.now) (reading depth subtype_indication_rule (lexemes source.now tokens.now)) }
+    ensures { Gives (λ x. subtype_indication_tokens (indication_model x.0)) (λ x. lexemes source.now x.1.now) result (lexemes source.now tokens.now) (reading depth subtype_indication_rule (lexemes source.now tokens.now)) }
 {
     let (mark, rest) = compound_name(alloc, source, tokens)?;
     let (constraint, rest) = read_or_drop!(constraint(alloc, source, depth, rest), mark);
     Ok((SubtypeIndication { mark, constraint }, rest))
 }
 
-/// The index of an array, behind its parenthesis.
-#[tactic(auto, unfolding(al_syntax::specs::Rules::grammar, al_syntax::specs::Rules::inside, al_syntax::specs::Constructs::construct_at))]
+/// The index of an array, after its parenthesis.
+#[tactic(auto, unfolding(al_tree_syntax::specs::Rules::grammar, al_tree_syntax::specs::Rules::inside, al_tree_syntax::specs::Constructs::construct_at))]
 fn array_index<'a>(
     alloc: Global,
     source: &[u8],
     depth: u32,
     tokens: &'a [Token],
 ) -> Result<(DiscreteRange, &'a [Token]), Stop>
-    ensures { Gives (λ x. discrete_range_tokens (discrete_range_seen x.0) ++ word symbols.RightParenthesis ∷ []) (λ x. lexemes source.now x.1.now) result (lexemes source.now tokens.now) (reading depth (grammar (place constructs.ArrayIndex)) (lexemes source.now tokens.now)) }
+    ensures { Gives (λ x. discrete_range_tokens (discrete_range_model x.0) ++ word symbols.RightParenthesis ∷ []) (λ x. lexemes source.now x.1.now) result (lexemes source.now tokens.now) (reading depth (grammar (place constructs.ArrayIndex)) (lexemes source.now tokens.now)) }
 {
     let (index, rest) = discrete_range(alloc, source, depth, tokens)?;
     let rest = read_or_drop!(expect(source, rest, Symbol::RightParenthesis), index);
@@ -88,7 +88,7 @@ fn array_of<'a>(
     depth: u32,
     tokens: &'a [Token],
 ) -> Result<(ArrayDefinition, &'a [Token]), Stop>
-    ensures { Gives (λ x. array_tokens (array_seen x.0)) (λ x. lexemes source.now x.1.now) result (lexemes source.now tokens.now) (reading depth (the symbols.Array ⨾ opens_at symbols.LeftParenthesis constructs.ArrayIndex ⨾ the symbols.Of ⨾ subtype_indication_rule) (lexemes source.now tokens.now)) }
+    ensures { Gives (λ x. array_tokens (array_model x.0)) (λ x. lexemes source.now x.1.now) result (lexemes source.now tokens.now) (reading depth (the symbols.Array ⨾ opens_at symbols.LeftParenthesis constructs.ArrayIndex ⨾ the symbols.Of ⨾ subtype_indication_rule) (lexemes source.now tokens.now)) }
 {
     let rest = expect(source, tokens, Symbol::Array)?;
     let (inner, opening, rest) = enter_at(source, depth, rest, Symbol::LeftParenthesis)?;
@@ -112,7 +112,7 @@ fn array_definition<'a>(
     depth: u32,
     tokens: &'a [Token],
 ) -> Result<(ArrayDefinition, &'a [Token]), Stop>
-    ensures { Gives (λ x. array_tokens (array_seen x.0)) (λ x. lexemes source.now x.1.now) result (lexemes source.now tokens.now) (reading depth array_rule (lexemes source.now tokens.now)) }
+    ensures { Gives (λ x. array_tokens (array_model x.0)) (λ x. lexemes source.now x.1.now) result (lexemes source.now tokens.now) (reading depth array_rule (lexemes source.now tokens.now)) }
 {
     if depth == 0 {
         return Err(Stop::Fault(tokens.len()));
@@ -122,14 +122,14 @@ fn array_definition<'a>(
 }
 
 /// `[:= expression]`
-#[tactic(auto, unfolding(al_syntax::specs::Declarations::initial_rule))]
+#[tactic(auto, unfolding(al_tree_syntax::specs::Declarations::initial_rule))]
 pub(crate) fn initial<'a>(
     alloc: Global,
     source: &[u8],
     depth: u32,
     tokens: &'a [Token],
 ) -> Result<(Option<Expression>, &'a [Token]), Stop>
-    ensures { Gives (λ x. maybe initial_tokens (option_map expression_seen x.0)) (λ x. lexemes source.now x.1.now) result (lexemes source.now tokens.now) (reading depth (Opt initial_rule) (lexemes source.now tokens.now)) }
+    ensures { Gives (λ x. maybe initial_tokens (option_map expression_model x.0)) (λ x. lexemes source.now x.1.now) result (lexemes source.now tokens.now) (reading depth (Opt initial_rule) (lexemes source.now tokens.now)) }
 {
     match skip(source, tokens, Symbol::Assign) {
         None => Ok((None, tokens)),
@@ -141,14 +141,14 @@ pub(crate) fn initial<'a>(
 }
 
 /// A subtype, or the definition of an array that has no name.
-#[tactic(auto, unfolding(al_syntax::specs::Declarations::subtype_indication_rule, al_syntax::specs::Expressions::compound_name_rule, al_syntax::specs::Expressions::identifier_rule))]
+#[tactic(auto, unfolding(al_tree_syntax::specs::Declarations::subtype_indication_rule, al_tree_syntax::specs::Expressions::compound_name_rule, al_tree_syntax::specs::Expressions::identifier_rule))]
 fn object_type<'a>(
     alloc: Global,
     source: &[u8],
     depth: u32,
     tokens: &'a [Token],
 ) -> Result<(ObjectType, &'a [Token]), Stop>
-    ensures { Gives (λ x. object_type_tokens (object_type_seen x.0)) (λ x. lexemes source.now x.1.now) result (lexemes source.now tokens.now) (reading depth (subtype_indication_rule ∣ array_rule) (lexemes source.now tokens.now)) }
+    ensures { Gives (λ x. object_type_tokens (object_type_model x.0)) (λ x. lexemes source.now x.1.now) result (lexemes source.now tokens.now) (reading depth (subtype_indication_rule ∣ array_rule) (lexemes source.now tokens.now)) }
 {
     if is_next(source, tokens, Symbol::Identifier) {
         let (indication, rest) = subtype_indication(alloc, source, depth, tokens)?;
@@ -159,37 +159,37 @@ fn object_type<'a>(
 }
 
 /// The type of an object and perhaps its value.
-#[tactic(auto, unfolding(al_syntax::specs::Declarations::typed_rule))]
+#[tactic(auto, unfolding(al_tree_syntax::specs::Declarations::typed_rule))]
 fn typed<'a>(
     alloc: Global,
     source: &[u8],
     depth: u32,
     tokens: &'a [Token],
 ) -> Result<(ObjectType, Option<Expression>, &'a [Token]), Stop>
-    ensures { Gives (λ x. object_type_tokens (object_type_seen x.0) ++ maybe initial_tokens (option_map expression_seen x.1)) (λ x. lexemes source.now x.2.now) result (lexemes source.now tokens.now) (reading depth typed_rule (lexemes source.now tokens.now)) }
+    ensures { Gives (λ x. object_type_tokens (object_type_model x.0) ++ maybe initial_tokens (option_map expression_model x.1)) (λ x. lexemes source.now x.2.now) result (lexemes source.now tokens.now) (reading depth typed_rule (lexemes source.now tokens.now)) }
 {
     let (of, rest) = object_type(alloc, source, depth, tokens)?;
     let (value, rest) = read_or_drop!(initial(alloc, source, depth, rest), of);
     Ok((of, value, rest))
 }
 
-/// What stands behind the colon of an object or number declaration.
-#[tactic(auto, unfolding(al_syntax::specs::Declarations::initial_rule))]
+/// What stands after the colon of an object or number declaration.
+#[tactic(auto, unfolding(al_tree_syntax::specs::Declarations::initial_rule))]
 fn object_form<'a>(
     alloc: Global,
     source: &[u8],
     depth: u32,
     tokens: &'a [Token],
 ) -> Result<(ObjectForm, &'a [Token]), Stop>
-    ensures { Gives (λ x. object_form_tokens (object_form_seen x.0)) (λ x. lexemes source.now x.1.now) result (lexemes source.now tokens.now) (reading depth (typed_rule ∣ the symbols.Constant ⨾ (initial_rule ∣ typed_rule)) (lexemes source.now tokens.now)) }
+    ensures { Gives (λ x. object_form_tokens (object_form_model x.0)) (λ x. lexemes source.now x.1.now) result (lexemes source.now tokens.now) (reading depth (typed_rule ∣ the symbols.Constant ⨾ (initial_rule ∣ typed_rule)) (lexemes source.now tokens.now)) }
 {
     if is_type_next(source, tokens) {
         let (of, value, rest) = typed(alloc, source, depth, tokens)?;
         return Ok((ObjectForm::Typed(false, of, value), rest));
     }
     let rest = expect(source, tokens, Symbol::Constant)?;
-    if let Some(behind) = skip(source, rest, Symbol::Assign) {
-        let (value, rest) = expression(alloc, source, depth, behind)?;
+    if let Some(after) = skip(source, rest, Symbol::Assign) {
+        let (value, rest) = expression(alloc, source, depth, after)?;
         return Ok((ObjectForm::Number(value), rest));
     }
     let (of, value, rest) = typed(alloc, source, depth, rest)?;
@@ -197,14 +197,14 @@ fn object_form<'a>(
 }
 
 /// The declaration of objects or numbers (ARM 3.3.1, 3.3.2).
-#[tactic(auto, unfolding(al_syntax::specs::Declarations::object_rule, al_syntax::specs::Expressions::identifiers_rule, al_syntax::specs::Expressions::identifier_rule))]
+#[tactic(auto, unfolding(al_tree_syntax::specs::Declarations::object_rule, al_tree_syntax::specs::Expressions::identifiers_rule, al_tree_syntax::specs::Expressions::identifier_rule))]
 fn object_declaration<'a>(
     alloc: Global,
     source: &[u8],
     depth: u32,
     tokens: &'a [Token],
 ) -> Result<(ObjectDeclaration, &'a [Token]), Stop>
-    ensures { Gives (λ x. object_tokens (object_seen x.0)) (λ x. lexemes source.now x.1.now) result (lexemes source.now tokens.now) (reading depth object_rule (lexemes source.now tokens.now)) }
+    ensures { Gives (λ x. object_tokens (object_model x.0)) (λ x. lexemes source.now x.1.now) result (lexemes source.now tokens.now) (reading depth object_rule (lexemes source.now tokens.now)) }
 {
     let (names, rest) = identifiers(alloc, source, tokens)?;
     let rest = read_or_drop!(expect(source, rest, Symbol::Colon), names);
@@ -214,14 +214,14 @@ fn object_declaration<'a>(
 }
 
 /// A component of a record (ARM 3.8).
-#[tactic(auto, unfolding(al_syntax::specs::Declarations::component_rule, al_syntax::specs::Expressions::identifiers_rule, al_syntax::specs::Expressions::identifier_rule))]
+#[tactic(auto, unfolding(al_tree_syntax::specs::Declarations::component_rule, al_tree_syntax::specs::Expressions::identifiers_rule, al_tree_syntax::specs::Expressions::identifier_rule))]
 fn component<'a>(
     alloc: Global,
     source: &[u8],
     depth: u32,
     tokens: &'a [Token],
 ) -> Result<(ComponentDeclaration, &'a [Token]), Stop>
-    ensures { Gives (λ x. component_tokens (component_seen x.0)) (λ x. lexemes source.now x.1.now) result (lexemes source.now tokens.now) (reading depth component_rule (lexemes source.now tokens.now)) }
+    ensures { Gives (λ x. component_tokens (component_model x.0)) (λ x. lexemes source.now x.1.now) result (lexemes source.now tokens.now) (reading depth component_rule (lexemes source.now tokens.now)) }
 {
     let (names, rest) = identifiers(alloc, source, tokens)?;
     let rest = read_or_drop!(expect(source, rest, Symbol::Colon), names);
@@ -237,7 +237,7 @@ fn more_components<'a>(
     depth: u32,
     tokens: &'a [Token],
 ) -> Result<(Vec<ComponentDeclaration>, &'a [Token]), Stop>
-    ensures { Gives (λ x. each component_tokens (map component_seen x.0.items)) (λ x. lexemes source.now x.1.now) result (lexemes source.now tokens.now) (reading depth (Many component_rule) (lexemes source.now tokens.now)) }
+    ensures { Gives (λ x. each component_tokens (map component_model x.0.items)) (λ x. lexemes source.now x.1.now) result (lexemes source.now tokens.now) (reading depth (Many component_rule) (lexemes source.now tokens.now)) }
 {
     let mut items = Vec::new(alloc);
     let mut rest = tokens;
@@ -250,14 +250,14 @@ fn more_components<'a>(
 }
 
 /// The components of a record, one at least, or `null;`.
-#[tactic(auto, unfolding(al_syntax::specs::Declarations::component_rule, al_syntax::specs::Expressions::identifiers_rule, al_syntax::specs::Expressions::identifier_rule))]
+#[tactic(auto, unfolding(al_tree_syntax::specs::Declarations::component_rule, al_tree_syntax::specs::Expressions::identifiers_rule, al_tree_syntax::specs::Expressions::identifier_rule))]
 fn components<'a>(
     alloc: Global,
     source: &[u8],
     depth: u32,
     tokens: &'a [Token],
 ) -> Result<(Components, &'a [Token]), Stop>
-    ensures { Gives (λ x. components_tokens (components_seen x.0)) (λ x. lexemes source.now x.1.now) result (lexemes source.now tokens.now) (reading depth (component_rule ⨾ Many component_rule ∣ the symbols.Null ⨾ the symbols.Semicolon) (lexemes source.now tokens.now)) }
+    ensures { Gives (λ x. components_tokens (components_model x.0)) (λ x. lexemes source.now x.1.now) result (lexemes source.now tokens.now) (reading depth (component_rule ⨾ Many component_rule ∣ the symbols.Null ⨾ the symbols.Semicolon) (lexemes source.now tokens.now)) }
 {
     if is_next(source, tokens, Symbol::Identifier) {
         let (first, rest) = component(alloc, source, depth, tokens)?;
@@ -270,14 +270,14 @@ fn components<'a>(
 }
 
 /// Behind `record` (ARM 3.8).
-#[tactic(auto, unfolding(al_syntax::specs::Rules::grammar, al_syntax::specs::Rules::inside, al_syntax::specs::Constructs::construct_at))]
+#[tactic(auto, unfolding(al_tree_syntax::specs::Rules::grammar, al_tree_syntax::specs::Rules::inside, al_tree_syntax::specs::Constructs::construct_at))]
 fn record_definition<'a>(
     alloc: Global,
     source: &[u8],
     depth: u32,
     tokens: &'a [Token],
 ) -> Result<(Components, Place, &'a [Token]), Stop>
-    ensures { Gives (λ x. components_tokens (components_seen x.0) ++ labelled symbols.End (place_label x.1) ∷ word symbols.Record ∷ []) (λ x. lexemes source.now x.2.now) result (lexemes source.now tokens.now) (reading depth (grammar (place constructs.RecordDefinition)) (lexemes source.now tokens.now)) }
+    ensures { Gives (λ x. components_tokens (components_model x.0) ++ labelled symbols.End (place_label x.1) ∷ word symbols.Record ∷ []) (λ x. lexemes source.now x.2.now) result (lexemes source.now tokens.now) (reading depth (grammar (place constructs.RecordDefinition)) (lexemes source.now tokens.now)) }
 {
     let (components, rest) = components(alloc, source, depth, tokens)?;
     let (end, rest) = read_or_drop!(word_at(source, rest, Symbol::End), components);
@@ -286,29 +286,29 @@ fn record_definition<'a>(
 }
 
 /// Behind the parenthesis of an enumeration type (ARM 3.5.1).
-#[tactic(auto, unfolding(al_syntax::specs::Rules::grammar, al_syntax::specs::Rules::inside, al_syntax::specs::Constructs::construct_at, al_syntax::specs::Expressions::identifiers_rule, al_syntax::specs::Expressions::identifier_rule))]
+#[tactic(auto, unfolding(al_tree_syntax::specs::Rules::grammar, al_tree_syntax::specs::Rules::inside, al_tree_syntax::specs::Constructs::construct_at, al_tree_syntax::specs::Expressions::identifiers_rule, al_tree_syntax::specs::Expressions::identifier_rule))]
 fn enumeration_literals<'a>(
     alloc: Global,
     source: &[u8],
     depth: u32,
     tokens: &'a [Token],
 ) -> Result<(Identifiers, &'a [Token]), Stop>
-    ensures { Gives (λ x. identifiers_tokens (identifiers_seen x.0) ++ word symbols.RightParenthesis ∷ []) (λ x. lexemes source.now x.1.now) result (lexemes source.now tokens.now) (reading depth (grammar (place constructs.EnumerationLiterals)) (lexemes source.now tokens.now)) }
+    ensures { Gives (λ x. identifiers_tokens (identifiers_model x.0) ++ word symbols.RightParenthesis ∷ []) (λ x. lexemes source.now x.1.now) result (lexemes source.now tokens.now) (reading depth (grammar (place constructs.EnumerationLiterals)) (lexemes source.now tokens.now)) }
 {
     let (literals, rest) = identifiers(alloc, source, tokens)?;
     let rest = read_or_drop!(expect(source, rest, Symbol::RightParenthesis), literals);
     Ok((literals, rest))
 }
 
-/// What stands behind `is` in a type declaration (ARM 3.2.1).
-#[tactic(auto, unfolding(al_syntax::specs::Expressions::range_rule, al_syntax::specs::Declarations::array_rule))]
+/// What stands after `is` in a type declaration (ARM 3.2.1).
+#[tactic(auto, unfolding(al_tree_syntax::specs::Expressions::range_rule, al_tree_syntax::specs::Declarations::array_rule))]
 fn type_definition<'a>(
     alloc: Global,
     source: &[u8],
     depth: u32,
     tokens: &'a [Token],
 ) -> Result<(TypeDefinition, &'a [Token]), Stop>
-    ensures { Gives (λ x. type_definition_tokens (type_definition_seen x.0)) (λ x. lexemes source.now x.1.now) result (lexemes source.now tokens.now) (reading depth (range_rule ∣ the symbols.Null ⨾ the symbols.Record ∣ opens_at symbols.LeftParenthesis constructs.EnumerationLiterals ∣ array_rule ∣ opens symbols.Record constructs.RecordDefinition) (lexemes source.now tokens.now)) }
+    ensures { Gives (λ x. type_definition_tokens (type_definition_model x.0)) (λ x. lexemes source.now x.1.now) result (lexemes source.now tokens.now) (reading depth (range_rule ∣ the symbols.Null ⨾ the symbols.Record ∣ opens_at symbols.LeftParenthesis constructs.EnumerationLiterals ∣ array_rule ∣ opens symbols.Record constructs.RecordDefinition) (lexemes source.now tokens.now)) }
 {
     if is_next(source, tokens, Symbol::Range) {
         let (range, rest) = range(alloc, source, depth, tokens)?;
@@ -333,14 +333,14 @@ fn type_definition<'a>(
 }
 
 /// ARM 3.2.1
-#[tactic(auto, unfolding(al_syntax::specs::Declarations::type_rule, al_syntax::specs::Expressions::identifier_rule))]
+#[tactic(auto, unfolding(al_tree_syntax::specs::Declarations::type_rule, al_tree_syntax::specs::Expressions::identifier_rule))]
 fn type_declaration<'a>(
     alloc: Global,
     source: &[u8],
     depth: u32,
     tokens: &'a [Token],
 ) -> Result<(TypeDeclaration, &'a [Token]), Stop>
-    ensures { Gives (λ x. type_tokens (type_seen x.0)) (λ x. lexemes source.now x.1.now) result (lexemes source.now tokens.now) (reading depth type_rule (lexemes source.now tokens.now)) }
+    ensures { Gives (λ x. type_tokens (type_model x.0)) (λ x. lexemes source.now x.1.now) result (lexemes source.now tokens.now) (reading depth type_rule (lexemes source.now tokens.now)) }
 {
     let rest = expect(source, tokens, Symbol::Type)?;
     let (name, rest) = identifier(alloc, source, rest)?;
@@ -351,14 +351,14 @@ fn type_declaration<'a>(
 }
 
 /// ARM 3.2.2
-#[tactic(auto, unfolding(al_syntax::specs::Declarations::subtype_rule, al_syntax::specs::Expressions::identifier_rule))]
+#[tactic(auto, unfolding(al_tree_syntax::specs::Declarations::subtype_rule, al_tree_syntax::specs::Expressions::identifier_rule))]
 fn subtype_declaration<'a>(
     alloc: Global,
     source: &[u8],
     depth: u32,
     tokens: &'a [Token],
 ) -> Result<(SubtypeDeclaration, &'a [Token]), Stop>
-    ensures { Gives (λ x. subtype_tokens (subtype_seen x.0)) (λ x. lexemes source.now x.1.now) result (lexemes source.now tokens.now) (reading depth subtype_rule (lexemes source.now tokens.now)) }
+    ensures { Gives (λ x. subtype_tokens (subtype_model x.0)) (λ x. lexemes source.now x.1.now) result (lexemes source.now tokens.now) (reading depth subtype_rule (lexemes source.now tokens.now)) }
 {
     let rest = expect(source, tokens, Symbol::Subtype)?;
     let (name, rest) = identifier(alloc, source, rest)?;
@@ -369,13 +369,13 @@ fn subtype_declaration<'a>(
 }
 
 /// `use [type] names;` (ARM 8.4)
-#[tactic(auto, unfolding(al_syntax::specs::Declarations::use_rule, al_syntax::specs::Expressions::compound_names_rule, al_syntax::specs::Expressions::compound_name_rule, al_syntax::specs::Expressions::identifier_rule))]
+#[tactic(auto, unfolding(al_tree_syntax::specs::Declarations::use_rule, al_tree_syntax::specs::Expressions::compound_names_rule, al_tree_syntax::specs::Expressions::compound_name_rule, al_tree_syntax::specs::Expressions::identifier_rule))]
 pub(crate) fn use_clause<'a>(
     alloc: Global,
     source: &[u8],
     tokens: &'a [Token],
 ) -> Result<(UseClause, &'a [Token]), Stop>
-    ensures { Gives (λ x. use_tokens (use_seen x.0)) (λ x. lexemes source.now x.1.now) result (lexemes source.now tokens.now) (reading 0 use_rule (lexemes source.now tokens.now)) }
+    ensures { Gives (λ x. use_tokens (use_model x.0)) (λ x. lexemes source.now x.1.now) result (lexemes source.now tokens.now) (reading 0 use_rule (lexemes source.now tokens.now)) }
 {
     let rest = expect(source, tokens, Symbol::Use)?;
     let (of_type, rest) = flag(source, rest, Symbol::Type);
@@ -384,15 +384,15 @@ pub(crate) fn use_clause<'a>(
     Ok((UseClause { of_type, names }, rest))
 }
 
-/// The names of a pragma, behind their parenthesis.
-#[tactic(auto, unfolding(al_syntax::specs::Rules::grammar, al_syntax::specs::Rules::inside, al_syntax::specs::Constructs::construct_at, al_syntax::specs::Expressions::compound_names_rule, al_syntax::specs::Expressions::compound_name_rule, al_syntax::specs::Expressions::identifier_rule))]
+/// The names of a pragma, after their parenthesis.
+#[tactic(auto, unfolding(al_tree_syntax::specs::Rules::grammar, al_tree_syntax::specs::Rules::inside, al_tree_syntax::specs::Constructs::construct_at, al_tree_syntax::specs::Expressions::compound_names_rule, al_tree_syntax::specs::Expressions::compound_name_rule, al_tree_syntax::specs::Expressions::identifier_rule))]
 fn argument_names<'a>(
     alloc: Global,
     source: &[u8],
     depth: u32,
     tokens: &'a [Token],
 ) -> Result<(CompoundNames, &'a [Token]), Stop>
-    ensures { Gives (λ x. compounds_tokens (compounds_seen x.0) ++ word symbols.RightParenthesis ∷ []) (λ x. lexemes source.now x.1.now) result (lexemes source.now tokens.now) (reading depth (grammar (place constructs.PragmaArguments)) (lexemes source.now tokens.now)) }
+    ensures { Gives (λ x. compounds_tokens (compounds_model x.0) ++ word symbols.RightParenthesis ∷ []) (λ x. lexemes source.now x.1.now) result (lexemes source.now tokens.now) (reading depth (grammar (place constructs.PragmaArguments)) (lexemes source.now tokens.now)) }
 {
     let (names, rest) = compound_names(alloc, source, tokens)?;
     let rest = read_or_drop!(expect(source, rest, Symbol::RightParenthesis), names);
@@ -406,7 +406,7 @@ fn pragma_arguments<'a>(
     depth: u32,
     tokens: &'a [Token],
 ) -> Result<(Option<PragmaArguments>, &'a [Token]), Stop>
-    ensures { Gives (λ x. maybe pragma_arguments_tokens (option_map pragma_arguments_seen x.0)) (λ x. lexemes source.now x.1.now) result (lexemes source.now tokens.now) (reading depth (Opt (opens_at symbols.LeftParenthesis constructs.PragmaArguments)) (lexemes source.now tokens.now)) }
+    ensures { Gives (λ x. maybe pragma_arguments_tokens (option_map pragma_arguments_model x.0)) (λ x. lexemes source.now x.1.now) result (lexemes source.now tokens.now) (reading depth (Opt (opens_at symbols.LeftParenthesis constructs.PragmaArguments)) (lexemes source.now tokens.now)) }
 {
     if !is_next(source, tokens, Symbol::LeftParenthesis) {
         return Ok((None, tokens));
@@ -417,14 +417,14 @@ fn pragma_arguments<'a>(
 }
 
 /// ARM 2.8
-#[tactic(auto, unfolding(al_syntax::specs::Declarations::pragma_rule, al_syntax::specs::Expressions::identifier_rule))]
+#[tactic(auto, unfolding(al_tree_syntax::specs::Declarations::pragma_rule, al_tree_syntax::specs::Expressions::identifier_rule))]
 pub(crate) fn pragma<'a>(
     alloc: Global,
     source: &[u8],
     depth: u32,
     tokens: &'a [Token],
 ) -> Result<(Pragma, &'a [Token]), Stop>
-    ensures { Gives (λ x. pragma_tokens (pragma_seen x.0)) (λ x. lexemes source.now x.1.now) result (lexemes source.now tokens.now) (reading depth pragma_rule (lexemes source.now tokens.now)) }
+    ensures { Gives (λ x. pragma_tokens (pragma_model x.0)) (λ x. lexemes source.now x.1.now) result (lexemes source.now tokens.now) (reading depth pragma_rule (lexemes source.now tokens.now)) }
 {
     let rest = expect(source, tokens, Symbol::Pragma)?;
     let (name, rest) = identifier(alloc, source, rest)?;
@@ -434,14 +434,14 @@ pub(crate) fn pragma<'a>(
 }
 
 /// A declaration that packages and bodies have alike.
-#[tactic(auto, unfolding(al_syntax::specs::Declarations::common_rule, al_syntax::specs::Declarations::use_rule, al_syntax::specs::Expressions::compound_names_rule, al_syntax::specs::Expressions::compound_name_rule, al_syntax::specs::Expressions::identifier_rule))]
+#[tactic(auto, unfolding(al_tree_syntax::specs::Declarations::common_rule, al_tree_syntax::specs::Declarations::use_rule, al_tree_syntax::specs::Expressions::compound_names_rule, al_tree_syntax::specs::Expressions::compound_name_rule, al_tree_syntax::specs::Expressions::identifier_rule))]
 pub(crate) fn common_declaration<'a>(
     alloc: Global,
     source: &[u8],
     depth: u32,
     tokens: &'a [Token],
 ) -> Result<(CommonDeclaration, &'a [Token]), Stop>
-    ensures { Gives (λ x. common_tokens (common_seen x.0)) (λ x. lexemes source.now x.1.now) result (lexemes source.now tokens.now) (reading depth common_rule (lexemes source.now tokens.now)) }
+    ensures { Gives (λ x. common_tokens (common_model x.0)) (λ x. lexemes source.now x.1.now) result (lexemes source.now tokens.now) (reading depth common_rule (lexemes source.now tokens.now)) }
 {
     if is_object_next(source, tokens) {
         let (object, rest) = object_declaration(alloc, source, depth, tokens)?;

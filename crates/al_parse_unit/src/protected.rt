@@ -1,17 +1,17 @@
 // Protected units in a declarative part, and the bodies of their operations (ARM 9.4, 9.5.2).
-ghost use Rattle.al_grammar.specs.Grammar.{each};
-ghost use Rattle.al_grammar.specs.Grammar.Rule.{Many, Room};
+ghost use Rattle.al_tree_grammar.specs.Grammar.{each};
+ghost use Rattle.al_tree_grammar.specs.Grammar.Rule.{Many, Room};
 ghost use Rattle.al_parse_expr.specs.Parses.{Gives, reading};
-ghost use Rattle.al_syntax.specs.Constructs.{Construct as constructs, place};
-ghost use Rattle.al_syntax.specs.DeclarationTrees.{identifier_token};
-ghost use Rattle.al_syntax.specs.Declarations.{operation_body_rule, protected_body_rule, specification_rule};
-ghost use Rattle.al_syntax.specs.Notation.{opens, ◌⨾◌};
-ghost use Rattle.al_syntax.specs.Rules.{grammar};
-ghost use Rattle.al_syntax.specs.StatementTrees.{item_tokens, named_end_tokens, operation_body_tokens};
-ghost use Rattle.al_syntax.specs.Symbols.{Symbol as symbols};
-ghost use Rattle.al_syntax.specs.Words.{labelled, word};
+ghost use Rattle.al_tree_syntax.specs.Constructs.{Construct as constructs, place};
+ghost use Rattle.al_tree_syntax.specs.DeclarationTrees.{identifier_token};
+ghost use Rattle.al_tree_syntax.specs.Declarations.{operation_body_rule, protected_body_rule, specification_rule};
+ghost use Rattle.al_tree_syntax.specs.Notation.{opens, ◌⨾◌};
+ghost use Rattle.al_tree_syntax.specs.Rules.{grammar};
+ghost use Rattle.al_tree_syntax.specs.StatementTrees.{item_tokens, named_end_tokens, operation_body_tokens};
+ghost use Rattle.al_tree_syntax.specs.Symbols.{Symbol as symbols};
+ghost use Rattle.al_tree_syntax.specs.Words.{labelled, word};
 ghost use Rattle.al_tree.specs.Lexemes.{identifier_label, lexemes, place_label};
-ghost use Rattle.al_tree.specs.StatementViews.{item_seen, named_end_seen, operation_body_seen};
+ghost use Rattle.al_tree.specs.StatementViews.{item_model, named_end_model, operation_body_model};
 ghost use Rattle.std.specs.Prelude.{◌++◌, ◌∷◌};
 
 use crate::body::{declared_statements, proper_body};
@@ -25,7 +25,7 @@ use std::alloc::Global;
 
 /// Behind `protected`: a declaration or a body (ARM 9.4).
 #[cycle(body)]
-#[tactic(auto, unfolding(al_syntax::specs::Rules::grammar, al_syntax::specs::Rules::inside, al_syntax::specs::Constructs::construct_at))]
+#[tactic(auto, unfolding(al_tree_syntax::specs::Rules::grammar, al_tree_syntax::specs::Rules::inside, al_tree_syntax::specs::Constructs::construct_at))]
 pub(crate) fn protected_item<'a>(
     alloc: Global,
     source: &[u8],
@@ -33,7 +33,7 @@ pub(crate) fn protected_item<'a>(
     opening: Place,
     tokens: &'a [Token],
 ) -> Result<(Item, &'a [Token]), Stop>
-    ensures { Gives (λ x. item_tokens (item_seen x.0)) (λ x. lexemes source.now x.1.now) result (labelled symbols.Protected (place_label opening) ∷ lexemes source.now tokens.now) (reading depth (grammar (place constructs.ProtectedUnit)) (lexemes source.now tokens.now)) }
+    ensures { Gives (λ x. item_tokens (item_model x.0)) (λ x. lexemes source.now x.1.now) result (labelled symbols.Protected (place_label opening) ∷ lexemes source.now tokens.now) (reading depth (grammar (place constructs.ProtectedUnit)) (lexemes source.now tokens.now)) }
 {
     if is_protected_next(source, tokens) {
         let (definition, rest) = protected_definition(alloc, source, depth, tokens)?;
@@ -46,14 +46,14 @@ pub(crate) fn protected_item<'a>(
 
 /// Behind `protected body`.
 #[cycle(body)]
-#[tactic(auto, unfolding(al_syntax::specs::Declarations::protected_body_rule, al_syntax::specs::Expressions::identifier_rule))]
+#[tactic(auto, unfolding(al_tree_syntax::specs::Declarations::protected_body_rule, al_tree_syntax::specs::Expressions::identifier_rule))]
 fn protected_body<'a>(
     alloc: Global,
     source: &[u8],
     depth: u32,
     tokens: &'a [Token],
 ) -> Result<(Identifier, Vec<OperationBody>, NamedEnd, &'a [Token]), Stop>
-    ensures { Gives (λ x. identifier_token (identifier_label x.0) ∷ word symbols.Is ∷ (each (λ y. operation_body_tokens (operation_body_seen y)) x.1.items ++ named_end_tokens (named_end_seen x.2))) (λ x. lexemes source.now x.3.now) result (lexemes source.now tokens.now) (reading depth protected_body_rule (lexemes source.now tokens.now)) }
+    ensures { Gives (λ x. identifier_token (identifier_label x.0) ∷ word symbols.Is ∷ (each (λ y. operation_body_tokens (operation_body_model y)) x.1.items ++ named_end_tokens (named_end_model x.2))) (λ x. lexemes source.now x.3.now) result (lexemes source.now tokens.now) (reading depth protected_body_rule (lexemes source.now tokens.now)) }
 {
     let (name, rest) = identifier(alloc, source, tokens)?;
     let rest = read_or_drop!(expect(source, rest, Symbol::Is), name);
@@ -70,7 +70,7 @@ fn operation_bodies<'a>(
     depth: u32,
     tokens: &'a [Token],
 ) -> Result<(Vec<OperationBody>, &'a [Token]), Stop>
-    ensures { Gives (λ x. each (λ y. operation_body_tokens (operation_body_seen y)) x.0.items) (λ x. lexemes source.now x.1.now) result (lexemes source.now tokens.now) (reading depth (Many operation_body_rule) (lexemes source.now tokens.now)) }
+    ensures { Gives (λ x. each (λ y. operation_body_tokens (operation_body_model y)) x.0.items) (λ x. lexemes source.now x.1.now) result (lexemes source.now tokens.now) (reading depth (Many operation_body_rule) (lexemes source.now tokens.now)) }
 {
     let mut items = Vec::new(alloc);
     let mut rest = tokens;
@@ -84,14 +84,14 @@ fn operation_bodies<'a>(
 
 /// A body in a protected body: of a subprogram or of an entry.
 #[cycle(body)]
-#[tactic(auto, unfolding(al_syntax::specs::Declarations::operation_body_rule))]
+#[tactic(auto, unfolding(al_tree_syntax::specs::Declarations::operation_body_rule))]
 fn operation_body<'a>(
     alloc: Global,
     source: &[u8],
     depth: u32,
     tokens: &'a [Token],
 ) -> Result<(OperationBody, &'a [Token]), Stop>
-    ensures { Gives (λ x. operation_body_tokens (operation_body_seen x.0)) (λ x. lexemes source.now x.1.now) result (lexemes source.now tokens.now) (reading depth operation_body_rule (lexemes source.now tokens.now)) }
+    ensures { Gives (λ x. operation_body_tokens (operation_body_model x.0)) (λ x. lexemes source.now x.1.now) result (lexemes source.now tokens.now) (reading depth operation_body_rule (lexemes source.now tokens.now)) }
 {
     if is_subprogram_body_next(source, tokens) {
         let (body, rest) = protected_subprogram(alloc, source, depth, tokens)?;
@@ -110,7 +110,7 @@ fn protected_subprogram<'a>(
     depth: u32,
     tokens: &'a [Token],
 ) -> Result<(OperationBody, &'a [Token]), Stop>
-    ensures { Gives (λ x. operation_body_tokens (operation_body_seen x.0)) (λ x. lexemes source.now x.1.now) result (lexemes source.now tokens.now) (reading depth (Room (specification_rule ⨾ opens symbols.Is constructs.SubprogramBody)) (lexemes source.now tokens.now)) }
+    ensures { Gives (λ x. operation_body_tokens (operation_body_model x.0)) (λ x. lexemes source.now x.1.now) result (lexemes source.now tokens.now) (reading depth (Room (specification_rule ⨾ opens symbols.Is constructs.SubprogramBody)) (lexemes source.now tokens.now)) }
 {
     if depth == 0 {
         return Err(Stop::Fault(tokens.len()));
@@ -121,7 +121,7 @@ fn protected_subprogram<'a>(
 
 /// Behind `entry` (ARM 9.5.2).
 #[cycle(body)]
-#[tactic(auto, unfolding(al_syntax::specs::Rules::grammar, al_syntax::specs::Rules::inside, al_syntax::specs::Constructs::construct_at, al_syntax::specs::Expressions::identifier_rule))]
+#[tactic(auto, unfolding(al_tree_syntax::specs::Rules::grammar, al_tree_syntax::specs::Rules::inside, al_tree_syntax::specs::Constructs::construct_at, al_tree_syntax::specs::Expressions::identifier_rule))]
 fn entry_body<'a>(
     alloc: Global,
     source: &[u8],
@@ -129,7 +129,7 @@ fn entry_body<'a>(
     opening: Place,
     tokens: &'a [Token],
 ) -> Result<(OperationBody, &'a [Token]), Stop>
-    ensures { Gives (λ x. operation_body_tokens (operation_body_seen x.0)) (λ x. lexemes source.now x.1.now) result (labelled symbols.Entry (place_label opening) ∷ lexemes source.now tokens.now) (reading depth (grammar (place constructs.EntryBody)) (lexemes source.now tokens.now)) }
+    ensures { Gives (λ x. operation_body_tokens (operation_body_model x.0)) (λ x. lexemes source.now x.1.now) result (labelled symbols.Entry (place_label opening) ∷ lexemes source.now tokens.now) (reading depth (grammar (place constructs.EntryBody)) (lexemes source.now tokens.now)) }
 {
     let (name, rest) = identifier(alloc, source, tokens)?;
     let rest = read_or_drop!(expect(source, rest, Symbol::When), name);

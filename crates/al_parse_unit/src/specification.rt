@@ -1,19 +1,19 @@
 // Specifications, and the declarations of packages (ARM 6.1, 7.1, 9.1, 9.4).
-ghost use Rattle.al_grammar.specs.Grammar.{each, maybe};
-ghost use Rattle.al_grammar.specs.Grammar.Rule.{Many, Opt};
+ghost use Rattle.al_tree_grammar.specs.Grammar.{each, maybe};
+ghost use Rattle.al_tree_grammar.specs.Grammar.Rule.{Many, Opt};
 ghost use Rattle.al_parse_expr.specs.Parses.{Gives, reading};
-ghost use Rattle.al_syntax.specs.Constructs.{Construct as constructs, place};
-ghost use Rattle.al_syntax.specs.DeclarationTrees.{aspect_tokens, declaration_tokens, end_name_tokens, formal_part_tokens, formal_tokens, identifier_token, protected_component_tokens, protected_operation_tokens, protected_private_tokens, protected_tokens, specification_tokens};
-ghost use Rattle.al_syntax.specs.Declarations.{aspect_rule, declaration_rule, element_rule, formal_rule, formals_rule, operation_rule, protected_rule, specification_rule, task_rule};
-ghost use Rattle.al_syntax.specs.Expressions.{identifier_rule};
-ghost use Rattle.al_syntax.specs.Notation.{any, the, ◌⨾◌};
-ghost use Rattle.al_syntax.specs.Rules.{grammar};
-ghost use Rattle.al_syntax.specs.StatementTrees.{named_end_tokens};
-ghost use Rattle.al_syntax.specs.Symbols.{Symbol as symbols};
-ghost use Rattle.al_syntax.specs.Words.{word};
-ghost use Rattle.al_tree.specs.DeclarationViews.{aspect_seen, declaration_seen, formal_part_seen, formal_seen, protected_component_seen, protected_operation_seen, protected_private_seen, protected_seen, specification_seen};
+ghost use Rattle.al_tree_syntax.specs.Constructs.{Construct as constructs, place};
+ghost use Rattle.al_tree_syntax.specs.DeclarationTrees.{aspect_tokens, declaration_tokens, end_name_tokens, formal_part_tokens, formal_tokens, identifier_token, protected_component_tokens, protected_operation_tokens, protected_private_tokens, protected_tokens, specification_tokens};
+ghost use Rattle.al_tree_syntax.specs.Declarations.{aspect_rule, declaration_rule, element_rule, formal_rule, formals_rule, operation_rule, protected_rule, specification_rule, task_rule};
+ghost use Rattle.al_tree_syntax.specs.Expressions.{identifier_rule};
+ghost use Rattle.al_tree_syntax.specs.Notation.{any, the, ◌⨾◌};
+ghost use Rattle.al_tree_syntax.specs.Rules.{grammar};
+ghost use Rattle.al_tree_syntax.specs.StatementTrees.{named_end_tokens};
+ghost use Rattle.al_tree_syntax.specs.Symbols.{Symbol as symbols};
+ghost use Rattle.al_tree_syntax.specs.Words.{word};
+ghost use Rattle.al_tree.specs.DeclarationViews.{aspect_model, declaration_model, formal_part_model, formal_model, protected_component_model, protected_operation_model, protected_private_model, protected_model, specification_model};
 ghost use Rattle.al_tree.specs.Lexemes.{identifier_label, lexemes};
-ghost use Rattle.al_tree.specs.StatementViews.{named_end_seen};
+ghost use Rattle.al_tree.specs.StatementViews.{named_end_model};
 ghost use Rattle.std.specs.Prelude.{[], map, option_map, ◌++◌, ◌∷◌};
 
 use crate::declaration::{common_declaration, initial, subtype_indication};
@@ -35,13 +35,13 @@ use al_tree::{
 use std::alloc::Global;
 
 /// `names : [in] [out] mark` (ARM 6.1)
-#[tactic(auto, unfolding(al_syntax::specs::Declarations::formal_rule, al_syntax::specs::Expressions::identifiers_rule, al_syntax::specs::Expressions::identifier_rule, al_syntax::specs::Expressions::compound_name_rule))]
+#[tactic(auto, unfolding(al_tree_syntax::specs::Declarations::formal_rule, al_tree_syntax::specs::Expressions::identifiers_rule, al_tree_syntax::specs::Expressions::identifier_rule, al_tree_syntax::specs::Expressions::compound_name_rule))]
 fn formal<'a>(
     alloc: Global,
     source: &[u8],
     tokens: &'a [Token],
 ) -> Result<(Formal, &'a [Token]), Stop>
-    ensures { Gives (λ x. formal_tokens (formal_seen x.0)) (λ x. lexemes source.now x.1.now) result (lexemes source.now tokens.now) (reading 0 formal_rule (lexemes source.now tokens.now)) }
+    ensures { Gives (λ x. formal_tokens (formal_model x.0)) (λ x. lexemes source.now x.1.now) result (lexemes source.now tokens.now) (reading 0 formal_rule (lexemes source.now tokens.now)) }
 {
     let (names, rest) = identifiers(alloc, source, tokens)?;
     let rest = read_or_drop!(expect(source, rest, Symbol::Colon), names);
@@ -65,12 +65,12 @@ fn more_formals<'a>(
     source: &[u8],
     tokens: &'a [Token],
 ) -> Result<(Vec<Formal>, &'a [Token]), Stop>
-    ensures { Gives (λ x. each (λ y. word symbols.Semicolon ∷ formal_tokens y) (map formal_seen x.0.items)) (λ x. lexemes source.now x.1.now) result (lexemes source.now tokens.now) (reading 0 (Many (the symbols.Semicolon ⨾ formal_rule)) (lexemes source.now tokens.now)) }
+    ensures { Gives (λ x. each (λ y. word symbols.Semicolon ∷ formal_tokens y) (map formal_model x.0.items)) (λ x. lexemes source.now x.1.now) result (lexemes source.now tokens.now) (reading 0 (Many (the symbols.Semicolon ⨾ formal_rule)) (lexemes source.now tokens.now)) }
 {
     let mut items = Vec::new(alloc);
     let mut rest = tokens;
-    'more: while let Some(behind) = skip(source, rest, Symbol::Semicolon) {
-        let (next, after) = formal(alloc, source, behind)?;
+    'more: while let Some(after) = skip(source, rest, Symbol::Semicolon) {
+        let (next, after) = formal(alloc, source, after)?;
         append(&mut items, next)?;
         rest = after;
     }
@@ -78,14 +78,14 @@ fn more_formals<'a>(
 }
 
 /// Behind the parenthesis of a formal part.
-#[tactic(auto, unfolding(al_syntax::specs::Rules::grammar, al_syntax::specs::Rules::inside, al_syntax::specs::Constructs::construct_at, al_syntax::specs::Declarations::formal_rule, al_syntax::specs::Expressions::identifiers_rule, al_syntax::specs::Expressions::identifier_rule, al_syntax::specs::Expressions::compound_name_rule))]
+#[tactic(auto, unfolding(al_tree_syntax::specs::Rules::grammar, al_tree_syntax::specs::Rules::inside, al_tree_syntax::specs::Constructs::construct_at, al_tree_syntax::specs::Declarations::formal_rule, al_tree_syntax::specs::Expressions::identifiers_rule, al_tree_syntax::specs::Expressions::identifier_rule, al_tree_syntax::specs::Expressions::compound_name_rule))]
 fn formals<'a>(
     alloc: Global,
     source: &[u8],
     depth: u32,
     tokens: &'a [Token],
 ) -> Result<(Formal, Vec<Formal>, &'a [Token]), Stop>
-    ensures { Gives (λ x. formal_tokens (formal_seen x.0) ++ (each (λ f. word symbols.Semicolon ∷ formal_tokens f) (map formal_seen x.1.items) ++ word symbols.RightParenthesis ∷ [])) (λ x. lexemes source.now x.2.now) result (lexemes source.now tokens.now) (reading depth (grammar (place constructs.FormalPart)) (lexemes source.now tokens.now)) }
+    ensures { Gives (λ x. formal_tokens (formal_model x.0) ++ (each (λ f. word symbols.Semicolon ∷ formal_tokens f) (map formal_model x.1.items) ++ word symbols.RightParenthesis ∷ [])) (λ x. lexemes source.now x.2.now) result (lexemes source.now tokens.now) (reading depth (grammar (place constructs.FormalPart)) (lexemes source.now tokens.now)) }
 {
     let (first, rest) = formal(alloc, source, tokens)?;
     let (others, rest) = read_or_drop!(more_formals(alloc, source, rest), first);
@@ -97,14 +97,14 @@ fn formals<'a>(
 }
 
 /// `[(formal {; formal})]`
-#[tactic(auto, unfolding(al_syntax::specs::Declarations::formals_rule))]
+#[tactic(auto, unfolding(al_tree_syntax::specs::Declarations::formals_rule))]
 fn formal_part<'a>(
     alloc: Global,
     source: &[u8],
     depth: u32,
     tokens: &'a [Token],
 ) -> Result<(Option<FormalPart>, &'a [Token]), Stop>
-    ensures { Gives (λ x. maybe formal_part_tokens (option_map formal_part_seen x.0)) (λ x. lexemes source.now x.1.now) result (lexemes source.now tokens.now) (reading depth formals_rule (lexemes source.now tokens.now)) }
+    ensures { Gives (λ x. maybe formal_part_tokens (option_map formal_part_model x.0)) (λ x. lexemes source.now x.1.now) result (lexemes source.now tokens.now) (reading depth formals_rule (lexemes source.now tokens.now)) }
 {
     if !is_next(source, tokens, Symbol::LeftParenthesis) {
         return Ok((None, tokens));
@@ -122,14 +122,14 @@ fn formal_part<'a>(
 }
 
 /// The specification of a subprogram (ARM 6.1).
-#[tactic(auto, unfolding(al_syntax::specs::Declarations::specification_rule, al_syntax::specs::Expressions::compound_name_rule, al_syntax::specs::Expressions::identifier_rule))]
+#[tactic(auto, unfolding(al_tree_syntax::specs::Declarations::specification_rule, al_tree_syntax::specs::Expressions::compound_name_rule, al_tree_syntax::specs::Expressions::identifier_rule))]
 pub(crate) fn specification<'a>(
     alloc: Global,
     source: &[u8],
     depth: u32,
     tokens: &'a [Token],
 ) -> Result<(Specification, &'a [Token]), Stop>
-    ensures { Gives (λ x. specification_tokens (specification_seen x.0)) (λ x. lexemes source.now x.1.now) result (lexemes source.now tokens.now) (reading depth specification_rule (lexemes source.now tokens.now)) }
+    ensures { Gives (λ x. specification_tokens (specification_model x.0)) (λ x. lexemes source.now x.1.now) result (lexemes source.now tokens.now) (reading depth specification_rule (lexemes source.now tokens.now)) }
 {
     if let Some((opening, rest)) = skip_at(source, tokens, Symbol::Procedure) {
         let (name, rest) = compound_name(alloc, source, rest)?;
@@ -148,14 +148,14 @@ pub(crate) fn specification<'a>(
 }
 
 /// `[with name => value]` (ARM 13.1.1)
-#[tactic(auto, unfolding(al_syntax::specs::Declarations::aspect_rule, al_syntax::specs::Expressions::identifier_rule))]
+#[tactic(auto, unfolding(al_tree_syntax::specs::Declarations::aspect_rule, al_tree_syntax::specs::Expressions::identifier_rule))]
 fn aspect<'a>(
     alloc: Global,
     source: &[u8],
     depth: u32,
     tokens: &'a [Token],
 ) -> Result<(Option<Aspect>, &'a [Token]), Stop>
-    ensures { Gives (λ x. maybe aspect_tokens (option_map aspect_seen x.0)) (λ x. lexemes source.now x.1.now) result (lexemes source.now tokens.now) (reading depth aspect_rule (lexemes source.now tokens.now)) }
+    ensures { Gives (λ x. maybe aspect_tokens (option_map aspect_model x.0)) (λ x. lexemes source.now x.1.now) result (lexemes source.now tokens.now) (reading depth aspect_rule (lexemes source.now tokens.now)) }
 {
     match skip(source, tokens, Symbol::With) {
         None => Ok((None, tokens)),
@@ -169,14 +169,14 @@ fn aspect<'a>(
 }
 
 /// Behind the `task` of a declaration (ARM 9.1).
-#[tactic(auto, unfolding(al_syntax::specs::Declarations::task_rule, al_syntax::specs::Expressions::identifier_rule))]
+#[tactic(auto, unfolding(al_tree_syntax::specs::Declarations::task_rule, al_tree_syntax::specs::Expressions::identifier_rule))]
 pub(crate) fn task_declaration<'a>(
     alloc: Global,
     source: &[u8],
     depth: u32,
     tokens: &'a [Token],
 ) -> Result<(Identifier, Option<Aspect>, &'a [Token]), Stop>
-    ensures { Gives (λ x. identifier_token (identifier_label x.0) ∷ (maybe aspect_tokens (option_map aspect_seen x.1) ++ word symbols.Semicolon ∷ [])) (λ x. lexemes source.now x.2.now) result (lexemes source.now tokens.now) (reading depth task_rule (lexemes source.now tokens.now)) }
+    ensures { Gives (λ x. identifier_token (identifier_label x.0) ∷ (maybe aspect_tokens (option_map aspect_model x.1) ++ word symbols.Semicolon ∷ [])) (λ x. lexemes source.now x.2.now) result (lexemes source.now tokens.now) (reading depth task_rule (lexemes source.now tokens.now)) }
 {
     let (name, rest) = identifier(alloc, source, tokens)?;
     let (aspect, rest) = read_or_drop!(aspect(alloc, source, depth, rest), name);
@@ -185,14 +185,14 @@ pub(crate) fn task_declaration<'a>(
 }
 
 /// An operation of a protected declaration (ARM 9.4).
-#[tactic(auto, unfolding(al_syntax::specs::Declarations::operation_rule, al_syntax::specs::Declarations::specification_rule, al_syntax::specs::Expressions::identifier_rule))]
+#[tactic(auto, unfolding(al_tree_syntax::specs::Declarations::operation_rule, al_tree_syntax::specs::Declarations::specification_rule, al_tree_syntax::specs::Expressions::identifier_rule))]
 fn operation<'a>(
     alloc: Global,
     source: &[u8],
     depth: u32,
     tokens: &'a [Token],
 ) -> Result<(ProtectedOperation, &'a [Token]), Stop>
-    ensures { Gives (λ x. protected_operation_tokens (protected_operation_seen x.0)) (λ x. lexemes source.now x.1.now) result (lexemes source.now tokens.now) (reading depth operation_rule (lexemes source.now tokens.now)) }
+    ensures { Gives (λ x. protected_operation_tokens (protected_operation_model x.0)) (λ x. lexemes source.now x.1.now) result (lexemes source.now tokens.now) (reading depth operation_rule (lexemes source.now tokens.now)) }
 {
     if is_specification_next(source, tokens) {
         let (specification, rest) = specification(alloc, source, depth, tokens)?;
@@ -212,7 +212,7 @@ fn operations<'a>(
     depth: u32,
     tokens: &'a [Token],
 ) -> Result<(Vec<ProtectedOperation>, &'a [Token]), Stop>
-    ensures { Gives (λ x. each protected_operation_tokens (map protected_operation_seen x.0.items)) (λ x. lexemes source.now x.1.now) result (lexemes source.now tokens.now) (reading depth (Many operation_rule) (lexemes source.now tokens.now)) }
+    ensures { Gives (λ x. each protected_operation_tokens (map protected_operation_model x.0.items)) (λ x. lexemes source.now x.1.now) result (lexemes source.now tokens.now) (reading depth (Many operation_rule) (lexemes source.now tokens.now)) }
 {
     let mut items = Vec::new(alloc);
     let mut rest = tokens;
@@ -225,14 +225,14 @@ fn operations<'a>(
 }
 
 /// A component of a protected object (ARM 9.4).
-#[tactic(auto, unfolding(al_syntax::specs::Declarations::element_rule, al_syntax::specs::Expressions::identifiers_rule, al_syntax::specs::Expressions::identifier_rule))]
+#[tactic(auto, unfolding(al_tree_syntax::specs::Declarations::element_rule, al_tree_syntax::specs::Expressions::identifiers_rule, al_tree_syntax::specs::Expressions::identifier_rule))]
 fn protected_component<'a>(
     alloc: Global,
     source: &[u8],
     depth: u32,
     tokens: &'a [Token],
 ) -> Result<(ProtectedComponent, &'a [Token]), Stop>
-    ensures { Gives (λ x. protected_component_tokens (protected_component_seen x.0)) (λ x. lexemes source.now x.1.now) result (lexemes source.now tokens.now) (reading depth element_rule (lexemes source.now tokens.now)) }
+    ensures { Gives (λ x. protected_component_tokens (protected_component_model x.0)) (λ x. lexemes source.now x.1.now) result (lexemes source.now tokens.now) (reading depth element_rule (lexemes source.now tokens.now)) }
 {
     let (names, rest) = identifiers(alloc, source, tokens)?;
     let rest = read_or_drop!(expect(source, rest, Symbol::Colon), names);
@@ -259,7 +259,7 @@ fn protected_components<'a>(
     depth: u32,
     tokens: &'a [Token],
 ) -> Result<(Vec<ProtectedComponent>, &'a [Token]), Stop>
-    ensures { Gives (λ x. each protected_component_tokens (map protected_component_seen x.0.items)) (λ x. lexemes source.now x.1.now) result (lexemes source.now tokens.now) (reading depth (Many element_rule) (lexemes source.now tokens.now)) }
+    ensures { Gives (λ x. each protected_component_tokens (map protected_component_model x.0.items)) (λ x. lexemes source.now x.1.now) result (lexemes source.now tokens.now) (reading depth (Many element_rule) (lexemes source.now tokens.now)) }
 {
     let mut items = Vec::new(alloc);
     let mut rest = tokens;
@@ -278,7 +278,7 @@ fn protected_private_part<'a>(
     depth: u32,
     tokens: &'a [Token],
 ) -> Result<(Option<ProtectedPrivatePart>, &'a [Token]), Stop>
-    ensures { Gives (λ x. maybe protected_private_tokens (option_map protected_private_seen x.0)) (λ x. lexemes source.now x.1.now) result (lexemes source.now tokens.now) (reading depth (Opt (any symbols.Private ⨾ Many element_rule)) (lexemes source.now tokens.now)) }
+    ensures { Gives (λ x. maybe protected_private_tokens (option_map protected_private_model x.0)) (λ x. lexemes source.now x.1.now) result (lexemes source.now tokens.now) (reading depth (Opt (any symbols.Private ⨾ Many element_rule)) (lexemes source.now tokens.now)) }
 {
     match skip_at(source, tokens, Symbol::Private) {
         None => Ok((None, tokens)),
@@ -296,7 +296,7 @@ fn protected_private_part<'a>(
 }
 
 /// `[name]`
-#[tactic(auto, unfolding(al_syntax::specs::Expressions::identifier_rule))]
+#[tactic(auto, unfolding(al_tree_syntax::specs::Expressions::identifier_rule))]
 pub(crate) fn end_name<'a>(
     alloc: Global,
     source: &[u8],
@@ -312,13 +312,13 @@ pub(crate) fn end_name<'a>(
 }
 
 /// `end [name];`
-#[tactic(auto, unfolding(al_syntax::specs::Expressions::identifier_rule))]
+#[tactic(auto, unfolding(al_tree_syntax::specs::Expressions::identifier_rule))]
 pub(crate) fn named_end<'a>(
     alloc: Global,
     source: &[u8],
     tokens: &'a [Token],
 ) -> Result<(NamedEnd, &'a [Token]), Stop>
-    ensures { Gives (λ x. named_end_tokens (named_end_seen x.0)) (λ x. lexemes source.now x.1.now) result (lexemes source.now tokens.now) (reading 0 (any symbols.End ⨾ Opt identifier_rule ⨾ the symbols.Semicolon) (lexemes source.now tokens.now)) }
+    ensures { Gives (λ x. named_end_tokens (named_end_model x.0)) (λ x. lexemes source.now x.1.now) result (lexemes source.now tokens.now) (reading 0 (any symbols.End ⨾ Opt identifier_rule ⨾ the symbols.Semicolon) (lexemes source.now tokens.now)) }
 {
     let (end, rest) = word_at(source, tokens, Symbol::End)?;
     let (end_name, rest) = end_name(alloc, source, rest)?;
@@ -327,7 +327,7 @@ pub(crate) fn named_end<'a>(
 }
 
 /// Behind the `is` of a protected declaration.
-#[tactic(auto, unfolding(al_syntax::specs::Expressions::identifier_rule))]
+#[tactic(auto, unfolding(al_tree_syntax::specs::Expressions::identifier_rule))]
 fn protected_parts<'a>(
     alloc: Global,
     source: &[u8],
@@ -342,7 +342,7 @@ fn protected_parts<'a>(
     ),
     Stop,
 >
-    ensures { Gives (λ x. each protected_operation_tokens (map protected_operation_seen x.0.items) ++ (maybe protected_private_tokens (option_map protected_private_seen x.1) ++ named_end_tokens (named_end_seen x.2))) (λ x. lexemes source.now x.3.now) result (lexemes source.now tokens.now) (reading depth (Many operation_rule ⨾ Opt (any symbols.Private ⨾ Many element_rule) ⨾ any symbols.End ⨾ Opt identifier_rule ⨾ the symbols.Semicolon) (lexemes source.now tokens.now)) }
+    ensures { Gives (λ x. each protected_operation_tokens (map protected_operation_model x.0.items) ++ (maybe protected_private_tokens (option_map protected_private_model x.1) ++ named_end_tokens (named_end_model x.2))) (λ x. lexemes source.now x.3.now) result (lexemes source.now tokens.now) (reading depth (Many operation_rule ⨾ Opt (any symbols.Private ⨾ Many element_rule) ⨾ any symbols.End ⨾ Opt identifier_rule ⨾ the symbols.Semicolon) (lexemes source.now tokens.now)) }
 {
     let (operations, rest) = operations(alloc, source, depth, tokens)?;
     let (private_part, rest) = read_or_drop!(
@@ -353,15 +353,15 @@ fn protected_parts<'a>(
     Ok((operations, private_part, end, rest))
 }
 
-/// What stands behind `protected` in a declaration (ARM 9.4).
-#[tactic(auto, unfolding(al_syntax::specs::Declarations::protected_rule, al_syntax::specs::Expressions::identifier_rule))]
+/// What stands after `protected` in a declaration (ARM 9.4).
+#[tactic(auto, unfolding(al_tree_syntax::specs::Declarations::protected_rule, al_tree_syntax::specs::Expressions::identifier_rule))]
 pub(crate) fn protected_definition<'a>(
     alloc: Global,
     source: &[u8],
     depth: u32,
     tokens: &'a [Token],
 ) -> Result<(ProtectedDefinition, &'a [Token]), Stop>
-    ensures { Gives (λ x. protected_tokens (protected_seen x.0)) (λ x. lexemes source.now x.1.now) result (lexemes source.now tokens.now) (reading depth protected_rule (lexemes source.now tokens.now)) }
+    ensures { Gives (λ x. protected_tokens (protected_model x.0)) (λ x. lexemes source.now x.1.now) result (lexemes source.now tokens.now) (reading depth protected_rule (lexemes source.now tokens.now)) }
 {
     let (name, rest) = identifier(alloc, source, tokens)?;
     let (aspect, rest) = read_or_drop!(aspect(alloc, source, depth, rest), name);
@@ -384,28 +384,28 @@ pub(crate) fn protected_definition<'a>(
 }
 
 /// Behind the `protected` of a package's declaration.
-#[tactic(auto, unfolding(al_syntax::specs::Rules::grammar, al_syntax::specs::Rules::inside, al_syntax::specs::Constructs::construct_at))]
+#[tactic(auto, unfolding(al_tree_syntax::specs::Rules::grammar, al_tree_syntax::specs::Rules::inside, al_tree_syntax::specs::Constructs::construct_at))]
 fn protected_declaration<'a>(
     alloc: Global,
     source: &[u8],
     depth: u32,
     tokens: &'a [Token],
 ) -> Result<(ProtectedDefinition, &'a [Token]), Stop>
-    ensures { Gives (λ x. protected_tokens (protected_seen x.0)) (λ x. lexemes source.now x.1.now) result (lexemes source.now tokens.now) (reading depth (grammar (place constructs.ProtectedDeclaration)) (lexemes source.now tokens.now)) }
+    ensures { Gives (λ x. protected_tokens (protected_model x.0)) (λ x. lexemes source.now x.1.now) result (lexemes source.now tokens.now) (reading depth (grammar (place constructs.ProtectedDeclaration)) (lexemes source.now tokens.now)) }
 {
     let (definition, rest) = protected_definition(alloc, source, depth, tokens)?;
     Ok((definition, rest))
 }
 
 /// A declaration of a package (ARM 7.1).
-#[tactic(auto, unfolding(al_syntax::specs::Declarations::declaration_rule))]
+#[tactic(auto, unfolding(al_tree_syntax::specs::Declarations::declaration_rule))]
 fn declaration<'a>(
     alloc: Global,
     source: &[u8],
     depth: u32,
     tokens: &'a [Token],
 ) -> Result<(Declaration, &'a [Token]), Stop>
-    ensures { Gives (λ x. declaration_tokens (declaration_seen x.0)) (λ x. lexemes source.now x.1.now) result (lexemes source.now tokens.now) (reading depth declaration_rule (lexemes source.now tokens.now)) }
+    ensures { Gives (λ x. declaration_tokens (declaration_model x.0)) (λ x. lexemes source.now x.1.now) result (lexemes source.now tokens.now) (reading depth declaration_rule (lexemes source.now tokens.now)) }
 {
     if is_common_next(source, tokens) {
         let (declaration, rest) = common_declaration(alloc, source, depth, tokens)?;
@@ -439,7 +439,7 @@ pub(crate) fn declarations<'a>(
     depth: u32,
     tokens: &'a [Token],
 ) -> Result<(Vec<Declaration>, &'a [Token]), Stop>
-    ensures { Gives (λ x. each declaration_tokens (map declaration_seen x.0.items)) (λ x. lexemes source.now x.1.now) result (lexemes source.now tokens.now) (reading depth (Many declaration_rule) (lexemes source.now tokens.now)) }
+    ensures { Gives (λ x. each declaration_tokens (map declaration_model x.0.items)) (λ x. lexemes source.now x.1.now) result (lexemes source.now tokens.now) (reading depth (Many declaration_rule) (lexemes source.now tokens.now)) }
 {
     let mut items = Vec::new(alloc);
     let mut rest = tokens;

@@ -1,13 +1,13 @@
 // What the next token begins.
-ghost use Rattle.al_grammar.specs.Grammar.Rule.{Opt};
-ghost use Rattle.al_grammar.specs.Reading.{begins, first};
-ghost use Rattle.al_syntax.specs.Constructs.{Construct as constructs};
-ghost use Rattle.al_syntax.specs.Declarations.{common_rule, declaration_rule, initial_rule, item_rule, object_rule, operation_body_rule, operation_rule, protected_rule, specification_rule, subprogram_rule, subtype_rule, task_rule, type_rule, typed_rule, use_rule};
-ghost use Rattle.al_syntax.specs.Expressions.{expression_rule, name_rest_rule};
-ghost use Rattle.al_syntax.specs.Notation.{opens, the, ◌∣◌, ◌⨾◌};
-ghost use Rattle.al_syntax.specs.Statements.{loop_rule, statement_rule};
-ghost use Rattle.al_syntax.specs.Symbols.{Symbol as symbols};
-ghost use Rattle.al_syntax.specs.Units.{context_rule, package_rule};
+ghost use Rattle.al_tree_grammar.specs.Grammar.Rule.{Opt};
+ghost use Rattle.al_tree_grammar.specs.Reading.{begins, first};
+ghost use Rattle.al_tree_syntax.specs.Constructs.{Construct as constructs};
+ghost use Rattle.al_tree_syntax.specs.Declarations.{common_rule, declaration_rule, initial_rule, item_rule, object_rule, operation_body_rule, operation_rule, protected_rule, specification_rule, subprogram_rule, subtype_rule, task_rule, type_rule, typed_rule, use_rule};
+ghost use Rattle.al_tree_syntax.specs.Expressions.{expression_rule, name_rest_rule};
+ghost use Rattle.al_tree_syntax.specs.Notation.{opens, the, ◌∣◌, ◌⨾◌};
+ghost use Rattle.al_tree_syntax.specs.Statements.{loop_rule, statement_rule};
+ghost use Rattle.al_tree_syntax.specs.Symbols.{Symbol as symbols};
+ghost use Rattle.al_tree_syntax.specs.Units.{context_rule, package_rule};
 ghost use Rattle.al_tree.specs.Lexemes.{lexemes};
 ghost use Rattle.std.specs.Prelude.{◌≡◌};
 
@@ -17,7 +17,7 @@ use al_parse_expr::is_next;
 use al_tree::Symbol;
 
 /// The next token begins a statement.
-#[tactic(auto, unfolding(al_syntax::specs::Statements::statement_rule, al_syntax::specs::Expressions::identifier_rule, al_syntax::specs::Statements::return_rule, al_syntax::specs::Statements::exit_rule, al_syntax::specs::Statements::delay_rule, al_syntax::specs::Statements::loop_rule, al_syntax::specs::Statements::block_rule))]
+#[tactic(auto, unfolding(al_tree_syntax::specs::Statements::statement_rule, al_tree_syntax::specs::Expressions::identifier_rule, al_tree_syntax::specs::Statements::return_rule, al_tree_syntax::specs::Statements::exit_rule, al_tree_syntax::specs::Statements::delay_rule, al_tree_syntax::specs::Statements::loop_rule, al_tree_syntax::specs::Statements::block_rule))]
 pub(crate) fn is_statement_next(source: &[u8], tokens: &[Token]) -> bool
     ensures { result ≡ begins (first statement_rule) (lexemes source.now tokens.now) }
 {
@@ -42,7 +42,7 @@ pub(crate) fn is_statement_next(source: &[u8], tokens: &[Token]) -> bool
 }
 
 /// The next token goes on with a name or ends it, in a call or an assignment.
-#[tactic(auto, unfolding(al_syntax::specs::Expressions::name_rest_rule, al_syntax::specs::Declarations::initial_rule))]
+#[tactic(auto, unfolding(al_tree_syntax::specs::Expressions::name_rest_rule, al_tree_syntax::specs::Declarations::initial_rule))]
 pub(crate) fn is_rest_next(source: &[u8], tokens: &[Token]) -> bool
     ensures { result ≡ begins (first (name_rest_rule ⨾ Opt initial_rule ⨾ the symbols.Semicolon)) (lexemes source.now tokens.now) }
 {
@@ -60,7 +60,7 @@ pub(crate) fn is_rest_next(source: &[u8], tokens: &[Token]) -> bool
 }
 
 /// The next token begins a loop.
-#[tactic(auto, unfolding(al_syntax::specs::Statements::loop_rule))]
+#[tactic(auto, unfolding(al_tree_syntax::specs::Statements::loop_rule))]
 pub(crate) fn is_loop_next(source: &[u8], tokens: &[Token]) -> bool
     ensures { result ≡ begins (first loop_rule) (lexemes source.now tokens.now) }
 {
@@ -68,7 +68,7 @@ pub(crate) fn is_loop_next(source: &[u8], tokens: &[Token]) -> bool
 }
 
 /// The next token begins a declaration or body in a declarative part.
-#[tactic(auto, unfolding(al_syntax::specs::Declarations::item_rule, al_syntax::specs::Declarations::specification_rule, al_syntax::specs::Declarations::common_rule, al_syntax::specs::Declarations::object_rule, al_syntax::specs::Declarations::type_rule, al_syntax::specs::Declarations::subtype_rule, al_syntax::specs::Declarations::use_rule, al_syntax::specs::Declarations::pragma_rule, al_syntax::specs::Expressions::identifiers_rule, al_syntax::specs::Expressions::identifier_rule))]
+#[tactic(auto, unfolding(al_tree_syntax::specs::Declarations::item_rule, al_tree_syntax::specs::Declarations::specification_rule, al_tree_syntax::specs::Declarations::common_rule, al_tree_syntax::specs::Declarations::object_rule, al_tree_syntax::specs::Declarations::type_rule, al_tree_syntax::specs::Declarations::subtype_rule, al_tree_syntax::specs::Declarations::use_rule, al_tree_syntax::specs::Declarations::pragma_rule, al_tree_syntax::specs::Expressions::identifiers_rule, al_tree_syntax::specs::Expressions::identifier_rule))]
 pub(crate) fn is_item_next(source: &[u8], tokens: &[Token]) -> bool
     ensures { result ≡ begins (first item_rule) (lexemes source.now tokens.now) }
 {
@@ -90,23 +90,23 @@ pub(crate) fn is_item_next(source: &[u8], tokens: &[Token]) -> bool
 }
 
 /// The next token begins a subprogram's declaration, stub or body.
-#[tactic(auto, unfolding(al_syntax::specs::Declarations::specification_rule))]
+#[tactic(auto, unfolding(al_tree_syntax::specs::Declarations::specification_rule))]
 pub(crate) fn is_subprogram_next(source: &[u8], tokens: &[Token]) -> bool
     ensures { result ≡ begins (first (specification_rule ⨾ subprogram_rule)) (lexemes source.now tokens.now) }
 {
     is_any_next(source, tokens, &[Symbol::Procedure, Symbol::Function])
 }
 
-/// The next token begins what is behind `task` in a declaration.
-#[tactic(auto, unfolding(al_syntax::specs::Declarations::task_rule, al_syntax::specs::Expressions::identifier_rule))]
+/// The next token begins what is after `task` in a declaration.
+#[tactic(auto, unfolding(al_tree_syntax::specs::Declarations::task_rule, al_tree_syntax::specs::Expressions::identifier_rule))]
 pub(crate) fn is_task_next(source: &[u8], tokens: &[Token]) -> bool
     ensures { result ≡ begins (first task_rule) (lexemes source.now tokens.now) }
 {
     is_next(source, tokens, Symbol::Identifier)
 }
 
-/// The next token begins what is behind `protected` in a declaration.
-#[tactic(auto, unfolding(al_syntax::specs::Declarations::protected_rule, al_syntax::specs::Expressions::identifier_rule))]
+/// The next token begins what is after `protected` in a declaration.
+#[tactic(auto, unfolding(al_tree_syntax::specs::Declarations::protected_rule, al_tree_syntax::specs::Expressions::identifier_rule))]
 pub(crate) fn is_protected_next(source: &[u8], tokens: &[Token]) -> bool
     ensures { result ≡ begins (first protected_rule) (lexemes source.now tokens.now) }
 {
@@ -114,7 +114,7 @@ pub(crate) fn is_protected_next(source: &[u8], tokens: &[Token]) -> bool
 }
 
 /// The next token begins a body in a protected body.
-#[tactic(auto, unfolding(al_syntax::specs::Declarations::operation_body_rule, al_syntax::specs::Declarations::specification_rule))]
+#[tactic(auto, unfolding(al_tree_syntax::specs::Declarations::operation_body_rule, al_tree_syntax::specs::Declarations::specification_rule))]
 pub(crate) fn is_operation_body_next(source: &[u8], tokens: &[Token]) -> bool
     ensures { result ≡ begins (first operation_body_rule) (lexemes source.now tokens.now) }
 {
@@ -126,7 +126,7 @@ pub(crate) fn is_operation_body_next(source: &[u8], tokens: &[Token]) -> bool
 }
 
 /// The next token begins the body of a subprogram.
-#[tactic(auto, unfolding(al_syntax::specs::Declarations::specification_rule))]
+#[tactic(auto, unfolding(al_tree_syntax::specs::Declarations::specification_rule))]
 pub(crate) fn is_subprogram_body_next(source: &[u8], tokens: &[Token]) -> bool
     ensures { result ≡ begins (first (specification_rule ⨾ opens symbols.Is constructs.SubprogramBody)) (lexemes source.now tokens.now) }
 {
@@ -134,15 +134,15 @@ pub(crate) fn is_subprogram_body_next(source: &[u8], tokens: &[Token]) -> bool
 }
 
 /// The next token begins an item of a context clause.
-#[tactic(auto, unfolding(al_syntax::specs::Units::context_rule, al_syntax::specs::Declarations::use_rule, al_syntax::specs::Declarations::pragma_rule))]
+#[tactic(auto, unfolding(al_tree_syntax::specs::Units::context_rule, al_tree_syntax::specs::Declarations::use_rule, al_tree_syntax::specs::Declarations::pragma_rule))]
 pub(crate) fn is_context_next(source: &[u8], tokens: &[Token]) -> bool
     ensures { result ≡ begins (first context_rule) (lexemes source.now tokens.now) }
 {
     is_any_next(source, tokens, &[Symbol::With, Symbol::Use, Symbol::Pragma])
 }
 
-/// The next token begins what is behind `package` in a declaration.
-#[tactic(auto, unfolding(al_syntax::specs::Units::package_rule, al_syntax::specs::Expressions::compound_name_rule, al_syntax::specs::Expressions::identifier_rule))]
+/// The next token begins what is after `package` in a declaration.
+#[tactic(auto, unfolding(al_tree_syntax::specs::Units::package_rule, al_tree_syntax::specs::Expressions::compound_name_rule, al_tree_syntax::specs::Expressions::identifier_rule))]
 pub(crate) fn is_declaration_of_package_next(source: &[u8], tokens: &[Token]) -> bool
     ensures { result ≡ begins (first package_rule) (lexemes source.now tokens.now) }
 {
@@ -150,7 +150,7 @@ pub(crate) fn is_declaration_of_package_next(source: &[u8], tokens: &[Token]) ->
 }
 
 /// The next token begins a library subprogram.
-#[tactic(auto, unfolding(al_syntax::specs::Declarations::specification_rule))]
+#[tactic(auto, unfolding(al_tree_syntax::specs::Declarations::specification_rule))]
 pub(crate) fn is_subprogram_item_next(source: &[u8], tokens: &[Token]) -> bool
     ensures { result ≡ begins (first (specification_rule ⨾ (the symbols.Semicolon ∣ opens symbols.Is constructs.SubprogramBody))) (lexemes source.now tokens.now) }
 {
@@ -158,7 +158,7 @@ pub(crate) fn is_subprogram_item_next(source: &[u8], tokens: &[Token]) -> bool
 }
 
 /// The next token begins the specification of a subprogram.
-#[tactic(auto, unfolding(al_syntax::specs::Declarations::specification_rule))]
+#[tactic(auto, unfolding(al_tree_syntax::specs::Declarations::specification_rule))]
 pub(crate) fn is_specification_next(source: &[u8], tokens: &[Token]) -> bool
     ensures { result ≡ begins (first specification_rule) (lexemes source.now tokens.now) }
 {
@@ -166,7 +166,7 @@ pub(crate) fn is_specification_next(source: &[u8], tokens: &[Token]) -> bool
 }
 
 /// The next token begins the declaration of a subprogram.
-#[tactic(auto, unfolding(al_syntax::specs::Declarations::specification_rule))]
+#[tactic(auto, unfolding(al_tree_syntax::specs::Declarations::specification_rule))]
 pub(crate) fn is_subprogram_declaration_next(source: &[u8], tokens: &[Token]) -> bool
     ensures { result ≡ begins (first (specification_rule ⨾ the symbols.Semicolon)) (lexemes source.now tokens.now) }
 {
@@ -174,7 +174,7 @@ pub(crate) fn is_subprogram_declaration_next(source: &[u8], tokens: &[Token]) ->
 }
 
 /// The next token begins an operation of a protected declaration.
-#[tactic(auto, unfolding(al_syntax::specs::Declarations::operation_rule, al_syntax::specs::Declarations::specification_rule))]
+#[tactic(auto, unfolding(al_tree_syntax::specs::Declarations::operation_rule, al_tree_syntax::specs::Declarations::specification_rule))]
 pub(crate) fn is_operation_next(source: &[u8], tokens: &[Token]) -> bool
     ensures { result ≡ begins (first operation_rule) (lexemes source.now tokens.now) }
 {
@@ -186,7 +186,7 @@ pub(crate) fn is_operation_next(source: &[u8], tokens: &[Token]) -> bool
 }
 
 /// The next token begins a declaration that packages and bodies have alike.
-#[tactic(auto, unfolding(al_syntax::specs::Declarations::common_rule, al_syntax::specs::Declarations::object_rule, al_syntax::specs::Declarations::type_rule, al_syntax::specs::Declarations::subtype_rule, al_syntax::specs::Declarations::use_rule, al_syntax::specs::Declarations::pragma_rule, al_syntax::specs::Expressions::identifiers_rule, al_syntax::specs::Expressions::identifier_rule))]
+#[tactic(auto, unfolding(al_tree_syntax::specs::Declarations::common_rule, al_tree_syntax::specs::Declarations::object_rule, al_tree_syntax::specs::Declarations::type_rule, al_tree_syntax::specs::Declarations::subtype_rule, al_tree_syntax::specs::Declarations::use_rule, al_tree_syntax::specs::Declarations::pragma_rule, al_tree_syntax::specs::Expressions::identifiers_rule, al_tree_syntax::specs::Expressions::identifier_rule))]
 pub(crate) fn is_common_next(source: &[u8], tokens: &[Token]) -> bool
     ensures { result ≡ begins (first common_rule) (lexemes source.now tokens.now) }
 {
@@ -204,7 +204,7 @@ pub(crate) fn is_common_next(source: &[u8], tokens: &[Token]) -> bool
 }
 
 /// The next token begins a declaration of a package.
-#[tactic(auto, unfolding(al_syntax::specs::Declarations::declaration_rule, al_syntax::specs::Declarations::specification_rule, al_syntax::specs::Declarations::common_rule, al_syntax::specs::Declarations::object_rule, al_syntax::specs::Declarations::type_rule, al_syntax::specs::Declarations::subtype_rule, al_syntax::specs::Declarations::use_rule, al_syntax::specs::Declarations::pragma_rule, al_syntax::specs::Expressions::identifiers_rule, al_syntax::specs::Expressions::identifier_rule))]
+#[tactic(auto, unfolding(al_tree_syntax::specs::Declarations::declaration_rule, al_tree_syntax::specs::Declarations::specification_rule, al_tree_syntax::specs::Declarations::common_rule, al_tree_syntax::specs::Declarations::object_rule, al_tree_syntax::specs::Declarations::type_rule, al_tree_syntax::specs::Declarations::subtype_rule, al_tree_syntax::specs::Declarations::use_rule, al_tree_syntax::specs::Declarations::pragma_rule, al_tree_syntax::specs::Expressions::identifiers_rule, al_tree_syntax::specs::Expressions::identifier_rule))]
 pub(crate) fn is_declaration_next(source: &[u8], tokens: &[Token]) -> bool
     ensures { result ≡ begins (first declaration_rule) (lexemes source.now tokens.now) }
 {
@@ -226,7 +226,7 @@ pub(crate) fn is_declaration_next(source: &[u8], tokens: &[Token]) -> bool
 }
 
 /// The next token begins an expression.
-#[tactic(auto, unfolding(al_syntax::specs::Expressions::expression_rule, al_syntax::specs::Expressions::relation_rule, al_syntax::specs::Expressions::simple_expression_rule, al_syntax::specs::Expressions::term_rule, al_syntax::specs::Expressions::factor_rule, al_syntax::specs::Expressions::primary_rule, al_syntax::specs::Expressions::name_rule, al_syntax::specs::Expressions::parentheses_rule, al_syntax::specs::Expressions::identifier_rule))]
+#[tactic(auto, unfolding(al_tree_syntax::specs::Expressions::expression_rule, al_tree_syntax::specs::Expressions::relation_rule, al_tree_syntax::specs::Expressions::simple_expression_rule, al_tree_syntax::specs::Expressions::term_rule, al_tree_syntax::specs::Expressions::factor_rule, al_tree_syntax::specs::Expressions::primary_rule, al_tree_syntax::specs::Expressions::name_rule, al_tree_syntax::specs::Expressions::parentheses_rule, al_tree_syntax::specs::Expressions::identifier_rule))]
 pub(crate) fn is_expression_next(source: &[u8], tokens: &[Token]) -> bool
     ensures { result ≡ begins (first expression_rule) (lexemes source.now tokens.now) }
 {
@@ -247,7 +247,7 @@ pub(crate) fn is_expression_next(source: &[u8], tokens: &[Token]) -> bool
 }
 
 /// The next token begins the type of an object.
-#[tactic(auto, unfolding(al_syntax::specs::Declarations::typed_rule, al_syntax::specs::Declarations::subtype_indication_rule, al_syntax::specs::Declarations::array_rule, al_syntax::specs::Expressions::compound_name_rule, al_syntax::specs::Expressions::identifier_rule))]
+#[tactic(auto, unfolding(al_tree_syntax::specs::Declarations::typed_rule, al_tree_syntax::specs::Declarations::subtype_indication_rule, al_tree_syntax::specs::Declarations::array_rule, al_tree_syntax::specs::Expressions::compound_name_rule, al_tree_syntax::specs::Expressions::identifier_rule))]
 pub(crate) fn is_type_next(source: &[u8], tokens: &[Token]) -> bool
     ensures { result ≡ begins (first typed_rule) (lexemes source.now tokens.now) }
 {
@@ -255,7 +255,7 @@ pub(crate) fn is_type_next(source: &[u8], tokens: &[Token]) -> bool
 }
 
 /// The next token begins an object or number declaration.
-#[tactic(auto, unfolding(al_syntax::specs::Declarations::object_rule, al_syntax::specs::Expressions::identifiers_rule, al_syntax::specs::Expressions::identifier_rule))]
+#[tactic(auto, unfolding(al_tree_syntax::specs::Declarations::object_rule, al_tree_syntax::specs::Expressions::identifiers_rule, al_tree_syntax::specs::Expressions::identifier_rule))]
 pub(crate) fn is_object_next(source: &[u8], tokens: &[Token]) -> bool
     ensures { result ≡ begins (first object_rule) (lexemes source.now tokens.now) }
 {
@@ -263,7 +263,7 @@ pub(crate) fn is_object_next(source: &[u8], tokens: &[Token]) -> bool
 }
 
 /// The next token begins a type declaration.
-#[tactic(auto, unfolding(al_syntax::specs::Declarations::type_rule))]
+#[tactic(auto, unfolding(al_tree_syntax::specs::Declarations::type_rule))]
 pub(crate) fn is_type_declaration_next(source: &[u8], tokens: &[Token]) -> bool
     ensures { result ≡ begins (first type_rule) (lexemes source.now tokens.now) }
 {
@@ -271,7 +271,7 @@ pub(crate) fn is_type_declaration_next(source: &[u8], tokens: &[Token]) -> bool
 }
 
 /// The next token begins a subtype declaration.
-#[tactic(auto, unfolding(al_syntax::specs::Declarations::subtype_rule))]
+#[tactic(auto, unfolding(al_tree_syntax::specs::Declarations::subtype_rule))]
 pub(crate) fn is_subtype_declaration_next(source: &[u8], tokens: &[Token]) -> bool
     ensures { result ≡ begins (first subtype_rule) (lexemes source.now tokens.now) }
 {
@@ -279,7 +279,7 @@ pub(crate) fn is_subtype_declaration_next(source: &[u8], tokens: &[Token]) -> bo
 }
 
 /// The next token begins a use clause.
-#[tactic(auto, unfolding(al_syntax::specs::Declarations::use_rule))]
+#[tactic(auto, unfolding(al_tree_syntax::specs::Declarations::use_rule))]
 pub(crate) fn is_use_next(source: &[u8], tokens: &[Token]) -> bool
     ensures { result ≡ begins (first use_rule) (lexemes source.now tokens.now) }
 {

@@ -1,23 +1,23 @@
 // Compilation units (ARM 7.1, 7.2, 10.1).
-ghost use Rattle.al_grammar.specs.Grammar.{each, maybe};
-ghost use Rattle.al_grammar.specs.Grammar.Rule.{Many, Opt};
+ghost use Rattle.al_tree_grammar.specs.Grammar.{each, maybe};
+ghost use Rattle.al_tree_grammar.specs.Grammar.Rule.{Many, Opt};
 ghost use Rattle.al_parse_expr.specs.Parses.{Gives, reading};
-ghost use Rattle.al_syntax.specs.Constructs.{Construct as constructs, place};
-ghost use Rattle.al_syntax.specs.DeclarationTrees.{compound_tokens, declaration_tokens};
-ghost use Rattle.al_syntax.specs.Declarations.{declaration_rule, item_rule, specification_rule};
-ghost use Rattle.al_syntax.specs.Expressions.{compound_name_rule};
-ghost use Rattle.al_syntax.specs.Notation.{any, opens, opens_at, the, ◌∣◌, ◌⨾◌};
-ghost use Rattle.al_syntax.specs.Rules.{grammar};
-ghost use Rattle.al_syntax.specs.StatementTrees.{compound_end_tokens, item_tokens};
-ghost use Rattle.al_syntax.specs.Statements.{statements_rule};
-ghost use Rattle.al_syntax.specs.Symbols.{Symbol as symbols};
-ghost use Rattle.al_syntax.specs.UnitTrees.{context_tokens, library_item_tokens, package_body_tokens, package_statements_tokens, package_tokens, private_part_tokens, tokens_of};
-ghost use Rattle.al_syntax.specs.Units.{context_rule, library_item_rule, package_body_rule, package_rule, unit_rule};
-ghost use Rattle.al_syntax.specs.Words.{labelled, word};
-ghost use Rattle.al_tree.specs.DeclarationViews.{compound_seen, declaration_seen};
+ghost use Rattle.al_tree_syntax.specs.Constructs.{Construct as constructs, place};
+ghost use Rattle.al_tree_syntax.specs.DeclarationTrees.{compound_tokens, declaration_tokens};
+ghost use Rattle.al_tree_syntax.specs.Declarations.{declaration_rule, item_rule, specification_rule};
+ghost use Rattle.al_tree_syntax.specs.Expressions.{compound_name_rule};
+ghost use Rattle.al_tree_syntax.specs.Notation.{any, opens, opens_at, the, ◌∣◌, ◌⨾◌};
+ghost use Rattle.al_tree_syntax.specs.Rules.{grammar};
+ghost use Rattle.al_tree_syntax.specs.StatementTrees.{compound_end_tokens, item_tokens};
+ghost use Rattle.al_tree_syntax.specs.Statements.{statements_rule};
+ghost use Rattle.al_tree_syntax.specs.Symbols.{Symbol as symbols};
+ghost use Rattle.al_tree_syntax.specs.UnitTrees.{context_tokens, library_item_tokens, package_body_tokens, package_statements_tokens, package_tokens, private_part_tokens, tokens_of};
+ghost use Rattle.al_tree_syntax.specs.Units.{context_rule, library_item_rule, package_body_rule, package_rule, unit_rule};
+ghost use Rattle.al_tree_syntax.specs.Words.{labelled, word};
+ghost use Rattle.al_tree.specs.DeclarationViews.{compound_model, declaration_model};
 ghost use Rattle.al_tree.specs.Lexemes.{lexemes, place_label};
-ghost use Rattle.al_tree.specs.StatementViews.{compound_end_seen, item_seen};
-ghost use Rattle.al_tree.specs.UnitViews.{context_seen, library_item_seen, package_body_seen, package_seen, package_statements_seen, private_part_seen, unit_seen};
+ghost use Rattle.al_tree.specs.StatementViews.{compound_end_model, item_model};
+ghost use Rattle.al_tree.specs.UnitViews.{context_model, library_item_model, package_body_model, package_model, package_statements_model, private_part_model, unit_model};
 ghost use Rattle.std.specs.Prelude.{[], map, option_map, ◌++◌, ◌∷◌};
 
 use crate::body::{items, proper_body, statements, subprogram_body};
@@ -41,14 +41,14 @@ use al_tree::{
 use std::alloc::Global;
 
 /// A with clause, a use clause or a pragma (ARM 10.1.2).
-#[tactic(auto, unfolding(al_syntax::specs::Units::context_rule, al_syntax::specs::Declarations::use_rule, al_syntax::specs::Expressions::compound_names_rule, al_syntax::specs::Expressions::compound_name_rule, al_syntax::specs::Expressions::identifier_rule))]
+#[tactic(auto, unfolding(al_tree_syntax::specs::Units::context_rule, al_tree_syntax::specs::Declarations::use_rule, al_tree_syntax::specs::Expressions::compound_names_rule, al_tree_syntax::specs::Expressions::compound_name_rule, al_tree_syntax::specs::Expressions::identifier_rule))]
 fn context_item<'a>(
     alloc: Global,
     source: &[u8],
     depth: u32,
     tokens: &'a [Token],
 ) -> Result<(ContextItem, &'a [Token]), Stop>
-    ensures { Gives (λ x. context_tokens (context_seen x.0)) (λ x. lexemes source.now x.1.now) result (lexemes source.now tokens.now) (reading depth context_rule (lexemes source.now tokens.now)) }
+    ensures { Gives (λ x. context_tokens (context_model x.0)) (λ x. lexemes source.now x.1.now) result (lexemes source.now tokens.now) (reading depth context_rule (lexemes source.now tokens.now)) }
 {
     if let Some(rest) = skip(source, tokens, Symbol::With) {
         let (names, rest) = compound_names(alloc, source, rest)?;
@@ -70,7 +70,7 @@ fn context_items<'a>(
     depth: u32,
     tokens: &'a [Token],
 ) -> Result<(Vec<ContextItem>, &'a [Token]), Stop>
-    ensures { Gives (λ x. each context_tokens (map context_seen x.0.items)) (λ x. lexemes source.now x.1.now) result (lexemes source.now tokens.now) (reading depth (Many context_rule) (lexemes source.now tokens.now)) }
+    ensures { Gives (λ x. each context_tokens (map context_model x.0.items)) (λ x. lexemes source.now x.1.now) result (lexemes source.now tokens.now) (reading depth (Many context_rule) (lexemes source.now tokens.now)) }
 {
     let mut items = Vec::new(alloc);
     let mut rest = tokens;
@@ -89,7 +89,7 @@ fn private_part<'a>(
     depth: u32,
     tokens: &'a [Token],
 ) -> Result<(Option<PrivatePart>, &'a [Token]), Stop>
-    ensures { Gives (λ x. maybe private_part_tokens (option_map private_part_seen x.0)) (λ x. lexemes source.now x.1.now) result (lexemes source.now tokens.now) (reading depth (Opt (any symbols.Private ⨾ Many declaration_rule)) (lexemes source.now tokens.now)) }
+    ensures { Gives (λ x. maybe private_part_tokens (option_map private_part_model x.0)) (λ x. lexemes source.now x.1.now) result (lexemes source.now tokens.now) (reading depth (Opt (any symbols.Private ⨾ Many declaration_rule)) (lexemes source.now tokens.now)) }
 {
     match skip_at(source, tokens, Symbol::Private) {
         None => Ok((None, tokens)),
@@ -107,7 +107,7 @@ fn private_part<'a>(
 }
 
 /// Behind the `is` of a package's declaration.
-#[tactic(auto, unfolding(al_syntax::specs::Expressions::compound_name_rule, al_syntax::specs::Expressions::identifier_rule))]
+#[tactic(auto, unfolding(al_tree_syntax::specs::Expressions::compound_name_rule, al_tree_syntax::specs::Expressions::identifier_rule))]
 fn package_parts<'a>(
     alloc: Global,
     source: &[u8],
@@ -122,7 +122,7 @@ fn package_parts<'a>(
     ),
     Stop,
 >
-    ensures { Gives (λ x. each declaration_tokens (map declaration_seen x.0.items) ++ (maybe private_part_tokens (option_map private_part_seen x.1) ++ compound_end_tokens (compound_end_seen x.2))) (λ x. lexemes source.now x.3.now) result (lexemes source.now tokens.now) (reading depth (Many declaration_rule ⨾ Opt (any symbols.Private ⨾ Many declaration_rule) ⨾ any symbols.End ⨾ Opt compound_name_rule ⨾ the symbols.Semicolon) (lexemes source.now tokens.now)) }
+    ensures { Gives (λ x. each declaration_tokens (map declaration_model x.0.items) ++ (maybe private_part_tokens (option_map private_part_model x.1) ++ compound_end_tokens (compound_end_model x.2))) (λ x. lexemes source.now x.3.now) result (lexemes source.now tokens.now) (reading depth (Many declaration_rule ⨾ Opt (any symbols.Private ⨾ Many declaration_rule) ⨾ any symbols.End ⨾ Opt compound_name_rule ⨾ the symbols.Semicolon) (lexemes source.now tokens.now)) }
 {
     let (visible, rest) = declarations(alloc, source, depth, tokens)?;
     let (private_part, rest) = read_or_drop!(private_part(alloc, source, depth, rest), visible);
@@ -130,15 +130,15 @@ fn package_parts<'a>(
     Ok((visible, private_part, end, rest))
 }
 
-/// What a package's declaration has behind `package` (ARM 7.1).
-#[tactic(auto, unfolding(al_syntax::specs::Units::package_rule, al_syntax::specs::Expressions::compound_name_rule, al_syntax::specs::Expressions::identifier_rule))]
+/// What a package's declaration has after `package` (ARM 7.1).
+#[tactic(auto, unfolding(al_tree_syntax::specs::Units::package_rule, al_tree_syntax::specs::Expressions::compound_name_rule, al_tree_syntax::specs::Expressions::identifier_rule))]
 fn package_declaration<'a>(
     alloc: Global,
     source: &[u8],
     depth: u32,
     tokens: &'a [Token],
 ) -> Result<(PackageDeclaration, &'a [Token]), Stop>
-    ensures { Gives (λ x. package_tokens (package_seen x.0)) (λ x. lexemes source.now x.1.now) result (lexemes source.now tokens.now) (reading depth package_rule (lexemes source.now tokens.now)) }
+    ensures { Gives (λ x. package_tokens (package_model x.0)) (λ x. lexemes source.now x.1.now) result (lexemes source.now tokens.now) (reading depth package_rule (lexemes source.now tokens.now)) }
 {
     let (name, rest) = compound_name(alloc, source, tokens)?;
     let rest = expect(source, rest, Symbol::Is)?;
@@ -161,7 +161,7 @@ fn package_statements<'a>(
     depth: u32,
     tokens: &'a [Token],
 ) -> Result<(Option<PackageStatements>, &'a [Token]), Stop>
-    ensures { Gives (λ x. maybe package_statements_tokens (option_map package_statements_seen x.0)) (λ x. lexemes source.now x.1.now) result (lexemes source.now tokens.now) (reading depth (Opt (any symbols.Begin ⨾ statements_rule)) (lexemes source.now tokens.now)) }
+    ensures { Gives (λ x. maybe package_statements_tokens (option_map package_statements_model x.0)) (λ x. lexemes source.now x.1.now) result (lexemes source.now tokens.now) (reading depth (Opt (any symbols.Begin ⨾ statements_rule)) (lexemes source.now tokens.now)) }
 {
     match skip_at(source, tokens, Symbol::Begin) {
         None => Ok((None, tokens)),
@@ -179,7 +179,7 @@ fn package_statements<'a>(
 }
 
 /// Behind the name of a package's body.
-#[tactic(auto, unfolding(al_syntax::specs::Expressions::compound_name_rule, al_syntax::specs::Expressions::identifier_rule))]
+#[tactic(auto, unfolding(al_tree_syntax::specs::Expressions::compound_name_rule, al_tree_syntax::specs::Expressions::identifier_rule))]
 fn package_body_parts<'a>(
     alloc: Global,
     source: &[u8],
@@ -194,7 +194,7 @@ fn package_body_parts<'a>(
     ),
     Stop,
 >
-    ensures { Gives (λ x. word symbols.Is ∷ (each (λ i. item_tokens (item_seen i)) x.0.items ++ (maybe package_statements_tokens (option_map package_statements_seen x.1) ++ compound_end_tokens (compound_end_seen x.2)))) (λ x. lexemes source.now x.3.now) result (lexemes source.now tokens.now) (reading depth (the symbols.Is ⨾ Many item_rule ⨾ Opt (any symbols.Begin ⨾ statements_rule) ⨾ any symbols.End ⨾ Opt compound_name_rule ⨾ the symbols.Semicolon) (lexemes source.now tokens.now)) }
+    ensures { Gives (λ x. word symbols.Is ∷ (each (λ i. item_tokens (item_model i)) x.0.items ++ (maybe package_statements_tokens (option_map package_statements_model x.1) ++ compound_end_tokens (compound_end_model x.2)))) (λ x. lexemes source.now x.3.now) result (lexemes source.now tokens.now) (reading depth (the symbols.Is ⨾ Many item_rule ⨾ Opt (any symbols.Begin ⨾ statements_rule) ⨾ any symbols.End ⨾ Opt compound_name_rule ⨾ the symbols.Semicolon) (lexemes source.now tokens.now)) }
 {
     let rest = expect(source, tokens, Symbol::Is)?;
     let (items, rest) = items(alloc, source, depth, rest)?;
@@ -203,30 +203,30 @@ fn package_body_parts<'a>(
     Ok((items, statements, end, rest))
 }
 
-/// What a package's body has behind `package body` (ARM 7.2).
-#[tactic(auto, unfolding(al_syntax::specs::Units::package_body_rule, al_syntax::specs::Expressions::compound_name_rule, al_syntax::specs::Expressions::identifier_rule))]
+/// What a package's body has after `package body` (ARM 7.2).
+#[tactic(auto, unfolding(al_tree_syntax::specs::Units::package_body_rule, al_tree_syntax::specs::Expressions::compound_name_rule, al_tree_syntax::specs::Expressions::identifier_rule))]
 fn package_body<'a>(
     alloc: Global,
     source: &[u8],
     depth: u32,
     tokens: &'a [Token],
 ) -> Result<(PackageBody, &'a [Token]), Stop>
-    ensures { Gives (λ x. package_body_tokens (package_body_seen x.0)) (λ x. lexemes source.now x.1.now) result (lexemes source.now tokens.now) (reading depth package_body_rule (lexemes source.now tokens.now)) }
+    ensures { Gives (λ x. package_body_tokens (package_body_model x.0)) (λ x. lexemes source.now x.1.now) result (lexemes source.now tokens.now) (reading depth package_body_rule (lexemes source.now tokens.now)) }
 {
     let (name, rest) = compound_name(alloc, source, tokens)?;
     let (items, statements, end, rest) = package_body_parts(alloc, source, depth, rest)?;
     Ok((PackageBody::new(name, items, statements, end), rest))
 }
 
-/// The name of a subunit's parent, behind its parenthesis (ARM 10.1.3).
-#[tactic(auto, unfolding(al_syntax::specs::Rules::grammar, al_syntax::specs::Rules::inside, al_syntax::specs::Constructs::construct_at, al_syntax::specs::Expressions::compound_name_rule, al_syntax::specs::Expressions::identifier_rule))]
+/// The name of a subunit's parent, after its parenthesis (ARM 10.1.3).
+#[tactic(auto, unfolding(al_tree_syntax::specs::Rules::grammar, al_tree_syntax::specs::Rules::inside, al_tree_syntax::specs::Constructs::construct_at, al_tree_syntax::specs::Expressions::compound_name_rule, al_tree_syntax::specs::Expressions::identifier_rule))]
 fn parent_name<'a>(
     alloc: Global,
     source: &[u8],
     depth: u32,
     tokens: &'a [Token],
 ) -> Result<(CompoundName, &'a [Token]), Stop>
-    ensures { Gives (λ x. compound_tokens (compound_seen x.0) ++ word symbols.RightParenthesis ∷ []) (λ x. lexemes source.now x.1.now) result (lexemes source.now tokens.now) (reading depth (grammar (place constructs.ParentName)) (lexemes source.now tokens.now)) }
+    ensures { Gives (λ x. compound_tokens (compound_model x.0) ++ word symbols.RightParenthesis ∷ []) (λ x. lexemes source.now x.1.now) result (lexemes source.now tokens.now) (reading depth (grammar (place constructs.ParentName)) (lexemes source.now tokens.now)) }
 {
     let (name, rest) = compound_name(alloc, source, tokens)?;
     let rest = read_or_drop!(expect(source, rest, Symbol::RightParenthesis), name);
@@ -234,14 +234,14 @@ fn parent_name<'a>(
 }
 
 /// The declaration of a private library unit.
-#[tactic(auto, unfolding(al_syntax::specs::Rules::grammar, al_syntax::specs::Rules::inside, al_syntax::specs::Constructs::construct_at))]
+#[tactic(auto, unfolding(al_tree_syntax::specs::Rules::grammar, al_tree_syntax::specs::Rules::inside, al_tree_syntax::specs::Constructs::construct_at))]
 fn private_item<'a>(
     alloc: Global,
     source: &[u8],
     depth: u32,
     tokens: &'a [Token],
 ) -> Result<(LibraryItem, &'a [Token]), Stop>
-    ensures { Gives (λ x. library_item_tokens (library_item_seen x.0)) (λ x. lexemes source.now x.1.now) result (lexemes source.now tokens.now) (reading depth (any symbols.Private ⨾ (specification_rule ⨾ the symbols.Semicolon ∣ opens_at symbols.Package constructs.PackageDeclaration)) (lexemes source.now tokens.now)) }
+    ensures { Gives (λ x. library_item_tokens (library_item_model x.0)) (λ x. lexemes source.now x.1.now) result (lexemes source.now tokens.now) (reading depth (any symbols.Private ⨾ (specification_rule ⨾ the symbols.Semicolon ∣ opens_at symbols.Package constructs.PackageDeclaration)) (lexemes source.now tokens.now)) }
 {
     let (opening, rest) = word_at(source, tokens, Symbol::Private)?;
     if is_subprogram_declaration_next(source, rest) {
@@ -258,14 +258,14 @@ fn private_item<'a>(
 }
 
 /// The declaration or body of a library subprogram.
-#[tactic(auto, unfolding(al_syntax::specs::Rules::grammar, al_syntax::specs::Rules::inside, al_syntax::specs::Constructs::construct_at))]
+#[tactic(auto, unfolding(al_tree_syntax::specs::Rules::grammar, al_tree_syntax::specs::Rules::inside, al_tree_syntax::specs::Constructs::construct_at))]
 fn subprogram_item<'a>(
     alloc: Global,
     source: &[u8],
     depth: u32,
     tokens: &'a [Token],
 ) -> Result<(LibraryItem, &'a [Token]), Stop>
-    ensures { Gives (λ x. library_item_tokens (library_item_seen x.0)) (λ x. lexemes source.now x.1.now) result (lexemes source.now tokens.now) (reading depth (specification_rule ⨾ (the symbols.Semicolon ∣ opens symbols.Is constructs.SubprogramBody)) (lexemes source.now tokens.now)) }
+    ensures { Gives (λ x. library_item_tokens (library_item_model x.0)) (λ x. lexemes source.now x.1.now) result (lexemes source.now tokens.now) (reading depth (specification_rule ⨾ (the symbols.Semicolon ∣ opens symbols.Is constructs.SubprogramBody)) (lexemes source.now tokens.now)) }
 {
     let (specification, rest) = specification(alloc, source, depth, tokens)?;
     if let Some(rest) = skip(source, rest, Symbol::Semicolon) {
@@ -277,7 +277,7 @@ fn subprogram_item<'a>(
 }
 
 /// Behind `package`: a declaration or a body.
-#[tactic(auto, unfolding(al_syntax::specs::Rules::grammar, al_syntax::specs::Rules::inside, al_syntax::specs::Constructs::construct_at))]
+#[tactic(auto, unfolding(al_tree_syntax::specs::Rules::grammar, al_tree_syntax::specs::Rules::inside, al_tree_syntax::specs::Constructs::construct_at))]
 fn package_item<'a>(
     alloc: Global,
     source: &[u8],
@@ -285,7 +285,7 @@ fn package_item<'a>(
     opening: Place,
     tokens: &'a [Token],
 ) -> Result<(LibraryItem, &'a [Token]), Stop>
-    ensures { Gives (λ x. library_item_tokens (library_item_seen x.0)) (λ x. lexemes source.now x.1.now) result (labelled symbols.Package (place_label opening) ∷ lexemes source.now tokens.now) (reading depth (grammar (place constructs.PackageUnit)) (lexemes source.now tokens.now)) }
+    ensures { Gives (λ x. library_item_tokens (library_item_model x.0)) (λ x. lexemes source.now x.1.now) result (labelled symbols.Package (place_label opening) ∷ lexemes source.now tokens.now) (reading depth (grammar (place constructs.PackageUnit)) (lexemes source.now tokens.now)) }
 {
     if is_declaration_of_package_next(source, tokens) {
         let (declaration, rest) = package_declaration(alloc, source, depth, tokens)?;
@@ -297,14 +297,14 @@ fn package_item<'a>(
 }
 
 /// ARM 10.1.3
-#[tactic(auto, unfolding(al_syntax::specs::Rules::grammar, al_syntax::specs::Rules::inside, al_syntax::specs::Constructs::construct_at))]
+#[tactic(auto, unfolding(al_tree_syntax::specs::Rules::grammar, al_tree_syntax::specs::Rules::inside, al_tree_syntax::specs::Constructs::construct_at))]
 fn subunit<'a>(
     alloc: Global,
     source: &[u8],
     depth: u32,
     tokens: &'a [Token],
 ) -> Result<(LibraryItem, &'a [Token]), Stop>
-    ensures { Gives (λ x. library_item_tokens (library_item_seen x.0)) (λ x. lexemes source.now x.1.now) result (lexemes source.now tokens.now) (reading depth (any symbols.Separate ⨾ opens_at symbols.LeftParenthesis constructs.ParentName ⨾ specification_rule ⨾ opens symbols.Is constructs.SubprogramBody) (lexemes source.now tokens.now)) }
+    ensures { Gives (λ x. library_item_tokens (library_item_model x.0)) (λ x. lexemes source.now x.1.now) result (lexemes source.now tokens.now) (reading depth (any symbols.Separate ⨾ opens_at symbols.LeftParenthesis constructs.ParentName ⨾ specification_rule ⨾ opens symbols.Is constructs.SubprogramBody) (lexemes source.now tokens.now)) }
 {
     let (opening, rest) = word_at(source, tokens, Symbol::Separate)?;
     let (inner, parenthesis, rest) = enter_at(source, depth, rest, Symbol::LeftParenthesis)?;
@@ -320,14 +320,14 @@ fn subunit<'a>(
 }
 
 /// A library unit's declaration or body, or a subunit (ARM 10.1.1, 10.1.3).
-#[tactic(auto, unfolding(al_syntax::specs::Units::library_item_rule))]
+#[tactic(auto, unfolding(al_tree_syntax::specs::Units::library_item_rule))]
 fn library_item<'a>(
     alloc: Global,
     source: &[u8],
     depth: u32,
     tokens: &'a [Token],
 ) -> Result<(LibraryItem, &'a [Token]), Stop>
-    ensures { Gives (λ x. library_item_tokens (library_item_seen x.0)) (λ x. lexemes source.now x.1.now) result (lexemes source.now tokens.now) (reading depth library_item_rule (lexemes source.now tokens.now)) }
+    ensures { Gives (λ x. library_item_tokens (library_item_model x.0)) (λ x. lexemes source.now x.1.now) result (lexemes source.now tokens.now) (reading depth library_item_rule (lexemes source.now tokens.now)) }
 {
     if is_next(source, tokens, Symbol::Private) {
         let (item, rest) = private_item(alloc, source, depth, tokens)?;
@@ -353,14 +353,14 @@ fn parts_of_unit<'a>(
     depth: u32,
     tokens: &'a [Token],
 ) -> Result<(CompilationUnit, &'a [Token]), Stop>
-    ensures { Gives (λ x. tokens_of (unit_seen x.0)) (λ x. lexemes source.now x.1.now) result (lexemes source.now tokens.now) (reading depth (Many context_rule ⨾ library_item_rule) (lexemes source.now tokens.now)) }
+    ensures { Gives (λ x. tokens_of (unit_model x.0)) (λ x. lexemes source.now x.1.now) result (lexemes source.now tokens.now) (reading depth (Many context_rule ⨾ library_item_rule) (lexemes source.now tokens.now)) }
 {
     let (context, rest) = context_items(alloc, source, depth, tokens)?;
     let (item, rest) = read_or_drop!(library_item(alloc, source, depth, rest), context);
     Ok((CompilationUnit::new(context, item), rest))
 }
 
-/// A compilation unit (ARM 10.1.1), where one more construct may be open, and the tokens behind it. `depth` is how many more
+/// A compilation unit (ARM 10.1.1), where one more construct may be open, and the tokens after it. `depth` is how many more
 /// constructs may be open.
 ///
 /// # Errors
@@ -371,7 +371,7 @@ pub fn compilation_unit<'a>(
     depth: u32,
     tokens: &'a [Token],
 ) -> Result<(CompilationUnit, &'a [Token]), Stop>
-    ensures { Gives (λ x. tokens_of (unit_seen x.0)) (λ x. lexemes source.now x.1.now) result (lexemes source.now tokens.now) (reading depth unit_rule (lexemes source.now tokens.now)) }
+    ensures { Gives (λ x. tokens_of (unit_model x.0)) (λ x. lexemes source.now x.1.now) result (lexemes source.now tokens.now) (reading depth unit_rule (lexemes source.now tokens.now)) }
 {
     if depth == 0 {
         return Err(Stop::Fault(tokens.len()));

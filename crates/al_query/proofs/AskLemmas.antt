@@ -53,13 +53,13 @@ follows-known us vs wanted log (e ∷ es) h f = (
   follows-known us vs wanted (log ++ e ∷ []) es (λ u m. known_after-more vs log (e ∷ []) u (h u m)) f.1,
 )
   where
-    told : List UnitKey
-    told = flat_map (λ (x : Query × AnswerKind). learned x.0 x.1) log
+    answered : List UnitKey
+    answered = flat_map (λ (x : Query × AnswerKind). learned x.0 x.1) log
 
     known : has_unit (known_after vs log) (unit_of e.0) ≡ true
-    known = elim (has_unit-cases us told (unit_of e.0) f.0.0) as (λ _. has_unit (known_after vs log) (unit_of e.0) ≡ true) [
+    known = elim (has_unit-cases us answered (unit_of e.0) f.0.0) as (λ _. has_unit (known_after vs log) (unit_of e.0) ≡ true) [
       | inl m ↦ h (unit_of e.0) m
-      | inr m ↦ has_unit-right vs told (unit_of e.0) m
+      | inr m ↦ has_unit-right vs answered (unit_of e.0) m
     ]
 
 pub asks_of-from : (us vs : List UnitKey) (wanted : Log → Query → Bool) (old new : Log) → ((u : UnitKey) → has_unit us u ≡ true → has_unit (known_after vs old) u ≡ true) → AsksOf us wanted old new → AsksOf vs wanted old new

@@ -26,8 +26,8 @@ Agrees-prop table (e ∷ es) = ×_prop (Coded-set answer.the_row.coded (table e.
 
 -- whatever table agrees with the log as it is now: it agreed with the log as it was before, and this holds of it. What a
 -- call that asks gives is told so: it depends on what was asked, and on nothing else.
-abbrev pub Told : Log → Log → (Table → Type 0) → Type 0
-Told before now claim = (t : Table) → Agrees t now → Agrees t before × claim t
+abbrev pub FromAnswers : Log → Log → (Table → Type 0) → Type 0
+FromAnswers before now claim = (t : Table) → Agrees t now → Agrees t before × claim t
 
 -- this holds of whatever table agrees with the log
 abbrev pub HoldsBy : Log → (Table → Type 0) → Type 0

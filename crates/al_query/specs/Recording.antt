@@ -7,4 +7,4 @@ use Rattle.al_query.specs.declared.answer.AnswerKind.{AnswerKind}
 pub record Recording (A : Type 0) : Type 0 where
   pub asked : A
   pub log : List (Query × AnswerKind)
-  pub shortages : ℕ
+  pub failures : ℕ

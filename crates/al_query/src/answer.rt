@@ -4,7 +4,7 @@ ghost use Rattle.std.specs.Option.{option_copied};
 ghost use Rattle.al_query.specs.Answers.{completions_of, context_of, form_of, form_of_profile, form_of_view, is_private_of, needs_body_of, own_view_of, parent_of, views_of};
 
 use al_base::{Name, NoMemory, UnitKey};
-use al_view::{Part, Profile, Row, Symbol, View, ViewKind, Views};
+use al_view::{Part, Profile, Seq, Symbol, View, ViewKind, Views};
 use std::alloc::Global;
 use std::marker::Model;
 use std::rc::Rc;
@@ -39,7 +39,6 @@ pub fn form_by_view(view: &View) -> Option<UnitForm>
 }
 
 /// A use clause, as resolved (ARM 8.4).
-#[derive(Drop)]
 pub enum UseClause {
     /// The visible part of this package (ARM 8.4(3)).
     Package(UnitKey),
@@ -47,36 +46,67 @@ pub enum UseClause {
     Type(Symbol),
 }
 
+impl Drop for UseClause {
+    fn drop(self) {
+        match self {
+            UseClause::Package(_) => {}
+            UseClause::Type(_) => {}
+        }
+    }
+}
+
 /// A use clause that stands immediately in a part of a unit.
-#[derive(Drop)]
 pub struct UseInPart {
     pub part: Part,
     pub clause: UseClause,
     /// The stubs of a body or subunit that it stands before.
-    pub before: Row<Name>,
+    pub before: Seq<Name>,
+}
+
+impl Drop for UseInPart {
+    fn drop(self) {
+        let UseInPart {
+            part: _,
+            clause: _,
+            before: _,
+        } = self;
+    }
 }
 
 /// The with and use clauses of a unit.
-#[derive(Drop)]
 pub struct ContextView {
     /// The units that its with clauses name, in order (ARM 10.1.2(6)).
-    pub withs: Row<UnitKey>,
+    pub withs: Seq<UnitKey>,
     /// The use clauses of its context clause, in order.
-    pub uses: Row<UseClause>,
+    pub uses: Seq<UseClause>,
     /// The use clauses that stand immediately in its parts, in order.
-    pub uses_inside: Row<UseInPart>,
+    pub uses_inside: Seq<UseInPart>,
+}
+
+impl Drop for ContextView {
+    fn drop(self) {
+        let ContextView {
+            withs: _,
+            uses: _,
+            uses_inside: _,
+        } = self;
+    }
 }
 
 /// A declaration that a body must complete, by its name (ARM 3.11.1).
-#[derive(Drop)]
 pub struct Completion {
     pub name: Name,
     pub view: View,
 }
 
+impl Drop for Completion {
+    fn drop(self) {
+        let Completion { name: _, view: _ } = self;
+    }
+}
+
 /// What is answered. Of a unit that has faults, or that isn't there, no name has views, no part has names, and each property has
 /// the answer `Nothing`.
-#[derive(Drop)]
 pub enum AnswerKind {
     Nothing,
     /// The views of a name in a part, in text order.
@@ -92,13 +122,33 @@ pub enum AnswerKind {
     /// Whether it needs a body.
     NeedsBody(bool),
     /// What its body must complete, in text order.
-    Completions(Row<Completion>),
+    Completions(Seq<Completion>),
+}
+
+impl Drop for AnswerKind {
+    fn drop(self) {
+        match self {
+            AnswerKind::Nothing => {}
+            AnswerKind::Views(_) => {}
+            AnswerKind::Kind(_) => {}
+            AnswerKind::Parent(_) => {}
+            AnswerKind::IsPrivate(_) => {}
+            AnswerKind::Context(_) => {}
+            AnswerKind::NeedsBody(_) => {}
+            AnswerKind::Completions(_) => {}
+        }
+    }
 }
 
 /// An answer that is shared: a copy costs no more than a count.
-#[derive(Drop)]
 pub struct Answer {
     kind: Rc<AnswerKind>,
+}
+
+impl Drop for Answer {
+    fn drop(self) {
+        let Answer { kind: _ } = self;
+    }
 }
 
 impl Model for Answer {

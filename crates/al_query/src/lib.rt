@@ -7,8 +7,6 @@ pub mod laws;
 mod query;
 mod recorder;
 mod same;
-#[cfg(test)]
-mod tests;
 
 pub use answer::{
     Answer, AnswerKind, Completion, ContextView, UnitForm, UseClause, UseInPart, form_by_view,

@@ -24,7 +24,7 @@ pub enum Property {
 }
 
 /// A question of a unit.
-#[derive(Debug, Drop)]
+#[derive(Debug)]
 pub enum Query {
     /// What a part of it declares under a name.
     Named {
@@ -37,6 +37,22 @@ pub enum Query {
         unit: UnitKey,
         property: Property,
     },
+}
+
+impl Drop for Query {
+    fn drop(self) {
+        match self {
+            Query::Named {
+                unit: _,
+                part: _,
+                name: _,
+            } => {}
+            Query::Of {
+                unit: _,
+                property: _,
+            } => {}
+        }
+    }
 }
 
 impl Query {

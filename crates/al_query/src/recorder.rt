@@ -2,16 +2,16 @@
 ghost use Rattle.std.specs.Prelude.{◌≡◌, ◌&&◌, ◌||◌, List, [], ◌∷◌, ◌++◌, IfOk, OnErr, None, true, is_ok, length, slice_get, if◌then◌else◌};
 ghost use Rattle.std.specs.Option.{option_copied, option_map};
 ghost use Rattle.al_base.specs.declared.unit_key.UnitKey.{UnitKey};
-ghost use Rattle.al_shortage.specs.Counts.{counted};
+ghost use Rattle.al_base_shortage.specs.Counts.{counted};
 ghost use Rattle.al_query.specs.declared.query.Query.{Query};
 ghost use Rattle.al_query.specs.declared.answer.AnswerKind.{AnswerKind};
 ghost use Rattle.al_query.specs.Known.{Learns};
-ghost use Rattle.al_query.specs.Reads.{Agrees, Agrees-prop, Told, logged, recorded};
+ghost use Rattle.al_query.specs.Reads.{Agrees, Agrees-prop, FromAnswers, logged, recorded};
 
 use crate::answer::Answer;
 use crate::query::Query;
 use al_base::NoMemory;
-use al_shortage::Shortages;
+use al_base_shortage::AllocFailures;
 use indexmap::IndexMap;
 use std::alloc::Global;
 use std::marker::Model;
@@ -28,9 +28,14 @@ pub trait Answers {
 }
 
 /// Each question that was asked, once, with its answer, in the order of asking. A question is found without a walk.
-#[derive(Drop)]
 pub struct ReadLog {
     answers: IndexMap<Query, Answer>,
+}
+
+impl Drop for ReadLog {
+    fn drop(self) {
+        let ReadLog { answers: _ } = self;
+    }
 }
 
 impl Model for ReadLog {
@@ -90,7 +95,7 @@ pub struct Recorder<A: Answers> {
     alloc: Global,
     asked: A,
     log: ReadLog,
-    shortages: Shortages,
+    failures: AllocFailures,
 }
 
 impl<A: Answers> Model for Recorder<A> {
@@ -100,7 +105,7 @@ impl<A: Answers> Model for Recorder<A> {
 
     ghost use Rattle.al_query.specs.Reads.{Agrees};
 
-    ghost view = { λ r. record { asked = r.asked; log = r.log; shortages = r.shortages } };
+    ghost view = { λ r. record { asked = r.asked; log = r.log; failures = r.failures } };
 
     ghost invariant = { λ r. Agrees (A.table r.asked) r.log };
 }
@@ -110,13 +115,13 @@ impl<A: Answers> Recorder<A> {
     pub fn new(alloc: Global, asked: A) -> Self
         ensures asked { result.asked ≡ asked }
         ensures log { result.log ≡ [] }
-        ensures shortages { result.shortages ≡ 0 }
+        ensures failures { result.failures ≡ 0 }
     {
         Recorder {
             alloc,
             asked,
             log: ReadLog::new(alloc),
-            shortages: Shortages::new(),
+            failures: AllocFailures::new(),
         }
     }
 
@@ -127,19 +132,19 @@ impl<A: Answers> Recorder<A> {
         ensures asked { self.new.asked ≡ self.old.asked }
         ensures answer { IfOk result (λ answer. answer ≡ A.table self.old.asked query.now) }
         ensures log { IfOk result (λ answer. self.new.log ≡ logged self.old.log query.now answer) }
-        ensures told { IfOk result (λ answer. Told self.old.log self.new.log (λ t. t query.now ≡ answer)) }
+        ensures answered { IfOk result (λ answer. FromAnswers self.old.log self.new.log (λ t. t query.now ≡ answer)) }
         ensures learns { IfOk result (λ answer. Learns self.old.log self.new.log query.now answer) }
         ensures err { OnErr result (self.new.log ≡ self.old.log) }
-        ensures shortages { self.new.shortages ≡ counted (is_ok result) self.old.shortages }
+        ensures failures { self.new.failures ≡ counted (is_ok result) self.old.failures }
     {
         if let Some(answer) = self.log.find(query) {
-            let answer = self.shortages.of(answer.share())?;
+            let answer = self.failures.of(answer.share())?;
             return Ok(answer);
         }
-        let answer = self.shortages.of(self.asked.ask(query))?;
-        let kept = self.shortages.of(answer.share())?;
-        let query = self.shortages.of(query.copy(self.alloc))?;
-        self.shortages.of(self.log.push(query, kept))?;
+        let answer = self.failures.of(self.asked.ask(query))?;
+        let kept = self.failures.of(answer.share())?;
+        let query = self.failures.of(query.copy(self.alloc))?;
+        self.failures.of(self.log.push(query, kept))?;
         Ok(answer)
     }
 

@@ -4,7 +4,7 @@ use Rattle.std.specs.List.{list_any}
 use Rattle.al_view.specs.declared.view.ViewKind.{ViewKind}
 use Rattle.al_view.specs.Homographs.{Signature, homographs, signature_of, types_of}
 use Rattle.al_view.proofs.HomographLemmas.{homographs-Decides}
-use Rattle.al_scope.specs.declared.hiding.Found.{Found}
+use Rattle.al_scope.specs.declared.hiding.RegionEntry.{RegionEntry}
 use Rattle.al_scope.specs.Visible.{clash, direct, shuts_out, use_visible}
 use Rattle.al_scope.specs.VisibleSet.{AllOnce, Has, Once}
 use Rattle.al_scope.proofs.VisibleLemmas.{filter-has, has-left, has-split}
@@ -26,11 +26,11 @@ any-self (x ∷ xs) v (inl e) = subst (λ (y : ViewKind). (homographs v y || lis
 any-self (x ∷ xs) v (inr h) = or-right (homographs v x) (list_any (homographs v) xs) (any-self xs v h)
 
 -- what a region declares it shuts out
-own-shut : (f : Found) (v : ViewKind) → Has f.views v → shuts_out v f ≡ true
+own-shut : (f : RegionEntry) (v : ViewKind) → Has f.views v → shuts_out v f ≡ true
 own-shut f v h = or-right f.begun (list_any (homographs v) f.views) (any-self f.views v h)
 
 -- what is directly visible some region shuts out
-direct-shut : (fs : List Found) (v : ViewKind) → Has (direct fs) v → list_any (shuts_out v) fs ≡ true
+direct-shut : (fs : List RegionEntry) (v : ViewKind) → Has (direct fs) v → list_any (shuts_out v) fs ≡ true
 direct-shut [] v h = absurd h
 direct-shut (f ∷ inner) v h =
     elim (has-split (direct inner) (filter (λ x. not (list_any (shuts_out x) inner)) f.views) v h) [
@@ -55,14 +55,14 @@ once-join (x ∷ xs) ys one two apart = (λ k. elim (has-split xs ys x k) [ inl 
 not-both : (p : ViewKind → Bool) (xs : List ViewKind) (v : ViewKind) → p v ≡ true → Has (filter (λ x. not (p x)) xs) v → ⊥
 not-both p xs v h k = let both = has-left p xs v k in let bad : true ≡ false = sym h ∙ both.1 in absurd (cc)
 
-once-direct : (fs : List Found) → AllOnce fs → Once (direct fs)
+once-direct : (fs : List RegionEntry) → AllOnce fs → Once (direct fs)
 once-direct [] h = tt
 once-direct (f ∷ inner) h = once-join (direct inner) (filter (λ x. not (list_any (shuts_out x) inner)) f.views)
     (once-direct inner h.1)
     (once-filter (λ x. not (list_any (shuts_out x) inner)) f.views h.0)
     (λ v i j. not-both (λ x. list_any (shuts_out x) inner) f.views v (direct-shut inner v i) j)
 
-pub once-visible : (fs : List Found) (vs : List ViewKind) → AllOnce fs → Once (use_visible fs vs) → Once (direct fs ++ use_visible fs vs)
+pub once-visible : (fs : List RegionEntry) (vs : List ViewKind) → AllOnce fs → Once (use_visible fs vs) → Once (direct fs ++ use_visible fs vs)
 once-visible fs vs one two = at (clash vs) two
   where
     at : (b : Bool) → Once (cond b [] (filter (λ v. not (list_any (shuts_out v) fs)) vs)) → Once (direct fs ++ cond b [] (filter (λ v. not (list_any (shuts_out v) fs)) vs))

@@ -6,7 +6,7 @@ use Rattle.al_query.specs.declared.query.Query.{Query}
 use Rattle.al_view.specs.declared.view.ViewKind.{ViewKind}
 use Rattle.al_query.specs.declared.answer.AnswerKind.{AnswerKind}
 use Rattle.al_scope.specs.declared.region.UnitPart.{UnitPart}
-use Rattle.al_scope.specs.declared.hiding.Found.{Found}
+use Rattle.al_scope.specs.declared.hiding.RegionEntry.{RegionEntry}
 use Rattle.al_view.specs.Named.{Declarations}
 use Rattle.al_scope.specs.Visible.{declared_by}
 
@@ -25,8 +25,8 @@ flat_map-push f (y ∷ ys) x = ap (λ l. f y ++ l) (flat_map-push f ys x) ∙ sy
 pub flat_map-take_more : {X Y : Type 0} (f : X → List Y) (xs : List X) (i : ℕ) (d : X) → i < length xs → flat_map f (take (i + 1) xs) ≡ flat_map f (take i xs) ++ f (get_or xs i d)
 flat_map-take_more f xs i d h = ap (flat_map f) (take_more xs i d h) ∙ flat_map-push f (take i xs) (get_or xs i d)
 
-pub found-is : (b c : Bool) (v w : List ViewKind) → b ≡ c → v ≡ w → (let x : Found = record { begun = b; views = v } in let y : Found = record { begun = c; views = w } in x ≡ y)
-found-is b c v w e f = ap (λ (x : Bool). let y : Found = record { begun = x; views = v } in y) e ∙ ap (λ (x : List ViewKind). let y : Found = record { begun = c; views = x } in y) f
+pub found-is : (b c : Bool) (v w : List ViewKind) → b ≡ c → v ≡ w → (let x : RegionEntry = record { begun = b; views = v } in let y : RegionEntry = record { begun = c; views = w } in x ≡ y)
+found-is b c v w e f = ap (λ (x : Bool). let y : RegionEntry = record { begun = x; views = v } in y) e ∙ ap (λ (x : List ViewKind). let y : RegionEntry = record { begun = c; views = x } in y) f
 
 -- what a region has, put together
 pub views-are : (t : Query → AnswerKind) (m : Declarations) (name : List ℕ) (parts ps : List UnitPart) (v own views new : List ViewKind) → new ≡ v ++ own → v ≡ flat_map (declared_by t m name) ps → ps ≡ parts → own ≡ views → new ≡ flat_map (declared_by t m name) parts ++ views

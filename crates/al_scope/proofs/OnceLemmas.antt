@@ -15,7 +15,7 @@ use Rattle.al_view.specs.Named.{Declarations}
 use Rattle.al_view.proofs.SymbolLemmas.{and_both, both}
 use Rattle.al_query.specs.declared.query.Query.{Query}
 use Rattle.al_query.specs.declared.answer.AnswerKind.{AnswerKind}
-use Rattle.al_scope.specs.declared.hiding.Found.{Found}
+use Rattle.al_scope.specs.declared.hiding.RegionEntry.{RegionEntry}
 use Rattle.al_scope.specs.declared.uses.PackageUse.{PackageUse}
 use Rattle.al_scope.specs.Places.{visible_part}
 use Rattle.al_scope.specs.UseClauses.{EachOnce, Uses, opens}
@@ -74,7 +74,7 @@ once-several (v ∷ w ∷ vs) h more =
     at false b i k = absurd (cc)
 
 -- each package stands once in the use clauses, so what is use-visible does
-pub once-used : (t : Query → AnswerKind) (m : Declarations) (name : List ℕ) (us : Uses) (fs : List Found) → EachOnce us → DeclareOnce t m name us → AreApart t m name → Once (use_visible fs (potential t m name us))
+pub once-used : (t : Query → AnswerKind) (m : Declarations) (name : List ℕ) (us : Uses) (fs : List RegionEntry) → EachOnce us → DeclareOnce t m name us → AreApart t m name → Once (use_visible fs (potential t m name us))
 once-used t m name us fs each one apart = at (clash (potential t m name us)) refl
   where
     at : (b : Bool) → clash (potential t m name us) ≡ b → Once (cond b [] (filter (λ v. not (list_any (shuts_out v) fs)) (potential t m name us)))

@@ -6,7 +6,7 @@ use Rattle.std.proofs.lemmas.List.Folds.{list_any-append}
 use Rattle.al_view.specs.declared.view.ViewKind.{ViewKind}
 use Rattle.al_view.specs.Named.{Declarations}
 use Rattle.al_query.specs.Reads.{Table}
-use Rattle.al_scope.specs.declared.hiding.Found.{Found}
+use Rattle.al_scope.specs.declared.hiding.RegionEntry.{RegionEntry}
 use Rattle.al_scope.specs.declared.hiding.Search.{Search}
 use Rattle.al_scope.specs.declared.region.Region.{Region}
 use Rattle.al_scope.specs.Places.{region_parts, use_parts, uses_at}
@@ -33,7 +33,7 @@ filter-same p q h (x ∷ xs) =
     ∙ ap (λ l. cond (not (q x)) (x ∷ l) l) (filter-same p q h xs)
 
 -- one region further out
-pub outward-more : (fs : List Found) (f : Found) (old new : Search) (seen : List ViewKind) → IsSearch fs old → seen ≡ filter (λ v. not (list_any (shuts_out v) old.founds.items)) f.views → new.direct ≡ old.direct ++ seen → new.is_decided ≡ (old.is_decided || decides f) → new.founds.items ≡ old.founds.items ++ f ∷ [] → IsSearch (f ∷ fs) new
+pub outward-more : (fs : List RegionEntry) (f : RegionEntry) (old new : Search) (seen : List ViewKind) → IsSearch fs old → seen ≡ filter (λ v. not (list_any (shuts_out v) old.founds.items)) f.views → new.direct ≡ old.direct ++ seen → new.is_decided ≡ (old.is_decided || decides f) → new.founds.items ≡ old.founds.items ++ f ∷ [] → IsSearch (f ∷ fs) new
 outward-more fs f old new seen s left direct-is decided-is founds-is = record {
   views = direct-is
       ∙ ap (λ l. l ++ seen) s.views
@@ -47,7 +47,7 @@ outward-more fs f old new seen s left direct-is decided-is founds-is = record {
 }
 
 -- where a region decides, those further out make no difference
-pub outward-decided : (fs : List Found) (f : Found) (s : Search) → IsSearch fs s → s.is_decided ≡ true → IsSearch (f ∷ fs) s
+pub outward-decided : (fs : List RegionEntry) (f : RegionEntry) (s : Search) → IsSearch fs s → s.is_decided ≡ true → IsSearch (f ∷ fs) s
 outward-decided fs f s is h =
     let one : list_any decides fs ≡ true = sym is.decided ∙ h in
     record {
@@ -59,7 +59,7 @@ outward-decided fs f s is h =
     }
 
 -- what is use-visible beside what is shut out by the same
-pub use_visible-same : (fs gs : List Found) (vs : List ViewKind) → ((v : ViewKind) → list_any (shuts_out v) fs ≡ list_any (shuts_out v) gs) → use_visible fs vs ≡ use_visible gs vs
+pub use_visible-same : (fs gs : List RegionEntry) (vs : List ViewKind) → ((v : ViewKind) → list_any (shuts_out v) fs ≡ list_any (shuts_out v) gs) → use_visible fs vs ≡ use_visible gs vs
 use_visible-same fs gs vs h = ap (λ l. cond (clash vs) [] l) (filter-same (λ v. list_any (shuts_out v) fs) (λ v. list_any (shuts_out v) gs) h vs)
 
 -- which regions are looked into

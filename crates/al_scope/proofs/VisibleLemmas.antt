@@ -9,7 +9,7 @@ use Rattle.al_view.specs.Operators.{is_operator_of}
 use Rattle.al_query.specs.declared.answer.AnswerKind.{AnswerKind}
 use Rattle.al_scope.specs.declared.region.Region.{Region}
 use Rattle.al_scope.specs.declared.uses.PackageUse.{PackageUse}
-use Rattle.al_scope.specs.declared.hiding.Found.{Found}
+use Rattle.al_scope.specs.declared.hiding.RegionEntry.{RegionEntry}
 use Rattle.al_scope.specs.Places.{Place, uses_at, visible_part}
 use Rattle.al_scope.specs.UseClauses.{opens}
 use Rattle.al_scope.specs.Visible.{declared_by, found_in, shuts_out, direct, clash, use_visible, opened_by, potential, visible_at}
@@ -52,7 +52,7 @@ has-left p (x ∷ xs) v h = at (p x) refl h (has-left p xs v)
     at false i (inl e) more = (inl e, sym (ap p e) ∙ i)
     at false i (inr m) more = let both = more m in (inr both.0, both.1)
 
-any-map : {X : Type 0} (p : Found → Bool) (f : X → Found) (xs : List X) → list_any p (map f xs) ≡ list_any (λ x. p (f x)) xs
+any-map : {X : Type 0} (p : RegionEntry → Bool) (f : X → RegionEntry) (xs : List X) → list_any p (map f xs) ≡ list_any (λ x. p (f x)) xs
 any-map p f [] = refl
 any-map p f (x ∷ xs) = ap (λ b. p (f x) || b) (any-map p f xs)
 

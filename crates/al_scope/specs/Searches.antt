@@ -4,7 +4,7 @@ use Rattle.std.specs.List.{list_any}
 use Rattle.al_view.specs.declared.view.ViewKind.{ViewKind}
 use Rattle.al_view.specs.Named.{Declarations}
 use Rattle.al_query.specs.Reads.{Log, Table}
-use Rattle.al_scope.specs.declared.hiding.Found.{Found}
+use Rattle.al_scope.specs.declared.hiding.RegionEntry.{RegionEntry}
 use Rattle.al_scope.specs.declared.hiding.Search.{Search}
 use Rattle.al_scope.specs.declared.region.Region.{Region}
 use Rattle.al_scope.specs.declared.region.UnitPart.{UnitPart}
@@ -29,7 +29,7 @@ searched_parts t name place =
 
 -- what a search gives stands for what all regions have: it has what is directly visible, whether one decides, and it shuts out
 -- what they do
-pub record IsSearch (founds : List Found) (s : Search) : Type 0 where
+pub record IsSearch (founds : List RegionEntry) (s : Search) : Type 0 where
   pub views : s.direct ≡ direct founds
   pub decided : s.is_decided ≡ list_any decides founds
   pub shuts : (v : ViewKind) → list_any (shuts_out v) s.founds.items ≡ list_any (shuts_out v) founds

@@ -13,7 +13,7 @@ use Rattle.al_query.specs.Answers as answer
 use Rattle.al_scope.specs.declared.region.UnitPart.{UnitPart}
 use Rattle.al_scope.specs.declared.region.Region.{Region}
 use Rattle.al_scope.specs.declared.uses.PackageUse.{PackageUse}
-use Rattle.al_scope.specs.declared.hiding.Found.{Found}
+use Rattle.al_scope.specs.declared.hiding.RegionEntry.{RegionEntry}
 use Rattle.al_scope.specs.Places.{Place, child_name, is_visible_part, uses_at, visible_part}
 use Rattle.al_scope.specs.UseClauses.{Uses, opens}
 
@@ -27,23 +27,23 @@ declared_by t m name p = answer.views_of (t (Named p.unit p.part name)) ++ child
 
 -- what a region has of a name: whether a declaration of it was begun, and what is declared, first in the parts that the
 -- region continues
-abbrev pub found_in : (Query → AnswerKind) → Declarations → List ℕ → Region → Found
+abbrev pub found_in : (Query → AnswerKind) → Declarations → List ℕ → Region → RegionEntry
 found_in t m name r = record {
   begun = list_any (bytes_eq name) r.begun;
   views = flat_map (declared_by t m name) r.parts ++ interface.views_of r.declared name;
 }
 
 -- a region shuts an outer declaration out (ARM 8.3(15, 16)): by a declaration that was begun, or by a homograph
-abbrev pub shuts_out : ViewKind → Found → Bool
+abbrev pub shuts_out : ViewKind → RegionEntry → Bool
 shuts_out v f = f.begun || list_any (homographs v) f.views
 
 -- a region decides: what it has of a name shuts out every other declaration of it
-abbrev pub decides : Found → Bool
+abbrev pub decides : RegionEntry → Bool
 decides f = f.begun || not (list_all may_be_overloaded f.views)
 
 -- directly visible (ARM 8.3(14)), innermost region first: what a region declares, but for what a region further in
 -- shuts out
-abbrev pub direct : List Found → List ViewKind
+abbrev pub direct : List RegionEntry → List ViewKind
 direct [] = []
 direct (f ∷ inner) = direct inner ++ filter (λ v. not (list_any (shuts_out v) inner)) f.views
 
@@ -60,7 +60,7 @@ abbrev pub clash : List ViewKind → Bool
 clash views = nat_lt 1 (length views) && not (list_all may_be_overloaded views)
 
 -- use-visible (ARM 8.4(9 to 11)): what is potentially so and doesn't clash, but for what a region at all shuts out
-abbrev pub use_visible : List Found → List ViewKind → List ViewKind
+abbrev pub use_visible : List RegionEntry → List ViewKind → List ViewKind
 use_visible founds views = if clash views then [] else filter (λ v. not (list_any (shuts_out v) founds)) views
 
 -- what is visible of a name: what is directly visible, and then what is use-visible

@@ -8,7 +8,7 @@ use Rattle.al_view.specs.Named.{Declarations}
 use Rattle.al_view.specs.Operators.{is_operator_of}
 use Rattle.al_query.specs.declared.query.Query.{Query}
 use Rattle.al_query.specs.declared.answer.AnswerKind.{AnswerKind}
-use Rattle.al_scope.specs.declared.hiding.Found.{Found}
+use Rattle.al_scope.specs.declared.hiding.RegionEntry.{RegionEntry}
 use Rattle.al_scope.specs.declared.region.Region.{Region}
 use Rattle.al_scope.specs.declared.uses.PackageUse.{PackageUse}
 use Rattle.al_scope.specs.Places.{Place, uses_at, visible_part}
@@ -45,7 +45,7 @@ abbrev pub Once : List ViewKind → Type 0
 Once [] = ⊤
 Once (v ∷ vs) = (Has vs v → ⊥) × Once vs
 
-abbrev pub AllOnce : List Found → Type 0
+abbrev pub AllOnce : List RegionEntry → Type 0
 AllOnce [] = ⊤
 AllOnce (f ∷ fs) = Once f.views × AllOnce fs
 

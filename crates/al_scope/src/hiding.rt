@@ -2,7 +2,7 @@
 ghost use Rattle.std.specs.Prelude.{◌≡◌, List, [], ◌∷◌, IfOk, OnOk, filter, is_ok, not, true};
 ghost use Rattle.std.specs.List.{list_all, list_any};
 ghost use Rattle.al_view.specs.Homographs.{homographs, may_be_overloaded};
-ghost use Rattle.al_scope.specs.declared.hiding.Found.{Found};
+ghost use Rattle.al_scope.specs.declared.hiding.RegionEntry.{RegionEntry};
 ghost use Rattle.al_scope.specs.Searches.{IsSearch};
 ghost use Rattle.al_scope.specs.Visible.{clash, decides, shuts_out, use_visible};
 
@@ -12,7 +12,7 @@ use std::alloc::Global;
 
 /// What a region has of a name.
 #[derive(Drop)]
-pub struct Found {
+pub struct RegionEntry {
     /// Whether a declaration of it was begun.
     pub begun: bool,
     pub views: Views,
@@ -26,21 +26,21 @@ pub fn has_homograph(view: &View, views: &[View]) -> bool
 }
 
 /// Whether the region shuts the view out.
-fn shuts(view: &View, found: &Found) -> bool
+fn shuts(view: &View, found: &RegionEntry) -> bool
     ensures { result ≡ shuts_out view.now found.now }
 {
     found.begun || has_homograph(view, found.views.as_slice())
 }
 
 /// Whether some region shuts the view out.
-fn shuts_any(view: &View, founds: &[Found]) -> bool
+fn shuts_any(view: &View, founds: &[RegionEntry]) -> bool
     ensures { result ≡ list_any (shuts_out view.now) founds.now }
 {
     founds.iter().any(|found| shuts(view, found))
 }
 
 /// The views that no region shuts out. Where there are none it takes no memory.
-fn left_by(alloc: Global, founds: &[Found], views: &Views) -> Result<Views, NoMemory>
+fn left_by(alloc: Global, founds: &[RegionEntry], views: &Views) -> Result<Views, NoMemory>
     ensures is { IfOk result (λ left. left ≡ filter (λ v. not (list_any (shuts_out v) founds.now)) views.now) }
     ensures takes_none { filter (λ v. not (list_any (shuts_out v) founds.now)) views.now ≡ [] → is_ok result ≡ true }
 {
@@ -62,7 +62,7 @@ fn all_overload(views: &[View]) -> bool
 
 /// Whether what the region has of the name shuts out every other declaration of it: one that was begun, or one that may
 /// not be overloaded.
-fn is_decided(found: &Found) -> bool
+fn is_decided(found: &RegionEntry) -> bool
     ensures { result ≡ decides found.now }
 {
     found.begun || !all_overload(found.views.as_slice())
@@ -74,7 +74,7 @@ pub struct Search {
     /// What is directly visible of it, of the innermost region first.
     pub direct: Views,
     /// What each region has that was looked into, innermost first.
-    pub founds: Vec<Found>,
+    pub founds: Vec<RegionEntry>,
     /// Whether one of them decides: it shuts out every other declaration of the name.
     pub is_decided: bool,
 }
@@ -92,8 +92,8 @@ impl Search {
     }
 
     /// Looks into one region further out, which has this of the name.
-    pub fn go_outward(&mut self, alloc: Global, found: Found) -> Result<(), NoMemory>
-        ensures { OnOk result ((founds : List Found) → IsSearch founds self.old → IsSearch (found ∷ founds) self.new) }
+    pub fn go_outward(&mut self, alloc: Global, found: RegionEntry) -> Result<(), NoMemory>
+        ensures { OnOk result ((founds : List RegionEntry) → IsSearch founds self.old → IsSearch (found ∷ founds) self.new) }
     {
         let seen = left_by(alloc, self.founds.as_slice(), &found.views)?;
         self.direct.append(seen.as_slice())?;
@@ -111,7 +111,11 @@ fn do_clash(views: &Views) -> bool
 }
 
 /// The use-visible ones among those that are potentially so. Where there are none it takes no memory.
-pub fn use_visible_of(alloc: Global, founds: &[Found], views: &Views) -> Result<Views, NoMemory>
+pub fn use_visible_of(
+    alloc: Global,
+    founds: &[RegionEntry],
+    views: &Views,
+) -> Result<Views, NoMemory>
     ensures is { IfOk result (λ left. left ≡ use_visible founds.now views.now) }
     ensures takes_none { use_visible founds.now views.now ≡ [] → is_ok result ≡ true }
 {

@@ -1,6 +1,6 @@
 // What units declare under a name, as they are asked.
 ghost use Rattle.std.specs.Prelude.{◌≡◌, [], ◌∷◌, ◌++◌, IfOk, false, flat_map, is_ok, true};
-ghost use Rattle.al_query.specs.Reads.{Told};
+ghost use Rattle.al_query.specs.Reads.{FromAnswers};
 ghost use Rattle.al_scope.specs.Asked.{AsksParts, query_of};
 ghost use Rattle.al_scope.specs.Expanded.{part_of};
 ghost use Rattle.al_scope.specs.Places.{child_name, is_visible_part, visible_part};
@@ -95,7 +95,7 @@ pub fn ask_more<A: Answers>(
     recorder: &mut Recorder<A>,
 ) -> Result<(), NoMemory>
     ensures asked { recorder.new.asked ≡ recorder.old.asked }
-    ensures told { IfOk result (λ _. Told recorder.old.log recorder.new.log (λ t. views.new ≡ views.old ++ declared_by t mentioned.now name.now from.now)) }
+    ensures answered { IfOk result (λ _. FromAnswers recorder.old.log recorder.new.log (λ t. views.new ≡ views.old ++ declared_by t mentioned.now name.now from.now)) }
     ensures asks { IfOk result (λ _. AsksParts (from.now ∷ []) name.now recorder.old.log recorder.new.log) }
 {
     let query = query_of(alloc, from, name)?;
@@ -114,7 +114,7 @@ pub fn ask_each<A: Answers>(
     recorder: &mut Recorder<A>,
 ) -> Result<Views, NoMemory>
     ensures asked { recorder.new.asked ≡ recorder.old.asked }
-    ensures told { IfOk result (λ views. Told recorder.old.log recorder.new.log (λ t. views ≡ flat_map (declared_by t mentioned.now name.now) parts.now)) }
+    ensures answered { IfOk result (λ views. FromAnswers recorder.old.log recorder.new.log (λ t. views ≡ flat_map (declared_by t mentioned.now name.now) parts.now)) }
     ensures asks { IfOk result (λ _. AsksParts parts.now name.now recorder.old.log recorder.new.log) }
     ensures takes_none { parts.now ≡ [] → is_ok result ≡ true }
 {

@@ -6,7 +6,7 @@ ghost use Rattle.al_scope.specs.UseClauses.{with_package, with_type};
 use crate::names::NameSet;
 use crate::uses::UseClauses;
 use al_base::{NoMemory, UnitKey};
-use al_view::{Interface, Part, Row, Symbol, View, is_unit};
+use al_view::{Interface, Part, Seq, Symbol, View, is_unit};
 use std::alloc::Global;
 
 /// A part of a unit.
@@ -22,7 +22,7 @@ pub struct Region {
     /// The package, subprogram, task, protected object or entry whose region it is; none of a block, a loop or a record.
     pub construct: Option<Symbol>,
     /// The parts of units that it continues.
-    pub parts: Row<UnitPart>,
+    pub parts: Seq<UnitPart>,
     /// What is declared in it so far.
     pub declared: Interface,
     /// The names whose declarations were begun.
@@ -34,7 +34,7 @@ pub struct Region {
 impl Region {
     /// The region that continues these parts, of no construct, with nothing of its own yet but these use clauses. It
     /// takes no memory.
-    pub fn new(alloc: Global, parts: Row<UnitPart>, uses: UseClauses) -> Self
+    pub fn new(alloc: Global, parts: Seq<UnitPart>, uses: UseClauses) -> Self
         ensures { result ≡ (record { construct = None; parts = parts; declared = []; begun = []; uses = uses }) }
     {
         Region {

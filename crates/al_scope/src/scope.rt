@@ -6,7 +6,7 @@ ghost use Rattle.al_view.specs.declared.view.ViewKind.{ViewKind};
 ghost use Rattle.al_view.specs.Homographs.{homographs};
 ghost use Rattle.al_view.specs.Interfaces.{views_of};
 ghost use Rattle.al_query.specs.Asked.{AsksOf, by_name};
-ghost use Rattle.al_query.specs.Reads.{HoldsBy, Told};
+ghost use Rattle.al_query.specs.Reads.{HoldsBy, FromAnswers};
 ghost use Rattle.al_scope.specs.declared.region.Region.{Region};
 ghost use Rattle.al_scope.specs.Asked.{AsksParts};
 ghost use Rattle.al_scope.specs.Expanded.{IsSelected, part_of, region_of, selected_at, selected_parts, within, within_parts};
@@ -22,7 +22,7 @@ use crate::search::{append_some, find, search_outward, used_of};
 use crate::uses::UseClauses;
 use al_base::{NoMemory, UnitKey, UnitKind};
 use al_query::{Answers, Recorder};
-use al_view::{Interface, Row, Symbol, View, Views};
+use al_view::{Interface, Seq, Symbol, View, Views};
 use std::alloc::Global;
 use std::marker::Model;
 
@@ -114,7 +114,7 @@ impl Scope {
     }
 
     /// A region that continues these parts, in which the use clauses round it hold. Where there are none it takes no memory.
-    fn inner_region(&self, parts: Row<UnitPart>) -> Result<Region, NoMemory>
+    fn inner_region(&self, parts: Seq<UnitPart>) -> Result<Region, NoMemory>
         ensures is { IfOk result (λ region. region ≡ entered parts self.now.regions) }
         ensures takes_none { uses_at self.now.regions ≡ [] → is_ok result ≡ true }
     {
@@ -124,7 +124,7 @@ impl Scope {
     }
 
     /// Enters a region that continues these parts of units (ARM 8.1). The use clauses round it hold in it.
-    pub fn enter(&mut self, parts: Row<UnitPart>) -> Result<(), NoMemory>
+    pub fn enter(&mut self, parts: Seq<UnitPart>) -> Result<(), NoMemory>
         ensures ok { OnOk result (self.new.regions ≡ self.old.regions ++ entered parts self.old.regions ∷ []) }
         ensures err { OnErr result (self.new.regions ≡ self.old.regions) }
         ensures mentioned { self.new.mentioned ≡ self.old.mentioned }
@@ -139,7 +139,7 @@ impl Scope {
     pub fn enter_construct(
         &mut self,
         construct: Symbol,
-        parts: Row<UnitPart>,
+        parts: Seq<UnitPart>,
     ) -> Result<(), NoMemory>
         ensures ok { OnOk result (self.new.regions ≡ self.old.regions ++ entered_construct construct parts self.old.regions ∷ []) }
         ensures err { OnErr result (self.new.regions ≡ self.old.regions) }
@@ -253,7 +253,7 @@ impl Scope {
     ) -> Result<Views, NoMemory>
         requires { 0 < length self.now.regions }
         ensures asked { recorder.new.asked ≡ recorder.old.asked }
-        ensures told { IfOk result (λ views. Told recorder.old.log recorder.new.log (λ t. views ≡ here t self.now.mentioned name.now self.now.regions)) }
+        ensures answered { IfOk result (λ views. FromAnswers recorder.old.log recorder.new.log (λ t. views ≡ here t self.now.mentioned name.now self.now.regions)) }
         ensures asks { IfOk result (λ _. AsksOf (part_units (inner_parts self.now.regions)) (by_name (name.now ∷ [])) recorder.old.log recorder.new.log) }
         ensures takes_none { inner_parts self.now.regions ≡ [] → views_of (inner_declared self.now.regions) name.now ≡ [] → is_ok result ≡ true }
     {
@@ -278,7 +278,7 @@ impl Scope {
     ) -> Result<bool, NoMemory>
         requires { 0 < length self.now.regions }
         ensures asked { recorder.new.asked ≡ recorder.old.asked }
-        ensures told { IfOk result (λ has. Told recorder.old.log recorder.new.log (λ t. has ≡ list_any (homographs view.now) (here t self.now.mentioned name.now self.now.regions))) }
+        ensures answered { IfOk result (λ has. FromAnswers recorder.old.log recorder.new.log (λ t. has ≡ list_any (homographs view.now) (here t self.now.mentioned name.now self.now.regions))) }
         ensures asks { IfOk result (λ _. AsksOf (part_units (inner_parts self.now.regions)) (by_name (name.now ∷ [])) recorder.old.log recorder.new.log) }
         ensures takes_none { inner_parts self.now.regions ≡ [] → views_of (inner_declared self.now.regions) name.now ≡ [] → is_ok result ≡ true }
     {
@@ -296,7 +296,7 @@ impl Scope {
     ) -> Result<bool, NoMemory>
         requires { 0 < length self.old.regions }
         ensures asked { recorder.new.asked ≡ recorder.old.asked }
-        ensures told { IfOk result (λ fits. Told recorder.old.log recorder.new.log (λ t. fits ≡ not (list_any (homographs view) (here t self.old.mentioned name.now self.old.regions)))) }
+        ensures answered { IfOk result (λ fits. FromAnswers recorder.old.log recorder.new.log (λ t. fits ≡ not (list_any (homographs view) (here t self.old.mentioned name.now self.old.regions)))) }
         ensures asks { IfOk result (λ _. AsksOf (part_units (inner_parts self.old.regions)) (by_name (name.now ∷ [])) recorder.old.log recorder.new.log) }
         ensures new { IfOk result (λ fits. self.new.regions ≡ (if fits then in_last (with_declared name.now view) self.old.regions else self.old.regions)) }
         ensures once { IfOk result (λ _. HoldsBy recorder.new.log (λ t. StaysOnce t self.old self.new)) }
@@ -337,7 +337,7 @@ impl Scope {
         recorder: &mut Recorder<A>,
     ) -> Result<Option<Views>, NoMemory>
         ensures asked { recorder.new.asked ≡ recorder.old.asked }
-        ensures told { IfOk result (λ views. Told recorder.old.log recorder.new.log (λ t. views ≡ within t self.now.mentioned name.now construct.now self.now.regions)) }
+        ensures answered { IfOk result (λ views. FromAnswers recorder.old.log recorder.new.log (λ t. views ≡ within t self.now.mentioned name.now construct.now self.now.regions)) }
         ensures asks { IfOk result (λ _. AsksOf (part_units (within_parts construct.now self.now)) (by_name (name.now ∷ [])) recorder.old.log recorder.new.log) }
         ensures selected { IfOk result (λ views. HoldsBy recorder.new.log (λ t. IsSelected t self.now.mentioned name.now construct.now self.now.regions views)) }
         ensures takes_none { region_of construct.now self.now.regions ≡ None → is_ok result ≡ true }
@@ -360,7 +360,7 @@ impl Scope {
         recorder: &mut Recorder<A>,
     ) -> Result<Views, NoMemory>
         ensures asked { recorder.new.asked ≡ recorder.old.asked }
-        ensures told { IfOk result (λ views. Told recorder.old.log recorder.new.log (λ t. views ≡ declared_by t self.now.mentioned name.now (part_of prefix.now))) }
+        ensures answered { IfOk result (λ views. FromAnswers recorder.old.log recorder.new.log (λ t. views ≡ declared_by t self.now.mentioned name.now (part_of prefix.now))) }
         ensures asks { IfOk result (λ _. AsksOf (part_units (part_of prefix.now ∷ [])) (by_name (name.now ∷ [])) recorder.old.log recorder.new.log) }
     {
         let part = visible_part_at(self.alloc, prefix)?;
@@ -386,7 +386,7 @@ impl Scope {
         recorder: &mut Recorder<A>,
     ) -> Result<Views, NoMemory>
         ensures asked { recorder.new.asked ≡ recorder.old.asked }
-        ensures told { IfOk result (λ views. Told recorder.old.log recorder.new.log (λ t. views ≡ selected_at t name.now prefix.now self.now)) }
+        ensures answered { IfOk result (λ views. FromAnswers recorder.old.log recorder.new.log (λ t. views ≡ selected_at t name.now prefix.now self.now)) }
         ensures asks { IfOk result (λ _. AsksOf (part_units (selected_parts prefix.now self.now)) (by_name (name.now ∷ [])) recorder.old.log recorder.new.log) }
         ensures takes_none_of_none { (region : Region) → region_of prefix.now self.now.regions ≡ Some region → region.parts ≡ [] → views_of region.declared name.now ≡ [] → is_ok result ≡ true }
     {
@@ -412,7 +412,7 @@ impl Scope {
         recorder: &mut Recorder<A>,
     ) -> Result<Views, NoMemory>
         ensures asked { recorder.new.asked ≡ recorder.old.asked }
-        ensures told { IfOk result (λ views. Told recorder.old.log recorder.new.log (λ t. views ≡ visible_at t name.now self.now)) }
+        ensures answered { IfOk result (λ views. FromAnswers recorder.old.log recorder.new.log (λ t. views ≡ visible_at t name.now self.now)) }
         ensures asks { IfOk result (λ _. AsksOf (place_units self.now) (by_name (name.now ∷ [])) recorder.old.log recorder.new.log) }
         ensures stops { IfOk result (λ _. HoldsBy recorder.new.log (λ t. AsksParts (searched_parts t name.now self.now) name.now recorder.old.log recorder.new.log)) }
         ensures once { IfOk result (λ views. HoldsBy recorder.new.log (λ t. KeepsOnce t name.now self.now views)) }

@@ -1,8 +1,8 @@
 // What regions and use clauses have of a name.
 ghost use Rattle.std.specs.Prelude.{◌≡◌, List, [], ◌++◌, IfOk, OnOk, is_ok, map, true, if◌then◌else◌};
 ghost use Rattle.al_view.specs.Interfaces.{views_of};
-ghost use Rattle.al_query.specs.Reads.{HoldsBy, Told};
-ghost use Rattle.al_scope.specs.declared.hiding.Found.{Found};
+ghost use Rattle.al_query.specs.Reads.{HoldsBy, FromAnswers};
+ghost use Rattle.al_scope.specs.declared.hiding.RegionEntry.{RegionEntry};
 ghost use Rattle.al_scope.specs.Asked.{AsksParts};
 ghost use Rattle.al_scope.specs.Places.{region_parts, use_parts, uses_at};
 ghost use Rattle.al_scope.specs.Searches.{IsSearch, searched};
@@ -10,7 +10,7 @@ ghost use Rattle.al_scope.specs.UseClauses.{EachOnce};
 ghost use Rattle.al_scope.specs.Visible.{found_in, potential, use_visible};
 ghost use Rattle.al_scope.specs.VisibleSet.{AreApart, DeclareOnce, Once};
 
-use crate::hiding::{Found, Search, use_visible_of};
+use crate::hiding::{RegionEntry, Search, use_visible_of};
 use crate::questions::ask_each;
 use crate::region::Region;
 use al_base::NoMemory;
@@ -36,16 +36,16 @@ pub fn find<A: Answers>(
     region: &Region,
     name: &[u8],
     recorder: &mut Recorder<A>,
-) -> Result<Found, NoMemory>
+) -> Result<RegionEntry, NoMemory>
     ensures asked { recorder.new.asked ≡ recorder.old.asked }
-    ensures told { IfOk result (λ found. Told recorder.old.log recorder.new.log (λ t. found ≡ found_in t mentioned.now name.now region.now)) }
+    ensures answered { IfOk result (λ found. FromAnswers recorder.old.log recorder.new.log (λ t. found ≡ found_in t mentioned.now name.now region.now)) }
     ensures asks { IfOk result (λ _. AsksParts region.now.parts name.now recorder.old.log recorder.new.log) }
     ensures takes_none { region.now.parts ≡ [] → views_of region.now.declared name.now ≡ [] → is_ok result ≡ true }
 {
     let mut views = ask_each(alloc, mentioned, region.parts.as_slice(), name, recorder)?;
     append_some(&mut views, region.declared.views(name))?;
     let begun = region.begun.contains(name);
-    Ok(Found { begun, views })
+    Ok(RegionEntry { begun, views })
 }
 
 /// What the regions have of a name, from the innermost outward up to the first that decides. No region further out is asked.
@@ -58,7 +58,7 @@ pub fn search_outward<A: Answers>(
     recorder: &mut Recorder<A>,
 ) -> Result<Search, NoMemory>
     ensures asked { recorder.new.asked ≡ recorder.old.asked }
-    ensures told { IfOk result (λ search. Told recorder.old.log recorder.new.log (λ t. IsSearch (map (found_in t mentioned.now name.now) regions.now) search)) }
+    ensures answered { IfOk result (λ search. FromAnswers recorder.old.log recorder.new.log (λ t. IsSearch (map (found_in t mentioned.now name.now) regions.now) search)) }
     ensures asks { IfOk result (λ _. AsksParts (region_parts regions.now) name.now recorder.old.log recorder.new.log) }
     ensures stops { IfOk result (λ _. HoldsBy recorder.new.log (λ t. AsksParts (region_parts (searched t mentioned.now name.now regions.now)) name.now recorder.old.log recorder.new.log)) }
     ensures takes_none { regions.now ≡ [] → is_ok result ≡ true }
@@ -87,7 +87,7 @@ fn potential_of<A: Answers>(
     recorder: &mut Recorder<A>,
 ) -> Result<Views, NoMemory>
     ensures asked { recorder.new.asked ≡ recorder.old.asked }
-    ensures told { IfOk result (λ views. Told recorder.old.log recorder.new.log (λ t. views ≡ potential t mentioned.now name.now (uses_at regions.now))) }
+    ensures answered { IfOk result (λ views. FromAnswers recorder.old.log recorder.new.log (λ t. views ≡ potential t mentioned.now name.now (uses_at regions.now))) }
     ensures asks { IfOk result (λ _. AsksParts (use_parts (uses_at regions.now)) name.now recorder.old.log recorder.new.log) }
     ensures each { IfOk result (λ _. EachOnce (uses_at regions.now)) }
     ensures takes_none { uses_at regions.now ≡ [] → is_ok result ≡ true }
@@ -113,7 +113,7 @@ pub fn used_of<A: Answers>(
     recorder: &mut Recorder<A>,
 ) -> Result<Views, NoMemory>
     ensures asked { recorder.new.asked ≡ recorder.old.asked }
-    ensures told { IfOk result (λ used. Told recorder.old.log recorder.new.log (λ t. (founds : List Found) → IsSearch founds search.now → used ≡ use_visible founds (potential t mentioned.now name.now (uses_at regions.now)))) }
+    ensures answered { IfOk result (λ used. FromAnswers recorder.old.log recorder.new.log (λ t. (founds : List RegionEntry) → IsSearch founds search.now → used ≡ use_visible founds (potential t mentioned.now name.now (uses_at regions.now)))) }
     ensures asks { IfOk result (λ _. AsksParts (if search.now.is_decided then [] else use_parts (uses_at regions.now)) name.now recorder.old.log recorder.new.log) }
     ensures once { IfOk result (λ used. HoldsBy recorder.new.log (λ t. DeclareOnce t mentioned.now name.now (uses_at regions.now) → AreApart t mentioned.now name.now → Once used)) }
     ensures takes_none { search.now.is_decided ≡ true → is_ok result ≡ true }

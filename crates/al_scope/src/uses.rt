@@ -4,7 +4,7 @@ ghost use Rattle.std.specs.List.{list_any};
 ghost use Rattle.std.specs.BTreeMap.{insert_entry};
 ghost use Rattle.al_base.specs.Files.{name_cmp};
 ghost use Rattle.al_view.specs.Operators.{is_operator_of};
-ghost use Rattle.al_query.specs.Reads.{Told};
+ghost use Rattle.al_query.specs.Reads.{FromAnswers};
 ghost use Rattle.al_scope.specs.Asked.{AsksParts};
 ghost use Rattle.al_scope.specs.Places.{use_parts, visible_part};
 ghost use Rattle.al_scope.specs.UseClauses.{EachOnce, no_use, opens, use_of, with_package, with_type};
@@ -13,7 +13,7 @@ ghost use Rattle.al_scope.specs.Visible.{opened_by, potential};
 use crate::questions::{ask_more, visible_part_of};
 use al_base::NoMemory;
 use al_query::{Answers, Recorder};
-use al_view::{Interface, Row, Symbol, View, Views};
+use al_view::{Interface, Seq, Symbol, View, Views};
 use std::alloc::Global;
 use std::collections::BTreeMap;
 use std::marker::Model;
@@ -25,15 +25,15 @@ pub struct PackageUse {
     /// Whether one names it (ARM 8.4(3)).
     pub is_named: bool,
     /// The types of it that use type clauses name (ARM 8.4(4)).
-    pub types: Row<Symbol>,
+    pub types: Seq<Symbol>,
 }
 
 /// The same symbols once more. Of none it takes no memory.
-fn copied_symbols(alloc: Global, symbols: &[Symbol]) -> Result<Row<Symbol>, NoMemory>
+fn copied_symbols(alloc: Global, symbols: &[Symbol]) -> Result<Seq<Symbol>, NoMemory>
     ensures is { IfOk result (λ copy. copy ≡ symbols.now) }
     ensures takes_none { symbols.now ≡ [] → is_ok result ≡ true }
 {
-    let mut copy = Row::empty(alloc);
+    let mut copy = Seq::empty(alloc);
     for symbol in symbols {
         let symbol = symbol.copy(alloc)?;
         copy.push(symbol)?;
@@ -48,7 +48,7 @@ impl PackageUse {
     {
         PackageUse {
             is_named: false,
-            types: Row::empty(alloc),
+            types: Seq::empty(alloc),
         }
     }
 
@@ -185,7 +185,7 @@ impl UseClauses {
         recorder: &mut Recorder<A>,
     ) -> Result<Views, NoMemory>
         ensures asked { recorder.new.asked ≡ recorder.old.asked }
-        ensures told { IfOk result (λ views. Told recorder.old.log recorder.new.log (λ t. views ≡ potential t mentioned.now name.now self.now)) }
+        ensures answered { IfOk result (λ views. FromAnswers recorder.old.log recorder.new.log (λ t. views ≡ potential t mentioned.now name.now self.now)) }
         ensures asks { IfOk result (λ _. AsksParts (use_parts self.now) name.now recorder.old.log recorder.new.log) }
         ensures each { IfOk result (λ _. EachOnce self.now) }
         ensures takes_none { self.now ≡ [] → is_ok result ≡ true }
@@ -216,7 +216,7 @@ fn ask_used<A: Answers>(
     recorder: &mut Recorder<A>,
 ) -> Result<Views, NoMemory>
     ensures asked { recorder.new.asked ≡ recorder.old.asked }
-    ensures told { IfOk result (λ views. Told recorder.old.log recorder.new.log (λ t. views ≡ opened_by t mentioned.now name.now (package_name.now, used.now))) }
+    ensures answered { IfOk result (λ views. FromAnswers recorder.old.log recorder.new.log (λ t. views ≡ opened_by t mentioned.now name.now (package_name.now, used.now))) }
     ensures asks { IfOk result (λ _. AsksParts (visible_part package_name.now ∷ []) name.now recorder.old.log recorder.new.log) }
 {
     let part = visible_part_of(alloc, package_name)?;

@@ -10,8 +10,8 @@ use crate::own::{do_own_step, is_of_own_text};
 use crate::places::do_step;
 use al_base::NoMemory;
 use al_query::Recorder;
-use al_scenes::{Library, first_word, push_line, push_number, told_by};
 use al_scope::Scope;
+use al_scope_scenes::{Library, first_word, push_line, push_number, told_by};
 use std::alloc::{AllocError, Global};
 use std::{io, mem};
 
@@ -80,7 +80,12 @@ fn steps(
     Ok(())
 }
 
-fn told(alloc: Global, text: &str, library: &Library, reply: &mut String) -> Result<(), NoMemory> {
+fn answered(
+    alloc: Global,
+    text: &str,
+    library: &Library,
+    reply: &mut String,
+) -> Result<(), NoMemory> {
     let shared = library.share()?;
     let mut scope = Scope::new(alloc);
     let mut recorder = Recorder::new(alloc, shared);
@@ -90,7 +95,7 @@ fn told(alloc: Global, text: &str, library: &Library, reply: &mut String) -> Res
 fn replies(alloc: Global, text: &str) -> Result<String, NoMemory> {
     let library = told_by(alloc, text)?;
     let mut reply = String::new(alloc);
-    let done = told(alloc, text, &library, &mut reply);
+    let done = answered(alloc, text, &library, &mut reply);
     drop(library);
     match done {
         Ok(()) => Ok(reply),

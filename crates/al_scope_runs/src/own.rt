@@ -5,13 +5,13 @@ ghost use Rattle.std.specs.Prelude.{◌<◌, length};
 use crate::places::unit_part;
 use al_base::{Name, NoMemory};
 use al_query::{ContextView, Recorder};
-use al_scenes::{Library, context_of, first_word, push_line, symbol_of, unit_of};
 use al_scope::{Scope, UnitPart};
-use al_unit_place::{OwnText, enter_private_part, enter_unit, mentioned};
-use al_view::{Row, View, ViewKind};
+use al_scope_scenes::{Library, context_of, first_word, push_line, symbol_of, unit_of};
+use al_scope_unit::{OwnText, enter_private_part, enter_unit, mentioned};
+use al_view::{Seq, View, ViewKind};
 use std::alloc::Global;
 
-fn add_stub(alloc: Global, word: &str, stubs: &mut Row<UnitPart>) -> Result<(), NoMemory> {
+fn add_stub(alloc: Global, word: &str, stubs: &mut Seq<UnitPart>) -> Result<(), NoMemory> {
     match word.strip_prefix("stub:") {
         Some(stub) => {
             let stub = unit_part(alloc, stub)?;
@@ -22,15 +22,15 @@ fn add_stub(alloc: Global, word: &str, stubs: &mut Row<UnitPart>) -> Result<(), 
     }
 }
 
-fn add_stubs(alloc: Global, words: &str, stubs: &mut Row<UnitPart>) -> Result<(), NoMemory> {
+fn add_stubs(alloc: Global, words: &str, stubs: &mut Seq<UnitPart>) -> Result<(), NoMemory> {
     for word in words.split_whitespace() {
         add_stub(alloc, word, stubs)?;
     }
     Ok(())
 }
 
-fn stubs_of(alloc: Global, words: &str) -> Result<Row<UnitPart>, NoMemory> {
-    let mut stubs = Row::empty(alloc);
+fn stubs_of(alloc: Global, words: &str) -> Result<Seq<UnitPart>, NoMemory> {
+    let mut stubs = Seq::empty(alloc);
     let added = add_stubs(alloc, words, &mut stubs);
     match added {
         Ok(()) => Ok(stubs),

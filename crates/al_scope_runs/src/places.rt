@@ -3,9 +3,11 @@ ghost use Rattle.std.specs.Prelude.{◌<◌, length};
 
 use al_base::NoMemory;
 use al_query::Recorder;
-use al_scenes::{Library, first_word, part_of, push_line, push_views, symbol_of, unit_of, view_of};
 use al_scope::{Scope, UnitPart};
-use al_view::{Row, Views};
+use al_scope_scenes::{
+    Library, first_word, part_of, push_line, push_views, symbol_of, unit_of, view_of,
+};
+use al_view::{Seq, Views};
 use std::alloc::Global;
 
 /// The part of a unit, by its name, a stroke and the part.
@@ -16,7 +18,7 @@ pub(crate) fn unit_part(alloc: Global, word: &str) -> Result<UnitPart, NoMemory>
     Ok(UnitPart { unit, part })
 }
 
-fn add_parts(alloc: Global, words: &str, parts: &mut Row<UnitPart>) -> Result<(), NoMemory> {
+fn add_parts(alloc: Global, words: &str, parts: &mut Seq<UnitPart>) -> Result<(), NoMemory> {
     for word in words.split_whitespace() {
         let part = unit_part(alloc, word)?;
         parts.push(part)?;
@@ -24,8 +26,8 @@ fn add_parts(alloc: Global, words: &str, parts: &mut Row<UnitPart>) -> Result<()
     Ok(())
 }
 
-fn unit_parts(alloc: Global, words: &str) -> Result<Row<UnitPart>, NoMemory> {
-    let mut parts = Row::empty(alloc);
+fn unit_parts(alloc: Global, words: &str) -> Result<Seq<UnitPart>, NoMemory> {
+    let mut parts = Seq::empty(alloc);
     let added = add_parts(alloc, words, &mut parts);
     match added {
         Ok(()) => Ok(parts),

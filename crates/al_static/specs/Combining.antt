@@ -3,14 +3,14 @@ use Rattle.std.specs.Prelude.{ℤ, Bool, true, false, ◌&&◌, if◌then◌else
 use Rattle.al_base.specs.declared.place.Place.{Place}
 use Rattle.al_base.specs.declared.rule.Rule.TheVariants.{StaticFailure}
 use Rattle.al_base.specs.Rules.{number_of}
-use Rattle.al_judged.specs.Faults.{earlier, fault_at}
-use Rattle.al_judged.specs.declared.fault.Fault.{Fault}
+use Rattle.al_base_fault.specs.Faults.{earlier, fault_at}
+use Rattle.al_base_fault.specs.declared.fault.Fault.{Fault}
 use Rattle.al_view.specs.declared.types.Bounds.{Bounds}
 use Rattle.al_view.specs.declared.types.StaticValue.{StaticValue}
-use Rattle.al_typed.specs.declared.label.BinaryOperator.{BinaryOperator}
-use Rattle.al_typed.specs.declared.label.Conversion.{Conversion}
-use Rattle.al_typed.specs.declared.label.ShortCircuit.{ShortCircuit}
-use Rattle.al_typed.specs.declared.label.UnaryOperator.{UnaryOperator}
+use Rattle.al_view_typed.specs.declared.label.BinaryOperator.{BinaryOperator}
+use Rattle.al_view_typed.specs.declared.label.Conversion.{Conversion}
+use Rattle.al_view_typed.specs.declared.label.ShortCircuit.{ShortCircuit}
+use Rattle.al_view_typed.specs.declared.label.UnaryOperator.{UnaryOperator}
 use Rattle.al_static.specs.declared.knowledge.Known.{Known}
 use Rattle.al_static.specs.declared.knowledge.Known.TheVariants.{Value, Fails, Open}
 use Rattle.al_static.specs.Operators.{binary_value, converted_value, decides, is_member, is_scalar, keeps_static, unary_value}

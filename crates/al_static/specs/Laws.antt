@@ -1,6 +1,6 @@
 -- Division, in the Manual's words (ARM 4.5.5(5 to 7)).
 use Rattle.std.specs.Prelude.{◌≡◌, ◌<◌, ℤ, ◌+ℤ◌, ◌*ℤ◌, unsigned_abs, false, Some}
-use Rattle.al_typed.specs.declared.label.BinaryOperator.TheVariants.{Divide, Mod, Rem}
+use Rattle.al_view_typed.specs.declared.label.BinaryOperator.TheVariants.{Divide, Mod, Rem}
 use Rattle.al_static.specs.Operators.{binary_value}
 use Rattle.al_static.specs.Words.{are_opposite}
 

@@ -2,14 +2,14 @@
 use Rattle.std.specs.Prelude.{ℤ, pos, neg_ℤ, unsigned_abs, ◌+ℤ◌, ◌-ℤ◌, ◌*ℤ◌, int_lt, int_le, int_div, int_rem, Bool, true, false, not, ◌&&◌, ◌||◌, if◌then◌else◌, Option, Some, None}
 use Rattle.std.specs.Ordering.{int_eq}
 use Rattle.al_view.specs.declared.types.Bounds.{Bounds}
-use Rattle.al_typed.specs.declared.label.BinaryOperator.{BinaryOperator}
-use Rattle.al_typed.specs.declared.label.BinaryOperator.TheVariants as binary
-use Rattle.al_typed.specs.declared.label.Conversion.{Conversion}
-use Rattle.al_typed.specs.declared.label.Conversion.TheVariants as conversions
-use Rattle.al_typed.specs.declared.label.ShortCircuit.{ShortCircuit}
-use Rattle.al_typed.specs.declared.label.ShortCircuit.TheVariants as short
-use Rattle.al_typed.specs.declared.label.UnaryOperator.{UnaryOperator}
-use Rattle.al_typed.specs.declared.label.UnaryOperator.TheVariants as unary
+use Rattle.al_view_typed.specs.declared.label.BinaryOperator.{BinaryOperator}
+use Rattle.al_view_typed.specs.declared.label.BinaryOperator.TheVariants as binary
+use Rattle.al_view_typed.specs.declared.label.Conversion.{Conversion}
+use Rattle.al_view_typed.specs.declared.label.Conversion.TheVariants as conversions
+use Rattle.al_view_typed.specs.declared.label.ShortCircuit.{ShortCircuit}
+use Rattle.al_view_typed.specs.declared.label.ShortCircuit.TheVariants as short
+use Rattle.al_view_typed.specs.declared.label.UnaryOperator.{UnaryOperator}
+use Rattle.al_view_typed.specs.declared.label.UnaryOperator.TheVariants as unary
 use Rattle.al_static.specs.Words.{bit, by_divisor, int_mod, is_true, power, word_of}
 
 unfoldable pub unary_value : UnaryOperator → ℤ → Option ℤ

@@ -2,19 +2,19 @@
 -- largest static expressions in it that fail.
 use Rattle.std.specs.Prelude.{Option, Some, None, Result, Ok, Err}
 use Rattle.al_view.specs.declared.types.StaticValue.{StaticValue}
-use Rattle.al_judged.specs.Faults.{earlier}
-use Rattle.al_judged.specs.declared.fault.Fault.{Fault}
-use Rattle.al_typed.specs.ExpressionTrees.{TypedTree, FormTree, NameTree, ValueTree, ValuesTree, ActualTree, ActualsTree, CallTree}
-use Rattle.al_typed.specs.ExpressionTrees.TypedTree.{Labelled}
-use Rattle.al_typed.specs.ExpressionTrees.FormTree.{LiteralForm, NamedForm, UnaryForm, BinaryForm, ShortCircuitForm, MembershipForm, ConvertedForm, AggregateForm, OthersForm, CallForm, ClockForm}
-use Rattle.al_typed.specs.ExpressionTrees.NameTree.{ObjectName, ComponentName, IndexedName}
-use Rattle.al_typed.specs.ExpressionTrees.ValueTree.{Checked}
-use Rattle.al_typed.specs.ExpressionTrees.ValuesTree.{NoValue, MoreValues}
-use Rattle.al_typed.specs.ExpressionTrees.ActualTree.{InActual, VariableActual}
-use Rattle.al_typed.specs.ExpressionTrees.ActualsTree.{NoActual, MoreActuals}
-use Rattle.al_typed.specs.ExpressionTrees.CallTree.{Called}
-use Rattle.al_typed.specs.declared.label.Conversion.{Conversion}
-use Rattle.al_typed.specs.declared.label.Labels.{Labels}
+use Rattle.al_base_fault.specs.Faults.{earlier}
+use Rattle.al_base_fault.specs.declared.fault.Fault.{Fault}
+use Rattle.al_view_typed.specs.ExpressionTrees.{TypedTree, FormTree, NameTree, ValueTree, ValuesTree, ActualTree, ActualsTree, CallTree}
+use Rattle.al_view_typed.specs.ExpressionTrees.TypedTree.{Labelled}
+use Rattle.al_view_typed.specs.ExpressionTrees.FormTree.{LiteralForm, NamedForm, UnaryForm, BinaryForm, ShortCircuitForm, MembershipForm, ConvertedForm, AggregateForm, OthersForm, CallForm, ClockForm}
+use Rattle.al_view_typed.specs.ExpressionTrees.NameTree.{ObjectName, ComponentName, IndexedName}
+use Rattle.al_view_typed.specs.ExpressionTrees.ValueTree.{Checked}
+use Rattle.al_view_typed.specs.ExpressionTrees.ValuesTree.{NoValue, MoreValues}
+use Rattle.al_view_typed.specs.ExpressionTrees.ActualTree.{InActual, VariableActual}
+use Rattle.al_view_typed.specs.ExpressionTrees.ActualsTree.{NoActual, MoreActuals}
+use Rattle.al_view_typed.specs.ExpressionTrees.CallTree.{Called}
+use Rattle.al_view_typed.specs.declared.label.Conversion.{Conversion}
+use Rattle.al_view_typed.specs.declared.label.Labels.{Labels}
 use Rattle.al_static.specs.declared.knowledge.Known.{Known}
 use Rattle.al_static.specs.declared.knowledge.Known.TheVariants.{Value, Fails, Open}
 use Rattle.al_static.specs.Combining.{binary, converted, failure_at, failure_in, membership, named, short_circuit, unary}

@@ -1,7 +1,7 @@
 // What is known of an expression by what is known of its operands (ARM 4.9).
 ghost use Rattle.std.specs.Prelude.{◌≡◌, ◌&&◌, if◌then◌else◌};
 ghost use Rattle.std.specs.Option.{option_copied};
-ghost use Rattle.al_judged.specs.Faults.{earlier};
+ghost use Rattle.al_base_fault.specs.Faults.{earlier};
 ghost use Rattle.al_static.specs.Combining.{binary, converted, decided, failure_at, failure_in, is_static, joined, membership, named, short_circuit, static_at, unary, undecided};
 
 use crate::operator::{
@@ -9,9 +9,9 @@ use crate::operator::{
 };
 use crate::word::bit;
 use al_base::{Place, Rule};
-use al_judged::{Fault, earlier};
-use al_typed::{BinaryOperator, Conversion, ShortCircuit, UnaryOperator};
+use al_base_fault::{Fault, earlier};
 use al_view::{Bounds, StaticValue};
+use al_view_typed::{BinaryOperator, Conversion, ShortCircuit, UnaryOperator};
 
 /// What is known of an expression.
 #[derive(Clone, Copy)]

@@ -3,8 +3,8 @@ ghost use Rattle.std.specs.Prelude.{◌≡◌};
 ghost use Rattle.al_static.specs.Operators.{binary_value, changed, converted_value, decides, is_member, is_scalar, keeps_static, unary_value, within};
 
 use crate::word::{bit, divided, is_true, modulus, power, remainder};
-use al_typed::{BinaryOperator, Conversion, ShortCircuit, UnaryOperator};
 use al_view::Bounds;
+use al_view_typed::{BinaryOperator, Conversion, ShortCircuit, UnaryOperator};
 
 /// What an operator gives of one operand, where that is a word.
 #[tactic(auto, using(crate::proofs::WordLemmas::word_of_some), unfolding(crate::specs::Operators::unary_value))]

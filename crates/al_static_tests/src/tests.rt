@@ -1,10 +1,10 @@
 use al_base::{NoMemory, Place};
 use al_static::static_value;
-use al_typed::{
+use al_view::{Bounds, ObjectPlace, StaticValue};
+use al_view_typed::{
     BinaryOperator, CheckedValue, Conversion, ExpressionType, Form, Labels, ShortCircuit, Typed,
     TypedName, UnaryOperator,
 };
-use al_view::{Bounds, ObjectPlace, StaticValue};
 use std::alloc::Global;
 use std::test::Fail;
 

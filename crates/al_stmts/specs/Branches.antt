@@ -1,14 +1,14 @@
 -- If statements (ARM 5.3), branch by branch.
 use Rattle.std.specs.Prelude.{ℕ, List, [], ◌∷◌, ◌++◌, map, Option, None, Result, Ok, Err}
-use Rattle.al_judged.specs.Faults.{earlier}
-use Rattle.al_judged.specs.Judging.{fault_in, unless}
-use Rattle.al_judged.specs.declared.fault.Fault.{Fault}
-use Rattle.al_faults.specs.FaultLists.{followed, no_fault}
-use Rattle.al_faults.specs.declared.fault_list.FaultList.{FaultList}
-use Rattle.al_typed.specs.ExpressionTrees.{TypedTree}
-use Rattle.al_typed.specs.StatementTrees.{BranchTree, StatementTree}
-use Rattle.al_typed.specs.StatementTrees.{BranchTree as branch_trees, StatementFormTree as statements, StatementTree as numbered}
-use Rattle.al_typed.specs.StatementViews.{branch_seen, branches_of, statement_seen, statements_of}
+use Rattle.al_base_fault.specs.Faults.{earlier}
+use Rattle.al_base_fault.specs.Judging.{fault_in, unless}
+use Rattle.al_base_fault.specs.declared.fault.Fault.{Fault}
+use Rattle.al_base_faults.specs.FaultLists.{followed, no_fault}
+use Rattle.al_base_faults.specs.declared.fault_list.FaultList.{FaultList}
+use Rattle.al_view_typed.specs.ExpressionTrees.{TypedTree}
+use Rattle.al_view_typed.specs.StatementTrees.{BranchTree, StatementTree}
+use Rattle.al_view_typed.specs.StatementTrees.{BranchTree as branch_trees, StatementFormTree as statements, StatementTree as numbered}
+use Rattle.al_view_typed.specs.StatementViews.{branch_model, branches_of, statement_model, statements_of}
 use Rattle.al_stmts.specs.Checking.{Checked, compound}
 use Rattle.al_stmts.specs.declared.branches.CheckedBranches.{CheckedBranches}
 
@@ -21,7 +21,7 @@ pub record Branched : Type 0 where
 
 abbrev pub branches_checked : CheckedBranches → Branched
 branches_checked b =
-    record { faults = b.faults; own = b.own; branches = map branch_seen b.branches.items; otherwise = map statement_seen b.otherwise.items }
+    record { faults = b.faults; own = b.own; branches = map branch_model b.branches.items; otherwise = map statement_model b.otherwise.items }
 
 abbrev pub no_branch : Branched
 no_branch = record { faults = no_fault; own = None; branches = []; otherwise = [] }
@@ -39,7 +39,7 @@ with_branch b line condition inner = record {
   otherwise = b.otherwise;
 }
 
--- the statements behind `else`
+-- the statements after `else`
 abbrev pub with_otherwise : Branched → Checked → Branched
 with_otherwise b inner = record { faults = followed b.faults inner.faults; own = b.own; branches = b.branches; otherwise = inner.statements }
 

@@ -5,20 +5,20 @@ use Rattle.al_base.specs.Rules.{number_of}
 use Rattle.al_base.specs.declared.place.Place.{Place}
 use Rattle.al_base.specs.declared.rule.Rule.TheVariants.{BadChoices}
 use Rattle.al_view.specs.declared.types.Bounds.{Bounds}
-use Rattle.al_judged.specs.Faults.{earlier, fault_at}
-use Rattle.al_judged.specs.Judging.{next, unless}
-use Rattle.al_judged.specs.declared.fault.Fault.{Fault}
-use Rattle.al_faults.specs.FaultLists.{followed, no_fault}
-use Rattle.al_faults.specs.declared.fault_list.FaultList.{FaultList}
-use Rattle.al_choices.specs.Choosing.{AreRight, has_others, range_of}
-use Rattle.al_choices.specs.declared.choice.Choice.{Choice}
-use Rattle.al_choices.specs.declared.choice.Selector.{Selector}
-use Rattle.al_choices.specs.declared.choice.Selector.TheVariants.{OfSubtype, OfType}
-use Rattle.al_typed.specs.ExpressionTrees.{TypedTree}
-use Rattle.al_typed.specs.ExpressionTrees.TypedTree.{Labelled}
-use Rattle.al_typed.specs.StatementTrees.{AlternativeTree, StatementTree}
-use Rattle.al_typed.specs.StatementTrees.{AlternativeTree as alternative_trees, StatementFormTree as statements, StatementTree as numbered}
-use Rattle.al_typed.specs.StatementViews.{alternative_seen, alternatives_of, statement_seen, statements_of}
+use Rattle.al_base_fault.specs.Faults.{earlier, fault_at}
+use Rattle.al_base_fault.specs.Judging.{next, unless}
+use Rattle.al_base_fault.specs.declared.fault.Fault.{Fault}
+use Rattle.al_base_faults.specs.FaultLists.{followed, no_fault}
+use Rattle.al_base_faults.specs.declared.fault_list.FaultList.{FaultList}
+use Rattle.al_stmts_choices.specs.Choosing.{AreRight, has_others, range_of}
+use Rattle.al_stmts_choices.specs.declared.choice.Choice.{Choice}
+use Rattle.al_stmts_choices.specs.declared.choice.Selector.{Selector}
+use Rattle.al_stmts_choices.specs.declared.choice.Selector.TheVariants.{OfSubtype, OfType}
+use Rattle.al_view_typed.specs.ExpressionTrees.{TypedTree}
+use Rattle.al_view_typed.specs.ExpressionTrees.TypedTree.{Labelled}
+use Rattle.al_view_typed.specs.StatementTrees.{AlternativeTree, StatementTree}
+use Rattle.al_view_typed.specs.StatementTrees.{AlternativeTree as alternative_trees, StatementFormTree as statements, StatementTree as numbered}
+use Rattle.al_view_typed.specs.StatementViews.{alternative_model, alternatives_of, statement_model, statements_of}
 use Rattle.al_stmts.specs.Checking.{Checked, compound}
 use Rattle.al_stmts.specs.declared.alternatives.CheckedAlternatives.{CheckedAlternatives}
 use Rattle.al_stmts.specs.declared.alternatives.Chosen.{Chosen}
@@ -84,7 +84,7 @@ pub record Alternatives : Type 0 where
 
 abbrev pub alternatives_checked : CheckedAlternatives → Alternatives
 alternatives_checked a =
-    record { faults = a.faults; alternatives = map alternative_seen a.alternatives.items; otherwise = map statement_seen a.otherwise.items }
+    record { faults = a.faults; alternatives = map alternative_model a.alternatives.items; otherwise = map statement_model a.otherwise.items }
 
 abbrev pub none_chosen : Alternatives
 none_chosen = record { faults = no_fault; alternatives = []; otherwise = [] }

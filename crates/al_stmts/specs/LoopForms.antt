@@ -4,17 +4,17 @@ use Rattle.al_base.specs.declared.place.Place.{Place}
 use Rattle.al_view.specs.declared.symbol.Symbol.{Symbol}
 use Rattle.al_view.specs.declared.types.Bounds.{Bounds}
 use Rattle.al_view.specs.declared.types.StaticValue.{StaticValue}
-use Rattle.al_judged.specs.Judging.{next, unless}
-use Rattle.al_judged.specs.declared.fault.Fault.{Fault}
-use Rattle.al_typed.specs.DeclarationTrees.{DeclarationTree}
-use Rattle.al_typed.specs.ExpressionTrees.{TypedTree}
-use Rattle.al_typed.specs.ExpressionTrees.{FormTree as forms}
-use Rattle.al_typed.specs.ExpressionTrees.TypedTree.{Labelled}
-use Rattle.al_typed.specs.ExpressionViews.{typed_seen}
-use Rattle.al_typed.specs.StatementTrees.{SchemeTree, StatementTree}
-use Rattle.al_typed.specs.StatementTrees.{SchemeTree as schemes, StatementFormTree as statements, StatementTree as numbered}
-use Rattle.al_typed.specs.StatementViews.{statements_of}
-use Rattle.al_typed.specs.declared.label.ExpressionType.TheVariants.{Declared}
+use Rattle.al_base_fault.specs.Judging.{next, unless}
+use Rattle.al_base_fault.specs.declared.fault.Fault.{Fault}
+use Rattle.al_view_typed.specs.DeclarationTrees.{DeclarationTree}
+use Rattle.al_view_typed.specs.ExpressionTrees.{TypedTree}
+use Rattle.al_view_typed.specs.ExpressionTrees.{FormTree as forms}
+use Rattle.al_view_typed.specs.ExpressionTrees.TypedTree.{Labelled}
+use Rattle.al_view_typed.specs.ExpressionViews.{typed_model}
+use Rattle.al_view_typed.specs.StatementTrees.{SchemeTree, StatementTree}
+use Rattle.al_view_typed.specs.StatementTrees.{SchemeTree as schemes, StatementFormTree as statements, StatementTree as numbered}
+use Rattle.al_view_typed.specs.StatementViews.{statements_of}
+use Rattle.al_view_typed.specs.declared.label.ExpressionType.TheVariants.{Declared}
 use Rattle.al_stmts.specs.Checking.{Checked, compound}
 use Rattle.al_stmts.specs.declared.loops.LoopRange.{LoopRange}
 use Rattle.al_stmts.specs.declared.loops.LoopWords.{LoopWords}
@@ -25,8 +25,8 @@ pub record RangeTree : Type 0 where
   pub high : TypedTree
   pub mark : Option Bounds
 
-abbrev pub range_seen : LoopRange → RangeTree
-range_seen r = record { low = typed_seen r.low; high = typed_seen r.high; mark = r.mark }
+abbrev pub range_model : LoopRange → RangeTree
+range_model r = record { low = typed_model r.low; high = typed_model r.high; mark = r.mark }
 
 -- a static bound of a mark, which stands there, as an expression
 abbrev pub bound_of : Place → Symbol → StaticValue → TypedTree

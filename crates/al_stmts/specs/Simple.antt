@@ -4,18 +4,18 @@ use Rattle.al_base.specs.Rules.{number_of}
 use Rattle.al_base.specs.declared.place.Place.{Place}
 use Rattle.al_base.specs.declared.rule.Rule.TheVariants.{NotAVariable}
 use Rattle.al_view.specs.declared.types.Bounds.{Bounds}
-use Rattle.al_judged.specs.Faults.{fault_at}
-use Rattle.al_judged.specs.Judging.{both, next, unless}
-use Rattle.al_judged.specs.declared.fault.Fault.{Fault}
-use Rattle.al_loops.specs.Exits.{LoopsRound, exit_judged}
-use Rattle.al_loops.specs.Returns.{return_fault}
-use Rattle.al_typed.specs.ExpressionTrees.{CallTree, NameTree, TypedTree}
-use Rattle.al_typed.specs.ExpressionTrees.{NameTree as names, TypedTree as typed, ValueTree as values}
-use Rattle.al_typed.specs.ExpressionViews.{name_seen}
-use Rattle.al_typed.specs.FormNames.{name_in}
-use Rattle.al_typed.specs.StatementTrees.{PieceTree, StatementTree}
-use Rattle.al_typed.specs.StatementTrees.{StatementFormTree as statements, StatementTree as numbered}
-use Rattle.al_typed.specs.declared.label.Labels.{Labels}
+use Rattle.al_base_fault.specs.Faults.{fault_at}
+use Rattle.al_base_fault.specs.Judging.{both, next, unless}
+use Rattle.al_base_fault.specs.declared.fault.Fault.{Fault}
+use Rattle.al_stmts_loops.specs.Exits.{EnclosingLoops, exit_checked}
+use Rattle.al_stmts_loops.specs.Returns.{return_fault}
+use Rattle.al_view_typed.specs.ExpressionTrees.{CallTree, NameTree, TypedTree}
+use Rattle.al_view_typed.specs.ExpressionTrees.{NameTree as names, TypedTree as typed, ValueTree as values}
+use Rattle.al_view_typed.specs.ExpressionViews.{name_model}
+use Rattle.al_view_typed.specs.FormNames.{name_in}
+use Rattle.al_view_typed.specs.StatementTrees.{PieceTree, StatementTree}
+use Rattle.al_view_typed.specs.StatementTrees.{StatementFormTree as statements, StatementTree as numbered}
+use Rattle.al_view_typed.specs.declared.label.Labels.{Labels}
 use Rattle.al_stmts.specs.declared.simple.ReturnContext.{ReturnContext}
 use Rattle.al_stmts.specs.declared.target.Target.{Target}
 
@@ -25,8 +25,8 @@ pub record TargetTree : Type 0 where
   pub words : ℕ
   pub bounds : Option Bounds
 
-abbrev pub target_seen : Target → TargetTree
-target_seen t = record { name = name_seen t.name; words = t.words; bounds = t.bounds }
+abbrev pub target_model : Target → TargetTree
+target_model t = record { name = name_model t.name; words = t.words; bounds = t.bounds }
 
 -- whether a name denotes a variable: an object that is no constant, or a part of one (ARM 3.3(13))
 abbrev pub is_variable : NameTree → Bool
@@ -72,12 +72,12 @@ returned place context None =
 returned place context (Some value) = unless (return_fault place context.body true) (value_returned place.line context value)
 
 -- what may be left out
-abbrev pub maybe_judged : {A : Type 0} → Option (Result A Fault) → Result (Option A) Fault
-maybe_judged None = Ok None
-maybe_judged (Some (Ok a)) = Ok (Some a)
-maybe_judged (Some (Err f)) = Err f
+abbrev pub maybe_checked : {A : Type 0} → Option (Result A Fault) → Result (Option A) Fault
+maybe_checked None = Ok None
+maybe_checked (Some (Ok a)) = Ok (Some a)
+maybe_checked (Some (Err f)) = Err f
 
 -- exit [name] [when condition]; (ARM 5.7)
-abbrev pub exited : Place → LoopsRound → Option (List ℕ) → Option (Result TypedTree Fault) → Result StatementTree Fault
+abbrev pub exited : Place → EnclosingLoops → Option (List ℕ) → Option (Result TypedTree Fault) → Result StatementTree Fault
 exited place loops name condition =
-    next (both (exit_judged place loops name) (maybe_judged condition)) (λ p. Ok (numbered.Numbered place.line (statements.ExitStatement p.0 p.1)))
+    next (both (exit_checked place loops name) (maybe_checked condition)) (λ p. Ok (numbered.Numbered place.line (statements.ExitStatement p.0 p.1)))

@@ -1,20 +1,20 @@
 // The alternatives of a case statement.
 ghost use Rattle.std.specs.Prelude.{◌≡◌, ◌++◌, IfOk, OnOk, map};
 ghost use Rattle.std.specs.List.{filter_map};
-ghost use Rattle.al_choices.specs.Choosing.{has_others, is_others, range_of};
-ghost use Rattle.al_judged.specs.Judging.{seen_by};
-ghost use Rattle.al_typed.specs.ExpressionViews.{typed_seen};
-ghost use Rattle.al_typed.specs.StatementViews.{alternative_seen, statement_seen};
+ghost use Rattle.al_stmts_choices.specs.Choosing.{has_others, is_others, range_of};
+ghost use Rattle.al_base_fault.specs.Judging.{map_ok};
+ghost use Rattle.al_view_typed.specs.ExpressionViews.{typed_model};
+ghost use Rattle.al_view_typed.specs.StatementViews.{alternative_model, statement_model};
 ghost use Rattle.al_stmts.specs.Cases.{alternatives_checked, cased, cased_over, chosen_by, none_chosen, with_alternative};
 ghost use Rattle.al_stmts.specs.Checking.{all_checked, one_checked};
 
 use crate::checked::{CheckedStatement, CheckedStatements};
 use al_base::NoMemory;
-use al_choices::Choice;
-use al_faults::FaultList;
-use al_judged::Judged;
-use al_typed::{Alternative, StatementForm, Typed, TypedStatement};
-use al_view::{Bounds, Row};
+use al_base_fault::CheckResult;
+use al_base_faults::FaultList;
+use al_stmts_choices::Choice;
+use al_view::{Bounds, Seq};
+use al_view_typed::{Alternative, StatementForm, Typed, TypedStatement};
 use std::alloc::{AllocError, Global};
 
 /// What an alternative chooses.
@@ -23,7 +23,7 @@ pub enum Chosen {
     /// All values that no other alternative chooses.
     OtherValues,
     /// The values of these ranges, in text order.
-    Ranges(Row<Bounds>),
+    Ranges(Seq<Bounds>),
 }
 
 /// The alternatives of a case statement that are checked so far (ARM 5.4).
@@ -60,10 +60,10 @@ fn range_of(choice: &Choice) -> Option<Bounds>
 
 /// The ranges of choices.
 #[tactic(auto, using(std::proofs::lemmas::Grind::common_steps, crate::proofs::Ranges::ranges_more))]
-fn ranges_in(alloc: Global, choices: &[Choice]) -> Result<Row<Bounds>, AllocError>
+fn ranges_in(alloc: Global, choices: &[Choice]) -> Result<Seq<Bounds>, AllocError>
     ensures { IfOk result (λ ranges. ranges ≡ filter_map range_of choices.now) }
 {
-    let mut ranges = Row::empty(alloc);
+    let mut ranges = Seq::empty(alloc);
     for choice in choices {
         if let Some(bounds) = range_of(choice) {
             ranges.push(bounds)?;
@@ -89,11 +89,11 @@ impl Chosen {
 fn over(
     line: usize,
     slot: u32,
-    selector: Judged<Typed>,
+    selector: CheckResult<Typed>,
     alternatives: Vec<Alternative>,
     otherwise: Vec<TypedStatement>,
-) -> Judged<TypedStatement>
-    ensures { seen_by statement_seen result ≡ cased_over line slot (seen_by typed_seen selector) (map alternative_seen alternatives.items) (map statement_seen otherwise.items) }
+) -> CheckResult<TypedStatement>
+    ensures { map_ok statement_model result ≡ cased_over line slot (map_ok typed_model selector) (map alternative_model alternatives.items) (map statement_model otherwise.items) }
 {
     match selector {
         Ok(selector) => {
@@ -116,7 +116,7 @@ impl CheckedAlternatives {
         }
     }
 
-    /// The alternative that stands behind.
+    /// The alternative that stands after.
     #[tactic(auto, using(std::proofs::lemmas::Grind::common_steps))]
     pub fn add(&mut self, chosen: Chosen, inner: CheckedStatements) -> Result<(), NoMemory>
         ensures { OnOk result (alternatives_checked self.new ≡ with_alternative (alternatives_checked self.old) chosen (all_checked inner)) }
@@ -137,9 +137,9 @@ impl CheckedAlternatives {
         alloc: Global,
         line: usize,
         slot: u32,
-        selector: Judged<Typed>,
+        selector: CheckResult<Typed>,
     ) -> Result<CheckedStatement, NoMemory>
-        ensures { IfOk result (λ one. one_checked one ≡ cased line slot (seen_by typed_seen selector) (alternatives_checked self)) }
+        ensures { IfOk result (λ one. one_checked one ≡ cased line slot (map_ok typed_model selector) (alternatives_checked self)) }
     {
         let CheckedAlternatives {
             faults,

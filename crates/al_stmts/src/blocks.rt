@@ -1,13 +1,13 @@
 // Blocks.
 ghost use Rattle.std.specs.Prelude.{◌≡◌, IfOk, map};
-ghost use Rattle.al_typed.specs.DeclarationTrees.{declaration_seen};
+ghost use Rattle.al_view_typed.specs.DeclarationTrees.{declaration_model};
 ghost use Rattle.al_stmts.specs.Checking.{all_checked, one_checked};
 ghost use Rattle.al_stmts.specs.LoopForms.{blocked};
 
 use crate::checked::{CheckedStatement, CheckedStatements};
 use al_base::NoMemory;
-use al_judged::{Fault, unless};
-use al_typed::{StatementForm, TypedDeclaration, TypedStatement};
+use al_base_fault::{Fault, unless};
+use al_view_typed::{StatementForm, TypedDeclaration, TypedStatement};
 use std::alloc::Global;
 
 /// A block by its declarations, the fault of the name at its end, and its statements (ARM 5.6). What is wrong with its declarations
@@ -20,7 +20,7 @@ pub fn block_statement(
     end: Option<Fault>,
     inner: CheckedStatements,
 ) -> Result<CheckedStatement, NoMemory>
-    ensures { IfOk result (λ one. one_checked one ≡ blocked line (map declaration_seen declarations.items) end (all_checked inner)) }
+    ensures { IfOk result (λ one. one_checked one ≡ blocked line (map declaration_model declarations.items) end (all_checked inner)) }
 {
     let CheckedStatements { faults, statements } = inner;
     let form = StatementForm::block(declarations, statements);

@@ -1,16 +1,16 @@
 // If statements.
 ghost use Rattle.std.specs.Prelude.{◌≡◌, ◌++◌, IfOk, OnOk, map};
-ghost use Rattle.al_judged.specs.Judging.{fault_in, seen_by};
-ghost use Rattle.al_typed.specs.ExpressionViews.{typed_seen};
-ghost use Rattle.al_typed.specs.StatementViews.{branch_seen, statement_seen};
+ghost use Rattle.al_base_fault.specs.Judging.{fault_in, map_ok};
+ghost use Rattle.al_view_typed.specs.ExpressionViews.{typed_model};
+ghost use Rattle.al_view_typed.specs.StatementViews.{branch_model, statement_model};
 ghost use Rattle.al_stmts.specs.Branches.{branch_of, branched, branches_checked, no_branch, with_branch, with_otherwise};
 ghost use Rattle.al_stmts.specs.Checking.{all_checked, one_checked};
 
 use crate::checked::{CheckedStatement, CheckedStatements};
 use al_base::NoMemory;
-use al_faults::FaultList;
-use al_judged::{Fault, Judged, earlier, unless};
-use al_typed::{Branch, StatementForm, Typed, TypedStatement};
+use al_base_fault::{CheckResult, Fault, earlier, unless};
+use al_base_faults::FaultList;
+use al_view_typed::{Branch, StatementForm, Typed, TypedStatement};
 use std::alloc::{AllocError, Global};
 
 /// The branches of an if statement that are checked so far (ARM 5.3).
@@ -30,10 +30,10 @@ pub struct CheckedBranches {
 fn push(
     branches: &mut Vec<Branch>,
     line: usize,
-    condition: Judged<Typed>,
+    condition: CheckResult<Typed>,
     statements: Vec<TypedStatement>,
 ) -> Result<(), AllocError>
-    ensures { OnOk result (map branch_seen branches.new.items ≡ map branch_seen branches.old.items ++ branch_of line (seen_by typed_seen condition) (map statement_seen statements.items)) }
+    ensures { OnOk result (map branch_model branches.new.items ≡ map branch_model branches.old.items ++ branch_of line (map_ok typed_model condition) (map statement_model statements.items)) }
 {
     match condition {
         Ok(condition) => branches.push(Branch::new(line, condition, statements))?,
@@ -43,7 +43,7 @@ fn push(
 }
 
 /// The fault of a condition, if it has one.
-fn fault_in(condition: &Judged<Typed>) -> Option<Fault>
+fn fault_in(condition: &CheckResult<Typed>) -> Option<Fault>
     ensures { result ≡ fault_in condition.now }
 {
     match condition {
@@ -65,14 +65,14 @@ impl CheckedBranches {
         }
     }
 
-    /// The branch that stands behind, with the line of its `if` or `elsif`.
+    /// The branch that stands after, with the line of its `if` or `elsif`.
     pub fn add(
         &mut self,
         line: usize,
-        condition: Judged<Typed>,
+        condition: CheckResult<Typed>,
         inner: CheckedStatements,
     ) -> Result<(), NoMemory>
-        ensures { OnOk result (branches_checked self.new ≡ with_branch (branches_checked self.old) line (seen_by typed_seen condition) (all_checked inner)) }
+        ensures { OnOk result (branches_checked self.new ≡ with_branch (branches_checked self.old) line (map_ok typed_model condition) (all_checked inner)) }
     {
         self.own = earlier(self.own, fault_in(&condition));
         let CheckedStatements { faults, statements } = inner;
@@ -80,7 +80,7 @@ impl CheckedBranches {
         self.faults.follow(faults)
     }
 
-    /// The statements behind `else`.
+    /// The statements after `else`.
     pub fn add_otherwise(&mut self, inner: CheckedStatements) -> Result<(), NoMemory>
         ensures { OnOk result (branches_checked self.new ≡ with_otherwise (branches_checked self.old) (all_checked inner)) }
     {

@@ -1,22 +1,22 @@
 // The selector of a case statement with its choices.
 ghost use Rattle.std.specs.Prelude.{◌≡◌, ◌↔◌, IfOk, IsTrue};
-ghost use Rattle.al_judged.specs.Judging.{seen_by};
-ghost use Rattle.al_typed.specs.ExpressionViews.{typed_seen};
+ghost use Rattle.al_base_fault.specs.Judging.{map_ok};
+ghost use Rattle.al_view_typed.specs.ExpressionViews.{typed_model};
 ghost use Rattle.al_stmts.specs.Cases.{RightFor, bounds_of, held_against, held_by, right_or_told, selected};
 
 use crate::choices::CaseChoices;
 use al_base::{NoMemory, Place, Rule};
-use al_choices::{Selector, are_right};
-use al_judged::{Fault, Judged, unless};
-use al_typed::Typed;
+use al_base_fault::{CheckResult, Fault, unless};
+use al_stmts_choices::{Selector, are_right};
 use al_view::Bounds;
+use al_view_typed::Typed;
 use std::alloc::Global;
 
 /// What the choices of a selector are held against: the range of its nominal subtype, where it has one, or else that of its
 /// whole type (ARM 5.4(7 to 9)).
 #[tactic(auto, using(crate::proofs::Layers::typed_bounds))]
 pub fn selector_of(selector: &Typed, whole: Bounds) -> Selector
-    ensures { result ≡ held_against (bounds_of (typed_seen selector.now)) whole }
+    ensures { result ≡ held_against (bounds_of (typed_model selector.now)) whole }
 {
     match selector.labels.bounds {
         Some(bounds) => Selector::OfSubtype(bounds),
@@ -26,8 +26,8 @@ pub fn selector_of(selector: &Typed, whole: Bounds) -> Selector
 
 /// What the choices of a selector are held against, where it has no fault.
 #[tactic(auto, using(crate::proofs::Layers::typed_bounds))]
-fn held_by(selector: &Judged<Typed>, whole: Bounds) -> Option<Selector>
-    ensures { result ≡ held_by (seen_by typed_seen selector.now) whole }
+fn held_by(selector: &CheckResult<Typed>, whole: Bounds) -> Option<Selector>
+    ensures { result ≡ held_by (map_ok typed_model selector.now) whole }
 {
     match selector {
         Ok(selector) => Some(selector_of(selector, whole)),
@@ -39,11 +39,11 @@ fn held_by(selector: &Judged<Typed>, whole: Bounds) -> Option<Selector>
 /// selector that has a fault they always are.
 pub fn choices_are_right(
     alloc: Global,
-    selector: &Judged<Typed>,
+    selector: &CheckResult<Typed>,
     whole: Bounds,
     choices: &CaseChoices,
 ) -> Result<bool, NoMemory>
-    ensures { IfOk result (λ right. IsTrue right ↔ RightFor (held_by (seen_by typed_seen selector.now) whole) choices.now.alternatives) }
+    ensures { IfOk result (λ right. IsTrue right ↔ RightFor (held_by (map_ok typed_model selector.now) whole) choices.now.alternatives) }
 {
     match held_by(selector, whole) {
         Some(held) => are_right(alloc, choices.alternatives.as_slice(), held),
@@ -54,13 +54,13 @@ pub fn choices_are_right(
 /// The selector of a case statement, by the first fault of its choices and by whether they are right for it. E503 at `case`, where
 /// they aren't, is told only where neither the selector nor a choice has a fault.
 #[tactic(auto, using(crate::proofs::Seen::seen_unless))]
-pub fn judged_selector(
+pub fn checked_selector(
     place: Place,
-    selector: Judged<Typed>,
+    selector: CheckResult<Typed>,
     fault: Option<Fault>,
     are_right: bool,
-) -> Judged<Typed>
-    ensures { seen_by typed_seen result ≡ selected place (seen_by typed_seen selector) fault are_right }
+) -> CheckResult<Typed>
+    ensures { map_ok typed_model result ≡ selected place (map_ok typed_model selector) fault are_right }
 {
     match unless(fault, selector) {
         Ok(selector) => with_choices(place, selector, are_right),
@@ -68,8 +68,8 @@ pub fn judged_selector(
     }
 }
 
-fn with_choices(place: Place, selector: Typed, are_right: bool) -> Judged<Typed>
-    ensures { seen_by typed_seen result ≡ right_or_told place are_right (typed_seen selector) }
+fn with_choices(place: Place, selector: Typed, are_right: bool) -> CheckResult<Typed>
+    ensures { map_ok typed_model result ≡ right_or_told place are_right (typed_model selector) }
 {
     if are_right {
         return Ok(selector);

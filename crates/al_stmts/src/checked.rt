@@ -1,15 +1,15 @@
 // Statements that are checked.
 ghost use Rattle.std.specs.Prelude.{◌≡◌, ◌++◌, [], ◌∷◌, IfOk, OnOk, Err, is_some, map, option_map};
 ghost use Rattle.std.specs.Option.{option_to_list};
-ghost use Rattle.al_faults.specs.FaultLists.{no_fault};
-ghost use Rattle.al_judged.specs.Judging.{seen_by};
-ghost use Rattle.al_typed.specs.StatementViews.{statement_seen};
-ghost use Rattle.al_stmts.specs.Checking.{all_checked, alone, broken_off, checked_behind, compound, one_checked};
+ghost use Rattle.al_base_faults.specs.FaultLists.{no_fault};
+ghost use Rattle.al_base_fault.specs.Judging.{map_ok};
+ghost use Rattle.al_view_typed.specs.StatementViews.{statement_model};
+ghost use Rattle.al_stmts.specs.Checking.{all_checked, alone, broken_off, checked_after, compound, one_checked};
 
 use al_base::NoMemory;
-use al_faults::FaultList;
-use al_judged::{Fault, Judged};
-use al_typed::TypedStatement;
+use al_base_fault::{CheckResult, Fault};
+use al_base_faults::FaultList;
+use al_view_typed::TypedStatement;
 use std::alloc::{AllocError, Global};
 
 /// A statement that is checked: what is wrong with it and with what stands inside it, and the statement where its own parts are
@@ -29,8 +29,8 @@ pub struct CheckedStatements {
 
 impl CheckedStatement {
     /// A statement with nothing inside it.
-    pub fn alone(alloc: Global, judged: Judged<TypedStatement>) -> Result<Self, NoMemory>
-        ensures { IfOk result (λ one. one_checked one ≡ alone (seen_by statement_seen judged)) }
+    pub fn alone(alloc: Global, judged: CheckResult<TypedStatement>) -> Result<Self, NoMemory>
+        ensures { IfOk result (λ one. one_checked one ≡ alone (map_ok statement_model judged)) }
     {
         CheckedStatement::compound(alloc, judged, FaultList::none(alloc))
     }
@@ -38,10 +38,10 @@ impl CheckedStatement {
     /// A statement by its own parts, with what is wrong with what stands inside it.
     pub fn compound(
         alloc: Global,
-        judged: Judged<TypedStatement>,
+        judged: CheckResult<TypedStatement>,
         inner: FaultList,
     ) -> Result<Self, NoMemory>
-        ensures { IfOk result (λ one. one_checked one ≡ compound (seen_by statement_seen judged) inner) }
+        ensures { IfOk result (λ one. one_checked one ≡ compound (map_ok statement_model judged) inner) }
     {
         match judged {
             Ok(statement) => Ok(CheckedStatement {
@@ -76,7 +76,7 @@ impl CheckedStatement {
 /// One more statement, if there is one.
 #[tactic(auto, using(std::proofs::lemmas::Grind::common_steps))]
 fn push(statements: &mut Vec<TypedStatement>, one: Option<TypedStatement>) -> Result<(), AllocError>
-    ensures { OnOk result (map statement_seen statements.new.items ≡ map statement_seen statements.old.items ++ option_to_list (option_map statement_seen one)) }
+    ensures { OnOk result (map statement_model statements.new.items ≡ map statement_model statements.old.items ++ option_to_list (option_map statement_model one)) }
 {
     match one {
         Some(statement) => statements.push(statement)?,
@@ -86,8 +86,8 @@ fn push(statements: &mut Vec<TypedStatement>, one: Option<TypedStatement>) -> Re
 }
 
 impl CheckedStatements {
-    /// No statement yet, behind text of which this is wrong.
-    pub fn behind(alloc: Global, faults: FaultList) -> Self
+    /// No statement yet, after text of which this is wrong.
+    pub fn after(alloc: Global, faults: FaultList) -> Self
         ensures { all_checked result ≡ broken_off faults }
     {
         CheckedStatements {
@@ -96,16 +96,16 @@ impl CheckedStatements {
         }
     }
 
-    /// Whether nothing behind is looked at.
+    /// Whether nothing after is looked at.
     pub fn is_ended(&self) -> bool
         ensures { result ≡ is_some self.now.faults.end }
     {
         self.faults.is_ended()
     }
 
-    /// The statement that stands behind.
+    /// The statement that stands after.
     pub fn add(&mut self, one: CheckedStatement) -> Result<(), NoMemory>
-        ensures { OnOk result (all_checked self.new ≡ checked_behind (all_checked self.old) (one_checked one)) }
+        ensures { OnOk result (all_checked self.new ≡ checked_after (all_checked self.old) (one_checked one)) }
     {
         let CheckedStatement { faults, statement } = one;
         push(&mut self.statements, statement)?;

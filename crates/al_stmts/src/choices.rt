@@ -3,23 +3,23 @@ ghost use Rattle.std.specs.Prelude.{◌≡◌, OnOk};
 ghost use Rattle.al_stmts.specs.Cases.{no_alternative, no_choice, with_choice, with_choices};
 
 use al_base::NoMemory;
-use al_choices::Choice;
-use al_judged::{Fault, Judged, earlier};
-use al_view::Row;
+use al_base_fault::{CheckResult, Fault, earlier};
+use al_stmts_choices::Choice;
+use al_view::Seq;
 use std::alloc::Global;
 
 /// The choices of an alternative so far: the first fault of one, and those that are right.
 #[derive(Drop)]
 pub struct AlternativeChoices {
     pub fault: Option<Fault>,
-    pub choices: Row<Choice>,
+    pub choices: Seq<Choice>,
 }
 
 /// The choices of a case statement so far, by alternatives in text order.
 #[derive(Drop)]
 pub struct CaseChoices {
     pub fault: Option<Fault>,
-    pub alternatives: Row<Row<Choice>>,
+    pub alternatives: Seq<Seq<Choice>>,
 }
 
 impl AlternativeChoices {
@@ -29,12 +29,12 @@ impl AlternativeChoices {
     {
         AlternativeChoices {
             fault: None,
-            choices: Row::empty(alloc),
+            choices: Seq::empty(alloc),
         }
     }
 
     /// One more choice, or its fault.
-    pub fn add(&mut self, choice: Judged<Choice>) -> Result<(), NoMemory>
+    pub fn add(&mut self, choice: CheckResult<Choice>) -> Result<(), NoMemory>
         ensures { OnOk result (self.new ≡ with_choice self.old choice) }
     {
         match choice {
@@ -52,7 +52,7 @@ impl CaseChoices {
     {
         CaseChoices {
             fault: None,
-            alternatives: Row::empty(alloc),
+            alternatives: Seq::empty(alloc),
         }
     }
 

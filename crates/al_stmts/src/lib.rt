@@ -14,7 +14,7 @@ mod target;
 pub use alternatives::{CheckedAlternatives, Chosen};
 pub use blocks::block_statement;
 pub use branches::CheckedBranches;
-pub use cases::{choices_are_right, judged_selector, selector_of};
+pub use cases::{checked_selector, choices_are_right, selector_of};
 pub use checked::{CheckedStatement, CheckedStatements};
 pub use choices::{AlternativeChoices, CaseChoices};
 pub use loops::{

@@ -1,16 +1,18 @@
 // Loops.
 ghost use Rattle.std.specs.Prelude.{◌≡◌, IfOk, map};
-ghost use Rattle.al_judged.specs.Judging.{seen_by};
-ghost use Rattle.al_typed.specs.ExpressionViews.{typed_seen};
-ghost use Rattle.al_typed.specs.StatementViews.{scheme_seen, statement_seen};
+ghost use Rattle.al_base_fault.specs.Judging.{map_ok};
+ghost use Rattle.al_view_typed.specs.ExpressionViews.{typed_model};
+ghost use Rattle.al_view_typed.specs.StatementViews.{scheme_model, statement_model};
 ghost use Rattle.al_stmts.specs.Checking.{all_checked, one_checked};
-ghost use Rattle.al_stmts.specs.LoopForms.{bound_of, for_scheme, looped, looped_over, parameter_bounds, range_of_mark, range_seen, value_in, while_scheme};
+ghost use Rattle.al_stmts.specs.LoopForms.{bound_of, for_scheme, looped, looped_over, parameter_bounds, range_of_mark, range_model, value_in, while_scheme};
 
 use crate::checked::{CheckedStatement, CheckedStatements};
 use al_base::{NoMemory, Place};
-use al_judged::{Fault, Judged, unless};
-use al_typed::{ExpressionType, Form, Labels, LoopScheme, StatementForm, Typed, TypedStatement};
+use al_base_fault::{CheckResult, Fault, unless};
 use al_view::{Bounds, StaticValue, Symbol};
+use al_view_typed::{
+    ExpressionType, Form, Labels, LoopScheme, StatementForm, Typed, TypedStatement,
+};
 use std::alloc::Global;
 
 /// The values of a loop's parameter (ARM 5.5(4)): both bounds, and the range of the mark that stands before `range`.
@@ -30,7 +32,7 @@ pub struct LoopWords {
 
 /// A static bound of a mark, as an expression of its type.
 fn bound(place: Place, of: Symbol, value: StaticValue) -> Typed
-    ensures { typed_seen result ≡ bound_of place of value }
+    ensures { typed_model result ≡ bound_of place of value }
 {
     let labels = Labels {
         place,
@@ -49,7 +51,7 @@ pub fn mark_range(
     of: &Symbol,
     bounds: Bounds,
 ) -> Result<LoopRange, NoMemory>
-    ensures { IfOk result (λ range. range_seen range ≡ range_of_mark place of.now bounds) }
+    ensures { IfOk result (λ range. range_model range ≡ range_of_mark place of.now bounds) }
 {
     let low_type = of.copy(alloc)?;
     let high_type = of.copy(alloc)?;
@@ -65,14 +67,14 @@ pub fn mark_range(
 /// The value of an expression, where it is static.
 #[tactic(auto, using(crate::proofs::Layers::typed_value))]
 fn value_in(typed: &Typed) -> Option<StaticValue>
-    ensures { result ≡ value_in (typed_seen typed.now) }
+    ensures { result ≡ value_in (typed_model typed.now) }
 {
     typed.labels.value
 }
 
 /// The range of the parameter's subtype, which is static where both bounds are (ARM 4.9(26)).
 pub fn parameter_bounds(range: &LoopRange) -> Option<Bounds>
-    ensures { result ≡ parameter_bounds (range_seen range.now) }
+    ensures { result ≡ parameter_bounds (range_model range.now) }
 {
     match (value_in(&range.low), value_in(&range.high)) {
         (Some(low), Some(high)) => Some(Bounds {
@@ -86,7 +88,7 @@ pub fn parameter_bounds(range: &LoopRange) -> Option<Bounds>
 
 /// `for parameter in [reverse] range`, with the words that the parameter's identifier takes.
 pub fn for_scheme(is_reverse: bool, range: LoopRange, words: LoopWords) -> LoopScheme
-    ensures { scheme_seen result ≡ for_scheme is_reverse (range_seen range) words }
+    ensures { scheme_model result ≡ for_scheme is_reverse (range_model range) words }
 {
     LoopScheme::For {
         is_reverse,
@@ -99,8 +101,8 @@ pub fn for_scheme(is_reverse: bool, range: LoopRange, words: LoopWords) -> LoopS
 }
 
 /// `while condition`
-pub fn while_scheme(condition: Judged<Typed>) -> Judged<LoopScheme>
-    ensures { seen_by scheme_seen result ≡ while_scheme (seen_by typed_seen condition) }
+pub fn while_scheme(condition: CheckResult<Typed>) -> CheckResult<LoopScheme>
+    ensures { map_ok scheme_model result ≡ while_scheme (map_ok typed_model condition) }
 {
     match condition {
         Ok(condition) => Ok(LoopScheme::While(condition)),
@@ -111,10 +113,10 @@ pub fn while_scheme(condition: Judged<Typed>) -> Judged<LoopScheme>
 /// A loop over statements.
 fn over(
     line: usize,
-    scheme: Judged<LoopScheme>,
+    scheme: CheckResult<LoopScheme>,
     statements: Vec<TypedStatement>,
-) -> Judged<TypedStatement>
-    ensures { seen_by statement_seen result ≡ looped_over line (seen_by scheme_seen scheme) (map statement_seen statements.items) }
+) -> CheckResult<TypedStatement>
+    ensures { map_ok statement_model result ≡ looped_over line (map_ok scheme_model scheme) (map statement_model statements.items) }
 {
     match scheme {
         Ok(scheme) => {
@@ -131,11 +133,11 @@ fn over(
 pub fn loop_statement(
     alloc: Global,
     line: usize,
-    scheme: Judged<LoopScheme>,
+    scheme: CheckResult<LoopScheme>,
     end: Option<Fault>,
     inner: CheckedStatements,
 ) -> Result<CheckedStatement, NoMemory>
-    ensures { IfOk result (λ one. one_checked one ≡ looped line (seen_by scheme_seen scheme) end (all_checked inner)) }
+    ensures { IfOk result (λ one. one_checked one ≡ looped line (map_ok scheme_model scheme) end (all_checked inner)) }
 {
     let CheckedStatements { faults, statements } = inner;
     let judged = unless(end, over(line, scheme, statements));

@@ -1,38 +1,42 @@
 // Statements without statements inside them.
 ghost use Rattle.std.specs.Prelude.{◌≡◌, [], true, map, option_map};
-ghost use Rattle.al_judged.specs.Judging.{seen_by};
-ghost use Rattle.al_typed.specs.ExpressionViews.{call_seen, typed_seen};
-ghost use Rattle.al_typed.specs.StatementTrees.{StatementFormTree as forms, StatementTree as trees};
-ghost use Rattle.al_typed.specs.StatementViews.{piece_seen, statement_seen};
-ghost use Rattle.al_stmts.specs.Simple.{assigned, called, delayed, exited, maybe_judged, put, returned, target_seen, value_returned};
+ghost use Rattle.al_base_fault.specs.Judging.{map_ok};
+ghost use Rattle.al_view_typed.specs.ExpressionViews.{call_model, typed_model};
+ghost use Rattle.al_view_typed.specs.StatementTrees.{StatementFormTree as forms, StatementTree as trees};
+ghost use Rattle.al_view_typed.specs.StatementViews.{piece_model, statement_model};
+ghost use Rattle.al_stmts.specs.Simple.{assigned, called, delayed, exited, maybe_checked, put, returned, target_model, value_returned};
 
 use crate::target::Target;
 use al_base::Place;
-use al_judged::{Judged, both, unless};
-use al_loops::{BodyRound, Loops, return_fault};
-use al_typed::{CheckedValue, Piece, StatementForm, Typed, TypedCall, TypedStatement};
+use al_base_fault::{CheckResult, both, unless};
+use al_stmts_loops::{EnclosingBody, Loops, return_fault};
 use al_view::Bounds;
+use al_view_typed::{CheckedValue, Piece, StatementForm, Typed, TypedCall, TypedStatement};
 use std::alloc::Global;
 
 /// What a return statement stands in: the innermost body round it, and of a function the words of its result, with the range of
 /// its subtype where that is scalar; 0 and none of other bodies.
 #[derive(Clone, Copy, Debug)]
 pub struct ReturnContext {
-    pub body: BodyRound,
+    pub body: EnclosingBody,
     pub words: u32,
     pub bounds: Option<Bounds>,
 }
 
 /// `null;`, with the line of its first token, as all statements have it here (ARM 5.1(6)).
 pub fn null(line: usize) -> TypedStatement
-    ensures { statement_seen result ≡ trees.Numbered line forms.NullStatement }
+    ensures { statement_model result ≡ trees.Numbered line forms.NullStatement }
 {
     TypedStatement::new(line, StatementForm::null())
 }
 
 /// `target := value;`, by the value that was wanted at the target's type, or its fault (ARM 5.2).
-pub fn assignment(line: usize, target: Target, value: Judged<Typed>) -> Judged<TypedStatement>
-    ensures { seen_by statement_seen result ≡ assigned line (target_seen target) (seen_by typed_seen value) }
+pub fn assignment(
+    line: usize,
+    target: Target,
+    value: CheckResult<Typed>,
+) -> CheckResult<TypedStatement>
+    ensures { map_ok statement_model result ≡ assigned line (target_model target) (map_ok typed_model value) }
 {
     match value {
         Ok(value) => {
@@ -45,8 +49,8 @@ pub fn assignment(line: usize, target: Target, value: Judged<Typed>) -> Judged<T
 }
 
 /// A call of a procedure or an entry (ARM 6.4, 9.5.3).
-pub fn call(line: usize, call: Judged<TypedCall>) -> Judged<TypedStatement>
-    ensures { seen_by statement_seen result ≡ called line (seen_by call_seen call) }
+pub fn call(line: usize, call: CheckResult<TypedCall>) -> CheckResult<TypedStatement>
+    ensures { map_ok statement_model result ≡ called line (map_ok call_model call) }
 {
     match call {
         Ok(call) => Ok(TypedStatement::new(line, StatementForm::call(call))),
@@ -55,8 +59,12 @@ pub fn call(line: usize, call: Judged<TypedCall>) -> Judged<TypedStatement>
 }
 
 /// `Put` or `Put_Line` of these pieces (ARM A.10.7).
-pub fn put(line: usize, pieces: Judged<Vec<Piece>>, ends_line: bool) -> Judged<TypedStatement>
-    ensures { seen_by statement_seen result ≡ put line (seen_by (λ ps. map piece_seen ps.items) pieces) ends_line }
+pub fn put(
+    line: usize,
+    pieces: CheckResult<Vec<Piece>>,
+    ends_line: bool,
+) -> CheckResult<TypedStatement>
+    ensures { map_ok statement_model result ≡ put line (map_ok (λ ps. map piece_model ps.items) pieces) ends_line }
 {
     match pieces {
         Ok(pieces) => Ok(TypedStatement::new(line, StatementForm::put(pieces, ends_line))),
@@ -66,14 +74,14 @@ pub fn put(line: usize, pieces: Judged<Vec<Piece>>, ends_line: bool) -> Judged<T
 
 /// `New_Line` (ARM A.10.5).
 pub fn new_line(alloc: Global, line: usize) -> TypedStatement
-    ensures { Ok (statement_seen result) ≡ put line (Ok []) true }
+    ensures { Ok (statement_model result) ≡ put line (Ok []) true }
 {
     TypedStatement::new(line, StatementForm::put(Vec::new(alloc), true))
 }
 
 /// `delay until moment;` (ARM 9.6).
-pub fn delay(line: usize, moment: Judged<Typed>) -> Judged<TypedStatement>
-    ensures { seen_by statement_seen result ≡ delayed line (seen_by typed_seen moment) }
+pub fn delay(line: usize, moment: CheckResult<Typed>) -> CheckResult<TypedStatement>
+    ensures { map_ok statement_model result ≡ delayed line (map_ok typed_model moment) }
 {
     match moment {
         Ok(moment) => Ok(TypedStatement::new(line, StatementForm::delay(moment))),
@@ -85,9 +93,9 @@ pub fn delay(line: usize, moment: Judged<Typed>) -> Judged<TypedStatement>
 fn value_returned(
     line: usize,
     context: ReturnContext,
-    value: Judged<Typed>,
-) -> Judged<TypedStatement>
-    ensures { seen_by statement_seen result ≡ value_returned line context (seen_by typed_seen value) }
+    value: CheckResult<Typed>,
+) -> CheckResult<TypedStatement>
+    ensures { map_ok statement_model result ≡ value_returned line context (map_ok typed_model value) }
 {
     match value {
         Ok(value) => {
@@ -105,9 +113,9 @@ fn value_returned(
 pub fn return_statement(
     place: Place,
     context: ReturnContext,
-    value: Option<Judged<Typed>>,
-) -> Judged<TypedStatement>
-    ensures { seen_by statement_seen result ≡ returned place context (option_map (seen_by typed_seen) value) }
+    value: Option<CheckResult<Typed>>,
+) -> CheckResult<TypedStatement>
+    ensures { map_ok statement_model result ≡ returned place context (option_map (map_ok typed_model) value) }
 {
     let line = place.line as usize;
     match value {
@@ -123,8 +131,8 @@ pub fn return_statement(
 }
 
 /// What may be left out.
-fn maybe(judged: Option<Judged<Typed>>) -> Judged<Option<Typed>>
-    ensures { seen_by (option_map typed_seen) result ≡ maybe_judged (option_map (seen_by typed_seen) judged) }
+fn maybe(judged: Option<CheckResult<Typed>>) -> CheckResult<Option<Typed>>
+    ensures { map_ok (option_map typed_model) result ≡ maybe_checked (option_map (map_ok typed_model) judged) }
 {
     match judged {
         None => Ok(None),
@@ -140,11 +148,11 @@ pub fn exit_statement(
     place: Place,
     loops: &Loops,
     name: Option<&[u8]>,
-    condition: Option<Judged<Typed>>,
-) -> Judged<TypedStatement>
-    ensures { seen_by statement_seen result ≡ exited place loops.now (option_map (λ n. n.now) name.entry) (option_map (seen_by typed_seen) condition) }
+    condition: Option<CheckResult<Typed>>,
+) -> CheckResult<TypedStatement>
+    ensures { map_ok statement_model result ≡ exited place loops.now (option_map (λ n. n.now) name.entry) (option_map (map_ok typed_model) condition) }
 {
-    match both(loops.judged_exit(place, name), maybe(condition)) {
+    match both(loops.checked_exit(place, name), maybe(condition)) {
         Ok((loops, condition)) => {
             let form = StatementForm::exit(loops, condition);
             Ok(TypedStatement::new(place.line as usize, form))

@@ -2,15 +2,15 @@
 ghost use Rattle.std.specs.Prelude.{◌≡◌, Some, option_map};
 ghost use Rattle.al_base.specs.Rules.{number_of};
 ghost use Rattle.al_base.specs.declared.rule.Rule.TheVariants.{NotAVariable};
-ghost use Rattle.al_judged.specs.Faults.{fault_at};
-ghost use Rattle.al_judged.specs.Judging.{seen_by};
-ghost use Rattle.al_typed.specs.ExpressionViews.{form_seen, name_seen, typed_seen};
-ghost use Rattle.al_stmts.specs.Simple.{is_variable, target_named, target_of, target_seen};
+ghost use Rattle.al_base_fault.specs.Faults.{fault_at};
+ghost use Rattle.al_base_fault.specs.Judging.{map_ok};
+ghost use Rattle.al_view_typed.specs.ExpressionViews.{form_model, name_model, typed_model};
+ghost use Rattle.al_stmts.specs.Simple.{is_variable, target_named, target_of, target_model};
 
 use al_base::{Place, Rule};
-use al_judged::{Fault, Judged};
-use al_typed::{Labels, Typed, TypedName};
+use al_base_fault::{CheckResult, Fault};
 use al_view::Bounds;
+use al_view_typed::{Labels, Typed, TypedName};
 
 /// A variable that is assigned to: its words, and the range of its nominal subtype where that is scalar.
 #[derive(Drop)]
@@ -21,9 +21,9 @@ pub struct Target {
 }
 
 /// Whether a name denotes a variable: an object that is no constant, or a part of one.
-#[tactic(auto, using(al_typed::proofs::ExpressionsMade::object_made, al_typed::proofs::ExpressionsMade::component_made, al_typed::proofs::ExpressionsMade::indexed_made))]
+#[tactic(auto, using(al_view_typed::proofs::ExpressionsMade::object_made, al_view_typed::proofs::ExpressionsMade::component_made, al_view_typed::proofs::ExpressionsMade::indexed_made))]
 fn is_variable(name: &TypedName) -> bool
-    ensures { result ≡ is_variable (name_seen name.now) }
+    ensures { result ≡ is_variable (name_model name.now) }
 {
     match name {
         TypedName::Object { is_constant, .. } => !*is_constant,
@@ -41,8 +41,8 @@ fn no_variable(place: Place) -> Fault
 }
 
 /// A name as a target.
-fn variable(labels: Labels, name: TypedName) -> Judged<Target>
-    ensures { seen_by target_seen result ≡ target_named labels (Some (name_seen name)) }
+fn variable(labels: Labels, name: TypedName) -> CheckResult<Target>
+    ensures { map_ok target_model result ≡ target_named labels (Some (name_model name)) }
 {
     if is_variable(&name) {
         return Ok(Target {
@@ -55,8 +55,8 @@ fn variable(labels: Labels, name: TypedName) -> Judged<Target>
 }
 
 /// A name as a target, if it is one.
-fn named(labels: Labels, name: Option<TypedName>) -> Judged<Target>
-    ensures { seen_by target_seen result ≡ target_named labels (option_map name_seen name) }
+fn named(labels: Labels, name: Option<TypedName>) -> CheckResult<Target>
+    ensures { map_ok target_model result ≡ target_named labels (option_map name_model name) }
 {
     match name {
         None => Err(no_variable(labels.place)),
@@ -66,8 +66,8 @@ fn named(labels: Labels, name: Option<TypedName>) -> Judged<Target>
 
 /// What stands on the left of an assignment, or the fault at its first token that it is no variable (ARM 5.2(5)).
 #[tactic(auto, using(crate::proofs::Layers::typed_layers))]
-pub fn target_of(found: Typed) -> Judged<Target>
-    ensures { seen_by target_seen result ≡ target_of (typed_seen found) }
+pub fn target_of(found: Typed) -> CheckResult<Target>
+    ensures { map_ok target_model result ≡ target_of (typed_model found) }
 {
     let Typed { labels, form } = found;
     named(labels, form.into_name())

@@ -1,3 +1,5 @@
 pub mod QueueLemmas
 pub mod ActLemmas
 pub mod RunLemmas
+pub mod BurstLemmas
+pub mod TickLemmas

@@ -4,3 +4,4 @@ pub mod Turns
 pub mod Programs
 pub mod Acts
 pub mod Partitions
+pub mod Bursts

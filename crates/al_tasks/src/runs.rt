@@ -1,15 +1,18 @@
 // Runs: which events come, and what becomes of the program.
-ghost use Rattle.std.specs.Prelude.{◌≡◌, ◌<◌, ◌+◌, ◌^◌, ℕ, OnOk, OnErr};
-ghost use Rattle.al_world.specs.Fits.{Fits};
-ghost use Rattle.al_world.specs.Runs.{status_of, chosen, since_after, ran};
+ghost use Rattle.std.specs.Prelude.{[], ◌≡◌, ◌<◌, ◌≤◌, ◌+◌, ◌^◌, ℕ, OnOk, OnErr, IfOk};
+ghost use Rattle.al_tasks_world.specs.Exclusion.{IsLaidOut};
+ghost use Rattle.al_tasks_world.specs.Fits.{Fits};
+ghost use Rattle.al_tasks_world.specs.Runs.{status_of, chosen, since_after, ran};
+ghost use Rattle.al_tasks_world.specs.declared.event.Status.TheVariants.{Going};
+ghost use Rattle.al_tasks.specs.Bursts.{WorksOn, went, later, ticks_in, left_in};
 ghost use Rattle.al_tasks.specs.Seen.{seen};
 
-use crate::events::step;
+use crate::events::{next_clock, step};
 use crate::program::Program;
 use crate::queues::has_delayed;
 use crate::state::State;
 use al_base::NoMemory;
-use al_world::{Ending, Event, Status};
+use al_tasks_world::{Ending, Event, Status};
 
 /// What becomes of a running program.
 pub(crate) fn status_of(state: &State) -> Status
@@ -51,6 +54,127 @@ fn since_after(since: u64, event: Event) -> u64
     }
 }
 
+/// Instructions on words of the running task, at most so many; how many were carried out.
+#[inline(never)]
+fn work_on(program: &Program, state: &mut State, most: u64) -> u64
+    requires { Fits program.now (seen state.old) }
+    ensures few { result ≤ most }
+    ensures works { WorksOn program.now result (seen state.old) (seen state.new) state.old.ready.items }
+{
+    if state.ready.is_empty() {
+        return 0;
+    }
+    program.limits();
+    let bursts = program.bursts();
+    let objects = program.objects();
+    let task = &mut state.ready[0];
+    task.carry_on(&mut state.memory, bursts, objects, most)
+}
+
+/// The clock so many ticks later.
+fn later(clock: i64, ticks: u64) -> i64
+    ensures { result ≡ later ticks clock }
+{
+    let mut now = clock;
+    for tick in 0..ticks {
+        let _before = tick;
+        now = next_clock(now);
+    }
+    now
+}
+
+/// How many ticks come between so many instructions, with a tick after every n, since whose last tick so many came.
+fn ticks_between(n: u64, since: u64, done: u64) -> u64
+    requires some { 0 < n }
+    requires since { since ≤ n }
+    requires done { 0 < done }
+    requires fits { since + done < 2 ^ 64 }
+    ensures { result ≡ ticks_in n since done }
+{
+    (since + done - 1) / n
+}
+
+/// Instructions on words of the running task, and the ticks between them, which move the clock alone where no task is paused. At most half as
+/// many instructions as events are left, since each tick comes after one.
+fn turn_through(program: &Program, state: &mut State, n: u64, since: u64, most: u64) -> Turned
+    requires fits { Fits program.now (seen state.old) }
+    requires laid { IsLaidOut program.now }
+    requires since { since < n }
+    requires room { since + most < 2 ^ 64 }
+    requires going { status_of (seen state.old) ≡ Going }
+    requires nobody { state.old.paused.items ≡ [] }
+    ensures done { result.done ≤ most }
+    ensures went { 1 ≤ result.done → went program.now n result.done (since, seen state.old) ≡ (result.since, seen state.new) }
+    ensures few { 1 ≤ result.done → result.since ≤ since + result.done }
+    ensures none { result.done ≡ 0 → seen state.new ≡ seen state.old }
+    ensures fits { Fits program.now (seen state.new) }
+{
+    let done = work_on(program, state, (most / 2).min(1_073_741_824));
+    if done == 0 {
+        return Turned { done: 0, since };
+    }
+    let ticks = ticks_between(n, since, done);
+    state.clock = later(state.clock, ticks);
+    Turned {
+        done: done + ticks,
+        since: since + done - ticks * n,
+    }
+}
+
+/// What a turn of a run did: how many events there were, and how many instructions came since the last tick.
+#[derive(Clone, Copy)]
+struct Turned {
+    done: u64,
+    since: u64,
+}
+
+/// At most so many events, and one at least.
+fn turn(
+    program: &Program,
+    state: &mut State,
+    n: u64,
+    since: u64,
+    most: u64,
+) -> Result<Turned, NoMemory>
+    requires fits { Fits program.now (seen state.old) }
+    requires laid { IsLaidOut program.now }
+    requires some { 1 ≤ most }
+    requires since { since + 1 < 2 ^ 64 }
+    requires room { since + most < 2 ^ 64 }
+    requires going { status_of (seen state.old) ≡ Going }
+    ensures ok { IfOk result (λ t. (1 ≤ t.done) × (t.done ≤ most) × (went program.now n t.done (since, seen state.old) ≡ (t.since, seen state.new))) }
+    ensures few { IfOk result (λ t. t.since ≤ since + t.done) }
+    ensures err { OnErr result (seen state.new ≡ seen state.old) }
+    ensures fits { Fits program.now (seen state.new) }
+{
+    let event = chosen(state, n, since);
+    if let Event::Instr = event {
+        if state.paused.is_empty() {
+            let turned = turn_through(program, state, n, since, most);
+            if turned.done > 0 {
+                return Ok(turned);
+            }
+            step(program, state, event)?;
+            return Ok(Turned {
+                done: 1,
+                since: since_after(since, event),
+            });
+        }
+        let done = work_on(program, state, (n - since).min(most));
+        if done > 0 {
+            return Ok(Turned {
+                done,
+                since: since + done,
+            });
+        }
+    }
+    step(program, state, event)?;
+    Ok(Turned {
+        done: 1,
+        since: since_after(since, event),
+    })
+}
+
 /// Runs at most so many events, until the program ends or is idle. Where memory was wanted and not given, all is as after the events before
 /// that one.
 pub(crate) fn run_events(
@@ -64,14 +188,16 @@ pub(crate) fn run_events(
     ensures err { OnErr result ((done : ℕ) × (done < steps) × (seen state.new ≡ ran program.now done n 0 (seen state.old))) }
     ensures fits { Fits program.now (seen state.new) }
 {
+    program.limits();
     let mut since = 0u64;
-    for done in 0..steps {
+    let mut done = 0u64;
+    while done < steps {
         let Status::Going = status_of(state) else {
             return Ok(());
         };
-        let event = chosen(state, n, since);
-        step(program, state, event)?;
-        since = since_after(since, event);
+        let turned = turn(program, state, n, since, steps - done)?;
+        since = turned.since;
+        done += turned.done;
     }
     Ok(())
 }

@@ -1,16 +1,18 @@
 // Tasks.
-ghost use Rattle.std.specs.Prelude.{◌≡◌, ◌<◌, ◌^◌, length, OnOk, OnErr, IsTrue, ◌↔◌};
+ghost use Rattle.std.specs.Prelude.{◌≡◌, ◌<◌, ◌≤◌, ◌^◌, length, OnOk, OnErr, IsTrue, ◌↔◌};
 ghost use Rattle.al_machine.specs.Machine.{machine, IsWithin};
 ghost use Rattle.al_machine.specs.Table.{exec as executed};
-ghost use Rattle.al_world.specs.World.{inside, is_inside_nothing};
+ghost use Rattle.al_tasks_world.specs.World.{inside, is_inside_nothing};
 ghost use Rattle.al_tasks.specs.Queues.{left_by, sole_of};
 ghost use Rattle.al_tasks.specs.Partitions.{new_task};
+ghost use Rattle.al_machine.specs.Bursts.{IsFree};
+ghost use Rattle.al_tasks.specs.Bursts.{CarriesOn};
 ghost use Rattle.al_tasks.specs.Turns.{turn_of};
 
 use al_base::NoMemory;
-use al_machine::{Code, Entered, Flow, Instruction, Registers, Trap, exec};
-use al_partition::Region;
-use al_world::Pause;
+use al_link_image::Region;
+use al_machine::{Bursts, Code, Entered, Flow, Instruction, Registers, Trap, carry_on, exec};
+use al_tasks_world::Pause;
 use std::alloc::Global;
 use std::marker::Model;
 
@@ -29,7 +31,7 @@ pub(crate) struct Task {
 }
 
 impl Model for Task {
-    ghost use Rattle.al_world.specs.Task.{Task as Seen};
+    ghost use Rattle.al_tasks_world.specs.Task.{Task as Seen};
 
     ghost Value = { Seen };
 
@@ -154,5 +156,31 @@ impl Task {
             }
             Err(trap) => Some(trap),
         }
+    }
+    /// Carries out instructions on words, at most so many, while they go on; how many were carried out.
+    #[inline(always)]
+    pub(crate) fn carry_on(
+        &mut self,
+        memory: &mut [i64],
+        bursts: &Bursts,
+        objects: &[Region],
+        most: u64,
+    ) -> u64
+        requires within { IsWithin (machine memory.old self.old.registers) }
+        requires free { IsFree objects.now self.old.held (machine memory.old self.old.registers) }
+        ensures few { result ≤ most }
+        ensures carried { CarriesOn objects.now bursts.now result self.old memory.old self.new memory.new }
+    {
+        let carried = carry_on(
+            memory,
+            &mut self.registers,
+            bursts,
+            objects,
+            &self.held,
+            self.place,
+            most,
+        );
+        self.place = carried.place;
+        carried.done
     }
 }

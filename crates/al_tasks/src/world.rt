@@ -1,7 +1,7 @@
 // A running program, for its users.
 ghost use Rattle.std.specs.Prelude.{◌≡◌, ◌∷◌, OnOk, OnErr, IfOk, [], ℕ, ◌<◌, ◌^◌, pos, replicate};
-ghost use Rattle.al_world.specs.World.{load};
-ghost use Rattle.al_world.specs.Runs.{status_of};
+ghost use Rattle.al_tasks_world.specs.World.{load};
+ghost use Rattle.al_tasks_world.specs.Runs.{status_of};
 ghost use Rattle.al_tasks.specs.Partitions.{loaded, stepped, ran_on, environment};
 ghost use Rattle.al_tasks.specs.Seen.{seen};
 
@@ -11,8 +11,8 @@ use crate::runs::{run_events, status_of};
 use crate::state::State;
 use crate::tasks::Task;
 use al_base::NoMemory;
-use al_partition::Image;
-use al_world::{Event, Status};
+use al_link_image::Image;
+use al_tasks_world::{Event, Status};
 use std::alloc::Global;
 use std::marker::Model;
 
@@ -29,7 +29,7 @@ impl Model for World {
     ghost Value = { Partition };
 
     ghost use Rattle.al_tasks.specs.Seen.{seen};
-    ghost use Rattle.al_world.specs.Fits.{Fits};
+    ghost use Rattle.al_tasks_world.specs.Fits.{Fits};
 
     ghost view = { λ w. record { program = w.program; world = seen w.state } };
 

@@ -42,7 +42,7 @@ pub(crate) fn append_word(out: &mut Vec<u8>, number: i64) -> Result<(), NoMemory
     Ok(())
 }
 
-/// Appends some bytes behind their number.
+/// Appends some bytes after their number.
 pub(crate) fn append_sized(out: &mut Vec<u8>, bytes: &[u8]) -> Result<(), NoMemory> {
     append_word(out, number_for(bytes.len()))?;
     out.extend_from_slice(bytes)?;
@@ -54,7 +54,7 @@ fn append_long(out: &mut Vec<u8>, number: i64) -> Result<(), NoMemory> {
     Ok(())
 }
 
-// Where a jump goes that begins behind so many bytes, from the end of its own four.
+// Where a jump goes that begins after so many bytes, from the end of its own four.
 fn distance_of(before: usize, labels: &[Label], word: &str) -> i64 {
     match place_of(labels, word) {
         Some(place) => place.saturating_sub(number_for(before)).saturating_sub(4),
@@ -62,7 +62,7 @@ fn distance_of(before: usize, labels: &[Label], word: &str) -> i64 {
     }
 }
 
-// Appends a name behind its length in one byte.
+// Appends a name after its length in one byte.
 fn append_name(out: &mut Vec<u8>, name: &str) -> Result<(), NoMemory> {
     out.push(name.len().to_be_bytes()[7])?;
     out.extend_from_slice(name.as_bytes())?;

@@ -3,9 +3,9 @@ use crate::random::Numbers;
 use crate::source::image_of;
 use crate::words::{count_of, first_word};
 use al_base::NoMemory;
-use al_partition::Image;
+use al_link_image::Image;
 use al_tasks::World;
-use al_world::Status;
+use al_tasks_world::Status;
 use std::alloc::Global;
 
 // How many events came, and after how many of them something was wrong.
@@ -144,8 +144,8 @@ fn told_of(seen: &Seen, most: u64) -> &'static str {
     }
 }
 
-/// Tries damaged images by the number at the beginning of a text, until as many events came as stand behind it, and tells what was wrong.
-pub(crate) fn tell_damaged(
+/// Tries damaged images by the number at the beginning of a text, until as many events came as stand after it, and tells what was wrong.
+pub(crate) fn print_damaged(
     alloc: Global,
     bytes: &[u8],
     words: &str,

@@ -1,5 +1,5 @@
 //! Runs codes that are written as text, and tells what comes of each. The lines of the input up to an empty one are the table of
-//! instructions: the name of each, its first byte, and its operands by a letter each. Of the lines behind it `image` has the fields of the
+//! instructions: the name of each, its first byte, and its operands by a letter each. Of the lines after it `image` has the fields of the
 //! images that follow, `every` after how many instructions a tick comes, and `code` a code; these are printed as they are, and so is what
 //! begins with a mark and says what is tried. The other lines are printed with what comes of them:
 //!
@@ -15,19 +15,19 @@
 
 mod assembly;
 mod damaged;
+mod printed;
 mod random;
 mod runs;
 mod source;
-mod told;
 mod words;
 
-use crate::damaged::tell_damaged;
-use crate::random::tell_random;
-use crate::runs::{tell_events, tell_run, tell_runs};
+use crate::damaged::print_damaged;
+use crate::random::print_random;
+use crate::runs::{print_events, print_run, print_runs};
 use crate::source::{Source, image_bytes, image_of};
 use crate::words::{count_of, first_word};
 use al_base::NoMemory;
-use al_partition::Image;
+use al_link_image::Image;
 use al_tasks::World;
 use std::alloc::{AllocError, Global};
 use std::io;
@@ -56,7 +56,7 @@ fn trial_of(word: &str) -> Option<Trial> {
 }
 
 // Tries a program at its start.
-fn tell_world(
+fn print_world(
     alloc: Global,
     world: &mut World,
     every: u64,
@@ -65,14 +65,14 @@ fn tell_world(
     reply: &mut Vec<u8>,
 ) -> Result<(), NoMemory> {
     match trial {
-        Trial::Run => tell_run(alloc, world, every, reply),
-        Trial::Runs => tell_runs(alloc, world, words, reply),
-        Trial::Events => tell_events(alloc, world, every, words, reply),
-        Trial::Random => tell_random(alloc, world, words, reply),
+        Trial::Run => print_run(alloc, world, every, reply),
+        Trial::Runs => print_runs(alloc, world, words, reply),
+        Trial::Events => print_events(alloc, world, every, words, reply),
+        Trial::Random => print_random(alloc, world, words, reply),
     }
 }
 
-fn tell_loaded(
+fn print_loaded(
     alloc: Global,
     image: &Image,
     every: u64,
@@ -81,15 +81,15 @@ fn tell_loaded(
     reply: &mut Vec<u8>,
 ) -> Result<(), NoMemory> {
     let mut world = World::load(alloc, image)?;
-    tell_world(alloc, &mut world, every, trial, words, reply)
+    print_world(alloc, &mut world, every, trial, words, reply)
 }
 
-fn tell_none(reply: &mut Vec<u8>) -> Result<(), NoMemory> {
+fn print_none(reply: &mut Vec<u8>) -> Result<(), NoMemory> {
     reply.extend_from_slice(b" no image")?;
     Ok(())
 }
 
-fn tell_image(
+fn print_image(
     alloc: Global,
     bytes: &[u8],
     every: u64,
@@ -99,8 +99,8 @@ fn tell_image(
 ) -> Result<(), NoMemory> {
     reply.extend_from_slice(b" =>")?;
     match image_of(alloc, bytes)? {
-        Some(image) => tell_loaded(alloc, &image, every, trial, words, reply),
-        None => tell_none(reply),
+        Some(image) => print_loaded(alloc, &image, every, trial, words, reply),
+        None => print_none(reply),
     }
 }
 
@@ -114,17 +114,17 @@ fn tell(
 ) -> Result<(), NoMemory> {
     if word == "damaged" {
         let bytes = image_bytes(alloc, source)?;
-        tell_damaged(alloc, bytes.as_slice(), words, reply)
+        print_damaged(alloc, bytes.as_slice(), words, reply)
     } else if let Some(trial) = trial_of(word) {
         let bytes = image_bytes(alloc, source)?;
         let every = count_of(source.every);
-        tell_image(alloc, bytes.as_slice(), every, trial, words, reply)
+        print_image(alloc, bytes.as_slice(), every, trial, words, reply)
     } else {
         Ok(())
     }
 }
 
-fn tell_line(
+fn print_line(
     alloc: Global,
     source: &Source,
     line: &str,
@@ -137,7 +137,7 @@ fn tell_line(
     Ok(())
 }
 
-fn tell_lines(alloc: Global, text: &str, reply: &mut Vec<u8>) -> Result<(), NoMemory> {
+fn print_lines(alloc: Global, text: &str, reply: &mut Vec<u8>) -> Result<(), NoMemory> {
     let (table, lines) = text.split_once("\n\n").unwrap_or(("", text));
     let mut source = Source {
         table,
@@ -147,16 +147,16 @@ fn tell_lines(alloc: Global, text: &str, reply: &mut Vec<u8>) -> Result<(), NoMe
     };
     for line in lines.lines() {
         source = source.after(line);
-        tell_line(alloc, &source, line, reply)?;
+        print_line(alloc, &source, line, reply)?;
     }
     Ok(())
 }
 
 fn replies(alloc: Global, text: &str) -> Result<String, NoMemory> {
     let mut reply = Vec::new(alloc);
-    tell_lines(alloc, text, &mut reply)?;
-    let told = String::from_utf8_lossy(alloc, reply.as_slice())?;
-    Ok(told)
+    print_lines(alloc, text, &mut reply)?;
+    let printed = String::from_utf8_lossy(alloc, reply.as_slice())?;
+    Ok(printed)
 }
 
 fn main(rt: HostRuntime) -> io::Result<()> {

@@ -1,9 +1,9 @@
 // Pseudo-random events on a sound program.
-use crate::told::push_told;
+use crate::printed::push_told;
 use crate::words::{count_of, first_word};
 use al_base::NoMemory;
 use al_tasks::World;
-use al_world::{Event, Status};
+use al_tasks_world::{Event, Status};
 use std::alloc::Global;
 
 /// A generator of numbers that look random (a xorshift of 64 bits).
@@ -58,11 +58,11 @@ fn is_among(reply: &[u8], wanted: &str) -> bool {
     false
 }
 
-fn push_among(told: &[u8], wanted: &str, reply: &mut Vec<u8>) -> Result<(), NoMemory> {
-    let text = if is_among(told, wanted) {
+fn push_among(printed: &[u8], wanted: &str, reply: &mut Vec<u8>) -> Result<(), NoMemory> {
+    let text = if is_among(printed, wanted) {
         b"one of these".as_slice()
     } else {
-        told
+        printed
     };
     reply.push(b' ')?;
     reply.extend_from_slice(text)?;
@@ -70,19 +70,19 @@ fn push_among(told: &[u8], wanted: &str, reply: &mut Vec<u8>) -> Result<(), NoMe
 }
 
 // Tells whether the program's reply is one of the words of a text.
-fn tell_among(
+fn print_among(
     alloc: Global,
     world: &World,
     wanted: &str,
     reply: &mut Vec<u8>,
 ) -> Result<(), NoMemory> {
-    let mut told = Vec::new(alloc);
-    push_told(alloc, world, &mut told)?;
-    push_among(told.as_slice(), wanted, reply)
+    let mut printed = Vec::new(alloc);
+    push_told(alloc, world, &mut printed)?;
+    push_among(printed.as_slice(), wanted, reply)
 }
 
-/// Lets pseudo-random events come, by the number at the beginning of a text, and tells whether the program's reply is one of those behind it.
-pub(crate) fn tell_random(
+/// Lets pseudo-random events come, by the number at the beginning of a text, and tells whether the program's reply is one of those after it.
+pub(crate) fn print_random(
     alloc: Global,
     world: &mut World,
     words: &str,
@@ -93,5 +93,5 @@ pub(crate) fn tell_random(
         state: count_of(seed),
     };
     run_through(world, &mut numbers, 100_000)?;
-    tell_among(alloc, world, wanted, reply)
+    print_among(alloc, world, wanted, reply)
 }

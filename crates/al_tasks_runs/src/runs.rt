@@ -1,13 +1,13 @@
 // Runs of a program, and single events.
-use crate::told::push_reply;
+use crate::printed::push_reply;
 use crate::words::{count_of, first_word};
 use al_base::NoMemory;
 use al_tasks::World;
-use al_world::Event;
+use al_tasks_world::Event;
 use std::alloc::Global;
 
 /// Runs a program for at most 100,000 events.
-pub(crate) fn tell_run(
+pub(crate) fn print_run(
     alloc: Global,
     world: &mut World,
     every: u64,
@@ -25,7 +25,7 @@ fn run_all(world: &mut World, runs: u64, steps: u64, every: u64) -> Result<(), N
 }
 
 /// So many runs, one after another, of so many events, with a tick after so many instructions.
-pub(crate) fn tell_runs(
+pub(crate) fn print_runs(
     alloc: Global,
     world: &mut World,
     words: &str,
@@ -59,7 +59,7 @@ fn do_events(world: &mut World, every: u64, word: &str) -> Result<(), NoMemory> 
 }
 
 /// Events by words, and what the program is after each word.
-pub(crate) fn tell_events(
+pub(crate) fn print_events(
     alloc: Global,
     world: &mut World,
     every: u64,

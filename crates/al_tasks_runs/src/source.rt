@@ -2,7 +2,7 @@
 use crate::assembly::{append_sized, append_word, assembled};
 use crate::words::{number_of, words_in};
 use al_base::NoMemory;
-use al_partition::{Image, LinkFault};
+use al_link_image::{Image, LinkFault};
 use std::alloc::Global;
 
 /// What an image is made of, as text.
@@ -18,24 +18,24 @@ pub(crate) struct Source<'a> {
     pub(crate) every: &'a str,
 }
 
-// What is behind a word at the beginning of a line, or else what was before.
-fn behind<'a>(line: &'a str, word: &str, before: &'a str) -> &'a str {
+// What is after a word at the beginning of a line, or else what was before.
+fn after<'a>(line: &'a str, word: &str, before: &'a str) -> &'a str {
     line.strip_prefix(word).unwrap_or(before)
 }
 
 impl<'a> Source<'a> {
-    /// What the source is behind a line.
+    /// What the source is after a line.
     pub(crate) fn after(self, line: &'a str) -> Source<'a> {
         Source {
             table: self.table,
-            fields: behind(line, "image ", self.fields),
-            code: behind(line, "run ", behind(line, "code ", self.code)),
-            every: behind(line, "every ", self.every),
+            fields: after(line, "image ", self.fields),
+            code: after(line, "run ", after(line, "code ", self.code)),
+            every: after(line, "every ", self.every),
         }
     }
 }
 
-// What is before the first stroke, and what is behind it.
+// What is before the first stroke, and what is after it.
 fn first_field(fields: &str) -> (&str, &str) {
     fields.split_once('|').unwrap_or((fields, ""))
 }

@@ -1,6 +1,6 @@
 // Words and numbers of a text.
 
-/// The first word of a text, and what is behind the blank that ends it.
+/// The first word of a text, and what is after the blank that ends it.
 pub(crate) fn first_word(text: &str) -> (&str, &str) {
     text.split_once(' ').unwrap_or((text, ""))
 }

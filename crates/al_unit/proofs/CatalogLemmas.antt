@@ -15,7 +15,7 @@ use Rattle.al_unit_graph.specs.Library.{source_at, unit_at}
 use Rattle.al_unit_graph.specs.Traces.{text_at}
 use Rattle.al_unit.specs.declared.reading.Reading.{Reading}
 use Rattle.al_unit.specs.Readings.{Reading as AnyReading, reading_of, sentence_of}
-use Rattle.al_unit.specs.ReadingSeen.{readings_seen}
+use Rattle.al_unit.specs.ReadingSeen.{readings_model}
 use Rattle.al_unit.specs.Catalogs.{source_of, library_of, readings_of, texts_of, tree_in, tree_where, tree_at}
 use Rattle.al_unit.specs.CatalogSeen.{IsCatalog}
 use Rattle.al_unit.specs.Laws.{TextsAreReadAlike}
@@ -43,7 +43,7 @@ unfolding library_of
 texts_of-library_of [] = refl
 texts_of-library_of (f ∷ fs) = ap (λ gs. f ∷ gs) (texts_of-library_of fs)
 
-pub is_catalog : {Y W : Type 0} (lib : Library) (readings : List (Vec ℕ Y × Rc Reading W)) (files : Texts) → lib ≡ library_of files → readings_seen readings ≡ readings_of files → IsCatalog lib readings
+pub is_catalog : {Y W : Type 0} (lib : Library) (readings : List (Vec ℕ Y × Rc Reading W)) (files : Texts) → lib ≡ library_of files → readings_model readings ≡ readings_of files → IsCatalog lib readings
 is_catalog lib readings files is are =
     let texts : files ≡ texts_of lib = sym (ap texts_of is ∙ texts_of-library_of files) in
     record { is_library = is ∙ ap library_of texts; are_readings = are ∙ ap readings_of texts }

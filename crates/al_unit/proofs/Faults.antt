@@ -1,11 +1,11 @@
 -- Lexemes with a syntax fault, and those of a compilation unit.
 use Rattle.std.proofs.Common.{◌≡◌, ℕ, List, Option, Some, None, refl}
-use Rattle.al_grammar.specs.Grammar.{Lexeme}
+use Rattle.al_tree_grammar.specs.Grammar.{Lexeme}
 use Rattle.al_parse.specs.Faults.{syntax_fault_of, IsSyntaxFaultAt, IsTreeOf, IsUnit}
-use Rattle.al_syntax.specs.Laws.{FaultsAreFound}
-use Rattle.al_syntax.specs.TreeLaws.{unit_of, TreesAreFound, SentencesAreTrees}
-use Rattle.al_syntax.specs.UnitTrees.{CompilationUnitTree}
-use Rattle.al_syntax.proofs.TreeLaws.{sentence_found}
+use Rattle.al_tree_syntax.specs.Laws.{FaultsAreFound}
+use Rattle.al_tree_syntax.specs.TreeLaws.{unit_of, TreesAreFound, SentencesAreTrees}
+use Rattle.al_tree_syntax.specs.UnitTrees.{CompilationUnitTree}
+use Rattle.al_tree_syntax.proofs.TreeLaws.{sentence_found}
 
 pub fault_is_found : FaultsAreFound → (xs : List Lexeme) (n : ℕ) → syntax_fault_of xs ≡ Some n → IsSyntaxFaultAt xs n
 unfolding syntax_fault_of IsSyntaxFaultAt

@@ -4,9 +4,9 @@ use Rattle.al_parse.specs.Faults.{syntax_fault_of}
 use Rattle.al_lex.specs.declared.token.Token.{Token}
 use Rattle.al_lex.specs.declared.token.LexFault.{LexFault}
 use Rattle.al_lex.specs.Tokens.{lexed}
-use Rattle.al_syntax.specs.Laws.{FaultsAreFound}
-use Rattle.al_syntax.specs.TreeLaws.{unit_of, TreesAreFound, SentencesAreTrees}
-use Rattle.al_syntax.specs.UnitTrees.{CompilationUnitTree}
+use Rattle.al_tree_syntax.specs.Laws.{FaultsAreFound}
+use Rattle.al_tree_syntax.specs.TreeLaws.{unit_of, TreesAreFound, SentencesAreTrees}
+use Rattle.al_tree_syntax.specs.UnitTrees.{CompilationUnitTree}
 use Rattle.al_tree.specs.Lexemes.{lexemes}
 use Rattle.al_unit.specs.Readings.{Reading}
 use Rattle.al_unit.specs.Readings.{reading_of, by_tokens, by_unit}

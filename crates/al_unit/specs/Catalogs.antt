@@ -4,8 +4,8 @@ use Rattle.std.specs.Option.{option_and_then}
 use Rattle.al_base.specs.Batch.{Key}
 use Rattle.al_base.specs.Files.{Texts, text_of}
 use Rattle.al_base.specs.FileNames.{file_name_of}
-use Rattle.al_syntax.specs.UnitTrees.{CompilationUnitTree}
-use Rattle.al_header.specs.Units.{header_of}
+use Rattle.al_tree_syntax.specs.UnitTrees.{CompilationUnitTree}
+use Rattle.al_unit_header.specs.Units.{header_of}
 use Rattle.al_unit_graph.specs.Headers.{Header, Contents, Headed, Unread, Source, Library}
 use Rattle.al_unit_graph.specs.Library.{unit_at}
 use Rattle.al_unit.specs.Readings.{Reading, reading_of, sentence_of}

@@ -6,9 +6,9 @@ use Rattle.al_lex.specs.declared.token.LexFault.{LexFault}
 use Rattle.al_lex.specs.Codes.{number_of}
 use Rattle.al_lex.specs.Tokens.{lexed}
 use Rattle.al_parse.specs.Faults.{IsSyntaxFaultAt}
-use Rattle.al_syntax.specs.Rules.{most}
-use Rattle.al_syntax.specs.UnitTrees.{CompilationUnitTree, tokens_of}
-use Rattle.al_syntax.specs.Nesting.{nesting}
+use Rattle.al_tree_syntax.specs.Rules.{most}
+use Rattle.al_tree_syntax.specs.UnitTrees.{CompilationUnitTree, tokens_of}
+use Rattle.al_tree_syntax.specs.Nesting.{nesting}
 use Rattle.al_tree.specs.Lexemes.{lexemes}
 use Rattle.al_unit_graph.specs.Traces.{AreReadAlike}
 use Rattle.al_unit.specs.Catalogs.{library_of}
@@ -21,7 +21,7 @@ pub data Reads (text : List ℕ) : Reading → Type 0 where
   sentence : {unit : CompilationUnitTree} (tokens : List Token) → lexed text ≡ Ok tokens → tokens_of unit ≡ lexemes text tokens → nesting unit ≤ most → Reads text (Sentence unit)
   -- its first malformed lexeme
   malformed : (fault : LexFault) → lexed text ≡ Err fault → Reads text (Fails fault.place (number_of fault.code))
-  -- the first token behind the longest front that goes on to a unit
+  -- the first token after the longest front that goes on to a unit
   no_sentence : (tokens : List Token) (n : ℕ) → lexed text ≡ Ok tokens → IsSyntaxFaultAt (lexemes text tokens) n → Reads text (Fails (token_place text tokens n) 101)
 
 -- each text has the one reading that is computed

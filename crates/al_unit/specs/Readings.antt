@@ -6,8 +6,8 @@ use Rattle.al_lex.specs.declared.token.LexFault.{LexFault}
 use Rattle.al_lex.specs.Codes.{number_of}
 use Rattle.al_lex.specs.Tokens.{lexed, end_place_of}
 use Rattle.al_parse.specs.Faults.{syntax_fault_of}
-use Rattle.al_syntax.specs.UnitTrees.{CompilationUnitTree}
-use Rattle.al_syntax.specs.TreeLaws.{unit_of}
+use Rattle.al_tree_syntax.specs.UnitTrees.{CompilationUnitTree}
+use Rattle.al_tree_syntax.specs.TreeLaws.{unit_of}
 use Rattle.al_tree.specs.Lexemes.{lexemes}
 
 -- a compilation unit; or no compilation unit, with the place and the number of the first lexical fault, or else of the syntax fault
@@ -19,7 +19,7 @@ abbrev pub sentence_of : Reading → Option CompilationUnitTree
 sentence_of (Sentence unit) = Some unit
 sentence_of (Fails place code) = None
 
--- where a token stands; behind the last one, the end of the text
+-- where a token stands; after the last one, the end of the text
 abbrev pub token_place : List ℕ → List Token → ℕ → Place
 token_place text tokens n = unwrap_or (option_map (λ t. t.span.place) (slice_get tokens n)) (end_place_of text)
 

@@ -5,30 +5,30 @@ ghost use Rattle.std.specs.BTreeMap.{insert_entry};
 ghost use Rattle.std.specs.Map.{keys_of};
 ghost use Rattle.al_base.specs.Batch.{finding_of, key_of};
 ghost use Rattle.al_base.specs.Files.{name_cmp, text_of};
-ghost use Rattle.al_tree.specs.UnitViews.{unit_seen};
+ghost use Rattle.al_tree.specs.UnitViews.{unit_model};
 ghost use Rattle.al_unit_graph.specs.Dependence.{DependsOn};
 ghost use Rattle.al_unit_graph.specs.Needed.{ListsUnits, Needed};
-ghost use Rattle.al_unit_graph.specs.Views.{contents_seen, source_seen};
+ghost use Rattle.al_unit_graph.specs.Views.{contents_model, source_model};
 ghost use Rattle.al_unit_faults.specs.Dependents.{TellsDependents};
-ghost use Rattle.al_unit_faults.specs.FilesSeen.{file_faults_seen};
+ghost use Rattle.al_unit_faults.specs.FilesSeen.{file_faults_model};
 ghost use Rattle.al_unit_faults.specs.GraphFaults.{file_faults, graph_faults};
-ghost use Rattle.al_obsolete.specs.Obsolete.{obsolete_of};
-ghost use Rattle.al_unit_graph.specs.Orders.{names_seen};
-ghost use Rattle.al_obsolete.specs.Units.{unit_seen as file_unit_seen, units_of};
+ghost use Rattle.al_unit_obsolete.specs.Obsolete.{obsolete_of};
+ghost use Rattle.al_unit_graph.specs.Orders.{names_model};
+ghost use Rattle.al_unit_obsolete.specs.Units.{unit_model as file_unit_model, units_of};
 ghost use Rattle.al_unit.specs.Catalogs.{contents_of, source_of, source_with, library_of, tree_at};
 ghost use Rattle.al_unit.specs.Readings.{reading_of, sentence_of};
-ghost use Rattle.al_unit.specs.ReadingSeen.{reading_seen, readings_seen};
+ghost use Rattle.al_unit.specs.ReadingSeen.{reading_model, readings_model};
 
 use crate::laws::texts_are_read_alike;
 use crate::reading::{Reading, read};
 use crate::readings::{insert, reading_at};
 use al_base::{Diagnostic, Files, Name, NoMemory, UnitKey};
-use al_header::header_of;
-use al_obsolete::{obsolete, units};
-use al_shortage::Shortages;
+use al_base_shortage::AllocFailures;
 use al_tree::CompilationUnit;
 use al_unit_faults::{Dependents, FileFaults, faults, faults_by_file};
 use al_unit_graph::{Contents, Source, Sources};
+use al_unit_header::header_of;
+use al_unit_obsolete::{obsolete, units};
 use std::alloc::Global;
 use std::collections::{BTreeMap, BTreeSet};
 use std::marker::Model;
@@ -65,7 +65,7 @@ pub struct BuiltFiles<'a> {
 
 /// What the graph of units needs of a reading.
 fn contents_of(alloc: Global, reading: &Reading) -> Result<Contents, NoMemory>
-    ensures { IfOk result (λ contents. contents_seen contents ≡ contents_of (reading_seen reading.now)) }
+    ensures { IfOk result (λ contents. contents_model contents ≡ contents_of (reading_model reading.now)) }
 {
     match reading {
         Reading::Sentence(unit) => Ok(Contents::Headed(header_of(alloc, unit)?)),
@@ -75,7 +75,7 @@ fn contents_of(alloc: Global, reading: &Reading) -> Result<Contents, NoMemory>
 
 /// The tree of a reading, if any.
 fn sentence_of(reading: &Reading) -> Option<&CompilationUnit>
-    ensures { option_map (λ unit. unit_seen unit.now) result ≡ sentence_of (reading_seen reading.now) }
+    ensures { option_map (λ unit. unit_model unit.now) result ≡ sentence_of (reading_model reading.now) }
 {
     match reading {
         Reading::Sentence(unit) => Some(unit),
@@ -92,7 +92,7 @@ struct Held {
 
 /// What the graph of units holds of a file with this text and reading.
 fn source_with(alloc: Global, text: &Rc<Vec<u8>>, reading: &Reading) -> Result<Rc<Source>, NoMemory>
-    ensures { IfOk result (λ source. source_seen source.value ≡ source_with text.now.value.items (reading_seen reading.now)) }
+    ensures { IfOk result (λ source. source_model source.value ≡ source_with text.now.value.items (reading_model reading.now)) }
 {
     let contents = contents_of(alloc, reading)?;
     let text = text.clone()?;
@@ -105,8 +105,8 @@ fn source_with(alloc: Global, text: &Rc<Vec<u8>>, reading: &Reading) -> Result<R
 /// Reads the text of a file.
 fn held_anew(alloc: Global, text: &Rc<Vec<u8>>) -> Result<Held, NoMemory>
     requires { length text.now.value.items ≤ 1048576 }
-    ensures source { IfOk result (λ held. source_seen held.source.value ≡ source_of text.now.value.items) }
-    ensures reading { IfOk result (λ held. reading_seen held.reading.value ≡ reading_of text.now.value.items) }
+    ensures source { IfOk result (λ held. source_model held.source.value ≡ source_of text.now.value.items) }
+    ensures reading { IfOk result (λ held. reading_model held.reading.value ≡ reading_of text.now.value.items) }
 {
     match Rc::new(alloc, read(alloc, text.as_slice())?) {
         Ok(reading) => {
@@ -125,8 +125,8 @@ fn held_after(
     text: &Rc<Vec<u8>>,
 ) -> Result<Held, NoMemory>
     requires { length text.now.value.items ≤ 1048576 }
-    ensures source { IfOk result (λ held. source_seen held.source.value ≡ source_of text.now.value.items) }
-    ensures reading { IfOk result (λ held. reading_seen held.reading.value ≡ reading_of text.now.value.items) }
+    ensures source { IfOk result (λ held. source_model held.source.value ≡ source_of text.now.value.items) }
+    ensures reading { IfOk result (λ held. reading_model held.reading.value ≡ reading_of text.now.value.items) }
 {
     if let Some((source, reading)) = before.held_with(file, text.as_slice()) {
         let source = source.clone()?;
@@ -148,7 +148,7 @@ fn add_file(
     requires name { length file.now ≤ 255 }
     requires text { length text.now.value.items ≤ 1048576 }
     ensures source { OnOk result (sources.new ≡ insert_entry name_cmp sources.old file.now (source_of text.now.value.items)) }
-    ensures reading { OnOk result (readings_seen readings.new.entries ≡ insert_entry name_cmp (readings_seen readings.old.entries) file.now (reading_of text.now.value.items)) }
+    ensures reading { OnOk result (readings_model readings.new.entries ≡ insert_entry name_cmp (readings_model readings.old.entries) file.now (reading_of text.now.value.items)) }
 {
     let held = held_after(alloc, before, file, text)?;
     sources.insert(Name::from_slice(alloc, file)?, held.source)?;
@@ -201,8 +201,8 @@ impl Catalog {
 
     /// What it holds of a file, where the file has this text.
     fn held_with(&self, file: &[u8], text: &[u8]) -> Option<(&Rc<Source>, &Rc<Reading>)>
-        ensures source { IfSome result (λ held. source_seen held.0.now.value ≡ source_of text.now) }
-        ensures reading { IfSome result (λ held. reading_seen held.1.now.value ≡ reading_of text.now) }
+        ensures source { IfSome result (λ held. source_model held.0.now.value ≡ source_of text.now) }
+        ensures reading { IfSome result (λ held. reading_model held.1.now.value ≡ reading_of text.now) }
     {
         let source = self.sources.shared_at(file)?;
         if source.text.as_slice() != text {
@@ -215,7 +215,7 @@ impl Catalog {
     /// The tree of a unit, where the library has it.
     #[tactic(auto, unfolding(crate::specs::Catalogs::tree_at))]
     pub fn unit(&self, key: &UnitKey) -> Option<&CompilationUnit>
-        ensures { option_map (λ u. unit_seen u.now) result ≡ tree_at self.now (key_of key.now) }
+        ensures { option_map (λ u. unit_model u.now) result ≡ tree_at self.now (key_of key.now) }
     {
         let file = self.sources.file_of_unit(key)?;
         match reading_at(&self.readings, file.as_slice()) {
@@ -226,7 +226,7 @@ impl Catalog {
 
     /// What a file is read as.
     pub fn reading(&self, file: &[u8]) -> Option<&Reading>
-        ensures { option_map (λ reading. reading_seen reading.now) result ≡ option_map reading_of (text_of self.now file.now) }
+        ensures { option_map (λ reading. reading_model reading.now) result ≡ option_map reading_of (text_of self.now file.now) }
     {
         match reading_at(&self.readings, file) {
             None => None,
@@ -260,7 +260,7 @@ impl Catalog {
 
     /// Each file, in the order of the names, and the unit that it holds, if it is sound.
     pub fn units(&self) -> Result<Vec<(Name, Option<UnitKey>)>, NoMemory>
-        ensures { IfOk result (λ found. map file_unit_seen found.items ≡ units_of (library_of self.now)) }
+        ensures { IfOk result (λ found. map file_unit_model found.items ≡ units_of (library_of self.now)) }
     {
         let found = units(self.alloc, &self.sources)?;
         Ok(found)
@@ -270,15 +270,15 @@ impl Catalog {
     pub fn faults(&self) -> Result<Vec<Diagnostic>, NoMemory>
         ensures { IfOk result (λ found. map finding_of found.items ≡ graph_faults (library_of self.now)) }
     {
-        let found = faults(self.alloc, &self.sources, &mut Shortages::new())?;
+        let found = faults(self.alloc, &self.sources, &mut AllocFailures::new())?;
         Ok(found)
     }
 
     /// The same file by file, in the order of the names: also the files that have none.
     pub fn faults_by_file(&self) -> Result<Vec<FileFaults>, NoMemory>
-        ensures { IfOk result (λ found. map file_faults_seen found.items ≡ map (λ file. (file, file_faults (library_of self.now) file)) (keys_of self.now)) }
+        ensures { IfOk result (λ found. map file_faults_model found.items ≡ map (λ file. (file, file_faults (library_of self.now) file)) (keys_of self.now)) }
     {
-        let found = faults_by_file(self.alloc, &self.sources, &mut Shortages::new())?;
+        let found = faults_by_file(self.alloc, &self.sources, &mut AllocFailures::new())?;
         Ok(found)
     }
 
@@ -293,7 +293,7 @@ impl Catalog {
 
     /// The units that are obsolete since the files were built, in the order of their keys (ARM 10.1.4(5, 7)).
     pub fn obsolete(&self, built: &BuiltFiles<'_>) -> Result<Vec<UnitKey>, NoMemory>
-        ensures { IfOk result (λ keys. map key_of keys.items ≡ obsolete_of (library_of built.now.catalog.now) (names_seen built.now.faulty.keys) (library_of self.now)) }
+        ensures { IfOk result (λ keys. map key_of keys.items ≡ obsolete_of (library_of built.now.catalog.now) (names_model built.now.faulty.keys) (library_of self.now)) }
     {
         texts_are_read_alike();
         let old = built.catalog;

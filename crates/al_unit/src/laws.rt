@@ -1,7 +1,7 @@
 // What texts are read as. The functions do nothing: their contracts are the laws.
 ghost use Rattle.al_unit.specs.Laws.{TextsAreRead, TextsAreReadAlike};
 
-use al_syntax::{faults_are_found, sentences_are_trees, trees_are_found};
+use al_tree_syntax::{faults_are_found, sentences_are_trees, trees_are_found};
 
 /// Each text has one reading: the one tree of its tokens, or its first lexical fault, or its syntax fault.
 pub fn texts_are_read()

@@ -2,13 +2,13 @@
 ghost use Rattle.std.specs.Prelude.{◌≡◌, ◌≤◌, IfOk, length};
 ghost use Rattle.al_lex.specs.Tokens.{lexed};
 ghost use Rattle.al_unit.specs.Readings.{reading_of, token_place};
-ghost use Rattle.al_unit.specs.ReadingSeen.{reading_seen};
+ghost use Rattle.al_unit.specs.ReadingSeen.{reading_model};
 
 use al_base::{NoMemory, Place};
 use al_lex::{LexError, Token, end_place, lex};
 use al_parse::{ParseError, parse};
-use al_syntax::{faults_are_found, sentences_are_trees, trees_are_found, trees_are_unique};
 use al_tree::CompilationUnit;
+use al_tree_syntax::{faults_are_found, sentences_are_trees, trees_are_found, trees_are_unique};
 use std::alloc::Global;
 
 /// What the text of a file is read as.
@@ -37,7 +37,7 @@ impl Drop for Reading {
 #[tactic(auto, using(crate::proofs::Faults::fault_has_no_unit, crate::proofs::Faults::tree_is_found), unfolding(crate::specs::Readings::reading_of))]
 pub fn read(alloc: Global, text: &[u8]) -> Result<Reading, NoMemory>
     requires { length text.now ≤ 4294967294 }
-    ensures { IfOk result (λ reading. reading_seen reading ≡ reading_of text.now) }
+    ensures { IfOk result (λ reading. reading_model reading ≡ reading_of text.now) }
 {
     trees_are_found();
     trees_are_unique();
@@ -60,7 +60,7 @@ pub fn read(alloc: Global, text: &[u8]) -> Result<Reading, NoMemory>
     }
 }
 
-// Where a token stands; behind the last one, the end of the text.
+// Where a token stands; after the last one, the end of the text.
 fn token_place(text: &[u8], tokens: &[Token], at: usize) -> Place
     requires { length text.now ≤ 4294967294 }
     ensures { result ≡ token_place text.now tokens.now at }

@@ -4,9 +4,9 @@ use Rattle.std.specs.Option.{option_map, option_map_or}
 use Rattle.std.specs.Bool.{Decides}
 use Rattle.std.specs.List.{Contains}
 use Rattle.al_base.specs.Batch.{Key}
-use Rattle.al_graph.specs.Closing.{IsEquality, BeginsAt}
-use Rattle.al_graph.proofs.Members.{nowhere, one, into_flat_map, any_from, any_into}
-use Rattle.al_graph.proofs.ClosingLemmas.{closing_reached}
+use Rattle.al_base_graph.specs.Closing.{IsEquality, BeginsAt}
+use Rattle.al_base_graph.proofs.Members.{nowhere, one, into_flat_map, any_from, any_into}
+use Rattle.al_base_graph.proofs.ClosingLemmas.{closing_reached}
 use Rattle.al_unit_graph.specs.Headers.{Header, Library, key_of_unit}
 use Rattle.al_unit_graph.specs.Library.{unit_in, unit_at}
 use Rattle.al_unit_graph.specs.Dependence.{listed, direct, dependences, DependsOn}

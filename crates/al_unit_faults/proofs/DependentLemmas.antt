@@ -6,10 +6,10 @@ use Rattle.std.specs.Map.{keys_of}
 use Rattle.std.proofs.lemmas.List.Elements.{Contains-push, Contains-push_cases, Contains-append_left}
 use Rattle.al_base.specs.Batch.{Key}
 use Rattle.al_base.specs.FileNames.{file_name_of}
-use Rattle.al_graph.specs.Graphs.{Step, Reaches, ReachesSome, Marks}
-use Rattle.al_graph.specs.Graphs.Reaches.{here, further}
-use Rattle.al_graph.proofs.Members.{nowhere, any_from, any_into}
-use Rattle.al_graph.proofs.ReachLemmas.{Reaches-trans}
+use Rattle.al_base_graph.specs.Graphs.{Step, Reaches, ReachesSome, Marks}
+use Rattle.al_base_graph.specs.Graphs.Reaches.{here, further}
+use Rattle.al_base_graph.proofs.Members.{nowhere, any_from, any_into}
+use Rattle.al_base_graph.proofs.ReachLemmas.{Reaches-trans}
 use Rattle.al_unit_graph.specs.Headers.{Header, Library, key_of_unit}
 use Rattle.al_unit_graph.specs.Library.{unit_in, unit_at}
 use Rattle.al_unit_graph.specs.Dependence.{listed, dependences, direct, DependsOn}

@@ -6,11 +6,11 @@ use Rattle.std.specs.Map.{keys_of}
 use Rattle.std.proofs.lemmas.List.Elements.{Contains-push, Contains-push_cases, Contains-append_left}
 use Rattle.al_base.specs.Batch.{Key}
 use Rattle.al_base.specs.FileNames.{file_name_of}
-use Rattle.al_graph.specs.Graphs.{Step, Reaches, IsOnCycle, Marks, with_step}
-use Rattle.al_graph.specs.Graphs.Reaches.{here, further}
-use Rattle.al_graph.proofs.Members.{nowhere, one, the_one, first, later, from_flat_map, into_flat_map}
-use Rattle.al_graph.proofs.ReachLemmas.{Reaches-trans}
-use Rattle.al_graph.proofs.StepLemmas.{Step-with_step, Step-added, Step-kept, length-with_step}
+use Rattle.al_base_graph.specs.Graphs.{Step, Reaches, IsOnCycle, Marks, with_step}
+use Rattle.al_base_graph.specs.Graphs.Reaches.{here, further}
+use Rattle.al_base_graph.proofs.Members.{nowhere, one, the_one, first, later, from_flat_map, into_flat_map}
+use Rattle.al_base_graph.proofs.ReachLemmas.{Reaches-trans}
+use Rattle.al_base_graph.proofs.StepLemmas.{Step-with_step, Step-added, Step-kept, length-with_step}
 use Rattle.al_unit_graph.specs.Headers.{Header, Library, key_of_unit}
 use Rattle.al_unit_graph.specs.Library.{unit_in, unit_at}
 use Rattle.al_unit_graph.specs.Dependence.{listed, dependences, direct, DependsOn}

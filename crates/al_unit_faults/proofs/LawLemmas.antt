@@ -12,7 +12,7 @@ use Rattle.al_base.specs.Batch.{Finding}
 use Rattle.al_base.specs.Files.{name_cmp}
 use Rattle.al_base.specs.FileNames.{file_name_of}
 use Rattle.al_base.specs.declared.place.Place.{Place}
-use Rattle.al_graph.proofs.Members.{nowhere, first, later, first_or_later, from_flat_map, into_flat_map, any_from, any_into}
+use Rattle.al_base_graph.proofs.Members.{nowhere, first, later, first_or_later, from_flat_map, into_flat_map, any_from, any_into}
 use Rattle.al_unit_graph.specs.Headers.{Header, Contents, Headed, Unread, Source, Library, key_of_unit}
 use Rattle.al_unit_graph.specs.Names.{lineage, parent_of, is_reserved}
 use Rattle.al_unit_graph.specs.Library.{source_at, is_rightly_named}

@@ -12,7 +12,7 @@ use Rattle.std.proofs.lemmas.Cmp.{then_total, on_total, nat_cmp_total}
 use Rattle.al_base.specs.Batch.{Finding, finding_of}
 use Rattle.al_base.specs.Files.{name_cmp}
 use Rattle.al_base.specs.declared.diagnostic.Diagnostic.{Diagnostic}
-use Rattle.al_graph.proofs.Members.{nowhere, first, later, first_or_later}
+use Rattle.al_base_graph.proofs.Members.{nowhere, first, later, first_or_later}
 use Rattle.al_unit_faults.specs.Orders.{finding_cmp, ascending}
 use Rattle.al_unit_faults.specs.Spots.{Spot, finding_at, spot_of}
 use Rattle.al_unit_faults.proofs.UnitLemmas.{same_name, told_same_name}

@@ -13,7 +13,7 @@ use Rattle.al_unit_graph.specs.Headers.{Mention, Header, Library}
 use Rattle.al_unit_graph.specs.Library.{source_at, unit_in, unit_at}
 use Rattle.al_unit_graph.specs.Faults.{IsPartOf}
 use Rattle.al_unit_graph.specs.Faults.IsPartOf.{itself, of_body, of_subunit}
-use Rattle.al_unit_faults.specs.Parts.{part_within, part_of, PartsAreTold}
+use Rattle.al_unit_faults.specs.Parts.{part_within, part_of, PartsAreReported}
 use Rattle.al_unit_faults.proofs.UnitLemmas.{some_is, in_file, at_key, same_name}
 
 none_is : {X : Type 0} (x : X) → None ≡ Some x → ⊥
@@ -140,9 +140,9 @@ module _ (lib : Library) where
       let fits = length-le_from_keys (eq_by_cmp_equiv nat_list_cmp_total) p.files lib p.distinct (λ q any. is_there d p.files p.above q any) in
       subst (λ n. n ≤ length lib) p.many fits
 
-pub parts_are_told : PartsAreTold
+pub parts_are_reported : PartsAreReported
 unfolding part_of
-parts_are_told lib h name = (
+parts_are_reported lib h name = (
   (λ is. part_told lib (suc (length lib)) h name is),
   (λ p.
       let r = deep lib h name p in

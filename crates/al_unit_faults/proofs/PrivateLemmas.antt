@@ -4,16 +4,16 @@ use Rattle.std.specs.Bool.{Decides}
 use Rattle.std.specs.Option.{option_map_or}
 use Rattle.al_base.specs.declared.unit_key.UnitKind.{UnitKind}
 use Rattle.al_base.specs.declared.unit_key.UnitKind.TheVariants.{Decl, Body, Sub}
-use Rattle.al_graph.proofs.Members.{or, any_from, any_into}
+use Rattle.al_base_graph.proofs.Members.{or, any_from, any_into}
 use Rattle.al_unit_graph.specs.Headers.{Header, Library, kind_of}
 use Rattle.al_unit_graph.specs.Names.{ancestors, lineage}
 use Rattle.al_unit_graph.specs.Library.{unit_at, is_kind, acts_as_declaration}
-use Rattle.al_unit_graph.specs.Faults.{IsPrivate, Descends, DescendsBelow, IsPrivateDescendant, IsBehindDeclaration, MayMentionChildrenOf}
+use Rattle.al_unit_graph.specs.Faults.{IsPrivate, Descends, DescendsBelow, IsPrivateDescendant, IsAfterDeclaration, MayMentionChildrenOf}
 use Rattle.al_unit_graph.proofs.BoolLemmas.{both, and, not_true, true_not}
 use Rattle.al_unit_graph.proofs.FaultLemmas.{any, told_any}
 use Rattle.al_unit_faults.specs.Parts.{part_of}
 use Rattle.al_unit_faults.specs.Private.{is_private, descends, descends_below, is_private_descendant, is_behind_declaration, may_mention_as, may_mention_children, MentionsAreDecided}
-use Rattle.al_unit_faults.proofs.PartLemmas.{parts_are_told}
+use Rattle.al_unit_faults.proofs.PartLemmas.{parts_are_reported}
 
 pub some_passes : {X : Type 0} (p : X → Bool) (o : Option X) → option_map_or p o false ≡ true → (x : X) × (o ≡ Some x) × (p x ≡ true)
 some_passes p None is = absurd (cc)
@@ -55,8 +55,8 @@ other_kind Decl = ((λ is. absurd (cc)), (λ differs. absurd (differs refl)))
 other_kind Body = ((λ is same. cc), (λ differs. refl))
 other_kind Sub = ((λ is same. cc), (λ differs. refl))
 
-behind_told : (lib : Library) (h : Header) → Decides (is_behind_declaration lib h) (IsBehindDeclaration lib h)
-behind_told lib h =
+after_told : (lib : Library) (h : Header) → Decides (is_behind_declaration lib h) (IsAfterDeclaration lib h)
+after_told lib h =
     let first = not (is_kind (kind_of h.form) Decl) in
     let second = not (acts_as_declaration lib h) in (
       (λ is. let parts = both first second is in ((other_kind (kind_of h.form)).0 parts.0, not_true (acts_as_declaration lib h) parts.1)),
@@ -73,21 +73,21 @@ module _ (lib : Library) (h : Header) (parent : Option (List ℕ)) where
   mention_told : may_mention_children lib h parent ≡ true → MayMentionChildrenOf lib h parent
   mention_told is =
       let r = some_passes may (part_of lib h) is in
-      let part = (parts_are_told lib h r.0).0 r.1 in (
+      let part = (parts_are_reported lib h r.0).0 r.1 in (
         r.0,
         part,
         elim (either (is_private_descendant lib r.0 parent) (open_to r.0) r.2) [
           | inl p ↦ inl ((descendant_told lib r.0 parent).0 p)
-          | inr o ↦ let parts = both (is_behind_declaration lib h) (descends r.0 parent) o in inr ((descends_told r.0 parent).0 parts.1, (behind_told lib h).0 parts.0)
+          | inr o ↦ let parts = both (is_behind_declaration lib h) (descends r.0 parent) o in inr ((descends_told r.0 parent).0 parts.1, (after_told lib h).0 parts.0)
         ],
       )
 
   told_mention : MayMentionChildrenOf lib h parent → may_mention_children lib h parent ≡ true
   told_mention m =
-      let part = (parts_are_told lib h m.0).1 m.1 in
+      let part = (parts_are_reported lib h m.0).1 m.1 in
       let holds = or (is_private_descendant lib m.0 parent) (open_to m.0) (elim m.2 [
         | inl p ↦ inl ((descendant_told lib m.0 parent).1 p)
-        | inr o ↦ inr (and (is_behind_declaration lib h) (descends m.0 parent) ((behind_told lib h).1 o.1) ((descends_told m.0 parent).1 o.0))
+        | inr o ↦ inr (and (is_behind_declaration lib h) (descends m.0 parent) ((after_told lib h).1 o.1) ((descends_told m.0 parent).1 o.0))
       ]) in
       passes_some may (part_of lib h) m.0 part holds
 

@@ -12,7 +12,7 @@ use Rattle.al_base.specs.Files.{name_cmp}
 use Rattle.al_base.specs.FileNames.{file_name_of}
 use Rattle.al_base.specs.declared.unit_key.UnitKind.{UnitKind}
 use Rattle.al_base.specs.declared.unit_key.UnitKind.TheVariants.{Decl, Body, Sub}
-use Rattle.al_graph.proofs.Members.{first, later}
+use Rattle.al_base_graph.proofs.Members.{first, later}
 use Rattle.al_unit_graph.specs.Headers.{Header, Contents, Headed, Unread, Source, Library, key_of_unit}
 use Rattle.al_unit_graph.specs.Names.{is_reserved}
 use Rattle.al_unit_graph.specs.Library.{source_at, is_rightly_named, held, unit_in, is_kind, of_key, unit_at}

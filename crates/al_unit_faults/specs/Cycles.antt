@@ -3,7 +3,7 @@ use Rattle.std.specs.Prelude.{◌↔◌, ℕ, Bool, List}
 use Rattle.std.specs.Option.{option_map}
 use Rattle.std.specs.List.{Contains, flat_map, list_any}
 use Rattle.al_base.specs.Batch.{Key, Finding}
-use Rattle.al_graph.specs.Closing.{closing}
+use Rattle.al_base_graph.specs.Closing.{closing}
 use Rattle.al_unit_graph.specs.Headers.{Header, Library, key_of_unit}
 use Rattle.al_unit_graph.specs.Library.{unit_in}
 use Rattle.al_unit_graph.specs.Dependence.{listed, direct, DependsOn}

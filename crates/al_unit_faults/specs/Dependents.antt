@@ -8,7 +8,7 @@ use Rattle.al_unit_graph.specs.Headers.{Library, key_of_unit}
 use Rattle.al_unit_graph.specs.Library.{unit_in, unit_at}
 use Rattle.al_unit_graph.specs.Dependence.{dependences}
 use Rattle.al_unit_faults.specs.Cycles.{all_dependences}
-use Rattle.al_unit_faults.specs.Numbers.{numbers_seen, number_at, node_of}
+use Rattle.al_unit_faults.specs.Numbers.{numbers_model, number_at, node_of}
 use Rattle.al_unit_faults.specs.declared.dependents.Dependents.{Dependents}
 
 -- the library has no such unit, or the unit's file is marked
@@ -34,7 +34,7 @@ AreGoals lib files ns flags count goals =
 
 -- the flag at the number of a file
 abbrev pub depends : Dependents → List ℕ → Bool
-depends dependents file = option_map_or (λ n. slice_index_or dependents.flags.items n false) (number_at (numbers_seen dependents.numbers) file) false
+depends dependents file = option_map_or (λ n. slice_index_or dependents.flags.items n false) (number_at (numbers_model dependents.numbers) file) false
 
 -- the unit of the file, if it holds one, depends on one that isn't sound or is marked
 abbrev pub is_dependent : Library → (List ℕ → Bool) → List ℕ → Bool

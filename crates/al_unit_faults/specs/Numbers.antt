@@ -7,7 +7,7 @@ use Rattle.std.specs.BTreeMap.{is_at}
 use Rattle.al_base.specs.Batch.{Key}
 use Rattle.al_base.specs.Files.{name_cmp}
 use Rattle.al_base.specs.FileNames.{file_name_of}
-use Rattle.al_graph.specs.Graphs.{Step}
+use Rattle.al_base_graph.specs.Graphs.{Step}
 use Rattle.al_unit_graph.specs.Headers.{Header, Library, key_of_unit}
 use Rattle.al_unit_graph.specs.Library.{unit_in, unit_at}
 use Rattle.al_unit_graph.specs.Dependence.{listed, dependences}
@@ -16,8 +16,8 @@ use Rattle.al_unit_faults.specs.declared.cycles.Numbers.{Numbers}
 use Rattle.al_unit_faults.specs.declared.cycles.Cycles.{Cycles}
 
 -- each name with its number
-abbrev pub numbers_seen : Numbers → List (List ℕ × ℕ)
-numbers_seen numbers = map (λ e. (e.0.items, e.1)) numbers.places.entries
+abbrev pub numbers_model : Numbers → List (List ℕ × ℕ)
+numbers_model numbers = map (λ e. (e.0.items, e.1)) numbers.places.entries
 
 abbrev pub number_at : List (List ℕ × ℕ) → List ℕ → Option ℕ
 number_at ns file = lookup (is_at (name_cmp file)) ns
@@ -47,7 +47,7 @@ pub record StepsBelow (lib : Library) (files : List (List ℕ)) (ns : List (List
 
 -- the flag at the number of a file
 abbrev pub told : Cycles → List ℕ → Bool
-told cycles file = option_map_or (λ n. slice_index_or cycles.flags.items n false) (number_at (numbers_seen cycles.numbers) file) false
+told cycles file = option_map_or (λ n. slice_index_or cycles.flags.items n false) (number_at (numbers_model cycles.numbers) file) false
 
 -- the flags tell which units depend on themselves
 abbrev pub TellsCycles : Library → Cycles → Type 0

@@ -17,5 +17,5 @@ unfoldable pub part_of : Library → Header → Option (List ℕ)
 part_of lib h = part_within (suc (length lib)) lib h
 
 -- it is the unit that the relation tells
-abbrev pub PartsAreTold : Type 0
-PartsAreTold = (lib : Library) (h : Header) (name : List ℕ) → (part_of lib h ≡ Some name) ↔ IsPartOf lib h name
+abbrev pub PartsAreReported : Type 0
+PartsAreReported = (lib : Library) (h : Header) (name : List ℕ) → (part_of lib h ≡ Some name) ↔ IsPartOf lib h name

@@ -3,10 +3,10 @@ ghost use Rattle.std.specs.Prelude.{◌≡◌, ◌<◌, length, map, IfOk, OnOk}
 ghost use Rattle.std.specs.List.{All};
 ghost use Rattle.std.specs.Map.{keys_of};
 ghost use Rattle.al_base.specs.Batch.{key_of};
-ghost use Rattle.al_unit_faults.specs.Numbers.{numbers_seen, IsNumbering, number_at, node_of, targets, AddsFrom, StepsBelow, TellsCycles, told};
+ghost use Rattle.al_unit_faults.specs.Numbers.{numbers_model, IsNumbering, number_at, node_of, targets, AddsFrom, StepsBelow, TellsCycles, told};
 
 use al_base::{NoMemory, UnitKey, file_name_of};
-use al_graph::Graph;
+use al_base_graph::Graph;
 use al_unit_graph::Sources;
 use std::alloc::Global;
 use std::collections::BTreeMap;
@@ -20,7 +20,7 @@ pub(crate) struct Numbers {
 impl Numbers {
     /// The files by their places in the list.
     pub(crate) fn of(alloc: Global, files: &[&[u8]]) -> Result<Numbers, NoMemory>
-        ensures { IfOk result (λ numbers. IsNumbering (map (λ n. n.now) files.now) (length files.now) (numbers_seen numbers)) }
+        ensures { IfOk result (λ numbers. IsNumbering (map (λ n. n.now) files.now) (length files.now) (numbers_model numbers)) }
     {
         let mut places = BTreeMap::new(alloc);
         for i in 0..files.len() {
@@ -32,7 +32,7 @@ impl Numbers {
 
     /// The number of a file.
     pub(crate) fn at(&self, file: &[u8]) -> Option<usize>
-        ensures { result ≡ number_at (numbers_seen self.now) file.now }
+        ensures { result ≡ number_at (numbers_model self.now) file.now }
     {
         self.places.get(file).copied()
     }
@@ -44,7 +44,7 @@ impl Numbers {
         sources: &Sources,
         key: &UnitKey,
     ) -> Result<Option<usize>, NoMemory>
-        ensures { IfOk result (λ number. number ≡ node_of sources.now (numbers_seen self.now) (key_of key.now)) }
+        ensures { IfOk result (λ number. number ≡ node_of sources.now (numbers_model self.now) (key_of key.now)) }
     {
         if !sources.has_unit(key) {
             return Ok(None);
@@ -57,7 +57,7 @@ impl Numbers {
 impl Numbers {
     /// The numbers of the units on which the unit of a file depends by itself.
     fn targets(&self, alloc: Global, sources: &Sources, file: &[u8]) -> Result<Vec<usize>, NoMemory>
-        ensures { IfOk result (λ found. found.items ≡ targets sources.now (numbers_seen self.now) file.now) }
+        ensures { IfOk result (λ found. found.items ≡ targets sources.now (numbers_model self.now) file.now) }
     {
         let mut targets = Vec::new(alloc);
         let Some(header) = sources.unit_in(file) else {
@@ -92,8 +92,8 @@ pub(crate) fn graph_of(
     files: &[&[u8]],
     numbers: &Numbers,
 ) -> Result<Graph, NoMemory>
-    requires { IsNumbering (map (λ n. n.now) files.now) (length files.now) (numbers_seen numbers.now) }
-    ensures { IfOk result (λ graph. StepsBelow sources.now (map (λ n. n.now) files.now) (numbers_seen numbers.now) (length files.now) graph) }
+    requires { IsNumbering (map (λ n. n.now) files.now) (length files.now) (numbers_model numbers.now) }
+    ensures { IfOk result (λ graph. StepsBelow sources.now (map (λ n. n.now) files.now) (numbers_model numbers.now) (length files.now) graph) }
 {
     let mut graph = Graph::new(alloc, files.len())?;
     for i in 0..files.len() {

@@ -4,7 +4,7 @@ ghost use Rattle.std.specs.List.{list_any};
 ghost use Rattle.std.specs.Map.{keys_of};
 ghost use Rattle.al_base.specs.Batch.{key_of};
 ghost use Rattle.al_unit_faults.specs.Dependents.{is_flagged, steps_to_flagged, AreGoals, depends, TellsDependents};
-ghost use Rattle.al_unit_faults.specs.Numbers.{numbers_seen, IsNumbering};
+ghost use Rattle.al_unit_faults.specs.Numbers.{numbers_model, IsNumbering};
 
 use crate::cycles::{Numbers, graph_of};
 use al_base::{NoMemory, UnitKey};
@@ -26,7 +26,7 @@ fn is_flagged(
     flags: &[bool],
     key: &UnitKey,
 ) -> Result<bool, NoMemory>
-    ensures { IfOk result (λ is. is ≡ is_flagged sources.now (numbers_seen numbers.now) flags.now (key_of key.now)) }
+    ensures { IfOk result (λ is. is ≡ is_flagged sources.now (numbers_model numbers.now) flags.now (key_of key.now)) }
 {
     match numbers.of_unit(alloc, sources, key)? {
         None => Ok(true),
@@ -42,7 +42,7 @@ fn has_flagged(
     flags: &[bool],
     keys: &[UnitKey],
 ) -> Result<bool, NoMemory>
-    ensures { IfOk result (λ is. is ≡ list_any (is_flagged sources.now (numbers_seen numbers.now) flags.now) (map key_of keys.now)) }
+    ensures { IfOk result (λ is. is ≡ list_any (is_flagged sources.now (numbers_model numbers.now) flags.now) (map key_of keys.now)) }
 {
     for key in keys {
         if is_flagged(alloc, sources, numbers, flags, key)? {
@@ -60,7 +60,7 @@ fn steps_to_flagged(
     flags: &[bool],
     file: &[u8],
 ) -> Result<bool, NoMemory>
-    ensures { IfOk result (λ is. is ≡ steps_to_flagged sources.now (numbers_seen numbers.now) flags.now file.now) }
+    ensures { IfOk result (λ is. is ≡ steps_to_flagged sources.now (numbers_model numbers.now) flags.now file.now) }
 {
     let Some(header) = sources.unit_in(file) else {
         return Ok(false);
@@ -77,7 +77,7 @@ fn goals_of(
     numbers: &Numbers,
     flags: &[bool],
 ) -> Result<Vec<usize>, NoMemory>
-    ensures { IfOk result (λ goals. AreGoals sources.now (map (λ n. n.now) files.now) (numbers_seen numbers.now) flags.now (length files.now) goals.items) }
+    ensures { IfOk result (λ goals. AreGoals sources.now (map (λ n. n.now) files.now) (numbers_model numbers.now) flags.now (length files.now) goals.items) }
 {
     let mut goals = Vec::new(alloc);
     for i in 0..files.len() {

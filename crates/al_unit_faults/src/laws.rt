@@ -1,12 +1,12 @@
 // Laws of the definitions. The functions do nothing: their contracts are the laws.
-ghost use Rattle.al_unit_faults.specs.Parts.{PartsAreTold};
+ghost use Rattle.al_unit_faults.specs.Parts.{PartsAreReported};
 ghost use Rattle.al_unit_faults.specs.Private.{MentionsAreDecided};
 ghost use Rattle.al_unit_faults.specs.Cycles.{DependencesAreAll};
 ghost use Rattle.al_unit_faults.specs.Laws.{FileFaultsAreBroken, GraphFaultsAreBroken, GraphFaultsAscend};
 
 /// The library unit that is computed for a unit is the one of which it is part, told as a relation.
-pub fn parts_are_told()
-    ensures { PartsAreTold }
+pub fn parts_are_reported()
+    ensures { PartsAreReported }
 {}
 
 /// Where the private children of a unit may be mentioned is computed as the relation tells.

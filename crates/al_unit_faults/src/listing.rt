@@ -2,12 +2,12 @@
 ghost use Rattle.std.specs.Prelude.{◌≡◌, ◌++◌, ◌∷◌, [], length, map, IfOk, OnOk, is_ok};
 ghost use Rattle.std.specs.Map.{keys_of};
 ghost use Rattle.al_base.specs.Batch.{finding_of};
-ghost use Rattle.al_shortage.specs.Counts.{counted};
-ghost use Rattle.al_unit_faults.specs.FilesSeen.{file_faults_seen};
+ghost use Rattle.al_base_shortage.specs.Counts.{counted};
+ghost use Rattle.al_unit_faults.specs.FilesSeen.{file_faults_model};
 ghost use Rattle.al_unit_graph.specs.FaultLists.{finding_if};
 ghost use Rattle.al_unit_graph.specs.Headers.{Headed, key_of_unit};
 ghost use Rattle.al_unit_graph.specs.Library.{held, unit_in};
-ghost use Rattle.al_unit_graph.specs.Views.{header_seen};
+ghost use Rattle.al_unit_graph.specs.Views.{header_model};
 ghost use Rattle.al_unit_faults.specs.Cycles.{depends_on_itself};
 ghost use Rattle.al_unit_faults.specs.Numbers.{TellsCycles, told};
 ghost use Rattle.al_unit_faults.specs.GraphFaults.{rule_faults, header_faults, file_faults, graph_faults};
@@ -16,7 +16,7 @@ use crate::cycles::Cycles;
 use crate::order::add_ascending;
 use crate::private::add_private_faults;
 use al_base::{Diagnostic, Name, NoMemory, Place};
-use al_shortage::Shortages;
+use al_base_shortage::AllocFailures;
 use al_unit_graph::{Contents, Header, Sources, name_faults};
 use std::alloc::Global;
 
@@ -49,16 +49,16 @@ fn rule_faults(
     cycles: &Cycles,
     file: &[u8],
     header: &Header,
-    shortages: &mut Shortages,
+    failures: &mut AllocFailures,
 ) -> Result<Vec<Diagnostic>, NoMemory>
     requires count { count ≡ length sources.now }
-    requires cycles { told cycles.now file.now ≡ depends_on_itself sources.now (key_of_unit (header_seen header.now)) }
-    ensures found { IfOk result (λ found. map finding_of found.items ≡ rule_faults sources.now file.now (header_seen header.now)) }
-    ensures shortages { shortages.new ≡ counted (is_ok result) shortages.old }
+    requires cycles { told cycles.now file.now ≡ depends_on_itself sources.now (key_of_unit (header_model header.now)) }
+    ensures found { IfOk result (λ found. map finding_of found.items ≡ rule_faults sources.now file.now (header_model header.now)) }
+    ensures failures { failures.new ≡ counted (is_ok result) failures.old }
 {
-    let mut found = sources.own_faults(file, header, shortages)?;
-    shortages.of(add_cycle(alloc, cycles.has(file), file, &mut found))?;
-    shortages.of(add_private_faults(alloc, sources, count, file, header, &mut found))?;
+    let mut found = sources.own_faults(file, header, failures)?;
+    failures.of(add_cycle(alloc, cycles.has(file), file, &mut found))?;
+    failures.of(add_private_faults(alloc, sources, count, file, header, &mut found))?;
     Ok(found)
 }
 
@@ -70,19 +70,19 @@ fn header_faults(
     cycles: &Cycles,
     file: &[u8],
     header: &Header,
-    shortages: &mut Shortages,
+    failures: &mut AllocFailures,
 ) -> Result<Vec<Diagnostic>, NoMemory>
     requires count { count ≡ length sources.now }
     requires cycles { TellsCycles sources.now cycles.now }
-    requires of_file { unit_in sources.now file.now ≡ held file.now (Headed (header_seen header.now)) }
-    ensures found { IfOk result (λ found. map finding_of found.items ≡ header_faults sources.now file.now (header_seen header.now)) }
-    ensures shortages { shortages.new ≡ counted (is_ok result) shortages.old }
+    requires of_file { unit_in sources.now file.now ≡ held file.now (Headed (header_model header.now)) }
+    ensures found { IfOk result (λ found. map finding_of found.items ≡ header_faults sources.now file.now (header_model header.now)) }
+    ensures failures { failures.new ≡ counted (is_ok result) failures.old }
 {
-    let found = name_faults(alloc, file, header, shortages)?;
+    let found = name_faults(alloc, file, header, failures)?;
     if !found.is_empty() {
         return Ok(found);
     }
-    rule_faults(alloc, sources, count, cycles, file, header, shortages)
+    rule_faults(alloc, sources, count, cycles, file, header, failures)
 }
 
 /// Adds what is wrong with a file as a unit, by place and number.
@@ -94,20 +94,20 @@ fn add_file_faults(
     cycles: &Cycles,
     file: &[u8],
     found: &mut Vec<Diagnostic>,
-    shortages: &mut Shortages,
+    failures: &mut AllocFailures,
 ) -> Result<(), NoMemory>
     requires count { count ≡ length sources.now }
     requires cycles { TellsCycles sources.now cycles.now }
     ensures found { OnOk result (map finding_of found.new.items ≡ map finding_of found.old.items ++ file_faults sources.now file.now) }
-    ensures shortages { shortages.new ≡ counted (is_ok result) shortages.old }
+    ensures failures { failures.new ≡ counted (is_ok result) failures.old }
 {
     let Some(source) = sources.source_at(file) else {
         return Ok(());
     };
     match &source.contents {
         Contents::Headed(header) => {
-            let faults = header_faults(alloc, sources, count, cycles, file, header, shortages)?;
-            shortages.of(add_ascending(alloc, file, faults.as_slice(), found))
+            let faults = header_faults(alloc, sources, count, cycles, file, header, failures)?;
+            failures.of(add_ascending(alloc, file, faults.as_slice(), found))
         }
         Contents::Unread(_, _) => Ok(()),
     }
@@ -120,13 +120,13 @@ fn add_file_faults(
 pub fn faults(
     alloc: Global,
     sources: &Sources,
-    shortages: &mut Shortages,
+    failures: &mut AllocFailures,
 ) -> Result<Vec<Diagnostic>, NoMemory>
     ensures found { IfOk result (λ found. map finding_of found.items ≡ graph_faults sources.now) }
-    ensures shortages { shortages.new ≡ counted (is_ok result) shortages.old }
+    ensures failures { failures.new ≡ counted (is_ok result) failures.old }
 {
-    let files = shortages.of(sources.file_names())?;
-    let cycles = shortages.of(Cycles::of(alloc, sources, files.as_slice()))?;
+    let files = failures.of(sources.file_names())?;
+    let cycles = failures.of(Cycles::of(alloc, sources, files.as_slice()))?;
     let mut found = Vec::new(alloc);
     for file in files.as_slice() {
         add_file_faults(
@@ -136,7 +136,7 @@ pub fn faults(
             &cycles,
             file,
             &mut found,
-            shortages,
+            failures,
         )?;
     }
     Ok(found)
@@ -161,13 +161,13 @@ fn add_file(all: &mut Vec<FileFaults>, file: FileFaults) -> Result<(), NoMemory>
 pub fn faults_by_file(
     alloc: Global,
     sources: &Sources,
-    shortages: &mut Shortages,
+    failures: &mut AllocFailures,
 ) -> Result<Vec<FileFaults>, NoMemory>
-    ensures found { IfOk result (λ all. map file_faults_seen all.items ≡ map (λ file. (file, file_faults sources.now file)) (keys_of sources.now)) }
-    ensures shortages { shortages.new ≡ counted (is_ok result) shortages.old }
+    ensures found { IfOk result (λ all. map file_faults_model all.items ≡ map (λ file. (file, file_faults sources.now file)) (keys_of sources.now)) }
+    ensures failures { failures.new ≡ counted (is_ok result) failures.old }
 {
-    let files = shortages.of(sources.file_names())?;
-    let cycles = shortages.of(Cycles::of(alloc, sources, files.as_slice()))?;
+    let files = failures.of(sources.file_names())?;
+    let cycles = failures.of(Cycles::of(alloc, sources, files.as_slice()))?;
     let mut all = Vec::new(alloc);
     for file in files.as_slice() {
         let mut faults = Vec::new(alloc);
@@ -178,10 +178,10 @@ pub fn faults_by_file(
             &cycles,
             file,
             &mut faults,
-            shortages,
+            failures,
         )?;
-        let file = shortages.of(Name::from_slice(alloc, file))?;
-        shortages.of(add_file(&mut all, FileFaults { file, faults }))?;
+        let file = failures.of(Name::from_slice(alloc, file))?;
+        failures.of(add_file(&mut all, FileFaults { file, faults }))?;
     }
     Ok(all)
 }

@@ -1,7 +1,7 @@
 // The library unit of which a unit is part.
 ghost use Rattle.std.specs.Prelude.{◌≡◌, ℕ, suc, length, map};
 ghost use Rattle.std.specs.Option.{option_map};
-ghost use Rattle.al_unit_graph.specs.Views.{header_seen};
+ghost use Rattle.al_unit_graph.specs.Views.{header_model};
 ghost use Rattle.al_unit_faults.specs.Parts.{part_within, part_of};
 
 use al_base::UnitKind;
@@ -9,7 +9,7 @@ use al_unit_graph::{Header, Sources};
 
 /// The library unit of which a unit is part, through so many parent bodies at most (ARM 10.1.3(8)).
 fn part_within<'a>(sources: &'a Sources, count: usize, header: &'a Header) -> Option<&'a [u8]>
-    ensures { option_map (λ n. n.now) result ≡ part_within (suc count) sources.now (header_seen header.now) }
+    ensures { option_map (λ n. n.now) result ≡ part_within (suc count) sources.now (header_model header.now) }
 {
     let Some(parent) = &header.parent_body else {
         return Some(header.name.as_slice());
@@ -33,7 +33,7 @@ pub(crate) fn part_of<'a>(
     header: &'a Header,
 ) -> Option<&'a [u8]>
     requires { count ≡ length sources.now }
-    ensures { option_map (λ n. n.now) result ≡ part_of sources.now (header_seen header.now) }
+    ensures { option_map (λ n. n.now) result ≡ part_of sources.now (header_model header.now) }
 {
     part_within(sources, count, header)
 }

@@ -3,7 +3,7 @@ ghost use Rattle.std.specs.Prelude.{◌≡◌, ◌++◌, ◌&&◌, length, map, 
 ghost use Rattle.std.specs.Option.{option_map};
 ghost use Rattle.std.specs.List.{flat_map, list_any};
 ghost use Rattle.al_base.specs.Batch.{finding_of};
-ghost use Rattle.al_unit_graph.specs.Views.{header_seen, mention_seen};
+ghost use Rattle.al_unit_graph.specs.Views.{header_model, mention_model};
 ghost use Rattle.al_unit_faults.specs.Parts.{part_of};
 ghost use Rattle.al_unit_faults.specs.Private.{is_private, is_one_of, descends, descends_below, is_private_descendant, is_behind_declaration, may_mention_as, may_mention_children, is_hidden, private_faults};
 
@@ -77,7 +77,7 @@ fn has_private_below(
 
 /// Whether a unit is a body or a subunit, and not a body that acts as a declaration (ARM 10.1.4(4)).
 fn is_behind_declaration(sources: &Sources, header: &Header) -> bool
-    ensures { result ≡ is_behind_declaration sources.now (header_seen header.now) }
+    ensures { result ≡ is_behind_declaration sources.now (header_model header.now) }
 {
     let has_file = sources.has_declaration_file(header.name.as_slice());
     let acts = is_subprogram_body(header.form) && !has_file;
@@ -92,7 +92,7 @@ fn may_mention_as(
     parent: Option<&[u8]>,
     name: &[u8],
 ) -> Result<bool, NoMemory>
-    ensures { IfOk result (λ is. is ≡ may_mention_as sources.now (header_seen header.now) (option_map (λ n. n.now) parent.entry) name.now) }
+    ensures { IfOk result (λ is. is ≡ may_mention_as sources.now (header_model header.now) (option_map (λ n. n.now) parent.entry) name.now) }
 {
     let names = lineage(alloc, name)?;
     if has_private_below(alloc, sources, names.as_slice(), parent)? {
@@ -109,8 +109,8 @@ fn is_hidden(
     part: Option<&[u8]>,
     child: &[u8],
 ) -> Result<bool, NoMemory>
-    requires { option_map (λ n. n.now) part ≡ part_of sources.now (header_seen header.now) }
-    ensures { IfOk result (λ is. is ≡ is_hidden sources.now (header_seen header.now) child.now) }
+    requires { option_map (λ n. n.now) part ≡ part_of sources.now (header_model header.now) }
+    ensures { IfOk result (λ is. is ≡ is_hidden sources.now (header_model header.now) child.now) }
 {
     if !is_private(sources, child) {
         return Ok(false);
@@ -129,8 +129,8 @@ fn has_hidden(
     part: Option<&[u8]>,
     names: &[&[u8]],
 ) -> Result<bool, NoMemory>
-    requires { option_map (λ n. n.now) part ≡ part_of sources.now (header_seen header.now) }
-    ensures { IfOk result (λ is. is ≡ list_any (is_hidden sources.now (header_seen header.now)) (map (λ n. n.now) names.now)) }
+    requires { option_map (λ n. n.now) part ≡ part_of sources.now (header_model header.now) }
+    ensures { IfOk result (λ is. is ≡ list_any (is_hidden sources.now (header_model header.now)) (map (λ n. n.now) names.now)) }
 {
     for name in names {
         if is_hidden(alloc, sources, header, part, name)? {
@@ -150,8 +150,8 @@ fn add_private_fault(
     mention: &Mention,
     found: &mut Vec<Diagnostic>,
 ) -> Result<(), NoMemory>
-    requires { option_map (λ n. n.now) part ≡ part_of sources.now (header_seen header.now) }
-    ensures { OnOk result (map finding_of found.new.items ≡ map finding_of found.old.items ++ private_faults sources.now file.now (header_seen header.now) (mention_seen mention.now)) }
+    requires { option_map (λ n. n.now) part ≡ part_of sources.now (header_model header.now) }
+    ensures { OnOk result (map finding_of found.new.items ≡ map finding_of found.old.items ++ private_faults sources.now file.now (header_model header.now) (mention_model mention.now)) }
 {
     let names = lineage(alloc, mention.name.as_slice())?;
     if has_hidden(alloc, sources, header, part, names.as_slice())? {
@@ -175,7 +175,7 @@ pub(crate) fn add_private_faults(
     found: &mut Vec<Diagnostic>,
 ) -> Result<(), NoMemory>
     requires { count ≡ length sources.now }
-    ensures { OnOk result (map finding_of found.new.items ≡ map finding_of found.old.items ++ flat_map (private_faults sources.now file.now (header_seen header.now)) (map mention_seen header.now.mentions.items)) }
+    ensures { OnOk result (map finding_of found.new.items ≡ map finding_of found.old.items ++ flat_map (private_faults sources.now file.now (header_model header.now)) (map mention_model header.now.mentions.items)) }
 {
     let part = part_of(sources, count, header);
     for mention in header.mentions.as_slice() {

@@ -2,7 +2,7 @@ ghost use Rattle.std.specs.Prelude.{◌≤◌, length};
 
 use crate::faults;
 use al_base::{Name, NoMemory, Place};
-use al_shortage::Shortages;
+use al_base_shortage::AllocFailures;
 use al_unit_graph::{Contents, Header, Mention, Source, Sources, UnitForm};
 use std::alloc::Global;
 use std::rc::Rc;
@@ -63,7 +63,7 @@ fn package(alloc: Global, sources: &mut Sources, file: &[u8], name: &[u8]) -> Re
 
 // How many files have this fault, and how many faults there are.
 fn count_of(alloc: Global, sources: &Sources, code: u16) -> Result<(usize, usize), NoMemory> {
-    let found = faults(alloc, sources, &mut Shortages::new())?;
+    let found = faults(alloc, sources, &mut AllocFailures::new())?;
     let these = found.iter().filter(|d| d.code == code).count();
     Ok((these, found.len()))
 }
@@ -92,9 +92,9 @@ fn units_on_a_cycle_alone_have_the_fault(rt: HostRuntime) -> Result<(), Fail> {
         with(alloc, b"z", form, b"x")?,
     )?;
     assert_eq!(rt; count_of(alloc, &sources, 203)?, (2, 2));
-    let mut shortages = Shortages::new();
-    let found = faults(alloc, &sources, &mut shortages)?;
-    assert_eq!(rt; shortages.count(), 0);
+    let mut failures = AllocFailures::new();
+    let found = faults(alloc, &sources, &mut failures)?;
+    assert_eq!(rt; failures.count(), 0);
     let second = found.get(1).expect(&rt, "there are two");
     assert_eq!(rt; second.file.as_slice(), b"y.ads".as_slice());
     assert_eq!(rt; second.place, Place { line: 1, col: 1 });
@@ -145,7 +145,7 @@ fn a_subunit_belongs_to_its_parent_body(rt: HostRuntime) -> Result<(), Fail> {
     put(alloc, &mut sources, b"m-s.adb", outside)?;
     let own = with(alloc, b"x.q", UnitForm::PackageDeclaration, b"x.p")?;
     put(alloc, &mut sources, b"x-q.ads", own)?;
-    let found = faults(alloc, &sources, &mut Shortages::new())?;
+    let found = faults(alloc, &sources, &mut AllocFailures::new())?;
     let codes = found.iter().filter(|d| d.code == 204).count();
     assert_eq!(rt; codes, 2);
     Ok(())

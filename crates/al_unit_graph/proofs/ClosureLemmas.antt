@@ -15,14 +15,14 @@ use Rattle.al_unit_graph.specs.Headers.{Header, Library}
 use Rattle.al_unit_graph.specs.Library.{unit_at, is_kind, declaration_of}
 use Rattle.al_unit_graph.specs.Dependence.{direct, listed, DependsOn}
 use Rattle.al_unit_graph.specs.Dependence.DependsOn.{directly, through}
-use Rattle.al_graph.specs.Closing.{Reached}
-use Rattle.al_graph.specs.Closing.Reached.{start, further}
+use Rattle.al_base_graph.specs.Closing.{Reached}
+use Rattle.al_base_graph.specs.Closing.Reached.{start, further}
 use Rattle.al_unit_graph.specs.Closures.{next, is_same_key, with_item, with_items}
 use Rattle.al_unit_graph.specs.Needed.{body_of, subunits_of, Needed}
 use Rattle.al_unit_graph.specs.Needed.Needed.{main_unit, dependence, body, subunit}
 use Rattle.al_unit_graph.specs.declared.closure.Step.TheVariants.{Dependence, Need}
 use Rattle.al_unit_graph.proofs.BoolLemmas.{both}
-use Rattle.al_graph.proofs.Members.{nowhere, the_one, one, first, later, first_or_later}
+use Rattle.al_base_graph.proofs.Members.{nowhere, the_one, one, first, later, first_or_later}
 
 same_kind : (a b : UnitKind) → is_kind a b ≡ true → a ≡ b
 same_kind Decl Decl is = refl

@@ -18,7 +18,7 @@ use Rattle.al_unit_graph.specs.Faults.BreaksByItself.{missing_mention, missing_p
 use Rattle.al_unit_graph.specs.FaultLists.{finding_if, name_faults, is_missing, mention_faults, is_no_package, is_no_parent, has_no_parent, has_stub, lacks_stub, has_no_stub, parent_faults, is_alike, fits, is_misfit, declaration_faults, own_faults, NameFaultsAreMisnames, OwnFaultsAreBroken}
 use Rattle.al_unit_graph.proofs.BoolLemmas.{not_both, not_true, true_not, not_so, both, and}
 use Rattle.al_unit_graph.proofs.ClosureLemmas.{found}
-use Rattle.al_graph.proofs.Members.{any_into, nowhere, the_one, one, from_flat_map, into_flat_map}
+use Rattle.al_base_graph.proofs.Members.{any_into, nowhere, the_one, one, from_flat_map, into_flat_map}
 
 alike : (x y : Bool) → is_alike x y ≡ true → x ≡ y
 alike true true is = refl

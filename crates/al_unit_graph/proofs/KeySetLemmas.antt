@@ -6,7 +6,7 @@ use Rattle.std.specs.declared.cmp.Ordering.TheVariants.{Less, Equal, Greater}
 use Rattle.std.specs.BTreeSet.{insert_key}
 use Rattle.al_base.specs.declared.unit_key.UnitKind.{UnitKind}
 use Rattle.al_base.specs.declared.unit_key.UnitKind.TheVariants.{Decl, Body, Sub}
-use Rattle.al_unit_graph.specs.Orders.{key_cmp, keys_seen}
+use Rattle.al_unit_graph.specs.Orders.{key_cmp, keys_model}
 
 module _ {Y : Type 0} (R : Vec ℕ Y × UnitKind → Vec ℕ Y × UnitKind → Ordering) where
   abbrev Same : Vec ℕ Y → Vec ℕ Y → UnitKind → UnitKind → Type 0
@@ -28,13 +28,13 @@ module _ {Y : Type 0} (R : Vec ℕ Y × UnitKind → Vec ℕ Y × UnitKind → O
     alike n m Sub Body = (kinds n m).7
     alike n m Sub Sub = (kinds n m).8
 
-    seen_by : (x : Vec ℕ Y × UnitKind) (xs : List (Vec ℕ Y × UnitKind)) (k : Vec ℕ Y × UnitKind) (o : Ordering) → keys_seen (insert_key R xs k) ≡ insert_key key_cmp (keys_seen xs) (k.0.items, k.1) → keys_seen (match_ordering o (k ∷ x ∷ xs) (x ∷ xs) (x ∷ insert_key R xs k)) ≡ match_ordering o ((k.0.items, k.1) ∷ keys_seen (x ∷ xs)) (keys_seen (x ∷ xs)) ((x.0.items, x.1) ∷ insert_key key_cmp (keys_seen xs) (k.0.items, k.1))
-    seen_by x xs k Less rest = refl
-    seen_by x xs k Equal rest = refl
-    seen_by x xs k Greater rest = ap (λ ks. (x.0.items, x.1) ∷ ks) rest
+    map_ok : (x : Vec ℕ Y × UnitKind) (xs : List (Vec ℕ Y × UnitKind)) (k : Vec ℕ Y × UnitKind) (o : Ordering) → keys_model (insert_key R xs k) ≡ insert_key key_cmp (keys_model xs) (k.0.items, k.1) → keys_model (match_ordering o (k ∷ x ∷ xs) (x ∷ xs) (x ∷ insert_key R xs k)) ≡ match_ordering o ((k.0.items, k.1) ∷ keys_model (x ∷ xs)) (keys_model (x ∷ xs)) ((x.0.items, x.1) ∷ insert_key key_cmp (keys_model xs) (k.0.items, k.1))
+    map_ok x xs k Less rest = refl
+    map_ok x xs k Equal rest = refl
+    map_ok x xs k Greater rest = ap (λ ks. (x.0.items, x.1) ∷ ks) rest
 
-    pub keys_seen-insert_key : (xs : List (Vec ℕ Y × UnitKind)) (k : Vec ℕ Y × UnitKind) → keys_seen (insert_key R xs k) ≡ insert_key key_cmp (keys_seen xs) (k.0.items, k.1)
-    keys_seen-insert_key [] k = refl
-    keys_seen-insert_key (x ∷ xs) k =
-        seen_by x xs k (R k x) (keys_seen-insert_key xs k)
-        ∙ ap (λ o. match_ordering o ((k.0.items, k.1) ∷ keys_seen (x ∷ xs)) (keys_seen (x ∷ xs)) ((x.0.items, x.1) ∷ insert_key key_cmp (keys_seen xs) (k.0.items, k.1))) (alike k.0 x.0 k.1 x.1)
+    pub keys_model-insert_key : (xs : List (Vec ℕ Y × UnitKind)) (k : Vec ℕ Y × UnitKind) → keys_model (insert_key R xs k) ≡ insert_key key_cmp (keys_model xs) (k.0.items, k.1)
+    keys_model-insert_key [] k = refl
+    keys_model-insert_key (x ∷ xs) k =
+        map_ok x xs k (R k x) (keys_model-insert_key xs k)
+        ∙ ap (λ o. match_ordering o ((k.0.items, k.1) ∷ keys_model (x ∷ xs)) (keys_model (x ∷ xs)) ((x.0.items, x.1) ∷ insert_key key_cmp (keys_model xs) (k.0.items, k.1))) (alike k.0 x.0 k.1 x.1)

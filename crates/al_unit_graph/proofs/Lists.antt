@@ -1,7 +1,7 @@
 -- Elements of lists that are mapped, filtered or tested.
 use Rattle.std.proofs.Common.{◌≡◌, Bool, true, false, ◌&&◌, cond, List, [], ◌∷◌, ◌⊎◌, inl, inr, map, refl, ap, subst, sym, ◌∙◌}
 use Rattle.std.specs.List.{Contains, filter, list_all}
-use Rattle.al_graph.proofs.Members.{nowhere, first, later, first_or_later}
+use Rattle.al_base_graph.proofs.Members.{nowhere, first, later, first_or_later}
 
 pub map_twice : {X Y Z : Type 0} (g : Y → Z) (f : X → Y) (xs : List X) → map (λ x. g (f x)) xs ≡ map g (map f xs)
 map_twice g f [] = refl

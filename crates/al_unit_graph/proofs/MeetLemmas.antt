@@ -6,11 +6,11 @@ use Rattle.std.specs.List.{Contains}
 use Rattle.std.proofs.lemmas.Slice.Eq.{bytes_eq-Decides}
 use Rattle.al_unit_graph.specs.Headers.{Header, Library}
 use Rattle.al_unit_graph.specs.Library.{unit_in}
-use Rattle.al_graph.specs.Closing.{Reached}
-use Rattle.al_graph.specs.Closing.Reached.{start, further}
+use Rattle.al_base_graph.specs.Closing.{Reached}
+use Rattle.al_base_graph.specs.Closing.Reached.{start, further}
 use Rattle.al_unit_graph.specs.Traces.{wanted_files, wants, Meets}
 use Rattle.al_unit_graph.specs.Traces.Meets.{itself, wanted}
-use Rattle.al_graph.proofs.Members.{nowhere, the_one, one}
+use Rattle.al_base_graph.proofs.Members.{nowhere, the_one, one}
 
 pub same_name : (a b : List ℕ) → bytes_eq a b ≡ true → a ≡ b
 same_name a b is = (bytes_eq-Decides a b).0 is

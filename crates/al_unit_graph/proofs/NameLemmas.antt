@@ -5,7 +5,7 @@ use Rattle.std.proofs.lemmas.Grind.{common_steps}
 use Rattle.std.specs.List.{last_or}
 use Rattle.al_unit_graph.specs.Names.{ancestors}
 
--- the name of an ancestor, where a dot stands behind it
+-- the name of an ancestor, where a dot stands after it
 abbrev pub where_dot : Bool → List ℕ → List (List ℕ)
 where_dot is_dot xs = if is_dot then xs ∷ [] else []
 

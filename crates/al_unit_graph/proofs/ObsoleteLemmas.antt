@@ -11,7 +11,7 @@ use Rattle.al_unit_graph.specs.Headers.{Header, Library}
 use Rattle.al_unit_graph.specs.Library.{unit_at}
 use Rattle.al_unit_graph.specs.Traces.{text_at, is_same_text, is_changed, Meets, IsTouched, HasSameTrace, AreReadAlike, IsObsolete}
 use Rattle.al_unit_graph.proofs.BoolLemmas.{not_both, not_true, not_so}
-use Rattle.al_graph.proofs.Members.{or, any_from, any_into}
+use Rattle.al_base_graph.proofs.Members.{or, any_from, any_into}
 use Rattle.al_unit_graph.proofs.TraceLemmas.{traces_are_touched}
 use Rattle.al_unit_graph.proofs.FaultLemmas.{any, told_any}
 

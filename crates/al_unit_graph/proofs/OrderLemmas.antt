@@ -12,7 +12,7 @@ use Rattle.std.proofs.lemmas.Map.Lookups.{CmpEqualImpliesEq, exact_bytes, exact_
 use Rattle.al_base.specs.Batch.{Key}
 use Rattle.al_base.specs.Files.{name_cmp}
 use Rattle.al_base.specs.declared.unit_key.UnitKind.TheVariants.{Decl, Body, Sub}
-use Rattle.al_graph.proofs.Members.{nowhere, first, later, first_or_later, one, the_one}
+use Rattle.al_base_graph.proofs.Members.{nowhere, first, later, first_or_later, one, the_one}
 use Rattle.al_unit_graph.specs.Orders.{kind_place, key_cmp, in_order}
 
 module _ {K : Type 0} (R : K → K → Ordering) where

@@ -65,8 +65,8 @@ module _ {S X : Type 0} (R : S → S → Ordering) (view : S → X) (is_same : X
   item_by false xs y x is = list_any-append (λ z. is_same z x) xs (y ∷ []) ∙ last (has xs x) (is_same y x)
 
   module _ (ks : List S) (k : S) (xs : List X) (so_far : AreAlike is_same (map view ks) xs) where
-    pub one_seen : AreAlike is_same (map view (insert_key R ks k)) (with_item is_same xs (view k))
-    one_seen = record {
+    pub one_model : AreAlike is_same (map view (insert_key R ks k)) (with_item is_same xs (view k))
+    one_model = record {
       alike = λ x. with_inserted ks k x ∙ ap (λ b. is_same (view k) x || b) (so_far.alike x) ∙ sym (item_by (has xs (view k)) xs (view k) x refl);
     }
 
@@ -148,7 +148,7 @@ key_added {Y} R now ks k keys b is asked kinds so_far =
     let view : Vec ℕ Y × UnitKind → Key = λ s. (s.0.items, s.1) in
     let P : List (Vec ℕ Y × UnitKind) → Type 0 = λ ns. AreAlike is_same_key (map view ns) (with_item is_same_key keys (view k)) in
     record {
-      alike = subst P (sym is) (one_seen R view is_same_key same_key itself_key (tells_key R kinds) ks k keys so_far);
+      alike = subst P (sym is) (one_model R view is_same_key same_key itself_key (tells_key R kinds) ks k keys so_far);
       old = one_old R view is_same_key same_key itself_key (tells_key R kinds) ks k keys so_far b asked;
       new = one_new R view is_same_key same_key itself_key (tells_key R kinds) ks k keys so_far b asked;
     }
@@ -159,7 +159,7 @@ name_added {Y} now ks k names b is asked so_far =
     let R : Vec ℕ Y → Vec ℕ Y → Ordering = λ x y. slice_cmp nat_cmp x.items y.items in
     let P : List (Vec ℕ Y) → Type 0 = λ ns. AreAlike bytes_eq (map view ns) (with_item bytes_eq names (view k)) in
     record {
-      alike = subst P (sym is) (one_seen R view bytes_eq same_name itself_name tells_name ks k names so_far);
+      alike = subst P (sym is) (one_model R view bytes_eq same_name itself_name tells_name ks k names so_far);
       old = one_old R view bytes_eq same_name itself_name tells_name ks k names so_far b asked;
       new = one_new R view bytes_eq same_name itself_name tells_name ks k names so_far b asked;
     }

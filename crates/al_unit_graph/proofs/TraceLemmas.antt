@@ -12,7 +12,7 @@ use Rattle.al_unit_graph.specs.Names.{lineage, parent_of}
 use Rattle.al_unit_graph.specs.Library.{source_at, is_there, unit_in, held}
 use Rattle.al_unit_graph.specs.Traces.{text_at, has_no_file, declaration_files, own_files, parent_files, mention_files, wanted_files, Meets, HasSameTrace, IsTouched, AreReadAlike, TracesAreTouched}
 use Rattle.al_unit_graph.specs.Traces.Meets.{itself, wanted}
-use Rattle.al_graph.proofs.Members.{first}
+use Rattle.al_base_graph.proofs.Members.{first}
 
 same_bytes : (x y : List ℕ) (b : Bool) → bytes_eq x y ≡ b → (x ≡ y) ⊎ (x ≢ y)
 same_bytes x y true is = inl ((bytes_eq-Decides x y).0 is)

@@ -40,13 +40,13 @@ abbrev pub IsPrivateDescendant : Library → List ℕ → Option (List ℕ) → 
 IsPrivateDescendant lib name ancestor = (between : List ℕ) × Contains (lineage name) between × DescendsBelow between ancestor × IsPrivate lib between
 
 -- a body or a subunit, and not a body that acts as a declaration
-abbrev pub IsBehindDeclaration : Library → Header → Type 0
-IsBehindDeclaration lib h = (kind_of h.form ≢ Decl) × (acts_as_declaration lib h ≡ false)
+abbrev pub IsAfterDeclaration : Library → Header → Type 0
+IsAfterDeclaration lib h = (kind_of h.form ≢ Decl) × (acts_as_declaration lib h ≡ false)
 
 -- where private children of a unit may be mentioned (ARM 10.1.2(8))
 abbrev pub MayMentionChildrenOf : Library → Header → Option (List ℕ) → Type 0
 MayMentionChildrenOf lib h parent =
-    (name : List ℕ) × IsPartOf lib h name × (IsPrivateDescendant lib name parent ⊎ (Descends name parent × IsBehindDeclaration lib h))
+    (name : List ℕ) × IsPartOf lib h name × (IsPrivateDescendant lib name parent ⊎ (Descends name parent × IsAfterDeclaration lib h))
 
 -- the declaration of this name is sound and no package's: a subprogram's, or a body that acts as one
 abbrev pub IsNoPackage : Library → List ℕ → Type 0

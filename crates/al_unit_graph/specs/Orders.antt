@@ -22,9 +22,9 @@ unfoldable pub in_order : List Key → List Key
 in_order keys = fold (insert_key key_cmp) [] keys
 
 -- the keys of a set, seen as keys of units
-abbrev pub keys_seen : {Y : Type 0} → List (Vec ℕ Y × UnitKind) → List Key
-keys_seen keys = map (λ k. (k.0.items, k.1)) keys
+abbrev pub keys_model : {Y : Type 0} → List (Vec ℕ Y × UnitKind) → List Key
+keys_model keys = map (λ k. (k.0.items, k.1)) keys
 
 -- the names of a set
-abbrev pub names_seen : {Y : Type 0} → List (Vec ℕ Y) → List (List ℕ)
-names_seen names = map (λ n. n.items) names
+abbrev pub names_model : {Y : Type 0} → List (Vec ℕ Y) → List (List ℕ)
+names_model names = map (λ n. n.items) names

@@ -9,19 +9,19 @@ use Rattle.al_unit_graph.specs.declared.source.Contents.{Contents}
 use Rattle.al_unit_graph.specs.declared.source.Contents.TheVariants.{Headed, Unread}
 use Rattle.al_unit_graph.specs.declared.source.Source.{Source}
 
-abbrev pub mention_seen : Mention → plain.Mention
-mention_seen m = record { name = m.name; place = m.place }
+abbrev pub mention_model : Mention → plain.Mention
+mention_model m = record { name = m.name; place = m.place }
 
-abbrev pub header_seen : Header → plain.Header
-header_seen h = record {
+abbrev pub header_model : Header → plain.Header
+header_model h = record {
   name = h.name;
   place = h.place;
   form = h.form;
   is_private = h.is_private;
   needs_body = h.needs_body;
-  parent_body = option_map mention_seen h.parent_body;
+  parent_body = option_map mention_model h.parent_body;
   designator = h.designator;
-  mentions = map mention_seen h.mentions.items;
+  mentions = map mention_model h.mentions.items;
   stubs = h.stubs.items;
   elaborate = h.elaborate.items;
   elaborate_all = h.elaborate_all.items;
@@ -29,12 +29,12 @@ header_seen h = record {
   is_parameterless_procedure = h.is_parameterless_procedure;
 }
 
-abbrev pub contents_seen : Contents → plain.Contents
-contents_seen (Headed h) = plain.Headed (header_seen h)
-contents_seen (Unread place code) = plain.Unread place code
+abbrev pub contents_model : Contents → plain.Contents
+contents_model (Headed h) = plain.Headed (header_model h)
+contents_model (Unread place code) = plain.Unread place code
 
-abbrev pub source_seen : Source → plain.Source
-source_seen s = record { text = s.text.value.items; contents = contents_seen s.contents }
+abbrev pub source_model : Source → plain.Source
+source_model s = record { text = s.text.value.items; contents = contents_model s.contents }
 
 abbrev pub library_of : {Y W : Type 0} → List (Vec ℕ Y × Rc Source W) → plain.Library
-library_of entries = map (λ e. (e.0.items, source_seen e.1.value)) entries
+library_of entries = map (λ e. (e.0.items, source_model e.1.value)) entries

@@ -6,7 +6,7 @@ ghost use Rattle.al_base.specs.Batch.{key_of, Key};
 ghost use Rattle.al_unit_graph.specs.Dependence.{direct, DependsOn};
 ghost use Rattle.al_unit_graph.specs.Needed.{present, body_of, Needed};
 ghost use Rattle.al_base.specs.declared.unit_key.UnitKind.TheVariants.{Sub};
-ghost use Rattle.al_graph.specs.Closing.{Reached};
+ghost use Rattle.al_base_graph.specs.Closing.{Reached};
 ghost use Rattle.al_unit_graph.specs.Closures.{needs, next};
 ghost use Rattle.al_unit_graph.specs.Library.{is_unit};
 ghost use Rattle.al_unit_graph.specs.Orders.{key_cmp, in_order};

@@ -7,7 +7,7 @@ ghost use Rattle.al_unit_graph.specs.Headers.{is_library_body, is_subprogram_bod
 ghost use Rattle.al_unit_graph.specs.Names.{lineage, parent_of};
 ghost use Rattle.al_unit_graph.specs.Library.{declaration_of, parent_body_of};
 ghost use Rattle.al_unit_graph.specs.Dependence.{listed, declared, parent_declaration, own_declaration, parent_dependences, mention_dependences, dependences};
-ghost use Rattle.al_unit_graph.specs.Views.{mention_seen, header_seen};
+ghost use Rattle.al_unit_graph.specs.Views.{mention_model, header_model};
 
 use crate::header::{Header, Mention, UnitForm};
 use crate::names::{lineage, parent_of};
@@ -86,7 +86,7 @@ impl Sources {
 
     /// Adds the declaration that a body completes, where that is another file's.
     fn add_own(&self, header: &Header, keys: &mut Vec<UnitKey>) -> Result<(), NoMemory>
-        ensures { OnOk result (map key_of keys.new.items ≡ map key_of keys.old.items ++ own_declaration self.now (header_seen header.now)) }
+        ensures { OnOk result (map key_of keys.new.items ≡ map key_of keys.old.items ++ own_declaration self.now (header_model header.now)) }
     {
         let name = header.name.as_slice();
         if is_library_body(header.form) && self.has_declaration_file(name) {
@@ -98,7 +98,7 @@ impl Sources {
 
     /// Adds what the unit depends on for what it is.
     fn add_parents(&self, header: &Header, keys: &mut Vec<UnitKey>) -> Result<(), NoMemory>
-        ensures { OnOk result (map key_of keys.new.items ≡ map key_of keys.old.items ++ parent_dependences self.now (header_seen header.now) (option_map mention_seen header.now.parent_body)) }
+        ensures { OnOk result (map key_of keys.new.items ≡ map key_of keys.old.items ++ parent_dependences self.now (header_model header.now) (option_map mention_model header.now.parent_body)) }
     {
         match &header.parent_body {
             Some(parent) => {
@@ -137,7 +137,7 @@ impl Sources {
 
     /// Adds the declarations of a mentioned unit and of its ancestors.
     fn add_mentioned(&self, mention: &Mention, keys: &mut Vec<UnitKey>) -> Result<(), NoMemory>
-        ensures { OnOk result (map key_of keys.new.items ≡ map key_of keys.old.items ++ mention_dependences self.now (mention_seen mention.now)) }
+        ensures { OnOk result (map key_of keys.new.items ≡ map key_of keys.old.items ++ mention_dependences self.now (mention_model mention.now)) }
     {
         let names = lineage(self.alloc, mention.name.as_slice())?;
         self.add_declarations(names.as_slice(), keys)
@@ -145,7 +145,7 @@ impl Sources {
 
     /// Adds the declarations of the units that the context clause mentions, and of their ancestors.
     fn add_context(&self, mentions: &[Mention], keys: &mut Vec<UnitKey>) -> Result<(), NoMemory>
-        ensures { OnOk result (map key_of keys.new.items ≡ map key_of keys.old.items ++ flat_map (mention_dependences self.now) (map mention_seen mentions.now)) }
+        ensures { OnOk result (map key_of keys.new.items ≡ map key_of keys.old.items ++ flat_map (mention_dependences self.now) (map mention_model mentions.now)) }
     {
         for mention in mentions {
             self.add_mentioned(mention, keys)?;
@@ -157,7 +157,7 @@ impl Sources {
     /// units that it mentions and of their ancestors.
     #[tactic(auto, unfolding(crate::specs::Dependence::dependences))]
     pub fn dependences(&self, header: &Header) -> Result<Vec<UnitKey>, NoMemory>
-        ensures { IfOk result (λ keys. map key_of keys.items ≡ dependences self.now (header_seen header.now)) }
+        ensures { IfOk result (λ keys. map key_of keys.items ≡ dependences self.now (header_model header.now)) }
     {
         let mut keys = Vec::new(self.alloc);
         self.add_parents(header, &mut keys)?;

@@ -4,11 +4,11 @@ ghost use Rattle.std.specs.Option.{option_map, option_map_or};
 ghost use Rattle.std.specs.List.{flat_map, list_any};
 ghost use Rattle.std.specs.Str.{bytes_eq};
 ghost use Rattle.al_base.specs.Batch.{finding_of};
-ghost use Rattle.al_shortage.specs.Counts.{counted};
+ghost use Rattle.al_base_shortage.specs.Counts.{counted};
 ghost use Rattle.al_unit_graph.specs.Headers.{is_package, is_package_body};
 ghost use Rattle.al_unit_graph.specs.Names.{parent_of};
 ghost use Rattle.al_unit_graph.specs.FaultLists.{finding_if, name_faults, is_missing, mention_faults, is_no_parent, has_no_parent, has_no_stub, parent_faults, fits, is_misfit, declaration_faults, own_faults};
-ghost use Rattle.al_unit_graph.specs.Views.{mention_seen, header_seen};
+ghost use Rattle.al_unit_graph.specs.Views.{mention_model, header_model};
 
 use crate::dependence::is_library_body;
 use crate::header::{Header, Mention, UnitForm};
@@ -17,7 +17,7 @@ use crate::source::Sources;
 use crate::units::kind_of;
 use crate::wanted::file_of;
 use al_base::{Diagnostic, Name, NoMemory, Place, UnitKind};
-use al_shortage::Shortages;
+use al_base_shortage::AllocFailures;
 use std::alloc::Global;
 
 /// Adds a finding.
@@ -36,16 +36,16 @@ fn add_if(
     place: Place,
     code: u16,
     found: &mut Vec<Diagnostic>,
-    shortages: &mut Shortages,
+    failures: &mut AllocFailures,
 ) -> Result<(), NoMemory>
     ensures found { OnOk result (map finding_of found.new.items ≡ map finding_of found.old.items ++ finding_if is_so file.now place code) }
-    ensures shortages { shortages.new ≡ counted (is_ok result) shortages.old }
+    ensures failures { failures.new ≡ counted (is_ok result) failures.old }
 {
     if !is_so {
         return Ok(());
     }
-    let file = shortages.of(Name::from_slice(alloc, file))?;
-    shortages.of(add(found, Diagnostic { file, place, code }))
+    let file = failures.of(Name::from_slice(alloc, file))?;
+    failures.of(add(found, Diagnostic { file, place, code }))
 }
 
 /// Adds what is wrong with the name of a file's unit.
@@ -55,17 +55,17 @@ fn add_name_faults(
     file: &[u8],
     header: &Header,
     found: &mut Vec<Diagnostic>,
-    shortages: &mut Shortages,
+    failures: &mut AllocFailures,
 ) -> Result<(), NoMemory>
-    ensures found { OnOk result (map finding_of found.new.items ≡ map finding_of found.old.items ++ name_faults file.now (header_seen header.now)) }
-    ensures shortages { shortages.new ≡ counted (is_ok result) shortages.old }
+    ensures found { OnOk result (map finding_of found.new.items ≡ map finding_of found.old.items ++ name_faults file.now (header_model header.now)) }
+    ensures failures { failures.new ≡ counted (is_ok result) failures.old }
 {
     let name = header.name.as_slice();
-    let wanted = shortages.of(file_of(alloc, name, kind_of(header.form)))?;
+    let wanted = failures.of(file_of(alloc, name, kind_of(header.form)))?;
     let differs = file != wanted.as_slice();
-    add_if(alloc, differs, file, header.place, 201, found, shortages)?;
+    add_if(alloc, differs, file, header.place, 201, found, failures)?;
     let is_taken = is_reserved(name);
-    add_if(alloc, is_taken, file, header.place, 207, found, shortages)
+    add_if(alloc, is_taken, file, header.place, 207, found, failures)
 }
 
 /// What is wrong with the name of a file's unit: it wants another file, or is the implementation's. Each want of memory that it
@@ -74,13 +74,13 @@ pub fn name_faults(
     alloc: Global,
     file: &[u8],
     header: &Header,
-    shortages: &mut Shortages,
+    failures: &mut AllocFailures,
 ) -> Result<Vec<Diagnostic>, NoMemory>
-    ensures found { IfOk result (λ found. map finding_of found.items ≡ name_faults file.now (header_seen header.now)) }
-    ensures shortages { shortages.new ≡ counted (is_ok result) shortages.old }
+    ensures found { IfOk result (λ found. map finding_of found.items ≡ name_faults file.now (header_model header.now)) }
+    ensures failures { failures.new ≡ counted (is_ok result) failures.old }
 {
     let mut found = Vec::new(alloc);
-    add_name_faults(alloc, file, header, &mut found, shortages)?;
+    add_name_faults(alloc, file, header, &mut found, failures)?;
     Ok(found)
 }
 
@@ -112,7 +112,7 @@ fn contains_name(names: &[Name], name: &[u8]) -> bool
 
 /// Whether a body fits its declaration.
 fn fits(body: &Header, declaration: &Header) -> bool
-    ensures { result ≡ fits (header_seen body.now) (header_seen declaration.now) }
+    ensures { result ≡ fits (header_model body.now) (header_model declaration.now) }
 {
     declaration.needs_body && is_package(declaration.form) == is_package_body(body.form)
 }
@@ -131,10 +131,10 @@ impl Sources {
         file: &[u8],
         mention: &Mention,
         found: &mut Vec<Diagnostic>,
-        shortages: &mut Shortages,
+        failures: &mut AllocFailures,
     ) -> Result<(), NoMemory>
-        ensures found { OnOk result (map finding_of found.new.items ≡ map finding_of found.old.items ++ mention_faults self.now file.now (mention_seen mention.now)) }
-        ensures shortages { shortages.new ≡ counted (is_ok result) shortages.old }
+        ensures found { OnOk result (map finding_of found.new.items ≡ map finding_of found.old.items ++ mention_faults self.now file.now (mention_model mention.now)) }
+        ensures failures { failures.new ≡ counted (is_ok result) failures.old }
     {
         let is_missing = self.is_missing(mention.name.as_slice());
         add_if(
@@ -144,7 +144,7 @@ impl Sources {
             mention.place,
             202,
             found,
-            shortages,
+            failures,
         )
     }
 
@@ -154,13 +154,13 @@ impl Sources {
         file: &[u8],
         mentions: &[Mention],
         found: &mut Vec<Diagnostic>,
-        shortages: &mut Shortages,
+        failures: &mut AllocFailures,
     ) -> Result<(), NoMemory>
-        ensures found { OnOk result (map finding_of found.new.items ≡ map finding_of found.old.items ++ flat_map (mention_faults self.now file.now) (map mention_seen mentions.now)) }
-        ensures shortages { shortages.new ≡ counted (is_ok result) shortages.old }
+        ensures found { OnOk result (map finding_of found.new.items ≡ map finding_of found.old.items ++ flat_map (mention_faults self.now file.now) (map mention_model mentions.now)) }
+        ensures failures { failures.new ≡ counted (is_ok result) failures.old }
     {
         for mention in mentions {
-            self.add_mention_faults(file, mention, found, shortages)?;
+            self.add_mention_faults(file, mention, found, failures)?;
         }
         Ok(())
     }
@@ -207,15 +207,15 @@ impl Sources {
         file: &[u8],
         header: &Header,
         found: &mut Vec<Diagnostic>,
-        shortages: &mut Shortages,
+        failures: &mut AllocFailures,
     ) -> Result<(), NoMemory>
-        ensures found { OnOk result (map finding_of found.new.items ≡ map finding_of found.old.items ++ parent_faults self.now file.now (header_seen header.now) (option_map mention_seen header.now.parent_body)) }
-        ensures shortages { shortages.new ≡ counted (is_ok result) shortages.old }
+        ensures found { OnOk result (map finding_of found.new.items ≡ map finding_of found.old.items ++ parent_faults self.now file.now (header_model header.now) (option_map mention_model header.now.parent_body)) }
+        ensures failures { failures.new ≡ counted (is_ok result) failures.old }
     {
         match &header.parent_body {
             None => {
                 let is_so = self.has_no_parent(header.name.as_slice());
-                add_if(self.alloc, is_so, file, header.place, 205, found, shortages)
+                add_if(self.alloc, is_so, file, header.place, 205, found, failures)
             }
             Some(parent) => {
                 let name = parent.name.as_slice();
@@ -227,17 +227,17 @@ impl Sources {
                     parent.place,
                     202,
                     found,
-                    shortages,
+                    failures,
                 )?;
                 let is_so = self.has_no_stub(name, header.designator.as_slice());
-                add_if(self.alloc, is_so, file, header.place, 206, found, shortages)
+                add_if(self.alloc, is_so, file, header.place, 206, found, failures)
             }
         }
     }
 
     /// Whether a body's declaration is sound and the body doesn't fit it.
     fn is_misfit(&self, header: &Header) -> bool
-        ensures { result ≡ is_misfit self.now (header_seen header.now) }
+        ensures { result ≡ is_misfit self.now (header_model header.now) }
     {
         if !is_library_body(header.form) {
             return false;
@@ -254,10 +254,10 @@ impl Sources {
         file: &[u8],
         header: &Header,
         found: &mut Vec<Diagnostic>,
-        shortages: &mut Shortages,
+        failures: &mut AllocFailures,
     ) -> Result<(), NoMemory>
-        ensures found { OnOk result (map finding_of found.new.items ≡ map finding_of found.old.items ++ declaration_faults self.now file.now (header_seen header.now)) }
-        ensures shortages { shortages.new ≡ counted (is_ok result) shortages.old }
+        ensures found { OnOk result (map finding_of found.new.items ≡ map finding_of found.old.items ++ declaration_faults self.now file.now (header_model header.now)) }
+        ensures failures { failures.new ≡ counted (is_ok result) failures.old }
     {
         let has_file = self.has_declaration_file(header.name.as_slice());
         let is_missing = is_package_body(header.form) && !has_file;
@@ -268,7 +268,7 @@ impl Sources {
             header.place,
             202,
             found,
-            shortages,
+            failures,
         )?;
         let is_misfit = self.is_misfit(header);
         add_if(
@@ -278,7 +278,7 @@ impl Sources {
             header.place,
             209,
             found,
-            shortages,
+            failures,
         )
     }
 
@@ -289,14 +289,14 @@ impl Sources {
         file: &[u8],
         header: &Header,
         found: &mut Vec<Diagnostic>,
-        shortages: &mut Shortages,
+        failures: &mut AllocFailures,
     ) -> Result<(), NoMemory>
-        ensures found { OnOk result (map finding_of found.new.items ≡ map finding_of found.old.items ++ own_faults self.now file.now (header_seen header.now)) }
-        ensures shortages { shortages.new ≡ counted (is_ok result) shortages.old }
+        ensures found { OnOk result (map finding_of found.new.items ≡ map finding_of found.old.items ++ own_faults self.now file.now (header_model header.now)) }
+        ensures failures { failures.new ≡ counted (is_ok result) failures.old }
     {
-        self.add_context_faults(file, header.mentions.as_slice(), found, shortages)?;
-        self.add_parent_faults(file, header, found, shortages)?;
-        self.add_declaration_faults(file, header, found, shortages)
+        self.add_context_faults(file, header.mentions.as_slice(), found, failures)?;
+        self.add_parent_faults(file, header, found, failures)?;
+        self.add_declaration_faults(file, header, found, failures)
     }
 
     /// What is wrong with a unit of the library by itself and with what it names: units that aren't there, a parent that is no
@@ -306,13 +306,13 @@ impl Sources {
         &self,
         file: &[u8],
         header: &Header,
-        shortages: &mut Shortages,
+        failures: &mut AllocFailures,
     ) -> Result<Vec<Diagnostic>, NoMemory>
-        ensures found { IfOk result (λ found. map finding_of found.items ≡ own_faults self.now file.now (header_seen header.now)) }
-        ensures shortages { shortages.new ≡ counted (is_ok result) shortages.old }
+        ensures found { IfOk result (λ found. map finding_of found.items ≡ own_faults self.now file.now (header_model header.now)) }
+        ensures failures { failures.new ≡ counted (is_ok result) failures.old }
     {
         let mut found = Vec::new(self.alloc);
-        self.add_own_faults(file, header, &mut found, shortages)?;
+        self.add_own_faults(file, header, &mut found, failures)?;
         Ok(found)
     }
 }

@@ -19,11 +19,11 @@ pub struct KeySet {
 impl Model for KeySet {
     ghost use Rattle.std.specs.Prelude.{List};
     ghost use Rattle.al_base.specs.Batch.{Key};
-    ghost use Rattle.al_unit_graph.specs.Orders.{keys_seen};
+    ghost use Rattle.al_unit_graph.specs.Orders.{keys_model};
 
     ghost Value = { List Key };
 
-    ghost view = { λ s. keys_seen s.keys.keys };
+    ghost view = { λ s. keys_model s.keys.keys };
 }
 
 impl KeySet {

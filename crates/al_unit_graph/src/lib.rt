@@ -23,6 +23,3 @@ pub use laws::{name_faults_are_misnames, own_faults_are_broken, traces_are_touch
 pub use names::{ancestors, is_predefined, is_reserved, lineage, parent_of};
 pub use source::{Contents, Source, Sources};
 pub use units::kind_of;
-
-#[cfg(test)]
-mod tests;

@@ -7,7 +7,7 @@ ghost use Rattle.al_base.specs.Batch.{key_of};
 ghost use Rattle.al_base.specs.FileNames.{file_name_of};
 ghost use Rattle.al_base.specs.Files.{name_cmp};
 ghost use Rattle.al_unit_graph.specs.Library.{source_at, unit_at, is_unit};
-ghost use Rattle.al_unit_graph.specs.Views.{source_seen};
+ghost use Rattle.al_unit_graph.specs.Views.{source_model};
 
 use crate::header::Header;
 use al_base::{FileKey, Name, NoMemory, Place, UnitKey, UnitKind};
@@ -65,7 +65,7 @@ impl Sources {
     /// Sets what a file holds, a new one too.
     pub fn insert(&mut self, file: Name, source: Rc<Source>) -> Result<(), NoMemory>
         requires { length file ≤ 255 }
-        ensures { OnOk result (self.new ≡ insert_entry name_cmp self.old file (source_seen source.value)) }
+        ensures { OnOk result (self.new ≡ insert_entry name_cmp self.old file (source_model source.value)) }
     {
         let Ok(_) = self.files.insert(file.into_vec(), source) else {
             return Err(NoMemory);
@@ -75,7 +75,7 @@ impl Sources {
 
     /// What a file holds, as it can be shared.
     pub fn shared_at(&self, file: &[u8]) -> Option<&Rc<Source>>
-        ensures source { option_map (λ source. source_seen source.now.value) result ≡ source_at self.now file.now }
+        ensures source { option_map (λ source. source_model source.now.value) result ≡ source_at self.now file.now }
         ensures short { IfSome result (λ _. length file.now ≤ 255) }
     {
         self.files.get(file)
@@ -83,7 +83,7 @@ impl Sources {
 
     /// What a file holds.
     pub fn source_at(&self, file: &[u8]) -> Option<&Source>
-        ensures source { option_map (λ source. source_seen source.now) result ≡ source_at self.now file.now }
+        ensures source { option_map (λ source. source_model source.now) result ≡ source_at self.now file.now }
         ensures short { IfSome result (λ _. length file.now ≤ 255) }
     {
         match self.shared_at(file) {
@@ -94,7 +94,7 @@ impl Sources {
 
     /// What the file holds in which this part of the unit of the name is looked for. It takes no memory.
     pub(crate) fn source_of(&self, name: &[u8], kind: UnitKind) -> Option<&Source>
-        ensures { option_map (λ source. source_seen source.now) result ≡ source_at self.now (file_name_of (name.now, kind)) }
+        ensures { option_map (λ source. source_model source.now) result ≡ source_at self.now (file_name_of (name.now, kind)) }
     {
         let _ = &self.files;
         match FileKey::of(name, kind) {

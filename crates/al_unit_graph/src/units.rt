@@ -4,7 +4,7 @@ ghost use Rattle.std.specs.Option.{option_map};
 ghost use Rattle.al_base.specs.Batch.{key_of};
 ghost use Rattle.al_unit_graph.specs.Headers.{kind_of};
 ghost use Rattle.al_unit_graph.specs.Library.{is_rightly_named, held, headed_as, unit_in, unit_at, is_unit, has_declaration_file, has_body_file};
-ghost use Rattle.al_unit_graph.specs.Views.{header_seen, contents_seen};
+ghost use Rattle.al_unit_graph.specs.Views.{header_model, contents_model};
 
 use crate::header::{Header, UnitForm};
 use crate::names::{is_reserved, is_without_file};
@@ -25,7 +25,7 @@ pub fn kind_of(form: UnitForm) -> UnitKind
 /// Whether the unit stands in the file that its name wants, and its name isn't the implementation's.
 fn is_rightly_named(file: &[u8], header: &Header) -> bool
     requires { length file.now ≤ 255 }
-    ensures { result ≡ is_rightly_named file.now (header_seen header.now) }
+    ensures { result ≡ is_rightly_named file.now (header_model header.now) }
 {
     let name = header.name.as_slice();
     match FileKey::of(name, kind_of(header.form)) {
@@ -37,7 +37,7 @@ fn is_rightly_named(file: &[u8], header: &Header) -> bool
 /// The unit that a file of this name holds, where it is sound.
 fn held<'a>(file: &[u8], contents: &'a Contents) -> Option<&'a Header>
     requires { length file.now ≤ 255 }
-    ensures { option_map (λ h. header_seen h.now) result ≡ held file.now (contents_seen contents.now) }
+    ensures { option_map (λ h. header_model h.now) result ≡ held file.now (contents_model contents.now) }
 {
     match contents {
         Contents::Headed(header) => {
@@ -53,7 +53,7 @@ fn held<'a>(file: &[u8], contents: &'a Contents) -> Option<&'a Header>
 
 /// The unit of this name and kind that its own file holds.
 fn headed_as<'a>(contents: &'a Contents, name: &[u8], kind: UnitKind) -> Option<&'a Header>
-    ensures { option_map (λ h. header_seen h.now) result ≡ headed_as (contents_seen contents.now) (name.now, kind) }
+    ensures { option_map (λ h. header_model h.now) result ≡ headed_as (contents_model contents.now) (name.now, kind) }
 {
     match contents {
         Contents::Headed(header) => {
@@ -71,7 +71,7 @@ fn headed_as<'a>(contents: &'a Contents, name: &[u8], kind: UnitKind) -> Option<
 impl Sources {
     /// The unit that the file of this name holds.
     pub fn unit_in(&self, file: &[u8]) -> Option<&Header>
-        ensures { option_map (λ h. header_seen h.now) result ≡ unit_in self.now file.now }
+        ensures { option_map (λ h. header_model h.now) result ≡ unit_in self.now file.now }
     {
         match self.source_at(file) {
             Some(source) => held(file, &source.contents),
@@ -82,7 +82,7 @@ impl Sources {
     /// The unit of the library with this name and kind.
     #[tactic(auto, using(crate::proofs::UnitLemmas::unit_at_headed))]
     pub fn unit_at(&self, name: &[u8], kind: UnitKind) -> Option<&Header>
-        ensures { option_map (λ h. header_seen h.now) result ≡ unit_at self.now (name.now, kind) }
+        ensures { option_map (λ h. header_model h.now) result ≡ unit_at self.now (name.now, kind) }
     {
         match self.source_of(name, kind) {
             Some(source) => headed_as(&source.contents, name, kind),
@@ -92,7 +92,7 @@ impl Sources {
 
     /// The unit of the library with this key.
     pub fn unit(&self, key: &UnitKey) -> Option<&Header>
-        ensures { option_map (λ h. header_seen h.now) result ≡ unit_at self.now (key_of key.now) }
+        ensures { option_map (λ h. header_model h.now) result ≡ unit_at self.now (key_of key.now) }
     {
         self.unit_at(key.name.as_slice(), key.kind)
     }

@@ -4,7 +4,7 @@ ghost use Rattle.std.specs.Option.{option_map};
 ghost use Rattle.std.specs.List.{flat_map};
 ghost use Rattle.al_base.specs.FileNames.{file_name_of};
 ghost use Rattle.al_unit_graph.specs.Traces.{text_at, has_no_file, declaration_files, body_files, own_files, parent_files, mention_files, wanted_files};
-ghost use Rattle.al_unit_graph.specs.Views.{mention_seen, header_seen};
+ghost use Rattle.al_unit_graph.specs.Views.{mention_model, header_model};
 
 use crate::dependence::is_library_body;
 use crate::header::{Header, Mention};
@@ -68,7 +68,7 @@ impl Sources {
 
     /// Adds the files of a body's declaration.
     fn add_own_files(&self, header: &Header, files: &mut Vec<Name>) -> Result<(), NoMemory>
-        ensures { OnOk result (files.new.items ≡ files.old.items ++ own_files self.now (header_seen header.now)) }
+        ensures { OnOk result (files.new.items ≡ files.old.items ++ own_files self.now (header_model header.now)) }
     {
         if is_library_body(header.form) {
             self.add_declaration_files(header.name.as_slice(), files)
@@ -79,7 +79,7 @@ impl Sources {
 
     /// Adds the files of the parent's declaration and of a body's own, or of the parent body.
     fn add_parent_files(&self, header: &Header, files: &mut Vec<Name>) -> Result<(), NoMemory>
-        ensures { OnOk result (files.new.items ≡ files.old.items ++ parent_files self.now (header_seen header.now) (option_map mention_seen header.now.parent_body)) }
+        ensures { OnOk result (files.new.items ≡ files.old.items ++ parent_files self.now (header_model header.now) (option_map mention_model header.now.parent_body)) }
     {
         if let Some(parent) = &header.parent_body {
             return self.add_body_file(parent.name.as_slice(), files);
@@ -102,7 +102,7 @@ impl Sources {
 
     /// Adds the files of the declarations of a mentioned unit and of its ancestors.
     fn add_mention_files(&self, mention: &Mention, files: &mut Vec<Name>) -> Result<(), NoMemory>
-        ensures { OnOk result (files.new.items ≡ files.old.items ++ mention_files self.now (mention_seen mention.now)) }
+        ensures { OnOk result (files.new.items ≡ files.old.items ++ mention_files self.now (mention_model mention.now)) }
     {
         let names = lineage(self.alloc, mention.name.as_slice())?;
         self.add_files_of(names.as_slice(), files)
@@ -110,7 +110,7 @@ impl Sources {
 
     /// Adds the files of the units that the context clause mentions.
     fn add_context_files(&self, mentions: &[Mention], files: &mut Vec<Name>) -> Result<(), NoMemory>
-        ensures { OnOk result (files.new.items ≡ files.old.items ++ flat_map (mention_files self.now) (map mention_seen mentions.now)) }
+        ensures { OnOk result (files.new.items ≡ files.old.items ++ flat_map (mention_files self.now) (map mention_model mentions.now)) }
     {
         for mention in mentions {
             self.add_mention_files(mention, files)?;
@@ -121,7 +121,7 @@ impl Sources {
     /// The files that a unit wants, which may not be there.
     #[tactic(auto, unfolding(crate::specs::Traces::wanted_files))]
     pub fn wanted_files(&self, header: &Header) -> Result<Vec<Name>, NoMemory>
-        ensures { IfOk result (λ files. files.items ≡ wanted_files self.now (header_seen header.now)) }
+        ensures { IfOk result (λ files. files.items ≡ wanted_files self.now (header_model header.now)) }
     {
         let mut files = Vec::new(self.alloc);
         self.add_parent_files(header, &mut files)?;

@@ -5,7 +5,7 @@ use Rattle.std.specs.List.{Contains, flat_map, list_any}
 use Rattle.std.specs.Map.{keys_of}
 use Rattle.al_base.specs.Batch.{Finding, Key}
 use Rattle.al_base.specs.FileNames.{file_name_of}
-use Rattle.al_graph.proofs.Members.{nowhere, first, one, the_one, from_flat_map, into_flat_map, any_from, any_into}
+use Rattle.al_base_graph.proofs.Members.{nowhere, first, one, the_one, from_flat_map, into_flat_map, any_from, any_into}
 use Rattle.al_unit_graph.specs.Headers.{Header, Headed, Source, Library, key_of_unit}
 use Rattle.al_unit_graph.specs.Library.{source_at, unit_in, unit_at, is_unit}
 use Rattle.al_unit_graph.specs.Dependence.{listed, DependsOn}

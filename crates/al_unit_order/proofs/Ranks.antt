@@ -2,7 +2,7 @@
 use Rattle.std.proofs.Common.{◌≡◌, ℕ, zero, suc, ◌+◌, ◌<◌, ◌⊎◌, inl, inr, Bool, true, false, List, [], ◌∷◌, ◌++◌, length, if◌then◌else◌, refl, ap, subst, sym, ◌∙◌, add-one, arith}
 use Rattle.std.specs.List.{Contains}
 use Rattle.al_base.specs.Batch.{Key}
-use Rattle.al_graph.proofs.Members.{nowhere, first, later, first_or_later}
+use Rattle.al_base_graph.proofs.Members.{nowhere, first, later, first_or_later}
 use Rattle.al_unit_graph.specs.Headers.{Library}
 use Rattle.al_unit_graph.specs.Dependence.{direct}
 use Rattle.al_unit_graph.specs.Closures.{is_same_key}
@@ -12,7 +12,7 @@ use Rattle.al_unit_faults.proofs.UnitLemmas.{told_same}
 use Rattle.al_unit_order.specs.Laws.{AreRanked, rank_in}
 use Rattle.al_unit_order.specs.Reached.{is_faultless, IsDependenceOrder}
 
--- the list before a key, and behind it
+-- the list before a key, and after it
 pub record Splits (ks : List Key) (key : Key) : Type 0 where
   pub before : List Key
   pub rest : List Key

@@ -10,7 +10,7 @@ use Rattle.al_base.specs.Batch.{Key}
 use Rattle.al_base.specs.FileNames.{file_name_of}
 use Rattle.al_base.specs.declared.unit_key.UnitKind.{UnitKind}
 use Rattle.al_base.specs.declared.unit_key.UnitKind.TheVariants.{Decl, Body, Sub}
-use Rattle.al_graph.proofs.Members.{any_from, first, first_or_later, nowhere}
+use Rattle.al_base_graph.proofs.Members.{any_from, first, first_or_later, nowhere}
 use Rattle.al_unit_graph.specs.Headers.{Mention, Header, Headed, Library, Source, kind_of, key_of_unit, is_library_body, is_package_body, is_subprogram_body}
 use Rattle.al_unit_graph.specs.declared.header.UnitForm.{UnitForm}
 use Rattle.al_unit_graph.specs.declared.header.UnitForm.TheVariants.{PackageDeclaration, SubprogramDeclaration, PackageBody, SubprogramBody, SubunitBody}

@@ -7,9 +7,9 @@ use Rattle.std.proofs.lemmas.List.{take_more, map-append}
 use Rattle.al_base.specs.Batch.{Key, key_of}
 use Rattle.al_base.specs.declared.unit_key.UnitKey.{UnitKey}
 use Rattle.al_base.specs.declared.unit_key.UnitKind.TheVariants.{Decl}
-use Rattle.al_graph.specs.Graphs.{Step, with_step}
-use Rattle.al_graph.proofs.Members.{nowhere}
-use Rattle.al_graph.proofs.StepLemmas.{Step-with_step, Step-added, Step-kept, length-with_step}
+use Rattle.al_base_graph.specs.Graphs.{Step, with_step}
+use Rattle.al_base_graph.proofs.Members.{nowhere}
+use Rattle.al_base_graph.proofs.StepLemmas.{Step-with_step, Step-added, Step-kept, length-with_step}
 use Rattle.al_unit_graph.specs.Headers.{Library}
 use Rattle.al_unit_graph.specs.Dependence.{direct}
 use Rattle.al_unit_graph.specs.Orders.{key_cmp}

@@ -4,7 +4,7 @@ use Rattle.std.specs.Option.{option_map}
 use Rattle.std.specs.List.{Contains}
 use Rattle.al_base.specs.Batch.{Finding, Key}
 use Rattle.al_base.specs.declared.unit_key.UnitKind.TheVariants.{Decl}
-use Rattle.al_graph.specs.Graphs.{Step}
+use Rattle.al_base_graph.specs.Graphs.{Step}
 use Rattle.al_unit_graph.specs.Headers.{Library, key_of_unit}
 use Rattle.al_unit_graph.specs.Library.{unit_in}
 use Rattle.al_unit_graph.specs.Dependence.{listed, direct}

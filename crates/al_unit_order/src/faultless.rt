@@ -5,7 +5,7 @@ ghost use Rattle.std.specs.BTreeSet.{insert_key};
 ghost use Rattle.al_base.specs.Batch.{Key, key_of};
 ghost use Rattle.al_unit_graph.specs.Needed.{ListsUnits};
 ghost use Rattle.al_unit_graph.specs.Orders.{in_order, key_cmp};
-ghost use Rattle.al_unit_faults.specs.FilesSeen.{file_faults_seen};
+ghost use Rattle.al_unit_faults.specs.FilesSeen.{file_faults_model};
 ghost use Rattle.al_unit_order.specs.Reached.{AreFaultsOf, is_faultless};
 ghost use Rattle.al_unit_order.specs.Steps.{faultless_in};
 
@@ -21,7 +21,7 @@ pub(crate) fn add_faultless(
     faults: &FileFaults,
     units: &mut KeySet,
 ) -> Result<(), NoMemory>
-    ensures { OnOk result (units.new ≡ fold (insert_key key_cmp) units.old (faultless_in sources.now (file_faults_seen faults.now))) }
+    ensures { OnOk result (units.new ≡ fold (insert_key key_cmp) units.old (faultless_in sources.now (file_faults_model faults.now))) }
 {
     if !faults.faults.is_empty() {
         return Ok(());
@@ -42,7 +42,7 @@ fn units_without_faults(
     sources: &Sources,
     faults: &[FileFaults],
 ) -> Result<Vec<UnitKey>, NoMemory>
-    ensures { IfOk result (λ units. map key_of units.items ≡ in_order (flat_map (faultless_in sources.now) (map file_faults_seen faults.now))) }
+    ensures { IfOk result (λ units. map key_of units.items ≡ in_order (flat_map (faultless_in sources.now) (map file_faults_model faults.now))) }
 {
     let mut units = KeySet::new(alloc);
     for file in faults {
@@ -58,7 +58,7 @@ pub(crate) fn faultless_units(
     sources: &Sources,
     faults: &[FileFaults],
 ) -> Result<Vec<UnitKey>, NoMemory>
-    requires { AreFaultsOf sources.now (map file_faults_seen faults.now) }
+    requires { AreFaultsOf sources.now (map file_faults_model faults.now) }
     ensures { IfOk result (λ units. ListsUnits sources.now (map key_of units.items) (λ y. is_faultless sources.now y ≡ true)) }
 {
     let units = units_without_faults(alloc, sources, faults)?;

@@ -1,15 +1,15 @@
 // The order of dependence.
 ghost use Rattle.std.specs.Prelude.{map, IfOk};
 ghost use Rattle.al_base.specs.Batch.{key_of};
-ghost use Rattle.al_unit_faults.specs.FilesSeen.{file_faults_seen};
+ghost use Rattle.al_unit_faults.specs.FilesSeen.{file_faults_model};
 ghost use Rattle.al_unit_order.specs.Reached.{AreFaultsOf, IsDependenceOrder};
 
 use crate::faultless::faultless_units;
 use crate::places::units_at;
 use crate::steps::graph_of;
 use al_base::{NoMemory, UnitKey};
-use al_order::laws::cycle_is_of_steps;
-use al_order::order;
+use al_base_order::laws::cycle_is_of_steps;
+use al_base_order::order;
 use al_unit_faults::FileFaults;
 use al_unit_graph::Sources;
 use std::alloc::Global;
@@ -25,7 +25,7 @@ pub fn dependence_order(
     sources: &Sources,
     faults: &[FileFaults],
 ) -> Result<Vec<UnitKey>, NoMemory>
-    requires { AreFaultsOf sources.now (map file_faults_seen faults.now) }
+    requires { AreFaultsOf sources.now (map file_faults_model faults.now) }
     ensures { IfOk result (λ order. IsDependenceOrder sources.now (map key_of order.items)) }
 {
     let units = faultless_units(alloc, sources, faults)?;

@@ -5,7 +5,7 @@ ghost use Rattle.std.specs.BTreeSet.{insert_key};
 ghost use Rattle.al_base.specs.Batch.{key_of};
 ghost use Rattle.al_unit_graph.specs.Needed.{ListsUnits};
 ghost use Rattle.al_unit_graph.specs.Orders.{in_order, key_cmp};
-ghost use Rattle.al_unit_faults.specs.FilesSeen.{file_faults_seen};
+ghost use Rattle.al_unit_faults.specs.FilesSeen.{file_faults_model};
 ghost use Rattle.al_unit_order.specs.Reached.{AreFaultsOf, IsReachable, has_fault};
 ghost use Rattle.al_unit_order.specs.Steps.{reachable_in};
 
@@ -17,7 +17,7 @@ use std::alloc::Global;
 
 /// Which of the files have a fault.
 fn faulty_files(alloc: Global, faults: &[FileFaults]) -> Result<Vec<bool>, NoMemory>
-    ensures { IfOk result (λ flags. flags.items ≡ map (λ f. has_fault (file_faults_seen f)) faults.now) }
+    ensures { IfOk result (λ flags. flags.items ≡ map (λ f. has_fault (file_faults_model f)) faults.now) }
 {
     let mut flags = Vec::with_capacity(alloc, faults.len())?;
     for file in faults {
@@ -34,7 +34,7 @@ fn add_reachable(
     faults: &FileFaults,
     units: &mut KeySet,
 ) -> Result<(), NoMemory>
-    ensures { OnOk result (units.new ≡ fold (insert_key key_cmp) units.old (reachable_in sources.now dependents.now (file_faults_seen faults.now))) }
+    ensures { OnOk result (units.new ≡ fold (insert_key key_cmp) units.old (reachable_in sources.now dependents.now (file_faults_model faults.now))) }
 {
     if dependents.has(faults.file.as_slice()) {
         return Ok(());
@@ -50,7 +50,7 @@ fn units_on_sound(
     dependents: &Dependents,
     faults: &[FileFaults],
 ) -> Result<Vec<UnitKey>, NoMemory>
-    ensures { IfOk result (λ units. map key_of units.items ≡ in_order (flat_map (reachable_in sources.now dependents.now) (map file_faults_seen faults.now))) }
+    ensures { IfOk result (λ units. map key_of units.items ≡ in_order (flat_map (reachable_in sources.now dependents.now) (map file_faults_model faults.now))) }
 {
     let mut units = KeySet::new(alloc);
     for file in faults {
@@ -71,7 +71,7 @@ pub fn reachable(
     sources: &Sources,
     faults: &[FileFaults],
 ) -> Result<Vec<UnitKey>, NoMemory>
-    requires { AreFaultsOf sources.now (map file_faults_seen faults.now) }
+    requires { AreFaultsOf sources.now (map file_faults_model faults.now) }
     ensures { IfOk result (λ units. ListsUnits sources.now (map key_of units.items) (IsReachable sources.now)) }
 {
     let flags = faulty_files(alloc, faults)?;

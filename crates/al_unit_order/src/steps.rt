@@ -7,7 +7,7 @@ ghost use Rattle.al_unit_order.specs.Steps.{AddsFrom, StepsBelow};
 
 use crate::places::place_of;
 use al_base::{NoMemory, UnitKey};
-use al_graph::Graph;
+use al_base_graph::Graph;
 use al_unit_graph::Sources;
 use std::alloc::Global;
 

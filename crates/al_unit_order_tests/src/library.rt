@@ -1,6 +1,6 @@
 // Libraries as tables, and what is told of them.
 use al_base::{FileKey, Name, NoMemory, Place, UnitKey};
-use al_shortage::Shortages;
+use al_base_shortage::AllocFailures;
 use al_unit_faults::faults_by_file;
 use al_unit_graph::{Contents, Header, Mention, Source, Sources, UnitForm, kind_of};
 use al_unit_order::{dependence_order, reachable};
@@ -62,7 +62,7 @@ fn library(alloc: Global, rows: &[Row<'_>]) -> Result<Sources, NoMemory> {
     Ok(sources)
 }
 
-/// The names of some units, with a blank behind each.
+/// The names of some units, with a blank after each.
 fn names(alloc: Global, keys: &[UnitKey]) -> Result<Vec<u8>, NoMemory> {
     let mut text = Vec::new(alloc);
     for key in keys {
@@ -75,7 +75,7 @@ fn names(alloc: Global, keys: &[UnitKey]) -> Result<Vec<u8>, NoMemory> {
 /// The order of dependence.
 pub(crate) fn ordered(alloc: Global, rows: &[Row<'_>]) -> Result<Vec<u8>, NoMemory> {
     let sources = library(alloc, rows)?;
-    let faults = faults_by_file(alloc, &sources, &mut Shortages::new())?;
+    let faults = faults_by_file(alloc, &sources, &mut AllocFailures::new())?;
     let keys = dependence_order(alloc, &sources, &faults)?;
     names(alloc, &keys)
 }
@@ -83,7 +83,7 @@ pub(crate) fn ordered(alloc: Global, rows: &[Row<'_>]) -> Result<Vec<u8>, NoMemo
 /// The units that a build can reach.
 pub(crate) fn reached(alloc: Global, rows: &[Row<'_>]) -> Result<Vec<u8>, NoMemory> {
     let sources = library(alloc, rows)?;
-    let faults = faults_by_file(alloc, &sources, &mut Shortages::new())?;
+    let faults = faults_by_file(alloc, &sources, &mut AllocFailures::new())?;
     let keys = reachable(alloc, &sources, &faults)?;
     names(alloc, &keys)
 }

@@ -9,7 +9,7 @@ use Rattle.al_view.specs.Named.{Declarations}
 abbrev pub views_of : Declarations → List ℕ → List ViewKind
 views_of declarations name = unwrap_or (lookup (bytes_eq name) declarations) []
 
--- one more view of a name: behind its views, or with a new name, which goes last
+-- one more view of a name: after its views, or with a new name, which goes last
 abbrev pub with_view : Declarations → List ℕ → ViewKind → Declarations
 with_view [] name view = (name, view ∷ []) ∷ []
 with_view (e ∷ es) name view = if bytes_eq name e.0 then (e.0, e.1 ++ view ∷ []) ∷ es else e ∷ with_view es name view

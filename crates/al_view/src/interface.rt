@@ -11,10 +11,19 @@ use std::marker::Model;
 
 /// What a part of a unit declares: its names in the order of their first declarations, each with its views in text
 /// order. A name is found without a walk.
-#[derive(Drop)]
 pub struct Interface {
     alloc: Global,
     by_name: IndexMap<Vec<u8>, Views>,
+}
+
+// Written out, as a crate above then lets one go by this call, and needn't prove again how each part is let go.
+impl Drop for Interface {
+    fn drop(self) {
+        let Interface {
+            alloc: _,
+            by_name: _,
+        } = self;
+    }
 }
 
 impl Model for Interface {
@@ -62,7 +71,7 @@ impl Interface {
         }
     }
 
-    /// One more view of a name: behind its views, or with a new name, which goes last.
+    /// One more view of a name: after its views, or with a new name, which goes last.
     pub fn declare(&mut self, name: &[u8], view: View) -> Result<(), AllocError>
         ensures ok { OnOk result (self.new ≡ with_view self.old name.now view) }
         ensures err { OnErr result (self.new ≡ self.old) }

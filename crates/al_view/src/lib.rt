@@ -20,7 +20,7 @@ pub use interface::Interface;
 pub use link::{LinkKind, LinkSymbol};
 pub use part::Part;
 pub use priority::Priority;
-pub use row::Row;
+pub use row::Seq;
 pub use same::{Same, are_same};
 pub use symbol::Symbol;
 pub use types::{

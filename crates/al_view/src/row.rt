@@ -5,12 +5,18 @@ use std::alloc::{AllocError, Global};
 use std::marker::Model;
 
 /// A list that clauses see as its items alone, so that values with the same items are equal.
-#[derive(Drop)]
-pub struct Row<T> {
+pub struct Seq<T> {
     items: Vec<T>,
 }
 
-impl<T> Model for Row<T> {
+// Written out, as a crate above then lets one go by this call, and needn't prove again how each part is let go.
+impl<T: Drop> Drop for Seq<T> {
+    fn drop(self) {
+        let Seq { items: _ } = self;
+    }
+}
+
+impl<T> Model for Seq<T> {
     ghost use Rattle.std.specs.Prelude.{List};
 
     ghost Value = { List T };
@@ -18,19 +24,19 @@ impl<T> Model for Row<T> {
     ghost view = { λ r. r.items.items };
 }
 
-impl<T: Drop> Row<T> {
+impl<T: Drop> Seq<T> {
     /// The row of these items. It takes no memory.
     pub fn new(items: Vec<T>) -> Self
         ensures { result ≡ items.items }
     {
-        Row { items }
+        Seq { items }
     }
 
     /// The row of no items. It takes no memory.
     pub fn empty(alloc: Global) -> Self
         ensures { result ≡ [] }
     {
-        Row {
+        Seq {
             items: Vec::new(alloc),
         }
     }

@@ -1,7 +1,7 @@
 // Whether two values are the same.
 ghost use Rattle.std.specs.Prelude.{◌≡◌, ◌↔◌, IsTrue};
 
-use crate::row::Row;
+use crate::row::Seq;
 use crate::symbol::Symbol;
 use crate::types::{Bounds, Component, Layout, Names, Subtype, TypeDefinition, TypeView};
 use crate::unit::is_unit;
@@ -53,8 +53,8 @@ impl<T: Same> Same for Option<T> {
     }
 }
 
-impl<T: Same + Drop> Same for Row<T> {
-    fn is_same(&self, other: &Row<T>) -> bool {
+impl<T: Same + Drop> Same for Seq<T> {
+    fn is_same(&self, other: &Seq<T>) -> bool {
         are_same(self.as_slice(), other.as_slice())
     }
 }

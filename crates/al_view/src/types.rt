@@ -3,7 +3,7 @@ ghost use Rattle.std.specs.Prelude.{◌≡◌, IfOk};
 ghost use Rattle.std.specs.Option.{option_copied};
 ghost use Rattle.al_view.specs.Types.{definition_bounds, layout_words, type_in};
 
-use crate::row::Row;
+use crate::row::Seq;
 use crate::symbol::Symbol;
 use al_base::{Name, NoMemory};
 use std::alloc::{AllocError, Global};
@@ -47,7 +47,7 @@ pub enum TypeDefinition {
     /// A constrained array type of one dimension (ARM 3.6).
     Array { index: Subtype, component: Subtype },
     /// A record type (ARM 3.8).
-    Record(Row<Component>),
+    Record(Seq<Component>),
     /// A moment or a span of time (ARM D.8), one word that is never checked against a range.
     Time,
     /// A private type where only its partial view is seen (ARM 7.3).
@@ -62,7 +62,7 @@ pub enum Layout {
     /// The components in order, each of so many words.
     Array { component: u32, words: u32 },
     /// The components in order, each from its offset on.
-    Record { offsets: Row<u32>, words: u32 },
+    Record { offsets: Seq<u32>, words: u32 },
     /// So many words, of which no more is known (ARM 7.3).
     Words(u32),
 }
@@ -119,9 +119,15 @@ impl Layout {
 }
 
 /// Names that are shared: a copy costs no more than a count.
-#[derive(Drop)]
 pub struct Names {
-    names: Rc<Row<Name>>,
+    names: Rc<Seq<Name>>,
+}
+
+// Written out, as a crate above then lets one go by this call, and needn't prove again how each part is let go.
+impl Drop for Names {
+    fn drop(self) {
+        let Names { names: _ } = self;
+    }
 }
 
 impl Model for Names {
@@ -133,7 +139,7 @@ impl Model for Names {
 }
 
 impl Names {
-    pub fn new(alloc: Global, names: Row<Name>) -> Result<Self, AllocError>
+    pub fn new(alloc: Global, names: Seq<Name>) -> Result<Self, AllocError>
         ensures { IfOk result (λ shared. shared ≡ names) }
     {
         let names = Rc::new(alloc, names)?;
@@ -156,9 +162,15 @@ impl Names {
 }
 
 /// Types that are shared: a copy costs no more than a count.
-#[derive(Drop)]
 pub struct Types {
-    types: Rc<Row<TypeView>>,
+    types: Rc<Seq<TypeView>>,
+}
+
+// Written out, as a crate above then lets one go by this call, and needn't prove again how each part is let go.
+impl Drop for Types {
+    fn drop(self) {
+        let Types { types: _ } = self;
+    }
 }
 
 impl Model for Types {
@@ -171,7 +183,7 @@ impl Model for Types {
 }
 
 impl Types {
-    pub fn new(alloc: Global, types: Row<TypeView>) -> Result<Self, AllocError>
+    pub fn new(alloc: Global, types: Seq<TypeView>) -> Result<Self, AllocError>
         ensures { IfOk result (λ shared. shared ≡ types) }
     {
         let types = Rc::new(alloc, types)?;

@@ -2,7 +2,7 @@
 ghost use Rattle.std.specs.Prelude.{◌≡◌, IfOk};
 
 use crate::priority::Priority;
-use crate::row::Row;
+use crate::row::Seq;
 use crate::symbol::Symbol;
 use crate::types::{Component, Names, StaticValue, Subtype, Types};
 use al_base::{Name, NoMemory};
@@ -127,7 +127,7 @@ pub struct Parameter {
 /// A profile (ARM 6.1(20)).
 #[derive(Drop)]
 pub struct Profile {
-    pub parameters: Row<Parameter>,
+    pub parameters: Seq<Parameter>,
     /// The result of a function.
     pub result: Option<Subtype>,
 }
@@ -178,8 +178,8 @@ pub struct Operation {
 #[derive(Drop)]
 pub struct ProtectedView {
     pub symbol: Symbol,
-    pub operations: Row<Operation>,
-    pub components: Row<Component>,
+    pub operations: Seq<Operation>,
+    pub components: Seq<Component>,
     /// The types of the components.
     pub types: Types,
     /// Its ceiling (ARM D.3).
@@ -187,9 +187,15 @@ pub struct ProtectedView {
 }
 
 /// A view that is shared: a copy costs no more than a count.
-#[derive(Drop)]
 pub struct View {
     kind: Rc<ViewKind>,
+}
+
+// Written out, as a crate above then lets one go by this call, and needn't prove again how each part is let go.
+impl Drop for View {
+    fn drop(self) {
+        let View { kind: _ } = self;
+    }
 }
 
 impl Model for View {

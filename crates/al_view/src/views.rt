@@ -6,9 +6,15 @@ use std::alloc::{AllocError, Global};
 use std::marker::Model;
 
 /// Views in order.
-#[derive(Drop)]
 pub struct Views {
     views: Vec<View>,
+}
+
+// Written out, as a crate above then lets one go by this call, and needn't prove again how each part is let go.
+impl Drop for Views {
+    fn drop(self) {
+        let Views { views: _ } = self;
+    }
 }
 
 impl Model for Views {
@@ -44,7 +50,7 @@ impl Views {
         Ok(())
     }
 
-    /// The other views behind these. Where memory lacks, only some of them.
+    /// The other views after these. Where memory lacks, only some of them.
     pub fn append(&mut self, others: &[View]) -> Result<(), AllocError>
         ensures { OnOk result (self.new ≡ self.old ++ others.now) }
     {

@@ -1,10 +1,10 @@
 // What sound and faulty units answer.
 use al_base::{Diagnostic, Name, NoMemory, Place, UnitKey, UnitKind};
-use al_outcome::laws::{all_defined, asks_no_body_of_a_package, one_map};
-use al_outcome::{Checked, Parts, Properties, StubDeclarations, UnitInterface};
 use al_query::{ContextView, Property, Query, UnitForm};
-use al_typed::TypedUnit;
-use al_view::{Interface, Part, Row, StaticValue, Symbol, View, ViewKind};
+use al_query_outcome::laws::{all_defined, asks_no_body_of_a_package, one_map};
+use al_query_outcome::{Checked, Parts, Properties, StubDeclarations, UnitInterface};
+use al_view::{Interface, Part, Seq, StaticValue, Symbol, View, ViewKind};
+use al_view_typed::TypedUnit;
 use std::alloc::Global;
 use std::test::Fail;
 
@@ -33,9 +33,9 @@ fn numbers(alloc: Global, count: i64) -> Result<Interface, NoMemory> {
 
 fn no_context(alloc: Global) -> ContextView {
     ContextView {
-        withs: Row::empty(alloc),
-        uses: Row::empty(alloc),
-        uses_inside: Row::empty(alloc),
+        withs: Seq::empty(alloc),
+        uses: Seq::empty(alloc),
+        uses_inside: Seq::empty(alloc),
     }
 }
 
@@ -56,18 +56,18 @@ fn properties(alloc: Global) -> Result<Properties, NoMemory> {
         is_private: true,
         context: no_context(alloc),
         needs_body: true,
-        completions: Row::empty(alloc),
+        completions: Seq::empty(alloc),
     })
 }
 
 /// Before the stub of P there are four numbers.
-fn stubs(alloc: Global) -> Result<Row<StubDeclarations>, NoMemory> {
+fn stubs(alloc: Global) -> Result<Seq<StubDeclarations>, NoMemory> {
     let stub = StubDeclarations {
         stub: name(alloc)?,
         symbol: symbol(alloc)?,
         before: numbers(alloc, 4)?,
     };
-    let mut stubs = Row::empty(alloc);
+    let mut stubs = Seq::empty(alloc);
     stubs.push(stub)?;
     Ok(stubs)
 }
@@ -90,15 +90,15 @@ fn interface(alloc: Global) -> Result<UnitInterface, NoMemory> {
 fn sound(alloc: Global) -> Result<Checked, NoMemory> {
     let interface = interface(alloc)?;
     let unit = unit(alloc)?;
-    let objects = Row::empty(alloc);
-    let flags = Row::empty(alloc);
-    let none = Row::empty(alloc);
+    let objects = Seq::empty(alloc);
+    let flags = Seq::empty(alloc);
+    let none = Seq::empty(alloc);
     let tree = TypedUnit::new(unit, None, Vec::new(alloc), 0, objects, flags, none);
     Ok(Checked::Sound(interface, tree))
 }
 
 fn faulty(alloc: Global) -> Result<Checked, NoMemory> {
-    let mut faults = Row::empty(alloc);
+    let mut faults = Seq::empty(alloc);
     faults.push(Diagnostic {
         file: name(alloc)?,
         place: PLACE,

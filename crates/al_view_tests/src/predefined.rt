@@ -1,10 +1,10 @@
 use al_base::NoMemory;
-use al_predefined::laws::{children_of_ada_are_apart, standard_is_apart};
-use al_predefined::{
+use al_view::{Bounds, Interface, Seq, Symbol, TypeDefinition, Types, ViewKind};
+use al_view_predefined::laws::{children_of_ada_are_apart, standard_is_apart};
+use al_view_predefined::{
     StandardTypes, declare_operators, predefined_package, root_integer, root_operators,
     standard_symbol,
 };
-use al_view::{Bounds, Interface, Row, Symbol, TypeDefinition, Types, ViewKind};
 use std::alloc::Global;
 use std::test::Fail;
 
@@ -35,7 +35,7 @@ fn laws_of_predefined_packages() {
 }
 
 fn no_types(alloc: Global) -> Result<Types, NoMemory> {
-    let none = Types::new(alloc, Row::empty(alloc))?;
+    let none = Types::new(alloc, Seq::empty(alloc))?;
     Ok(none)
 }
 

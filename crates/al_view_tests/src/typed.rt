@@ -1,11 +1,11 @@
 use al_base::{Name, NoMemory, Place, UnitKey, UnitKind};
-use al_typed::{
+use al_view::{Bounds, Mode, ObjectPlace, Seq, StaticValue, Symbol};
+use al_view_typed::{
     Actual, Alternative, BinaryOperator, BodyKind, Branch, Callee, CheckedValue, Conversion,
     DataPlace, DeclarationForm, Elaboration, ExpressionType, Form, FormalWords, Labels, LoopScheme,
     Piece, ProtectedWords, ShortCircuit, StatementForm, Typed, TypedBody, TypedCall,
     TypedDeclaration, TypedName, TypedStatement, TypedUnit, UnaryOperator,
 };
-use al_view::{Bounds, Mode, ObjectPlace, Row, StaticValue, Symbol};
 use std::alloc::Global;
 use std::test::Fail;
 
@@ -61,11 +61,11 @@ fn unit_of(
     elaboration: Option<Elaboration>,
     bodies: Vec<TypedBody>,
     words: u32,
-    flags: Row<DataPlace>,
+    flags: Seq<DataPlace>,
 ) -> Result<TypedUnit, NoMemory> {
     let key = unit(alloc)?;
-    let objects = Row::empty(alloc);
-    let none = Row::empty(alloc);
+    let objects = Seq::empty(alloc);
+    let none = Seq::empty(alloc);
     Ok(TypedUnit::new(key, elaboration, bodies, words, objects, flags, none))
 }
 
@@ -85,7 +85,7 @@ fn one_statement(alloc: Global) -> Result<TypedUnit, NoMemory> {
         Some(elaboration),
         Vec::new(alloc),
         0,
-        Row::empty(alloc),
+        Seq::empty(alloc),
     )
 }
 
@@ -237,7 +237,7 @@ fn branch(alloc: Global) -> Result<StatementForm, NoMemory> {
 }
 
 fn case(alloc: Global) -> Result<StatementForm, NoMemory> {
-    let mut choices = Row::empty(alloc);
+    let mut choices = Seq::empty(alloc);
     choices.push(Bounds { low: 1, high: 2 })?;
     let alternatives = only(alloc, Alternative::new(choices, Vec::new(alloc)))?;
     Ok(StatementForm::case(number(1), 5, alternatives, Vec::new(alloc)))
@@ -277,8 +277,8 @@ fn statements(alloc: Global) -> Result<Vec<TypedStatement>, NoMemory> {
     Ok(all)
 }
 
-fn formals(alloc: Global) -> Result<Row<FormalWords>, NoMemory> {
-    let mut formals = Row::empty(alloc);
+fn formals(alloc: Global) -> Result<Seq<FormalWords>, NoMemory> {
+    let mut formals = Seq::empty(alloc);
     formals.push(FormalWords {
         mode: Mode::InOut,
         word: 3,
@@ -296,9 +296,9 @@ fn body(alloc: Global) -> Result<TypedBody, NoMemory> {
     Ok(TypedBody::new(symbol, kind, 1, formals, inside))
 }
 
-fn flags(alloc: Global) -> Result<Row<DataPlace>, NoMemory> {
+fn flags(alloc: Global) -> Result<Seq<DataPlace>, NoMemory> {
     let symbol = symbol(alloc)?;
-    let mut flags = Row::empty(alloc);
+    let mut flags = Seq::empty(alloc);
     flags.push(DataPlace { symbol, word: 0 })?;
     Ok(flags)
 }

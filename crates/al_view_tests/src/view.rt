@@ -1,7 +1,7 @@
 use al_base::{Name, NoMemory, UnitKey, UnitKind};
 use al_view::{
     Bounds, CallKind, DeclaredType, Interface, Layout, LinkKind, LinkSymbol, LiteralView, Mode,
-    Names, ObjectPlace, Parameter, Part, Profile, Row, Same, StaticValue, SubprogramView, Subtype,
+    Names, ObjectPlace, Parameter, Part, Profile, Same, Seq, StaticValue, SubprogramView, Subtype,
     Symbol, TypeDefinition, TypeView, Types, View, ViewKind, Views, is_unit,
 };
 use indexmap::IndexMap;
@@ -25,7 +25,7 @@ fn symbol(alloc: Global, name: &[u8]) -> Result<Symbol, NoMemory> {
 }
 
 fn no_types(alloc: Global) -> Result<Types, NoMemory> {
-    let types = Types::new(alloc, Row::empty(alloc))?;
+    let types = Types::new(alloc, Seq::empty(alloc))?;
     Ok(types)
 }
 
@@ -60,8 +60,8 @@ fn parameter(alloc: Global, base: &[u8]) -> Result<Parameter, NoMemory> {
     })
 }
 
-fn parameters(alloc: Global, base: Option<&[u8]>) -> Result<Row<Parameter>, NoMemory> {
-    let mut parameters = Row::empty(alloc);
+fn parameters(alloc: Global, base: Option<&[u8]>) -> Result<Seq<Parameter>, NoMemory> {
+    let mut parameters = Seq::empty(alloc);
     match base {
         None => Ok(parameters),
         Some(base) => {
@@ -116,7 +116,7 @@ fn names_stay_in_the_order_of_their_first_declarations(rt: HostRuntime) -> Resul
     Ok(())
 }
 
-/// The views of the second name, and those of B behind them.
+/// The views of the second name, and those of B after them.
 fn appended(alloc: Global, interface: &Interface) -> Result<Views, NoMemory> {
     let mut all = Views::new(alloc);
     if let Some((_, views)) = interface.at(1) {
@@ -243,7 +243,7 @@ fn color(alloc: Global, name: &[u8]) -> Result<TypeView, NoMemory> {
 
 /// T and U.
 fn two_colors(alloc: Global) -> Result<Types, NoMemory> {
-    let mut types = Row::empty(alloc);
+    let mut types = Seq::empty(alloc);
     types.push(color(alloc, b"t")?)?;
     types.push(color(alloc, b"u")?)?;
     let types = Types::new(alloc, types)?;
@@ -294,13 +294,13 @@ fn declared(alloc: Global, literals: Names) -> Result<View, NoMemory> {
     Ok(view)
 }
 
-fn names_of(alloc: Global, names: Row<Name>) -> Result<Names, NoMemory> {
+fn names_of(alloc: Global, names: Seq<Name>) -> Result<Names, NoMemory> {
     let names = Names::new(alloc, names)?;
     Ok(names)
 }
 
 fn red(alloc: Global) -> Result<Names, NoMemory> {
-    let mut names = Row::empty(alloc);
+    let mut names = Seq::empty(alloc);
     names.push(Name::from_slice(alloc, b"red")?)?;
     names_of(alloc, names)
 }
@@ -310,7 +310,7 @@ fn types_of_literals(alloc: Global) -> Result<(usize, bool, bool), NoMemory> {
     let names = red(alloc)?;
     let with_red = declared(alloc, names.share()?)?;
     let again = with_red.share()?;
-    let other = declared(alloc, names_of(alloc, Row::empty(alloc))?)?;
+    let other = declared(alloc, names_of(alloc, Seq::empty(alloc))?)?;
     let same = with_red.is_same(&again);
     Ok((names.as_slice().len(), same, with_red.is_same(&other)))
 }

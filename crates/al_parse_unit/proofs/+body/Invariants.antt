@@ -1,11 +1,11 @@
-use Rattle.al_grammar.specs.Grammar.{each}
-use Rattle.al_grammar.specs.Grammar.Rule.{Any, Many, Seq}
+use Rattle.al_tree_grammar.specs.Grammar.{each}
+use Rattle.al_tree_grammar.specs.Grammar.Rule.{Any, Many, Seq}
 use Rattle.al_parse_expr.proofs.Loops.{Kept}
-use Rattle.al_syntax.specs.Declarations.{item_rule, operation_body_rule}
-use Rattle.al_syntax.specs.StatementTrees.{alternative_tokens, item_tokens, operation_body_tokens, statement_tokens}
-use Rattle.al_syntax.specs.Statements.{alternative_rule, branch_rule, statement_rule}
+use Rattle.al_tree_syntax.specs.Declarations.{item_rule, operation_body_rule}
+use Rattle.al_tree_syntax.specs.StatementTrees.{alternative_tokens, item_tokens, operation_body_tokens, statement_tokens}
+use Rattle.al_tree_syntax.specs.Statements.{alternative_rule, branch_rule, statement_rule}
 use Rattle.al_tree.specs.Lexemes.{lexemes}
-use Rattle.al_tree.specs.StatementViews.{alternative_seen, elsif_tokens, item_seen, operation_body_seen, statement_seen}
+use Rattle.al_tree.specs.StatementViews.{alternative_model, elsif_tokens, item_model, operation_body_model, statement_model}
 use Rattle.std.proofs.Common.{length}
 use Rattle.std.proofs.Common.{◌+◌, ◌*◌}
 use Rattle.al_parse_unit.proofs.+body.Given as goal
@@ -112,8 +112,8 @@ decreases-body::named_statement l = 37 * l.depth + 4
 abbrev pub decreases-body::labelled_statement : goal.decreases-body::labelled_statement
 decreases-body::labelled_statement l = 37 * l.depth + 3
 
-abbrev pub decreases-body::behind_label : goal.decreases-body::behind_label
-decreases-body::behind_label l = 37 * l.depth + 2
+abbrev pub decreases-body::after_label : goal.decreases-body::after_label
+decreases-body::after_label l = 37 * l.depth + 2
 
 abbrev pub decreases-body::loop_statement : goal.decreases-body::loop_statement
 decreases-body::loop_statement l = 37 * l.depth + 1
@@ -122,7 +122,7 @@ abbrev pub decreases-body::block_statement : goal.decreases-body::block_statemen
 decreases-body::block_statement l = 37 * l.depth + 0
 
 abbrev pub invariant-body::more_statements-more : goal.invariant-body::more_statements-more
-invariant-body::more_statements-more l = Kept (each (λ x. statement_tokens (statement_seen x)) l.items.items) (lexemes l.source l.rest) (lexemes l.source l.tokens) l.depth (Many statement_rule) (Many statement_rule)
+invariant-body::more_statements-more l = Kept (each (λ x. statement_tokens (statement_model x)) l.items.items) (lexemes l.source l.rest) (lexemes l.source l.tokens) l.depth (Many statement_rule) (Many statement_rule)
 
 abbrev pub decreases-body::more_statements-more : goal.decreases-body::more_statements-more
 decreases-body::more_statements-more l = length l.rest
@@ -134,19 +134,19 @@ abbrev pub decreases-body::elsifs-more : goal.decreases-body::elsifs-more
 decreases-body::elsifs-more l = length l.rest
 
 abbrev pub invariant-body::more_alternatives-more : goal.invariant-body::more_alternatives-more
-invariant-body::more_alternatives-more l = Kept (each (λ x. alternative_tokens (alternative_seen x)) l.items.items) (lexemes l.source l.rest) (lexemes l.source l.tokens) l.depth (Many alternative_rule) (Many alternative_rule)
+invariant-body::more_alternatives-more l = Kept (each (λ x. alternative_tokens (alternative_model x)) l.items.items) (lexemes l.source l.rest) (lexemes l.source l.tokens) l.depth (Many alternative_rule) (Many alternative_rule)
 
 abbrev pub decreases-body::more_alternatives-more : goal.decreases-body::more_alternatives-more
 decreases-body::more_alternatives-more l = length l.rest
 
 abbrev pub invariant-body::items-more : goal.invariant-body::items-more
-invariant-body::items-more l = Kept (each (λ x. item_tokens (item_seen x)) l.items.items) (lexemes l.source l.rest) (lexemes l.source l.tokens) l.depth (Many item_rule) (Many item_rule)
+invariant-body::items-more l = Kept (each (λ x. item_tokens (item_model x)) l.items.items) (lexemes l.source l.rest) (lexemes l.source l.tokens) l.depth (Many item_rule) (Many item_rule)
 
 abbrev pub decreases-body::items-more : goal.decreases-body::items-more
 decreases-body::items-more l = length l.rest
 
 abbrev pub invariant-protected::operation_bodies-more : goal.invariant-protected::operation_bodies-more
-invariant-protected::operation_bodies-more l = Kept (each (λ x. operation_body_tokens (operation_body_seen x)) l.items.items) (lexemes l.source l.rest) (lexemes l.source l.tokens) l.depth (Many operation_body_rule) (Many operation_body_rule)
+invariant-protected::operation_bodies-more l = Kept (each (λ x. operation_body_tokens (operation_body_model x)) l.items.items) (lexemes l.source l.rest) (lexemes l.source l.tokens) l.depth (Many operation_body_rule) (Many operation_body_rule)
 
 abbrev pub decreases-protected::operation_bodies-more : goal.decreases-protected::operation_bodies-more
 decreases-protected::operation_bodies-more l = length l.rest

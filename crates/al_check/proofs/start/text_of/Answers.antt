@@ -1,9 +1,9 @@
 use Rattle.std.proofs.Common.{◌≡◌, ℕ, List, None, ap, ◌∙◌}
 use Rattle.std.specs.Coded.{Unit-prop}
 use Rattle.std.specs.Global.{Global}
-use Rattle.al_heads.specs.declared.everywhere.Predefined.{Predefined}
-use Rattle.al_unit_made.specs.Constants.{predefined, the_memory}
-use Rattle.al_ada_here.specs.declared.standing.UnitText.{UnitText}
+use Rattle.al_overload_heads.specs.declared.everywhere.Predefined.{Predefined}
+use Rattle.al_check_made.specs.Constants.{predefined, the_memory}
+use Rattle.al_check_here.specs.declared.state.UnitText.{UnitText}
 use Rattle.al_check.proofs.start.text_of.Goals as goal
 
 one_memory : (alloc : Global) → alloc ≡ the_memory

@@ -1,25 +1,25 @@
 use Rattle.std.proofs.Common.{Option, Result, ap, ◌∙◌}
-use Rattle.al_declared.specs.TypeKinds.{array_declared}
-use Rattle.al_declaring.specs.Declaring.{begun_one, duplicate}
+use Rattle.al_decl_judged.specs.TypeKinds.{array_declared}
+use Rattle.al_decl_here.specs.Declaring.{begun_one, duplicate}
 use Rattle.al_view.specs.declared.view.ViewKind.TheVariants.{OfComponent}
-use Rattle.al_judged.specs.declared.fault.Fault.{Fault}
+use Rattle.al_base_fault.specs.declared.fault.Fault.{Fault}
 use Rattle.al_scope.specs.Places.{Place}
-use Rattle.al_tree.specs.DeclarationViews.{array_seen}
+use Rattle.al_tree.specs.DeclarationViews.{array_model}
 use Rattle.al_view.specs.declared.view.SubtypeView.{SubtypeView}
 use Rattle.al_decl.specs.Checking.{with_scope}
 use Rattle.al_decl.proofs.Chains.{finishes, if_ok}
 use Rattle.al_decl.proofs.definition.check_array.Goals as goal
 
-pub returns-clause-told : goal.returns-clause-told
-returns-clause-told g c =
-    let h = c.args.here.now in
+pub returns-clause-answered : goal.returns-clause-answered
+returns-clause-answered g c =
+    let h = c.args.env.now in
     let n = c.args.name.now in
-    let a = array_seen c.args.array.now in
+    let a = array_model c.args.array.now in
     if_ok c.finish.result _ _
-    (λ judged made t agrees.
-    let parts = c.in_ok-index.ensures.told t agrees in
-    let homograph = c.in_ok-duplicate.ensures.told t parts.0 in
-    let R = g.R.PartReader.reading c.args.reader.now t in (
+    (λ checked made t agrees.
+    let parts = c.in_ok-index.ensures.answered t agrees in
+    let homograph = c.in_ok-duplicate.ensures.answered t parts.0 in
+    let R = g.R.PartAnalyzer.reading c.args.analyzer.now t in (
       homograph.0,
       finishes _ _ h.progress _ _ _ made
           (c.in_ok-declared.ensures

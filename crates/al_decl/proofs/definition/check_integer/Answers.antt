@@ -1,26 +1,26 @@
 use Rattle.std.proofs.Common.{Option, Result, ap, ◌∙◌}
 use Rattle.al_decl_type.specs.declared.subtype.StaticRange.{StaticRange}
-use Rattle.al_declared.specs.TypeKinds.{integer_declared}
-use Rattle.al_declaring.specs.Declaring.{duplicate}
+use Rattle.al_decl_judged.specs.TypeKinds.{integer_declared}
+use Rattle.al_decl_here.specs.Declaring.{duplicate}
 use Rattle.al_view.specs.declared.view.ViewKind.TheVariants.{OfComponent}
-use Rattle.al_judged.specs.declared.fault.Fault.{Fault}
+use Rattle.al_base_fault.specs.declared.fault.Fault.{Fault}
 use Rattle.al_scope.specs.Places.{Place}
-use Rattle.al_tree.specs.DeclarationViews.{range_seen}
+use Rattle.al_tree.specs.DeclarationViews.{range_model}
 use Rattle.al_decl.specs.Checking.{with_scope}
 use Rattle.al_decl.specs.Forms.{range_read}
 use Rattle.al_decl.proofs.Chains.{finishes, if_ok}
 use Rattle.al_decl.proofs.definition.check_integer.Goals as goal
 
-pub returns-clause-told : goal.returns-clause-told
-returns-clause-told g c =
-    let h = c.args.here.now in
+pub returns-clause-answered : goal.returns-clause-answered
+returns-clause-answered g c =
+    let h = c.args.env.now in
     let n = c.args.name.now in
-    let r = range_seen c.args.range.now in
+    let r = range_model c.args.range.now in
     if_ok c.finish.result _ _
-    (λ judged made t agrees.
-    let range = c.in_ok-range.ensures.told t agrees in
-    let homograph = c.in_ok-duplicate.ensures.told t range.0 in
-    let R = g.R.PartReader.reading c.args.reader.now t in (
+    (λ checked made t agrees.
+    let range = c.in_ok-range.ensures.answered t agrees in
+    let homograph = c.in_ok-duplicate.ensures.answered t range.0 in
+    let R = g.R.PartAnalyzer.reading c.args.analyzer.now t in (
       homograph.0,
       finishes _ _ h.progress _ _ _ made
           (c.in_ok-declared.ensures

@@ -1,16 +1,16 @@
 use Rattle.std.proofs.Common.{Option, ap, ◌∙◌}
-use Rattle.al_declaring.specs.Declaring.{duplicate}
+use Rattle.al_decl_here.specs.Declaring.{duplicate}
 use Rattle.al_view.specs.declared.view.ViewKind.TheVariants.{OfComponent}
-use Rattle.al_judged.specs.Faults.{earlier}
-use Rattle.al_judged.specs.declared.fault.Fault.{Fault}
+use Rattle.al_base_fault.specs.Faults.{earlier}
+use Rattle.al_base_fault.specs.declared.fault.Fault.{Fault}
 use Rattle.al_decl.proofs.definition.enumeration_duplicate.Goals as goal
 
-pub returns-clause-told : goal.returns-clause-told
-returns-clause-told g c t h =
-    let literal = c.in_ok-literal.ensures.told t h in
-    let named = c.in_ok-named.ensures.told t literal.0 in (
+pub returns-clause-answered : goal.returns-clause-answered
+returns-clause-answered g c t h =
+    let literal = c.in_ok-literal.ensures.answered t h in
+    let named = c.in_ok-named.ensures.answered t literal.0 in (
       named.0,
       c.earlier.ensures
           ∙ ap (λ (d : Option Fault). earlier d c.in_ok-literal.literal) named.1
-          ∙ ap (λ (d : Option Fault). earlier (duplicate t c.args.here.now.scope OfComponent c.args.name.now) d) literal.1,
+          ∙ ap (λ (d : Option Fault). earlier (duplicate t c.args.env.now.scope OfComponent c.args.name.now) d) literal.1,
     )

@@ -1,28 +1,28 @@
 use Rattle.std.proofs.Common.{List, Option, Result, ap, sym, ◌∙◌}
-use Rattle.al_declared.specs.Numbers.{numbers_declared}
-use Rattle.al_declared.specs.StaticPieces.{static_of}
-use Rattle.al_declaring.specs.declared.here.Here.{Here}
-use Rattle.al_declaring.specs.Declaring.{duplicates}
+use Rattle.al_decl_judged.specs.Numbers.{numbers_declared}
+use Rattle.al_decl_judged.specs.StaticPieces.{static_of}
+use Rattle.al_decl_here.specs.declared.env.Environment.{Environment}
+use Rattle.al_decl_here.specs.Declaring.{duplicates}
 use Rattle.al_view.specs.declared.view.ViewKind.TheVariants.{OfComponent}
-use Rattle.al_judged.specs.Judging.{next}
-use Rattle.al_judged.specs.declared.fault.Fault.{Fault}
+use Rattle.al_base_fault.specs.Judging.{next}
+use Rattle.al_base_fault.specs.declared.fault.Fault.{Fault}
 use Rattle.al_scope.specs.Places.{Place}
-use Rattle.al_tree.specs.ExpressionViews.{expression_seen}
+use Rattle.al_tree.specs.ExpressionViews.{expression_model}
 use Rattle.al_view.specs.declared.types.StaticValue.{StaticValue}
 use Rattle.al_decl.specs.Checking.{with_scope}
 use Rattle.al_decl.proofs.Chains.{finishes, if_ok}
 use Rattle.al_decl.proofs.simple.check_number.Goals as goal
 
-pub returns-clause-told : goal.returns-clause-told
-returns-clause-told g c =
-    let h = c.args.here.now in
+pub returns-clause-answered : goal.returns-clause-answered
+returns-clause-answered g c =
+    let h = c.args.env.now in
     let names = c.args.names.now in
-    let e = expression_seen c.args.value.now in
+    let e = expression_model c.args.value.now in
     if_ok c.finish.result _ _
-    (λ judged made t agrees.
-    let value = c.in_ok-value.ensures.told t agrees in
-    let homograph = c.in_ok-duplicate.ensures.told t value.0 in
-    let R = g.R.PartReader.reading c.args.reader.now t in (
+    (λ checked made t agrees.
+    let value = c.in_ok-value.ensures.answered t agrees in
+    let homograph = c.in_ok-duplicate.ensures.answered t value.0 in
+    let R = g.R.PartAnalyzer.reading c.args.analyzer.now t in (
       homograph.0,
       finishes _ _ h.progress _ _ _ made
           (c.in_ok-declared.ensures

@@ -1,28 +1,28 @@
 use Rattle.std.proofs.Common.{◌≡◌, List, ap, ◌∙◌}
-use Rattle.al_declared.specs.declared.names.DefiningName.{DefiningName}
-use Rattle.al_declaring.specs.Declaring.{begun}
-use Rattle.al_declaring.specs.Inner.{made_visible}
-use Rattle.al_defining.specs.Defining.{defining_names}
-use Rattle.al_tree.specs.DeclarationViews.{component_seen}
+use Rattle.al_decl_judged.specs.declared.names.DefiningName.{DefiningName}
+use Rattle.al_decl_here.specs.Declaring.{begun}
+use Rattle.al_decl_here.specs.Inner.{made_visible}
+use Rattle.al_decl_names.specs.Defining.{defining_names}
+use Rattle.al_tree.specs.DeclarationViews.{component_model}
 use Rattle.al_decl_record.specs.Components.{named_parts, parts_behind}
-use Rattle.al_decl_record.specs.Founds.{found_seen}
+use Rattle.al_decl_record.specs.Founds.{found_model}
 use Rattle.al_decl_record.proofs.Outcomes.{on_ok}
 use Rattle.al_decl_record.proofs.components.check_component.Goals as goal
 
-pub returns-clause-told : goal.returns-clause-told
-returns-clause-told g c =
-    let k = component_seen c.args.component.now in
+pub returns-clause-answered : goal.returns-clause-answered
+returns-clause-answered g c =
+    let k = component_model c.args.component.now in
     let same : c.as_slice-names.result.now ≡ defining_names k.names = c.as_slice-names.ensures ∙ c.in_ok-names.ensures in
     on_ok c.named_parts.result _ _
-    (λ told t h.
-    let made = told t h in
-    let R = g.R.PartReader.reading c.args.reader.now t in
-    (made.0, made.1 ∙ ap (λ (ns : List DefiningName). parts_behind (found_seen c.args.found.now) (named_parts R t c.args.scope.now k ns)) same))
-    c.named_parts.ensures.told
+    (λ answered t h.
+    let made = answered t h in
+    let R = g.R.PartAnalyzer.reading c.args.analyzer.now t in
+    (made.0, made.1 ∙ ap (λ (ns : List DefiningName). parts_behind (found_model c.args.found.now) (named_parts R t c.args.scope.now k ns)) same))
+    c.named_parts.ensures.answered
 
 pub returns-clause-scope : goal.returns-clause-scope
 returns-clause-scope g c =
-    let k = component_seen c.args.component.now in
+    let k = component_model c.args.component.now in
     let same : c.as_slice-names.result.now ≡ defining_names k.names = c.as_slice-names.ensures ∙ c.in_ok-names.ensures in
     on_ok c.named_parts.result _ _
     (λ made. made ∙ ap (λ (ns : List DefiningName). made_visible (begun c.args.scope.now ns) ns) same)

@@ -1,20 +1,20 @@
 use Rattle.std.proofs.Common.{List, Option, Result, Ok, [], ap, ◌∙◌}
 use Rattle.al_decl.specs.Checking.{finished, with_scope}
 use Rattle.al_decl_type.specs.declared.record.Part.{Part}
-use Rattle.al_declared.specs.TypeKinds.{record_declared}
-use Rattle.al_declaring.specs.Declaring.{begun_one}
-use Rattle.al_judged.specs.declared.fault.Fault.{Fault}
+use Rattle.al_decl_judged.specs.TypeKinds.{record_declared}
+use Rattle.al_decl_here.specs.Declaring.{begun_one}
+use Rattle.al_base_fault.specs.declared.fault.Fault.{Fault}
 use Rattle.al_scope.specs.Places.{Place}
 use Rattle.al_decl_record.proofs.Outcomes.{if_ok}
 use Rattle.al_decl_record.proofs.record.check_null_record.Goals as goal
 
-pub returns-clause-told : goal.returns-clause-told
-returns-clause-told g c =
-    let h = c.args.here.now in
+pub returns-clause-answered : goal.returns-clause-answered
+returns-clause-answered g c =
+    let h = c.args.env.now in
     let n = c.args.name.now in
     if_ok c.check_record.result _ _
-    (λ judged made t agrees.
-    let homograph = c.in_ok-duplicate.ensures.told t agrees in (
+    (λ checked made t agrees.
+    let homograph = c.in_ok-duplicate.ensures.answered t agrees in (
       homograph.0,
       made
           ∙ ap (λ (r : Result (List Part) Fault). finished (with_scope h c.begin_one.new.scope) (record_declared h.progress n c.in_ok-duplicate.duplicate r)) c.no_parts-parts.ensures

@@ -1,28 +1,28 @@
 use Rattle.std.proofs.Common.{List, Option, Result, Ok, [], ap, ◌∙◌}
 use Rattle.al_decl.specs.Checking.{finished, with_scope}
 use Rattle.al_decl_type.specs.declared.record.Part.{Part}
-use Rattle.al_declared.specs.TypeKinds.{record_declared}
-use Rattle.al_declaring.specs.Inner.{in_region}
-use Rattle.al_declaring.specs.declared.here.Here.{Here}
-use Rattle.al_declaring.specs.Declaring.{begun_one, duplicate}
+use Rattle.al_decl_judged.specs.TypeKinds.{record_declared}
+use Rattle.al_decl_here.specs.Inner.{in_region}
+use Rattle.al_decl_here.specs.declared.env.Environment.{Environment}
+use Rattle.al_decl_here.specs.Declaring.{begun_one, duplicate}
 use Rattle.al_view.specs.declared.view.ViewKind.TheVariants.{OfComponent}
-use Rattle.al_judged.specs.declared.fault.Fault.{Fault}
+use Rattle.al_base_fault.specs.declared.fault.Fault.{Fault}
 use Rattle.al_scope.specs.Places.{Place}
-use Rattle.al_tree.specs.DeclarationViews.{components_seen}
+use Rattle.al_tree.specs.DeclarationViews.{components_model}
 use Rattle.al_decl_record.specs.Components.{component_list, parts_after}
 use Rattle.al_decl_record.proofs.Outcomes.{if_ok}
 use Rattle.al_decl_record.proofs.record.check_record_type.Goals as goal
 
-pub returns-clause-told : goal.returns-clause-told
-returns-clause-told g c =
-    let h = c.args.here.now in
+pub returns-clause-answered : goal.returns-clause-answered
+returns-clause-answered g c =
+    let h = c.args.env.now in
     let n = c.args.name.now in
-    let cs = component_list (components_seen c.args.components.now) in
+    let cs = component_list (components_model c.args.components.now) in
     if_ok c.check_record.result _ _
-    (λ judged made t agrees.
-    let parts = c.in_ok-parts.ensures.told t agrees in
-    let homograph = c.in_ok-duplicate.ensures.told t parts.0 in
-    let R = g.R.PartReader.reading c.args.reader.now t in
+    (λ checked made t agrees.
+    let parts = c.in_ok-parts.ensures.answered t agrees in
+    let homograph = c.in_ok-duplicate.ensures.answered t parts.0 in
+    let R = g.R.PartAnalyzer.reading c.args.analyzer.now t in
     let begun = c.in_ok-begin_one.ensures.begun in (
       homograph.0,
       made

@@ -1,6 +1,6 @@
 use Rattle.std.proofs.Common.{◌≡◌, ℕ, List, [], ◌∷◌, ◌++◌, ◌∙◌, ap, rules}
 use Rattle.al_view.specs.declared.view.ViewKind.{ViewKind}
-use Rattle.al_predefined.specs.Standard.{literal}
+use Rattle.al_view_predefined.specs.Standard.{literal}
 use Rattle.al_decl_type.specs.declared.declaration.Declaration.{Declaration}
 use Rattle.al_decl_type.specs.Homonyms.{with_name}
 use Rattle.al_decl_type.specs.TypeDeclarations.{declared_as}

@@ -1,7 +1,7 @@
 use Rattle.std.proofs.Common.{get_or}
 use Rattle.std.proofs.lemmas.List.{take_more}
-use Rattle.al_predefined.specs.declared.operators.OperatorProfile.TheVariants.{Unary}
-use Rattle.al_predefined.specs.declared.operators.OperatorSymbol.TheVariants.{And}
+use Rattle.al_view_predefined.specs.declared.operators.OperatorProfile.TheVariants.{Unary}
+use Rattle.al_view_predefined.specs.declared.operators.OperatorSymbol.TheVariants.{And}
 use Rattle.al_decl_type.specs.TypeDeclarations.{Sign}
 use Rattle.al_decl_type.proofs.DeclarationLemmas.{signs_counted, signs_declared}
 use Rattle.al_decl_type.proofs.declaration.declare_signs.Goals as goal

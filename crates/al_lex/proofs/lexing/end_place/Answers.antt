@@ -1,7 +1,7 @@
 use Rattle.std.proofs.Common.{ℕ, ◌≡◌, ◌+◌, ◌-◌, ◌<◌, ◌++◌, [], List, length, drop, refl, sym, ap, subst, ◌∙◌, arith, eqb-true}
 use Rattle.std.proofs.lemmas.Bool.{eqb-false}
 use Rattle.al_base.specs.declared.place.Place.{Place}
-use Rattle.al_lex.specs.Tokens.{behind, with_token, first_place, mark_len}
+use Rattle.al_lex.specs.Tokens.{after, with_token, first_place, mark_len}
 use Rattle.al_lex.proofs.Cuts.{Completes, starts, goes_on, is_over, is_fault, end_place_lem, IsNear, moved}
 use Rattle.al_lex.proofs.lexing.end_place.Goals as goal
 
@@ -32,8 +32,8 @@ loop-rest-preserved c =
     let at = length text - length rest in
     let lens : length new + q.len ≡ length rest = c.split_at-in-loop-rest.ensures.back_len in
     let farther : at + q.len ≡ length text - length new = omega (arith, lens, c.loop-rest.invariant.within, c.in-Ok.ensures.within) in
-    let near : IsNear (behind q.sort q.len p) (at + q.len) = moved q.sort q.len at p c.in-Ok.ensures.some c.loop-rest.invariant.line c.loop-rest.invariant.column in
-    let here : IsNear c.behind-place.result (length text - length new) = subst (λ (z : Place). IsNear z (length text - length new)) (sym c.behind-place.ensures) (subst (λ (n : ℕ). IsNear (behind q.sort q.len p) n) farther near) in
+    let near : IsNear (after q.sort q.len p) (at + q.len) = moved q.sort q.len at p c.in-Ok.ensures.some c.loop-rest.invariant.line c.loop-rest.invariant.column in
+    let here : IsNear c.after-place.result (length text - length new) = subst (λ (z : Place). IsNear z (length text - length new)) (sym c.after-place.ensures) (subst (λ (n : ℕ). IsNear (after q.sort q.len p) n) farther near) in
     record {
       short = c.loop-rest.invariant.short;
       within = omega (arith, lens, c.loop-rest.invariant.within);
@@ -41,9 +41,9 @@ loop-rest-preserved c =
       column = here.column;
       cut = (
         sofar ++ with_token q.sort at q.len p [],
-        subst (λ (n : ℕ). Completes n c.behind-place.result new (sofar ++ with_token q.sort at q.len p []) text) farther
-            (goes_on at p c.behind-place.result rest new sofar _ text q c.loop-rest.invariant.cut.1
-            (omega (arith, c.in-Ok.ensures.some, c.in-Ok.ensures.within)) c.in-Ok.ensures.exact c.in-Ok.ensures.some refl c.behind-place.ensures c.split_at-in-loop-rest.ensures.back),
+        subst (λ (n : ℕ). Completes n c.after-place.result new (sofar ++ with_token q.sort at q.len p []) text) farther
+            (goes_on at p c.after-place.result rest new sofar _ text q c.loop-rest.invariant.cut.1
+            (omega (arith, c.in-Ok.ensures.some, c.in-Ok.ensures.within)) c.in-Ok.ensures.exact c.in-Ok.ensures.some refl c.after-place.ensures c.split_at-in-loop-rest.ensures.back),
       );
     }
 

@@ -3,7 +3,7 @@ use Rattle.al_lex.specs.declared.token.Token.{Token}
 use Rattle.al_lex.proofs.Cuts.{Completes}
 use Rattle.al_lex.proofs.lexing.end_place.Given as goal
 
--- What is cut off the rest, behind some tokens, is cut off the text.
+-- What is cut off the rest, after some tokens, is cut off the text.
 abbrev pub invariant-loop-rest : goal.invariant-loop-rest
 invariant-loop-rest l = record {
   short : length l.text ≤ 4294967294;

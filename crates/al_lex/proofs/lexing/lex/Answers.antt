@@ -2,7 +2,7 @@ use Rattle.std.proofs.Common.{ℕ, ◌≡◌, ◌+◌, ◌<◌, [], List, length
 use Rattle.std.proofs.lemmas.Bool.{eqb-false}
 use Rattle.al_base.specs.declared.place.Place.{Place}
 use Rattle.al_lex.specs.declared.token.Token.{Token}
-use Rattle.al_lex.specs.Tokens.{behind, first_place, mark_len}
+use Rattle.al_lex.specs.Tokens.{after, first_place, mark_len}
 use Rattle.al_lex.proofs.Cuts.{Completes, starts, goes_on, is_over, is_fault, lexed_of, IsNear, moved}
 use Rattle.al_lex.proofs.lexing.lex.Goals as goal
 
@@ -26,7 +26,7 @@ pub loop-rest-preserved : goal.loop-rest-preserved
 loop-rest-preserved c =
     let q = c.in-Ok.piece in
     let p = c.loop-rest.place in
-    let near : IsNear (behind q.sort q.len p) (c.loop-rest.start + q.len) = moved q.sort q.len c.loop-rest.start p c.in-Ok.ensures.some c.loop-rest.invariant.line c.loop-rest.invariant.column in
+    let near : IsNear (after q.sort q.len p) (c.loop-rest.start + q.len) = moved q.sort q.len c.loop-rest.start p c.in-Ok.ensures.some c.loop-rest.invariant.line c.loop-rest.invariant.column in
     let here : IsNear c.in_ok-place.place (c.loop-rest.start + q.len) = subst (λ (z : Place). IsNear z (c.loop-rest.start + q.len)) (sym c.in_ok-place.ensures.place) near in
     record {
       short = c.loop-rest.invariant.short;

@@ -2,7 +2,7 @@ use Rattle.std.proofs.Common.{◌≡◌, ◌≤◌, ◌+◌, length}
 use Rattle.al_lex.proofs.Cuts.{Completes}
 use Rattle.al_lex.proofs.lexing.lex.Given as goal
 
--- What is cut off the rest, behind the tokens so far, is cut off the text.
+-- What is cut off the rest, after the tokens so far, is cut off the text.
 abbrev pub invariant-loop-rest : goal.invariant-loop-rest
 invariant-loop-rest l = record {
   short : length l.text ≤ 4294967294;

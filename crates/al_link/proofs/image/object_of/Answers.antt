@@ -1,5 +1,5 @@
 use Rattle.std.proofs.Common.{ℕ, List, sym, subst, ◌∙◌, arith}
-use Rattle.al_partition.specs.Images.{IsUnitName}
+use Rattle.al_link_image.specs.Images.{IsUnitName}
 use Rattle.al_link.proofs.image.object_of.Goals as goal
 
 pub returns-clause-fit : goal.returns-clause-fit

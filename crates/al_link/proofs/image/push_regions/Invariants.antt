@@ -1,6 +1,6 @@
 use Rattle.std.proofs.Common.{◌≡◌, ◌++◌, take, map}
 use Rattle.std.specs.List.{All}
-use Rattle.al_partition.specs.Images.{IsRegion}
+use Rattle.al_link_image.specs.Images.{IsRegion}
 use Rattle.al_link.specs.Images.{region_at}
 use Rattle.al_link.proofs.image.push_regions.Given as goal
 

@@ -1,7 +1,7 @@
 use Rattle.std.proofs.Common.{List, ap, ◌∙◌}
 use Rattle.al_instr.specs.declared.instruction.Instr.{Instr}
 use Rattle.al_instr.specs.Codes.{code_bytes}
-use Rattle.al_partition.proofs.CodeLemmas.{is_code}
+use Rattle.al_link_image.proofs.CodeLemmas.{is_code}
 use Rattle.al_link.proofs.start.start_bytes.Goals as goal
 
 pub returns-clause-is_code : goal.returns-clause-is_code

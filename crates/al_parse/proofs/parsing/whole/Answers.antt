@@ -3,7 +3,7 @@ use Rattle.std.proofs.lemmas.Bool.{eqb-false}
 use Rattle.std.proofs.lemmas.List.{length-map}
 use Rattle.std.proofs.lemmas.Result.{err_from_is_err_and}
 use Rattle.al_tree.specs.Lexemes.{lexeme_of, lexemes}
-use Rattle.al_tree.specs.UnitViews.{unit_seen}
+use Rattle.al_tree.specs.UnitViews.{unit_model}
 use Rattle.al_parse.proofs.Texts.{refuses, goes_over, is_tree}
 use Rattle.al_parse.proofs.parsing.whole.Goals as goal
 
@@ -21,4 +21,4 @@ returns-then-not-is_empty-clause-fault c =
 pub returns-clause-found : goal.returns-clause-found
 returns-clause-found c =
     let rest = c.in_ok-unit.rest.now in
-    is_tree (unit_seen c.in_ok-unit.unit) (lexemes c.args.source.now c.args.tokens.now) (lexemes c.args.source.now rest) (length-map rest (lexeme_of c.args.source.now) ∙ eqb-true (length rest) 0 (sym c.is_empty.ensures ∙ c.if-not-is_empty.false)) c.in_ok-unit.ensures
+    is_tree (unit_model c.in_ok-unit.unit) (lexemes c.args.source.now c.args.tokens.now) (lexemes c.args.source.now rest) (length-map rest (lexeme_of c.args.source.now) ∙ eqb-true (length rest) 0 (sym c.is_empty.ensures ∙ c.if-not-is_empty.false)) c.in_ok-unit.ensures

@@ -1,8 +1,8 @@
-use Rattle.al_grammar.specs.Grammar.Rule.{Begun, One, Seq}
+use Rattle.al_tree_grammar.specs.Grammar.Rule.{Begun, One, Seq}
 use Rattle.al_parse_unit.proofs.Rooms.{no_room, stops_in_room, took_in_room}
-use Rattle.al_syntax.specs.DeclarationTrees.{array_tokens}
-use Rattle.al_syntax.specs.Declarations.{array_rule, subtype_indication_rule}
-use Rattle.al_tree.specs.DeclarationViews.{array_seen}
+use Rattle.al_tree_syntax.specs.DeclarationTrees.{array_tokens}
+use Rattle.al_tree_syntax.specs.Declarations.{array_rule, subtype_indication_rule}
+use Rattle.al_tree.specs.DeclarationViews.{array_model}
 use Rattle.al_tree.specs.Lexemes.{lexeme_of, lexemes}
 use Rattle.std.proofs.Common.{arith}
 use Rattle.std.proofs.lemmas.List.{length-map}
@@ -24,4 +24,4 @@ returns-in_err-array c =
 pub returns : goal.returns
 unfolding array_rule
 returns c =
-    took_in_room c.args.depth (Seq (One 28) (Seq (Begun 5 6) (Seq (One 49) subtype_indication_rule))) (array_tokens (array_seen c.in_ok-array.array)) (lexemes c.args.source.now c.in_ok-array.rest.now) (lexemes c.args.source.now c.args.tokens.now) (lexemes c.args.source.now c.args.tokens.now) (omega arith) c.in_ok-array.ensures
+    took_in_room c.args.depth (Seq (One 28) (Seq (Begun 5 6) (Seq (One 49) subtype_indication_rule))) (array_tokens (array_model c.in_ok-array.array)) (lexemes c.args.source.now c.in_ok-array.rest.now) (lexemes c.args.source.now c.args.tokens.now) (lexemes c.args.source.now c.args.tokens.now) (omega arith) c.in_ok-array.ensures

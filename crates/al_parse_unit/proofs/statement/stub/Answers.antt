@@ -1,16 +1,16 @@
 use Rattle.std.proofs.Common.{◌≡◌, ◌∷◌}
 use Rattle.std.proofs.lemmas.Result.{err_from_is_err_and}
-use Rattle.al_grammar.specs.Grammar.{Label}
-use Rattle.al_grammar.specs.Grammar.Lexeme.{Fixed, Named}
-use Rattle.al_grammar.specs.Grammar.Rule.{Any, One, Seq}
-use Rattle.al_grammar.specs.Reading.{one}
+use Rattle.al_tree_grammar.specs.Grammar.{Label}
+use Rattle.al_tree_grammar.specs.Grammar.Lexeme.{Fixed, Named}
+use Rattle.al_tree_grammar.specs.Grammar.Rule.{Any, One, Seq}
+use Rattle.al_tree_grammar.specs.Reading.{one}
 use Rattle.al_parse_expr.specs.declared.stop.Stop.{Stop}
 use Rattle.al_parse_expr.specs.Parses.{Lexemes, Stops, reading}
 use Rattle.al_tree.specs.Lexemes.{lexemes, place_label}
 use Rattle.al_parse_unit.proofs.Rooms.{stops_first}
 use Rattle.al_parse_unit.proofs.statement.stub.Goals as goal
 
--- a fault behind `is separate`
+-- a fault after `is separate`
 no_semicolon : (e : Stop) (l : Label) (xs ys zs : Lexemes) → xs ≡ Fixed 44 ∷ ys → ys ≡ Named 63 l ∷ zs → Stops e (one 14 zs) → Stops e (reading 0 (Seq (One 44) (Seq (Any 63) (One 14))) xs)
 no_semicolon e l xs ys zs h k s = rw (h, k) s
 

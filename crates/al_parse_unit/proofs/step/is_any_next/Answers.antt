@@ -2,29 +2,29 @@ use Rattle.std.proofs.Common.{ℕ, ◌≡◌, ◌==◌, ◌||◌, ◌+◌, ◌<�
 use Rattle.std.proofs.Math.Seq.{drop-cons}
 use Rattle.std.proofs.lemmas.List.{drop_all}
 use Rattle.std.proofs.Math.Bool.{or-false}
-use Rattle.al_grammar.specs.Grammar.{Lexeme, kind}
-use Rattle.al_grammar.specs.Reading.{begins, mem}
-use Rattle.al_syntax.specs.Symbols.{number}
+use Rattle.al_tree_grammar.specs.Grammar.{Lexeme, kind}
+use Rattle.al_tree_grammar.specs.Reading.{begins, mem}
+use Rattle.al_tree_syntax.specs.Symbols.{number}
 use Rattle.al_tree.specs.Lexemes.{lexemes}
-use Rattle.al_tree.specs.Symbols.{symbol_seen}
+use Rattle.al_tree.specs.Symbols.{symbol_model}
 use Rattle.al_tree.specs.declared.symbol.Symbol.{Symbol}
 use Rattle.al_parse_unit.proofs.step.is_any_next.Goals as goal
 
 kinds : List Symbol → List ℕ
-kinds ss = map (λ s. number (symbol_seen s)) ss
+kinds ss = map (λ s. number (symbol_model s)) ss
 
 one_of : (k : ℕ) (ks : List ℕ) (xs : List Lexeme) → begins (k ∷ ks) xs ≡ (begins (k ∷ []) xs || begins ks xs)
 one_of k ks [] = refl
 one_of k ks (x ∷ xs) = ap (λ b. b || mem (kind x) ks) (sym (or-false (kind x == k)))
 
-here : (ss : List Symbol) (i : ℕ) (d : Symbol) (xs : List Lexeme) → i < length ss → begins (kinds (drop i ss)) xs ≡ (begins (number (symbol_seen (get_or ss i d)) ∷ []) xs || begins (kinds (drop (i + 1) ss)) xs)
+here : (ss : List Symbol) (i : ℕ) (d : Symbol) (xs : List Lexeme) → i < length ss → begins (kinds (drop i ss)) xs ≡ (begins (number (symbol_model (get_or ss i d)) ∷ []) xs || begins (kinds (drop (i + 1) ss)) xs)
 unfolding kinds
-here ss i d xs h = ap (λ (t : List Symbol). begins (kinds t) xs) (drop-cons ss i d h ∙ ap (λ (n : ℕ). get_or ss i d ∷ drop n ss) (sym (add-one i))) ∙ one_of (number (symbol_seen (get_or ss i d))) (kinds (drop (i + 1) ss)) xs
+here ss i d xs h = ap (λ (t : List Symbol). begins (kinds t) xs) (drop-cons ss i d h ∙ ap (λ (n : ℕ). get_or ss i d ∷ drop n ss) (sym (add-one i))) ∙ one_of (number (symbol_model (get_or ss i d))) (kinds (drop (i + 1) ss)) xs
 
-later : (ss : List Symbol) (i : ℕ) (d : Symbol) (xs : List Lexeme) (b : Bool) → i < length ss → b ≡ begins (number (symbol_seen (get_or ss i d)) ∷ []) xs → b ≡ false → begins (kinds ss) xs ≡ begins (kinds (drop i ss)) xs → begins (kinds ss) xs ≡ begins (kinds (drop (i + 1) ss)) xs
+later : (ss : List Symbol) (i : ℕ) (d : Symbol) (xs : List Lexeme) (b : Bool) → i < length ss → b ≡ begins (number (symbol_model (get_or ss i d)) ∷ []) xs → b ≡ false → begins (kinds ss) xs ≡ begins (kinds (drop i ss)) xs → begins (kinds ss) xs ≡ begins (kinds (drop (i + 1) ss)) xs
 later ss i d xs b h e n kept = kept ∙ here ss i d xs h ∙ ap (λ (c : Bool). c || begins (kinds (drop (i + 1) ss)) xs) (sym e ∙ n)
 
-found : (ss : List Symbol) (i : ℕ) (d : Symbol) (xs : List Lexeme) (b : Bool) → i < length ss → b ≡ begins (number (symbol_seen (get_or ss i d)) ∷ []) xs → b ≡ true → begins (kinds ss) xs ≡ begins (kinds (drop i ss)) xs → true ≡ begins (kinds ss) xs
+found : (ss : List Symbol) (i : ℕ) (d : Symbol) (xs : List Lexeme) (b : Bool) → i < length ss → b ≡ begins (number (symbol_model (get_or ss i d)) ∷ []) xs → b ≡ true → begins (kinds ss) xs ≡ begins (kinds (drop i ss)) xs → true ≡ begins (kinds ss) xs
 found ss i d xs b h e y kept = sym (kept ∙ here ss i d xs h ∙ ap (λ (c : Bool). c || begins (kinds (drop (i + 1) ss)) xs) (sym e ∙ y))
 
 none_of : (xs : List Lexeme) → begins [] xs ≡ false

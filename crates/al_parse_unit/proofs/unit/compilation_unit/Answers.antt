@@ -1,10 +1,10 @@
-use Rattle.al_grammar.specs.Grammar.Rule.{Many}
+use Rattle.al_tree_grammar.specs.Grammar.Rule.{Many}
 use Rattle.al_parse_unit.proofs.Rooms.{no_room, stops_in_room, took_in_room}
-use Rattle.al_syntax.specs.Notation.{◌⨾◌}
-use Rattle.al_syntax.specs.UnitTrees.{tokens_of}
-use Rattle.al_syntax.specs.Units.{context_rule, library_item_rule, unit_rule}
+use Rattle.al_tree_syntax.specs.Notation.{◌⨾◌}
+use Rattle.al_tree_syntax.specs.UnitTrees.{tokens_of}
+use Rattle.al_tree_syntax.specs.Units.{context_rule, library_item_rule, unit_rule}
 use Rattle.al_tree.specs.Lexemes.{lexeme_of, lexemes}
-use Rattle.al_tree.specs.UnitViews.{unit_seen}
+use Rattle.al_tree.specs.UnitViews.{unit_model}
 use Rattle.std.proofs.Common.{arith}
 use Rattle.std.proofs.lemmas.List.{length-map}
 use Rattle.std.proofs.lemmas.Result.{err_from_is_err_and}
@@ -25,4 +25,4 @@ returns-in_err-unit c =
 pub returns : goal.returns
 unfolding unit_rule
 returns c =
-    took_in_room c.args.depth (Many context_rule ⨾ library_item_rule) (tokens_of (unit_seen c.in_ok-unit.unit)) (lexemes c.args.source.now c.in_ok-unit.rest.now) (lexemes c.args.source.now c.args.tokens.now) (lexemes c.args.source.now c.args.tokens.now) (omega arith) c.in_ok-unit.ensures
+    took_in_room c.args.depth (Many context_rule ⨾ library_item_rule) (tokens_of (unit_model c.in_ok-unit.unit)) (lexemes c.args.source.now c.in_ok-unit.rest.now) (lexemes c.args.source.now c.args.tokens.now) (lexemes c.args.source.now c.args.tokens.now) (omega arith) c.in_ok-unit.ensures

@@ -1,11 +1,11 @@
 use Rattle.std.proofs.lemmas.Result.{err_from_is_err_and}
-use Rattle.al_grammar.specs.Grammar.Rule.{Many, Opt}
-use Rattle.al_syntax.specs.Declarations.{item_rule}
-use Rattle.al_syntax.specs.Expressions.{identifier_rule, compound_name_rule}
-use Rattle.al_syntax.specs.Notation.{◌⨾◌, the, any}
-use Rattle.al_syntax.specs.Statements.{statements_rule}
-use Rattle.al_syntax.specs.Symbols.{Symbol as symbols}
-use Rattle.al_syntax.specs.Units.{package_body_rule}
+use Rattle.al_tree_grammar.specs.Grammar.Rule.{Many, Opt}
+use Rattle.al_tree_syntax.specs.Declarations.{item_rule}
+use Rattle.al_tree_syntax.specs.Expressions.{identifier_rule, compound_name_rule}
+use Rattle.al_tree_syntax.specs.Notation.{◌⨾◌, the, any}
+use Rattle.al_tree_syntax.specs.Statements.{statements_rule}
+use Rattle.al_tree_syntax.specs.Symbols.{Symbol as symbols}
+use Rattle.al_tree_syntax.specs.Units.{package_body_rule}
 use Rattle.al_tree.specs.Lexemes.{lexemes}
 use Rattle.al_parse_unit.proofs.Rooms.{stops_second}
 use Rattle.al_parse_unit.proofs.unit.package_body.Goals as goal

@@ -16,14 +16,14 @@ loop-part-preserved g c =
       asks = let more : take n parts ++ part ∷ [] ≡ take (n + 1) parts = sym (take_more parts n part (omega arith) ∙ ap (λ x. take n parts ++ x ∷ []) (sym c.part-item.is)) in
           parts-of (take n parts ++ part ∷ []) (take (n + 1) parts) c.args.name.now c.args.recorder.now.log c.ask_more.new.recorder.log more
           (parts-then (take n parts) (part ∷ []) c.args.name.now c.args.recorder.now.log c.loop-part.recorder.log c.ask_more.new.recorder.log i.asks c.in_ok-ask_more.ensures.asks);
-      told = λ t h. let told = c.in_ok-ask_more.ensures.told t h in
-          let before = i.told t told.0 in
-          (before.0, rw (flat_map-take_more (declared_by t c.args.mentioned.now c.args.name.now) parts n part (omega arith), ← c.part-item.is, ← before.1) told.1);
+      answered = λ t h. let answered = c.in_ok-ask_more.ensures.answered t h in
+          let before = i.answered t answered.0 in
+          (before.0, rw (flat_map-take_more (declared_by t c.args.mentioned.now c.args.name.now) parts n part (omega arith), ← c.part-item.is, ← before.1) answered.1);
     }
 
-pub returns-clause-told : goal.returns-clause-told
-returns-clause-told g c t h =
-    let before = c.loop-part.invariant.told t h in
+pub returns-clause-answered : goal.returns-clause-answered
+returns-clause-answered g c t h =
+    let before = c.loop-part.invariant.answered t h in
     let e : take c.loop-part.part-index c.args.parts.now ≡ c.args.parts.now = take_all c.loop-part.part-index c.args.parts.now (omega arith) in
     (before.0, rw e at before.1)
 

@@ -1,6 +1,6 @@
 use Rattle.std.proofs.Common.{◌≡◌, take}
 use Rattle.std.specs.List.{flat_map}
-use Rattle.al_query.specs.Reads.{Told}
+use Rattle.al_query.specs.Reads.{FromAnswers}
 use Rattle.al_scope.specs.Asked.{AsksParts}
 use Rattle.al_scope.specs.Visible.{declared_by}
 use Rattle.al_scope.proofs.questions.ask_each.Given as goal
@@ -10,5 +10,5 @@ abbrev pub invariant-loop-part : goal.invariant-loop-part
 invariant-loop-part g l = record {
   asks : AsksParts (take l.part-index l.parts) l.name l.fn.recorder.log l.recorder.log;
   asked : l.recorder.asked ≡ l.fn.recorder.asked;
-  told : Told l.fn.recorder.log l.recorder.log (λ t. l.views ≡ flat_map (declared_by t l.mentioned l.name) (take l.part-index l.parts));
+  answered : FromAnswers l.fn.recorder.log l.recorder.log (λ t. l.views ≡ flat_map (declared_by t l.mentioned l.name) (take l.part-index l.parts));
 }

@@ -3,12 +3,12 @@ use Rattle.al_scope.proofs.HidingLemmas.{found-is, views-are}
 use Rattle.al_scope.proofs.PartLemmas.{parts-of}
 use Rattle.al_scope.proofs.search.find.Goals as goal
 
-pub returns-clause-told : goal.returns-clause-told
-returns-clause-told g c t h =
-    let told = c.in_ok-views.ensures.told t h in (
-      told.0,
+pub returns-clause-answered : goal.returns-clause-answered
+returns-clause-answered g c t h =
+    let answered = c.in_ok-views.ensures.answered t h in (
+      answered.0,
       found-is _ _ _ _ c.contains-begun.ensures
-          (views-are t c.args.mentioned.now c.args.name.now c.args.region.now.parts c.as_slice.result.now c.in_ok-views.views c.views.result.now (views_of c.args.region.now.declared c.args.name.now) c.append_some.new.views c.in_ok-append_some.ensures.is told.1 c.as_slice.ensures c.views.ensures),
+          (views-are t c.args.mentioned.now c.args.name.now c.args.region.now.parts c.as_slice.result.now c.in_ok-views.views c.views.result.now (views_of c.args.region.now.declared c.args.name.now) c.append_some.new.views c.in_ok-append_some.ensures.is answered.1 c.as_slice.ensures c.views.ensures),
     )
 
 pub returns-clause-asks : goal.returns-clause-asks

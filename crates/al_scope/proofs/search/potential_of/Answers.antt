@@ -6,10 +6,10 @@ use Rattle.al_scope.proofs.PartLemmas.{parts-none, parts-of}
 use Rattle.al_scope.proofs.PlaceLemmas.{each-none, uses_at-last}
 use Rattle.al_scope.proofs.search.potential_of.Goals as goal
 
-pub returns-in_ok-views-in-Some-clause-told : goal.returns-in_ok-views-in-Some-clause-told
-returns-in_ok-views-in-Some-clause-told g c t h =
-    let told = c.in_ok-views-in-Some.ensures.told t h in
-    (told.0, told.1 ∙ ap (potential t c.args.mentioned.now c.args.name.now) (sym (uses_at-last c.args.regions.now c.in-Some.region.now (sym c.in-Some.ensures.value))))
+pub returns-in_ok-views-in-Some-clause-answered : goal.returns-in_ok-views-in-Some-clause-answered
+returns-in_ok-views-in-Some-clause-answered g c t h =
+    let answered = c.in_ok-views-in-Some.ensures.answered t h in
+    (answered.0, answered.1 ∙ ap (potential t c.args.mentioned.now c.args.name.now) (sym (uses_at-last c.args.regions.now c.in-Some.region.now (sym c.in-Some.ensures.value))))
 
 pub returns-in_ok-views-in-Some-clause-asks : goal.returns-in_ok-views-in-Some-clause-asks
 returns-in_ok-views-in-Some-clause-asks g c =

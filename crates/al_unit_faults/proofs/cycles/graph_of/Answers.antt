@@ -2,7 +2,7 @@ use Rattle.std.proofs.Common.{◌≡◌, ◌<◌, [], map, length, get_or, ap, s
 use Rattle.std.proofs.lemmas.Grind.{common_steps}
 use Rattle.std.specs.List.{Contains}
 use Rattle.std.proofs.lemmas.List.Elements.{Contains-get_or}
-use Rattle.al_unit_faults.specs.Numbers.{numbers_seen, targets, AddsFrom, StepsBelow, IsNumbering}
+use Rattle.al_unit_faults.specs.Numbers.{numbers_model, targets, AddsFrom, StepsBelow, IsNumbering}
 use Rattle.al_unit_faults.proofs.GraphLemmas.{targets_within, steps_more}
 use Rattle.al_unit_faults.proofs.cycles.graph_of.Goals as goal
 
@@ -10,7 +10,7 @@ pub add_steps-requires-clause-targets_in : goal.add_steps-requires-clause-target
 add_steps-requires-clause-targets_in c =
     let lib = c.args.sources.now in
     let files = map (λ n. n.now) c.args.files.now in
-    let ns = numbers_seen c.args.numbers.now in
+    let ns = numbers_model c.args.numbers.now in
     let file = get_or files c.loop-i.i [] in
     let many : length files ≡ length c.args.files.now = grind (arith, common_steps) in
     let numbering = subst (λ n. IsNumbering files n ns) (sym many) c.requires in
@@ -25,7 +25,7 @@ pub loop-i-preserved : goal.loop-i-preserved
 loop-i-preserved c =
     let lib = c.args.sources.now in
     let files = map (λ n. n.now) c.args.files.now in
-    let ns = numbers_seen c.args.numbers.now in
+    let ns = numbers_model c.args.numbers.now in
     let file = get_or files c.loop-i.i [] in
     let many : length files ≡ length c.args.files.now = grind (arith, common_steps) in
     let numbering = subst (λ n. IsNumbering files n ns) (sym many) c.requires in
@@ -37,6 +37,6 @@ pub returns : goal.returns
 returns c =
     let lib = c.args.sources.now in
     let files = map (λ n. n.now) c.args.files.now in
-    let ns = numbers_seen c.args.numbers.now in
+    let ns = numbers_model c.args.numbers.now in
     let ended : c.loop-i.i ≡ length c.args.files.now = omega (arith, c.loop-i-test.false, c.loop-i.auto.i-end) in
     subst (λ n. StepsBelow lib files ns n c.loop-i.graph) ended c.loop-i.invariant

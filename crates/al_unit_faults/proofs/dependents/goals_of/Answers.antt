@@ -1,7 +1,7 @@
 use Rattle.std.proofs.Common.{◌≡◌, ◌+◌, ℕ, List, [], map, length, get_or, subst, sym, ap, ◌∙◌, arith}
 use Rattle.std.proofs.lemmas.Grind.{common_steps}
 use Rattle.al_unit_faults.specs.Dependents.{steps_to_flagged, AreGoals}
-use Rattle.al_unit_faults.specs.Numbers.{numbers_seen}
+use Rattle.al_unit_faults.specs.Numbers.{numbers_model}
 use Rattle.al_unit_faults.proofs.DependentLemmas.{goal_added, goal_passed}
 use Rattle.al_unit_faults.proofs.dependents.goals_of.Goals as goal
 use Rattle.al_unit_faults.proofs.dependents.goals_of.Goals.{then-branch+in_ok-push, else-branch}
@@ -10,7 +10,7 @@ pub loop-i-preserved : goal.loop-i-preserved
 loop-i-preserved c =
     let lib = c.args.sources.now in
     let files = map (λ n. n.now) c.args.files.now in
-    let ns = numbers_seen c.args.numbers.now in
+    let ns = numbers_model c.args.numbers.now in
     let flags = c.args.flags.now in
     let i = c.loop-i.i in
     let goals = c.loop-i.goals.items in
@@ -29,4 +29,4 @@ returns c =
     let lib = c.args.sources.now in
     let files = map (λ n. n.now) c.args.files.now in
     let ended : c.loop-i.i ≡ length c.args.files.now = omega (arith, c.loop-i-test.false, c.loop-i.auto.i-end) in
-    subst (λ n. AreGoals lib files (numbers_seen c.args.numbers.now) c.args.flags.now n c.loop-i.goals.items) ended c.loop-i.invariant
+    subst (λ n. AreGoals lib files (numbers_model c.args.numbers.now) c.args.flags.now n c.loop-i.goals.items) ended c.loop-i.invariant

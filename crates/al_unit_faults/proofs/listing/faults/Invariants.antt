@@ -7,4 +7,4 @@ use Rattle.al_unit_faults.proofs.listing.faults.Given as goal
 abbrev pub invariant-loop-file : goal.invariant-loop-file
 invariant-loop-file l =
     (map finding_of l.found.items ≡ flat_map (file_faults l.sources) (map (λ n. n.now) (take l.file-index l.file-items)))
-    × (l.shortages ≡ l.initial.shortages)
+    × (l.failures ≡ l.initial.failures)

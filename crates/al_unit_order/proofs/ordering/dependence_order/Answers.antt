@@ -2,15 +2,15 @@ use Rattle.std.proofs.Common.{◌≡◌, ℕ, List, Result, Ok, Err, Vec, Global
 use Rattle.std.specs.Result.{MatchResult}
 use Rattle.al_base.specs.Batch.{Key, key_of}
 use Rattle.al_base.specs.declared.unit_key.UnitKey.{UnitKey}
-use Rattle.al_order.specs.Orders.{IsCycle, IsOrdered}
-use Rattle.al_order.specs.declared.cycle.Cycle.{Cycle}
+use Rattle.al_base_order.specs.Orders.{IsCycle, IsOrdered}
+use Rattle.al_base_order.specs.declared.cycle.Cycle.{Cycle}
 use Rattle.al_unit_order.proofs.OrderLemmas.{no_cycle, nodes_in, order_of_units, steps_of_items, within_items}
 use Rattle.al_unit_order.specs.Reached.{IsDependenceOrder}
 use Rattle.al_unit_order.specs.Steps.{key_at}
 use Rattle.al_unit_order.proofs.ordering.dependence_order.Goals as goal
 
-abbrev Told : List (List ℕ) → Result (Vec ℕ Global) Cycle → Type 0
-Told g r = MatchResult r (λ order. IsOrdered g order.items) (λ cycle. IsCycle g cycle.nodes.items)
+abbrev FromAnswers : List (List ℕ) → Result (Vec ℕ Global) Cycle → Type 0
+FromAnswers g r = MatchResult r (λ order. IsOrdered g order.items) (λ cycle. IsCycle g cycle.nodes.items)
 
 pub unreachable-requires : goal.unreachable-requires
 unreachable-requires c =
@@ -18,7 +18,7 @@ unreachable-requires c =
     let g = c.in_ok-graph.graph in
     let items = c.in_ok-units.units.items in
     let below = steps_of_items lib c.as_slice.result.now items g c.as_slice.ensures.value c.in_ok-graph.ensures in
-    let told : Told g (Err c.in-Err.field-0) = subst (Told g) c.in-Err.is c.in_ok-places.ensures in
+    let told : FromAnswers g (Err c.in-Err.field-0) = subst (FromAnswers g) c.in-Err.is c.in_ok-places.ensures in
     let nodes = c.in-Err.field-0.nodes.items in
     no_cycle lib (map key_of items) g c.in_ok-units.ensures below nodes (λ i l. c.cycle_is_of_steps.ensures.steps g nodes told i l) told.some
 
@@ -28,7 +28,7 @@ units_at-requires c =
     let g = c.in_ok-graph.graph in
     let items = c.in_ok-units.units.items in
     let below = steps_of_items lib c.as_slice.result.now items g c.as_slice.ensures.value c.in_ok-graph.ensures in
-    let told : Told g (Ok c.in-Ok.places) = subst (Told g) c.in-Ok.is c.in_ok-places.ensures in
+    let told : FromAnswers g (Ok c.in-Ok.places) = subst (FromAnswers g) c.in-Ok.is c.in_ok-places.ensures in
     within_items items c.as_slice-in-Ok.result.now c.in-Ok.places.items c.as_slice-in-Ok-2.result.now c.as_slice-in-Ok.ensures.value c.as_slice-in-Ok-2.ensures.value (nodes_in lib (map key_of items) g c.in_ok-units.ensures below c.in-Ok.places.items told.0)
 
 pub returns : goal.returns
@@ -38,7 +38,7 @@ returns c =
     let items = c.in_ok-units.units.items in
     let order = c.in-Ok.places.items in
     let below = steps_of_items lib c.as_slice.result.now items g c.as_slice.ensures.value c.in_ok-graph.ensures in
-    let told : Told g (Ok c.in-Ok.places) = subst (Told g) c.in-Ok.is c.in_ok-places.ensures in
+    let told : FromAnswers g (Ok c.in-Ok.places) = subst (FromAnswers g) c.in-Ok.is c.in_ok-places.ensures in
     let same : map key_of c.in_ok-list-in-Ok.list.items ≡ map (key_at (map key_of items)) order =
     c.in_ok-list-in-Ok.ensures ∙ ap (λ (us : List UnitKey). map (key_at (map key_of us)) c.as_slice-in-Ok-2.result.now) c.as_slice-in-Ok.ensures.value ∙ ap (λ (ns : List ℕ). map (key_at (map key_of items)) ns) c.as_slice-in-Ok-2.ensures.value in
     subst (λ (ks : List Key). IsDependenceOrder lib ks) (sym same) (order_of_units lib (map key_of items) g c.in_ok-units.ensures below order told.0)

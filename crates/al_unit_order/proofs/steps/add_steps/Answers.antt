@@ -2,7 +2,7 @@ use Rattle.std.proofs.Common.{◌≡◌, ◌<◌, ◌+◌, ◌++◌, ◌∷◌, 
 use Rattle.std.specs.Prelude.{MatchOption, Option, None, Some}
 use Rattle.std.specs.List.{Contains}
 use Rattle.al_base.specs.Batch.{Key, key_of}
-use Rattle.al_graph.specs.Graphs.{with_step}
+use Rattle.al_base_graph.specs.Graphs.{with_step}
 use Rattle.al_unit_order.specs.Steps.{AddsFrom, IsAt}
 use Rattle.al_unit_order.proofs.StepLemmas.{step_added, step_passed, keys_more}
 use Rattle.al_unit_order.proofs.steps.add_steps.Goals as goal

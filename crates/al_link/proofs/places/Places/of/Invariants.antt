@@ -1,7 +1,7 @@
 use Rattle.std.proofs.Common.{◌≡◌, take, map}
 use Rattle.al_link.specs.Linking.{places_of}
-use Rattle.al_link.specs.Units.{located_seen}
+use Rattle.al_link.specs.Units.{located_model}
 use Rattle.al_link.proofs.places.Places.of.Given as goal
 
 abbrev pub invariant-loop-unit : goal.invariant-loop-unit
-invariant-loop-unit l = l.places ≡ places_of (map located_seen (take l.unit-index l.units))
+invariant-loop-unit l = l.places ≡ places_of (map located_model (take l.unit-index l.units))

@@ -10,8 +10,8 @@ returns-in-Some-clause-answer g c =
     let same : c.in_ok-answer.answer ≡ c.in-Some.answer.now = handed_on c.share.result c.in_ok-answer.answer c.in-Some.answer.now c.in_ok-answer.ensures.same c.share.ensures in
     rw (← c.self.view_is) (same ∙ sym (agrees-recorded (g.A.Answers.table c.self.inside.asked) c.self.inside.log c.args.query.now c.in-Some.answer.now c.self.invariant found))
 
-pub returns-in-Some-clause-told : goal.returns-in-Some-clause-told
-returns-in-Some-clause-told g c =
+pub returns-in-Some-clause-answered : goal.returns-in-Some-clause-answered
+returns-in-Some-clause-answered g c =
     let found : recorded c.self.inside.log c.args.query.now ≡ Some c.in-Some.answer.now = sym c.in-Some.ensures in
     let same : c.in_ok-answer.answer ≡ c.in-Some.answer.now = handed_on c.share.result c.in_ok-answer.answer c.in-Some.answer.now c.in_ok-answer.ensures.same c.share.ensures in
     rw (← c.self.view_is) (λ t h. (h, agrees-recorded t c.self.inside.log c.args.query.now c.in-Some.answer.now h found ∙ sym same))
@@ -24,8 +24,8 @@ invariant_of-self-2 g c =
     rw c.push.ensures
     (agrees-pushed_if (g.A.Answers.table c.self.inside.asked) c.self.inside.log c.args.query.now c.in_ok-query.query c.in_ok-kept.kept (is_ok c.push.result) query c.self.invariant (sym (kept ∙ answer)))
 
-pub returns-clause-told : goal.returns-clause-told
-returns-clause-told g c =
+pub returns-clause-answered : goal.returns-clause-answered
+returns-clause-answered g c =
     let kept : c.in_ok-kept.kept ≡ c.in_ok-answer-2.answer = handed_on c.share-2.result c.in_ok-kept.kept c.in_ok-answer-2.answer c.in_ok-kept.ensures.same c.share-2.ensures in
     let query : c.in_ok-query.query ≡ c.args.query.now = handed_on c.copy.result c.in_ok-query.query c.args.query.now c.in_ok-query.ensures.same c.copy.ensures in
     let pushed : c.push.new.self ≡ c.self.inside.log ++ (c.in_ok-query.query, c.in_ok-kept.kept) ∷ [] = c.push.ensures ∙ ap (λ r. if is_ok r then c.self.inside.log ++ (c.in_ok-query.query, c.in_ok-kept.kept) ∷ [] else c.self.inside.log) (sym c.in_ok-of.ensures.same) in

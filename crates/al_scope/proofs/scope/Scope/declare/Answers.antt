@@ -4,15 +4,15 @@ use Rattle.al_scope.proofs.DeclareLemmas.{stays-declared}
 use Rattle.al_scope.proofs.PlaceLemmas.{in_last-is}
 use Rattle.al_scope.proofs.scope.Scope.declare.Goals as goal
 
-pub returns-then-branch-clause-told : goal.returns-then-branch-clause-told
-returns-then-branch-clause-told g c t h =
-    let told = c.in_ok-has_homograph.ensures.told t h in
-    (told.0, ap not (sym c.if-branch.true ∙ told.1))
+pub returns-then-branch-clause-answered : goal.returns-then-branch-clause-answered
+returns-then-branch-clause-answered g c t h =
+    let answered = c.in_ok-has_homograph.ensures.answered t h in
+    (answered.0, ap not (sym c.if-branch.true ∙ answered.1))
 
-pub returns-clause-told : goal.returns-clause-told
-returns-clause-told g c t h =
-    let told = c.in_ok-has_homograph.ensures.told t h in
-    (told.0, ap not (sym c.if-branch.false ∙ told.1))
+pub returns-clause-answered : goal.returns-clause-answered
+returns-clause-answered g c t h =
+    let answered = c.in_ok-has_homograph.ensures.answered t h in
+    (answered.0, ap not (sym c.if-branch.false ∙ answered.1))
 
 pub returns-clause-new : goal.returns-clause-new
 returns-clause-new g c =
@@ -23,5 +23,5 @@ returns-clause-new g c =
 
 pub returns-clause-once : goal.returns-clause-once
 returns-clause-once g c t h =
-    let told = c.in_ok-has_homograph.ensures.told t h in
-    stays-declared t c.args.name.now c.args.view c.args.self.now _ _ (sym told.1 ∙ c.if-branch.false) (returns-clause-new g c) (ap (λ (p : Place). p.mentioned) c.self.view_is)
+    let answered = c.in_ok-has_homograph.ensures.answered t h in
+    stays-declared t c.args.name.now c.args.view c.args.self.now _ _ (sym answered.1 ∙ c.if-branch.false) (returns-clause-new g c) (ap (λ (p : Place). p.mentioned) c.self.view_is)

@@ -6,11 +6,11 @@ use Rattle.al_scope.specs.Visible.{declared_by}
 use Rattle.al_scope.proofs.PartLemmas.{parts-of, parts-units}
 use Rattle.al_scope.proofs.scope.Scope.declared_by.Goals as goal
 
-pub returns-clause-told : goal.returns-clause-told
-returns-clause-told g c t h =
-    let told = c.in_ok-ask_more.ensures.told t h in (
-      told.0,
-      told.1
+pub returns-clause-answered : goal.returns-clause-answered
+returns-clause-answered g c t h =
+    let answered = c.in_ok-ask_more.ensures.answered t h in (
+      answered.0,
+      answered.1
           ∙ ap (λ l. l ++ declared_by t c.self.inside.mentioned c.args.name.now c.in_ok-part.part) c.new-views.ensures
           ∙ ap (declared_by t c.self.inside.mentioned c.args.name.now) c.in_ok-part.ensures
           ∙ ap (λ (p : Place). declared_by t p.mentioned c.args.name.now (part_of c.args.prefix.now)) c.self.view_is,

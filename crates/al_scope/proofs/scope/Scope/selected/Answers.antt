@@ -1,7 +1,7 @@
 use Rattle.std.proofs.Common.{◌∙◌, [], ◌∷◌, ap}
 use Rattle.std.specs.Option.{option_map, option_map_or}
 use Rattle.std.specs.Prelude.{unwrap_or}
-use Rattle.al_scope.specs.declared.hiding.Found.{Found}
+use Rattle.al_scope.specs.declared.hiding.RegionEntry.{RegionEntry}
 use Rattle.al_scope.specs.declared.region.Region.{Region}
 use Rattle.al_scope.specs.Expanded.{part_of, region_of, selected_at, selected_parts}
 use Rattle.al_scope.specs.Places.{Place, part_units}
@@ -11,15 +11,15 @@ use Rattle.al_query.proofs.AskLemmas.{asks_of-same}
 use Rattle.al_scope.proofs.PartLemmas.{parts-of, parts-units}
 use Rattle.al_scope.proofs.scope.Scope.selected.Goals as goal
 
-pub returns-in_ok-found-in-Some-clause-told : goal.returns-in_ok-found-in-Some-clause-told
-returns-in_ok-found-in-Some-clause-told g c t h =
-    let told = c.in_ok-found-in-Some.ensures.told t h in
+pub returns-in_ok-found-in-Some-clause-answered : goal.returns-in_ok-found-in-Some-clause-answered
+returns-in_ok-found-in-Some-clause-answered g c t h =
+    let answered = c.in_ok-found-in-Some.ensures.answered t h in
     let name = c.args.name.now in
     let s = c.args.prefix.now in
     let m = c.self.inside.mentioned in
     let there = c.in-Some.ensures ∙ ap (region_of s) c.as_slice.ensures.value in (
-      told.0,
-      ap (λ (f : Found). f.views) told.1
+      answered.0,
+      ap (λ (f : RegionEntry). f.views) answered.1
           ∙ ap (λ o. unwrap_or (option_map (λ (r : Region). (found_in t m name r).views) o) (declared_by t m name (part_of s))) there
           ∙ ap (λ (p : Place). selected_at t name s p) c.self.view_is,
     )
@@ -32,14 +32,14 @@ returns-in_ok-found-in-Some-clause-asks g c =
     parts-units (selected_parts s c.args.self.now) c.args.name.now c.args.recorder.now.log c.find.new.recorder.log
     (parts-of c.in-Some.region.now.parts (selected_parts s c.args.self.now) c.args.name.now c.args.recorder.now.log c.find.new.recorder.log parts c.in_ok-found-in-Some.ensures.asks)
 
-pub returns-in_ok-views-in-None-clause-told : goal.returns-in_ok-views-in-None-clause-told
-returns-in_ok-views-in-None-clause-told g c t h =
-    let told = c.in_ok-views-in-None.ensures.told t h in
+pub returns-in_ok-views-in-None-clause-answered : goal.returns-in_ok-views-in-None-clause-answered
+returns-in_ok-views-in-None-clause-answered g c t h =
+    let answered = c.in_ok-views-in-None.ensures.answered t h in
     let name = c.args.name.now in
     let s = c.args.prefix.now in
     let place = c.args.self.now in
     let none = c.in-None.ensures ∙ ap (region_of s) c.as_slice.ensures.value ∙ ap (λ (p : Place). region_of s p.regions) c.self.view_is in
-    (told.0, told.1 ∙ ap (λ o. unwrap_or (option_map (λ (r : Region). (found_in t place.mentioned name r).views) o) (declared_by t place.mentioned name (part_of s))) none)
+    (answered.0, answered.1 ∙ ap (λ o. unwrap_or (option_map (λ (r : Region). (found_in t place.mentioned name r).views) o) (declared_by t place.mentioned name (part_of s))) none)
 
 pub returns-in_ok-views-in-None-clause-asks : goal.returns-in_ok-views-in-None-clause-asks
 returns-in_ok-views-in-None-clause-asks g c =

@@ -1,7 +1,7 @@
 use Rattle.std.proofs.Common.{◌≡◌, ◌∙◌, [], List, Option, Some, None, ap, subst, sym}
 use Rattle.std.specs.Option.{option_map, option_map_or}
 use Rattle.al_view.specs.declared.view.ViewKind.{ViewKind}
-use Rattle.al_scope.specs.declared.hiding.Found.{Found}
+use Rattle.al_scope.specs.declared.hiding.RegionEntry.{RegionEntry}
 use Rattle.al_scope.specs.declared.region.Region.{Region}
 use Rattle.al_scope.specs.Expanded.{IsSelected, region_of, within, within_parts}
 use Rattle.al_scope.specs.Places.{Place}
@@ -10,14 +10,14 @@ use Rattle.al_scope.proofs.ExpandedLemmas.{within-selects}
 use Rattle.al_scope.proofs.PartLemmas.{parts-of, parts-units}
 use Rattle.al_scope.proofs.scope.Scope.selected_within.Goals as goal
 
-pub returns-in_ok-found-in-Some-clause-told : goal.returns-in_ok-found-in-Some-clause-told
-returns-in_ok-found-in-Some-clause-told g c t h =
-    let told = c.in_ok-found-in-Some.ensures.told t h in
+pub returns-in_ok-found-in-Some-clause-answered : goal.returns-in_ok-found-in-Some-clause-answered
+returns-in_ok-found-in-Some-clause-answered g c t h =
+    let answered = c.in_ok-found-in-Some.ensures.answered t h in
     let name = c.args.name.now in
     let s = c.args.construct.now in
     let there = c.in-Some.ensures ∙ ap (region_of s) c.as_slice.ensures.value in (
-      told.0,
-      ap (λ (f : Found). Some f.views) told.1
+      answered.0,
+      ap (λ (f : RegionEntry). Some f.views) answered.1
           ∙ ap (option_map (λ (r : Region). (found_in t c.self.inside.mentioned name r).views)) there
           ∙ ap (λ (p : Place). within t p.mentioned name s p.regions) c.self.view_is,
     )
@@ -36,7 +36,7 @@ returns-in_ok-found-in-Some-clause-selected g c t h =
     let name = c.args.name.now in
     let s = c.args.construct.now in
     let regions = c.args.self.now.regions in
-    let is = (returns-in_ok-found-in-Some-clause-told g c t h).1 in
+    let is = (returns-in_ok-found-in-Some-clause-answered g c t h).1 in
     subst (λ (o : Option (List ViewKind)). IsSelected t m name s regions o) (sym is) (within-selects t m name s regions)
 
 pub returns-in-None-clause-selected : goal.returns-in-None-clause-selected

@@ -28,22 +28,22 @@ loop-package_name-preserved g c =
             append-assoc done (part ∷ []) rest ∙ ap (λ es. done ++ use_parts (uses_of es)) (sym steps) ∙ i.asks.1,
             parts-then done (part ∷ []) name c.args.recorder.now.log c.loop-package_name.recorder.log c.ask_used.new.recorder.log i.asks.2 one,
           );
-      told = λ t h. let told = c.in_ok-opened.ensures.told t h in
-          let before = i.told t told.0 in
+      answered = λ t h. let answered = c.in_ok-opened.ensures.answered t h in
+          let before = i.answered t answered.0 in
           let rest = potential t mentioned name (uses_of c.next.new.self) in
           let opened = opened_by t mentioned name (c.in-Some.package_name.now.items, c.in-Some.used.now.value) in
-          let one = told.1
+          let one = answered.1
           ∙ ap (λ k. opened_by t mentioned name (k, c.deref.result.now)) c.as_slice.ensures.value
           ∙ ap (λ (u : PackageUse). opened_by t mentioned name (c.in-Some.package_name.now.items, u)) c.deref.ensures in
           let more = c.in_ok-append.ensures ∙ ap (λ l. views ++ l) (c.as_slice-in-loop-package_name.ensures ∙ one) in
           (before.0, ap (λ l. l ++ rest) more ∙ append-assoc views opened rest ∙ ap (λ es. views ++ potential t mentioned name (uses_of es)) (sym steps) ∙ before.1);
     }
 
-pub returns-clause-told : goal.returns-clause-told
-returns-clause-told g c t h =
-    let told = c.loop-package_name.invariant.told t h in
+pub returns-clause-answered : goal.returns-clause-answered
+returns-clause-answered g c t h =
+    let answered = c.loop-package_name.invariant.answered t h in
     let views = c.loop-package_name.views in
-    (told.0, sym (append-none views) ∙ ap (λ es. views ++ potential t c.args.mentioned.now c.args.name.now (uses_of es)) (sym c.in-None.ensures.steps.0) ∙ told.1)
+    (answered.0, sym (append-none views) ∙ ap (λ es. views ++ potential t c.args.mentioned.now c.args.name.now (uses_of es)) (sym c.in-None.ensures.steps.0) ∙ answered.1)
 
 pub returns-clause-asks : goal.returns-clause-asks
 returns-clause-asks g c =

@@ -1,5 +1,5 @@
 use Rattle.std.proofs.Common.{◌≡◌, ◌++◌, List}
-use Rattle.al_query.specs.Reads.{Told}
+use Rattle.al_query.specs.Reads.{FromAnswers}
 use Rattle.al_scope.specs.declared.region.UnitPart.{UnitPart}
 use Rattle.al_scope.specs.Asked.{AsksParts}
 use Rattle.al_scope.specs.Places.{use_parts}
@@ -12,5 +12,5 @@ abbrev pub invariant-loop-package_name : goal.invariant-loop-package_name
 invariant-loop-package_name g l = record {
   asks : (done : List UnitPart) × (done ++ use_parts (uses_of l.package_name-iterator) ≡ use_parts l.self) × AsksParts done l.name l.fn.recorder.log l.recorder.log;
   asked : l.recorder.asked ≡ l.fn.recorder.asked;
-  told : Told l.fn.recorder.log l.recorder.log (λ t. l.views ++ potential t l.mentioned l.name (uses_of l.package_name-iterator) ≡ potential t l.mentioned l.name l.self);
+  answered : FromAnswers l.fn.recorder.log l.recorder.log (λ t. l.views ++ potential t l.mentioned l.name (uses_of l.package_name-iterator) ≡ potential t l.mentioned l.name l.self);
 }

@@ -7,12 +7,12 @@ use Rattle.al_base.specs.Files.{IsFile, name_cmp}
 use Rattle.al_base.proofs.HeldFiles.{short_name, held_at}
 use Rattle.al_unit.specs.Catalogs.{source_of, texts_of}
 use Rattle.al_unit.specs.Readings.{reading_of}
-use Rattle.al_unit.specs.ReadingSeen.{readings_seen}
+use Rattle.al_unit.specs.ReadingSeen.{readings_model}
 use Rattle.al_unit.proofs.CatalogLemmas.{no_library, no_readings, next_source, next_reading, is_catalog, texts_of-library_of}
 use Rattle.al_unit.proofs.catalog.Catalog.after.Goals as goal
 
 pub loop-name-init : goal.loop-name-init
-loop-name-init c = (c.new-sources.ensures ∙ sym no_library, ap readings_seen c.new-readings.ensures.empty ∙ sym no_readings)
+loop-name-init c = (c.new-sources.ensures ∙ sym no_library, ap readings_model c.new-readings.ensures.empty ∙ sym no_readings)
 
 pub loop-name-preserved : goal.loop-name-preserved
 loop-name-preserved c =

@@ -1,6 +1,6 @@
 use Rattle.std.proofs.Common.{◌≡◌, map, length, subst, sym, arith}
 use Rattle.std.proofs.lemmas.Grind.{common_steps}
-use Rattle.al_unit_faults.specs.Numbers.{numbers_seen, IsNumbering, StepsBelow}
+use Rattle.al_unit_faults.specs.Numbers.{numbers_model, IsNumbering, StepsBelow}
 use Rattle.al_unit_faults.proofs.GraphLemmas.{cycles_told}
 use Rattle.al_unit_faults.proofs.cycles.Cycles.of.Goals as goal
 
@@ -8,7 +8,7 @@ pub returns : goal.returns
 returns c =
     let lib = c.args.sources.now in
     let files = map (λ n. n.now) c.args.files.now in
-    let ns = numbers_seen c.in_ok-numbers.numbers in
+    let ns = numbers_model c.in_ok-numbers.numbers in
     let g = c.in_ok-graph.graph in
     let many : length files ≡ length c.args.files.now = grind (arith, common_steps) in
     let numbering = subst (λ n. IsNumbering files n ns) (sym many) c.in_ok-numbers.ensures in

@@ -3,7 +3,7 @@ use Rattle.std.proofs.lemmas.Grind.{common_steps}
 use Rattle.std.specs.List.{Contains}
 use Rattle.std.proofs.lemmas.List.Elements.{Contains-get_or}
 use Rattle.al_unit_faults.specs.Dependents.{AreGoals}
-use Rattle.al_unit_faults.specs.Numbers.{numbers_seen, IsNumbering, StepsBelow}
+use Rattle.al_unit_faults.specs.Numbers.{numbers_model, IsNumbering, StepsBelow}
 use Rattle.al_unit_faults.proofs.DependentLemmas.{dependents_told}
 use Rattle.al_unit_faults.proofs.dependents.Dependents.of.Goals as goal
 
@@ -11,7 +11,7 @@ pub reaching-requires : goal.reaching-requires
 reaching-requires c =
     let lib = c.args.sources.now in
     let files = map (λ n. n.now) c.in_ok-files.files.items in
-    let ns = numbers_seen c.in_ok-numbers.numbers in
+    let ns = numbers_model c.in_ok-numbers.numbers in
     let many : length files ≡ length c.as_slice.result.now = grind (arith, common_steps, c.as_slice.ensures.value) in
     let alike : map (λ n. n.now) c.as_slice.result.now ≡ files = ap (map (λ n. n.now)) c.as_slice.ensures.value in
     let alike2 : map (λ n. n.now) c.as_slice-2.result.now ≡ files = ap (map (λ n. n.now)) c.as_slice-2.ensures.value in
@@ -26,7 +26,7 @@ pub returns : goal.returns
 returns c =
     let lib = c.args.sources.now in
     let files = map (λ n. n.now) c.in_ok-files.files.items in
-    let ns = numbers_seen c.in_ok-numbers.numbers in
+    let ns = numbers_model c.in_ok-numbers.numbers in
     let g = c.in_ok-graph.graph in
     let alike : map (λ n. n.now) c.as_slice.result.now ≡ files = ap (map (λ n. n.now)) c.as_slice.ensures.value in
     let alike2 : map (λ n. n.now) c.as_slice-2.result.now ≡ files = ap (map (λ n. n.now)) c.as_slice-2.ensures.value in

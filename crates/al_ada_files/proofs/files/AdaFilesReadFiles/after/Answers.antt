@@ -1,8 +1,0 @@
-use Rattle.al_ada_files.proofs.OfTexts.{are_of_texts, files_are}
-use Rattle.al_ada_files.proofs.files.AdaFilesReadFiles.after.Goals as goal
-
-pub invariant_of-result : goal.invariant_of-result
-invariant_of-result c = are_of_texts c.in_ok-sources.sources c.args.now.now c.in_ok-sources.ensures
-
-pub returns : goal.returns
-returns c = files_are c.in_ok-sources.sources c.args.now.now c.in_ok-sources.ensures

@@ -1,8 +1,0 @@
-use Rattle.std.proofs.Common.{arith}
-use Rattle.al_ada_here.specs.PartsHere.{with_use}
-use Rattle.al_ada_here.proofs.Lists.{folded}
-use Rattle.al_ada_here.proofs.parts.add_each.Goals as goal
-
-pub loop-clause-preserved : goal.loop-clause-preserved
-loop-clause-preserved c =
-    folded with_use c.args.standing.now c.loop-clause.standing c.add_use.new.standing c.args.clauses.now c.loop-clause.clause-index c.clause-item.result (omega arith) c.clause-item.is c.loop-clause.invariant c.in_ok-add_use.ensures

@@ -1,6 +1,0 @@
-use Rattle.al_ada_reading.specs.Ada.{ada}
-use Rattle.al_ada_reading.proofs.reader.AdaReaderReader.left.Goals as goal
-
-pub returns-clause-told : goal.returns-clause-told
-unfolding ada
-returns-clause-told g c = λ t h. (h, c.leave_block.ensures)

@@ -1,6 +1,0 @@
-//! The reading of Ada texts: what the walk over a unit asks of names, expressions and declarations, by a table of answers.
-#![tactic(auto)]
-
-mod reader;
-
-pub use reader::AdaReader;

@@ -1,0 +1,33 @@
+// A rule that is broken, and the first of two.
+ghost use Rattle.std.specs.Prelude.{◌≡◌};
+ghost use Rattle.al_base_fault.specs.Faults.{earlier, is_before};
+
+use al_base::Place;
+
+/// A rule that is broken: where, and its number (401 is shown as E401).
+#[derive(Clone, Copy, Debug)]
+pub struct Fault {
+    pub place: Place,
+    pub code: u16,
+}
+
+/// Whether a fault stands before another one, or at its place with a lesser number.
+fn is_before(fault: &Fault, other: &Fault) -> bool
+    ensures { result ≡ is_before fault.now other.now }
+{
+    let (here, there) = (fault.place, other.place);
+    here.line < there.line
+        || (here.line == there.line
+            && (here.col < there.col || (here.col == there.col && fault.code < other.code)))
+}
+
+/// The first of two faults that may be there.
+pub fn earlier(one: Option<Fault>, two: Option<Fault>) -> Option<Fault>
+    ensures { result ≡ earlier one two }
+{
+    match (one, two) {
+        (None, two) => two,
+        (one, None) => one,
+        (Some(a), Some(b)) => { if is_before(&b, &a) { Some(b) } else { Some(a) } }
+    }
+}

@@ -1,0 +1,55 @@
+// The count of wants of memory.
+ghost use Rattle.std.specs.Prelude.{◌≡◌, is_ok};
+ghost use Rattle.al_base_shortage.specs.Counts.{one_more, counted};
+
+use al_base::NoMemory;
+use std::marker::Model;
+
+/// How often want of memory was counted, to 2^64-1. A call that keeps this count promises to raise it by one where it answers
+/// want of memory, and not to touch it elsewhere; its code raises it through `of`, over what a growth gave.
+#[derive(Drop)]
+pub struct AllocFailures {
+    count: u64,
+}
+
+impl Model for AllocFailures {
+    ghost use Rattle.std.specs.Prelude.{ℕ};
+
+    ghost Value = { ℕ };
+
+    ghost view = { λ s. s.count };
+}
+
+impl AllocFailures {
+    /// None so far.
+    pub fn new() -> Self
+        ensures { result ≡ 0 }
+    {
+        AllocFailures { count: 0 }
+    }
+
+    /// How many there were.
+    pub fn count(&self) -> u64
+        ensures { result ≡ self.now }
+    {
+        self.count
+    }
+
+    /// Gives back what a growth gave, and counts it where it was refused.
+    pub fn of<T: Drop>(&mut self, grown: Result<T, NoMemory>) -> Result<T, NoMemory>
+        ensures same { result ≡ grown }
+        ensures counted { self.new ≡ counted (is_ok grown) self.old }
+    {
+        if grown.is_err() {
+            self.count = one_more(self.count);
+        }
+        grown
+    }
+}
+
+/// One more, to 2^64-1.
+fn one_more(count: u64) -> u64
+    ensures { result ≡ one_more count }
+{
+    if count < u64::MAX { count + 1 } else { count }
+}

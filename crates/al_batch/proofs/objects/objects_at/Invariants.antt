@@ -1,9 +1,0 @@
-use Rattle.std.proofs.Common.{◌≡◌, map, take}
-use Rattle.al_unit_map.specs.Units.{at_unit}
-use Rattle.al_engine.specs.Builds.{results_of}
-use Rattle.al_batch.specs.Objects.{objects_at}
-use Rattle.al_batch.specs.ObjectsSeen.{object_seen}
-use Rattle.al_batch.proofs.objects.objects_at.Given as goal
-
-abbrev pub invariant-loop-unit : goal.invariant-loop-unit
-invariant-loop-unit l = map object_seen l.objects.items ≡ objects_at (results_of (at_unit l.entries)) (take l.unit-index l.units)

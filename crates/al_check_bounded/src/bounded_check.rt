@@ -1,0 +1,89 @@
+// The checker.
+ghost use Rattle.std.specs.Prelude.{◌≡◌, [], IfOk, OnOk};
+ghost use Rattle.al_query_outcome.specs.ReadsLaw.{AsksOthers, one_more};
+ghost use Rattle.al_query_outcome.specs.Results.{checked_model};
+ghost use Rattle.al_check_bounds.specs.Bounding.{AsksByNames};
+ghost use Rattle.al_check_within.specs.Within.{IsChecked};
+ghost use Rattle.al_check_within.specs.Words.{words_of};
+ghost use Rattle.al_check_bounded.specs.Meanings.{header_in, text_meaning};
+
+use crate::texts::check_text;
+use al_base::{NoMemory, UnitKey};
+use al_check_within::UnitFinder;
+use al_query::{Answers, Recorder};
+use al_query_check::UnitCheck;
+use al_query_outcome::Checked;
+use std::alloc::Global;
+
+/// Checks units with whoever finds what their texts say, and counts the checks.
+#[derive(Drop)]
+pub struct BoundedCheck<F: UnitFinder> {
+    finder: F,
+    checks: u64,
+}
+
+impl<F: UnitFinder> BoundedCheck<F> {
+    /// A checker that made no check.
+    pub fn new(finder: F) -> BoundedCheck<F>
+        ensures finder { result.finder ≡ finder }
+        ensures checks { result.checks ≡ 0 }
+    {
+        BoundedCheck { finder, checks: 0 }
+    }
+
+    /// Checks a unit with its text. Beside what is promised of every checker, whatever the finder asks:
+    /// - `names`: each question is by a word of the text, an operator's sign too, or for a property of a unit; that for what a body must
+    ///   complete is of the unit's own declaration.
+    pub fn check_unit<A: Answers>(
+        &mut self,
+        alloc: Global,
+        unit: &UnitKey,
+        text: &[u8],
+        recorder: &mut Recorder<A>,
+    ) -> Result<Checked, NoMemory>
+        requires { recorder.old.log ≡ [] }
+        ensures asked { recorder.new.asked ≡ recorder.old.asked }
+        ensures checked { IfOk result (λ checked. IsChecked unit.now (header_in text.now) (text_meaning F.units F.verdict unit.now text.now) recorder.new.log (checked_model checked)) }
+        ensures others { OnOk result (AsksOthers unit.now recorder.new.log) }
+        ensures names { OnOk result (AsksByNames unit.now (words_of text.now) recorder.new.log) }
+        ensures counted { self.new.checks ≡ one_more self.old.checks }
+    {
+        self.checks = one_more(self.checks);
+        check_text(alloc, &self.finder, unit, text, recorder)
+    }
+}
+
+/// One more, to the greatest number of 64 bits.
+fn one_more(checks: u64) -> u64
+    ensures { result ≡ one_more checks }
+{
+    if checks < u64::MAX {
+        checks + 1
+    } else {
+        checks
+    }
+}
+
+impl<F: UnitFinder> UnitCheck for BoundedCheck<F> {
+    ghost use Rattle.al_check_bounded.specs.Meanings.{header_in, text_meaning};
+
+    ghost meaning = { text_meaning F.units F.verdict };
+
+    ghost header = { header_in };
+
+    ghost count = { λ c. c.checks };
+
+    fn check<A: Answers>(
+        &mut self,
+        alloc: Global,
+        unit: &UnitKey,
+        text: &[u8],
+        recorder: &mut Recorder<A>,
+    ) -> Result<Checked, NoMemory> {
+        self.check_unit(alloc, unit, text, recorder)
+    }
+
+    fn checks(&self) -> u64 {
+        self.checks
+    }
+}

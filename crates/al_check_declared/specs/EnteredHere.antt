@@ -1,0 +1,29 @@
+-- Bodies and private parts are entered (ARM 6.3, 7.1, 8.2).
+use Rattle.std.specs.Prelude.{Option, Some, None, if◌then◌else◌}
+use Rattle.al_check_here.specs.BodiesHere.{nested_entered, whole_entered}
+use Rattle.al_check_here.specs.PartsHere.{private_begun}
+use Rattle.al_check_here.specs.Standings.{is_nowhere, is_whole}
+use Rattle.al_check_here.specs.declared.state.AnalyzedHeading.{AnalyzedHeading}
+use Rattle.al_check_here.specs.declared.state.CheckState.{CheckState}
+use Rattle.al_query.specs.Reads.{Table}
+use Rattle.al_scope_unit.specs.UnitPlaces.{private_regions}
+use Rattle.al_check_declared.specs.DeclarationsHere.{with_regions}
+
+-- from here on the private parts of the ancestors are seen (ARM 8.2(5))
+abbrev pub opened : Table → CheckState → CheckState
+opened t h = if is_nowhere h then h else with_regions h (private_regions t h.unit.own h.env.scope.regions)
+
+abbrev pub private_here : Table → CheckState → CheckState
+private_here t h = private_begun (opened t h)
+
+-- the body of the unit, whose profile is its visible part (ARM 8.2); outside of all regions none is entered
+abbrev pub whole_body : Table → CheckState → AnalyzedHeading → CheckState
+whole_body t h read = if is_nowhere h then h else whole_entered (with_regions h (private_regions t h.unit.own h.env.scope.regions)) read
+
+abbrev pub read_entered : Table → CheckState → Option AnalyzedHeading → CheckState
+read_entered t h None = h
+read_entered t h (Some read) = if is_whole h then whole_body t h read else nested_entered h read
+
+-- after the head that was read last
+abbrev pub body_here : Table → CheckState → CheckState
+body_here t h = read_entered t h h.pending

@@ -1,0 +1,218 @@
+// Behind what was judged: the place goes on where it is right, else the list of faults ends there.
+ghost use Rattle.std.specs.Prelude.{◌≡◌, Ok, option_map, IfOk, OnOk};
+ghost use Rattle.al_check_here.specs.Faulty.{effect_list};
+ghost use Rattle.al_decl.specs.Checking.{at_place};
+ghost use Rattle.al_decl_subprogram.specs.Bodies.{placed_model};
+ghost use Rattle.al_decl_judged.specs.Declaring.{declared_model};
+ghost use Rattle.al_base_fault.specs.Judging.{map_ok};
+ghost use Rattle.al_decl_profile.specs.Bodies.{new_body_model};
+ghost use Rattle.al_decl_profile.specs.Subprograms.{joined_waiting};
+ghost use Rattle.al_view_typed.specs.DeclarationTrees.{declaration_model};
+ghost use Rattle.al_stmts_walk.specs.Views.{effects_model};
+ghost use Rattle.al_check_declared.specs.DeclarationsHere.{faulty_here, no_place, pragma_settled, uses_settled};
+ghost use Rattle.al_check_declared.specs.HeadsHere.{head_settled, stub_kept, stub_settled, with_head};
+ghost use Rattle.al_check_declared.specs.WholeHere.{own_mentioned, own_settled, whole_kept, whole_settled, with_own};
+
+use al_base::{Name, NoMemory};
+use al_base_fault::{CheckResult, Fault};
+use al_check_here::{AnalyzedHeading, CheckState, add_stub, add_uses, effect_list, end_list};
+use al_check_values::not_yet_fault;
+use al_decl_judged::Declared;
+use al_decl_profile::{Heading, NewBody};
+use al_decl_subprogram::PlacedBody;
+use al_decl_type::Declaration;
+use al_query::UseClause;
+use al_scope::Scope;
+use al_view::{Seq, Symbol};
+use al_view_typed::TypedDeclaration;
+use std::alloc::Global;
+
+/// What declarations do where they stand, or their fault.
+pub type Effects = CheckResult<Vec<TypedDeclaration>>;
+
+/// A fault, after which nothing of the place is looked at any more.
+fn faulty(alloc: Global, state: &mut CheckState, fault: Fault) -> Result<Effects, NoMemory>
+    ensures { IfOk result (λ checked. (state.new, map_ok effects_model checked) ≡ faulty_here state.old fault) }
+{
+    end_list(alloc, state)?;
+    Ok(Err(fault))
+}
+
+/// Outside of all regions nothing is declared.
+pub fn no_place(state: &mut CheckState) -> Result<Effects, NoMemory>
+    ensures { IfOk result (λ checked. (state.new, map_ok effects_model checked) ≡ no_place state.old) }
+{
+    faulty(state.unit.labeller.alloc, state, not_yet_fault())
+}
+
+/// Behind use clauses.
+pub(crate) fn settle_uses(
+    state: &mut CheckState,
+    checked: CheckResult<Seq<UseClause>>,
+) -> Result<Effects, NoMemory>
+    ensures { IfOk result (λ effects. (state.new, map_ok effects_model effects) ≡ uses_settled state.old checked) }
+{
+    let alloc = state.unit.labeller.alloc;
+    match checked {
+        Ok(clauses) => {
+            add_uses(alloc, state, clauses.as_slice())?;
+            Ok(Ok(Vec::new(alloc)))
+        }
+        Err(fault) => faulty(alloc, state, fault),
+    }
+}
+
+/// Behind a pragma.
+pub(crate) fn settle_pragma(
+    state: &mut CheckState,
+    wrong: Option<Fault>,
+) -> Result<Effects, NoMemory>
+    ensures { IfOk result (λ effects. (state.new, map_ok effects_model effects) ≡ pragma_settled state.old wrong) }
+{
+    let alloc = state.unit.labeller.alloc;
+    match wrong {
+        None => Ok(Ok(Vec::new(alloc))),
+        Some(fault) => faulty(alloc, state, fault),
+    }
+}
+
+/// What a right one does where it stands.
+fn right(alloc: Global, effect: Option<TypedDeclaration>) -> Result<Effects, NoMemory>
+    ensures { IfOk result (λ effects. map_ok effects_model effects ≡ Ok (effect_list (option_map declaration_model effect))) }
+{
+    match effect_list(alloc, effect) {
+        Ok(effects) => Ok(Ok(effects)),
+        Err(none) => Err(none),
+    }
+}
+
+/// A stub that is right stands here.
+fn keep_stub(
+    state: &mut CheckState,
+    heading: &Heading,
+    body: PlacedBody,
+) -> Result<Effects, NoMemory>
+    ensures { IfOk result (λ effects. (state.new, map_ok effects_model effects) ≡ stub_kept state.old heading.now (placed_model body)) }
+{
+    let alloc = state.unit.labeller.alloc;
+    let PlacedBody { effect, symbol } = body;
+    let effects = right(alloc, effect)?;
+    add_stub(alloc, state, heading, &symbol)?;
+    Ok(effects)
+}
+
+/// Behind a stub with that head.
+pub(crate) fn settle_stub(
+    state: &mut CheckState,
+    heading: &Heading,
+    checked: CheckResult<PlacedBody>,
+) -> Result<Effects, NoMemory>
+    ensures { IfOk result (λ effects. (state.new, map_ok effects_model effects) ≡ stub_settled state.old heading.now (at_place state.old.env (map_ok placed_model checked))) }
+{
+    match checked {
+        Ok(body) => keep_stub(state, heading, body),
+        Err(fault) => faulty(state.unit.labeller.alloc, state, fault),
+    }
+}
+
+/// A head is kept until its body is entered.
+fn keep_head(state: &mut CheckState, heading: Heading, symbol: Symbol)
+    ensures { state.new ≡ with_head state.old state.old.env heading symbol }
+{
+    state.pending = Some(AnalyzedHeading { heading, symbol });
+}
+
+/// Behind the head of a body inside the unit.
+pub(crate) fn settle_head(
+    state: &mut CheckState,
+    heading: Heading,
+    checked: CheckResult<PlacedBody>,
+) -> Result<Effects, NoMemory>
+    ensures { IfOk result (λ effects. (state.new, map_ok effects_model effects) ≡ head_settled state.old heading (at_place state.old.env (map_ok placed_model checked))) }
+{
+    let alloc = state.unit.labeller.alloc;
+    match checked {
+        Ok(body) => {
+            let PlacedBody { effect, symbol } = body;
+            keep_head(state, heading, symbol);
+            right(alloc, effect)
+        }
+        Err(fault) => faulty(alloc, state, fault),
+    }
+}
+
+/// Behind the declaration of a unit that is one subprogram.
+pub(crate) fn settle_own(
+    state: &mut CheckState,
+    checked: CheckResult<Declared>,
+) -> Result<Effects, NoMemory>
+    ensures { IfOk result (λ effects. (state.new, map_ok effects_model effects) ≡ own_settled state.old (joined_waiting state.old.env.progress state.old.env.uncompleted (map_ok declared_model checked))) }
+{
+    let alloc = state.unit.labeller.alloc;
+    match checked {
+        Ok(declared) => {
+            let Declared {
+                declarations,
+                effect,
+            } = declared;
+            state.own = declarations;
+            right(alloc, effect)
+        }
+        Err(fault) => faulty(alloc, state, fault),
+    }
+}
+
+fn mention_own(scope: &mut Scope, unit_name: &Name, own: &Declaration) -> Result<(), NoMemory>
+    ensures { OnOk result (scope.new ≡ own_mentioned unit_name.now scope.old own.now) }
+{
+    let view = own.view.share()?;
+    scope.mention(unit_name.as_slice(), view)?;
+    Ok(())
+}
+
+/// The unit is mentioned with its own views.
+fn mention_all(scope: &mut Scope, unit_name: &Name, own: &[Declaration]) -> Result<(), NoMemory>
+    ensures { OnOk result (scope.new ≡ with_own unit_name.now scope.old own.now) }
+{
+    for declaration in own {
+        mention_own(scope, unit_name, declaration)?;
+    }
+    Ok(())
+}
+
+/// The body of a unit that is one subprogram is right.
+fn keep_whole(
+    state: &mut CheckState,
+    heading: Heading,
+    declared: Declared,
+    symbol: Symbol,
+) -> Result<Effects, NoMemory>
+    ensures { IfOk result (λ effects. (state.new, map_ok effects_model effects) ≡ whole_kept state.old heading (declared_model declared, symbol)) }
+{
+    let Declared {
+        declarations,
+        effect,
+    } = declared;
+    keep_head(state, heading, symbol);
+    let name = &state.unit.own.unit.name;
+    mention_all(&mut state.env.scope, name, declarations.as_slice())?;
+    state.own = declarations;
+    right(state.unit.labeller.alloc, effect)
+}
+
+/// Behind the head of the body of a unit that is one subprogram.
+pub(crate) fn settle_whole(
+    state: &mut CheckState,
+    heading: Heading,
+    checked: CheckResult<NewBody>,
+) -> Result<Effects, NoMemory>
+    ensures { IfOk result (λ effects. (state.new, map_ok effects_model effects) ≡ whole_settled state.old heading (joined_waiting state.old.env.progress state.old.env.uncompleted (map_ok new_body_model checked))) }
+{
+    match checked {
+        Ok(body) => {
+            let NewBody { declared, symbol } = body;
+            keep_whole(state, heading, declared, symbol)
+        }
+        Err(fault) => faulty(state.unit.labeller.alloc, state, fault),
+    }
+}

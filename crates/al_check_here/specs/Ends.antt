@@ -1,0 +1,37 @@
+-- What the walk over a unit's text leaves.
+use Rattle.std.specs.Prelude.{ℕ, List, [], map, drop}
+use Rattle.al_query_outcome.specs.declared.interface.Parts.{Parts}
+use Rattle.al_query_outcome.specs.declared.interface.StubDeclarations.{StubDeclarations}
+use Rattle.al_query.specs.declared.answer.UseInPart.{UseInPart}
+use Rattle.al_view.specs.Named.{Declarations}
+use Rattle.al_view.specs.declared.part.Part.{Part}
+use Rattle.al_view.specs.declared.part.Part.TheVariants as part
+use Rattle.al_check_here.specs.declared.ends.Ends.{Ends}
+use Rattle.al_check_here.specs.declared.state.CheckState.{CheckState}
+use Rattle.al_check_here.specs.declared.state.UseHere.{UseHere}
+
+abbrev pub stub_names : List StubDeclarations → List (List ℕ)
+stub_names stubs = map (λ s. s.stub) stubs
+
+-- the stubs that a use clause stands before
+abbrev pub use_inside : List StubDeclarations → UseHere → UseInPart
+use_inside stubs u = record { part = u.part; clause = u.clause; before = stub_names (drop u.stubs stubs) }
+
+abbrev pub uses_inside : List StubDeclarations → List UseHere → List UseInPart
+uses_inside stubs uses = map (use_inside stubs) uses
+
+-- what is declared in the part that the text ends in, where the visible part before it declares this
+abbrev pub parts_ended : Part → Declarations → Declarations → List StubDeclarations → Parts
+parts_ended part.Visible visible declared stubs = record { visible = declared; private_part = []; body = []; stubs = stubs }
+parts_ended part.Private visible declared stubs = record { visible = visible; private_part = declared; body = []; stubs = stubs }
+parts_ended _ visible declared stubs = record { visible = []; private_part = []; body = declared; stubs = stubs }
+
+abbrev pub ends_of : CheckState → Ends
+ends_of h = record {
+  progress = h.env.progress;
+  completions = h.env.uncompleted;
+  parts = parts_ended h.part h.visible h.env.declared h.stubs;
+  uses = uses_inside h.stubs h.uses;
+  own = h.own;
+  unit = h.unit;
+}

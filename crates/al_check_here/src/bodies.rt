@@ -1,0 +1,355 @@
+// Bodies of subprograms at a place.
+ghost use Rattle.std.specs.Prelude.{◌≡◌, ◌<◌, Some, None, length, map, IfOk, OnOk};
+ghost use Rattle.al_decl_body.specs.Regions.{outside_of, set_aside};
+ghost use Rattle.al_decl_type.specs.Objects.{is_input};
+ghost use Rattle.al_tree.specs.DeclarationViews.{specification_model};
+ghost use Rattle.al_view_typed.specs.StatementViews.{statement_model};
+ghost use Rattle.al_view_typed.specs.UnitTrees.{body_model, elaboration_model};
+ghost use Rattle.al_stmts_walk.specs.Views.{effects_model};
+ghost use Rattle.al_check_here.specs.BodiesHere.{body_opened, copied_words, end_line, first_line, frame_words, kind_of, labelled, labelled_body, left_open, nested_entered, out_of_body, own_region_left, result_subtype, return_context, returns_in, whole_entered, with_body, with_copied};
+ghost use Rattle.al_check_here.specs.Stacks.{innermost};
+
+use crate::regions::{leave_region, take_back};
+use crate::state::{AnalyzedHeading, CheckState, OpenBody};
+use al_base::NoMemory;
+use al_decl_body::{OuterFrame, Outside, declare_all_formals, enter_subprogram};
+use al_decl_completion::Uncompleted;
+use al_decl_here::Environment;
+use al_decl_profile::{Heading, ReturnedPart, enter_body, leave_body};
+use al_decl_type::words_of;
+use al_stmts::ReturnContext;
+use al_stmts_loops::EnclosingBody;
+use al_tree::Specification;
+use al_view::{Interface, Mode, Seq, SubtypeView};
+use al_view_predefined::StandardTypes;
+use al_view_typed::{
+    BodyKind, Elaboration, FormalWords, TypedBody, TypedDeclaration, TypedStatement,
+};
+use std::alloc::Global;
+use std::mem;
+
+/// What returns stand in, in a body with that result.
+fn return_context(standard: &StandardTypes, returned: &ReturnedPart) -> ReturnContext
+    ensures { result ≡ return_context returned.now }
+{
+    match returned {
+        ReturnedPart::NoValue => ReturnContext {
+            body: EnclosingBody::Procedure,
+            words: 0,
+            bounds: None,
+        },
+        ReturnedPart::Value(Ok(of)) => ReturnContext {
+            body: EnclosingBody::Function,
+            words: words_of(standard, of),
+            bounds: of.subtype.bounds,
+        },
+        ReturnedPart::Value(Err(_)) => ReturnContext {
+            body: EnclosingBody::Function,
+            words: 0,
+            bounds: None,
+        },
+    }
+}
+
+/// The subtype of the result of a function whose mark is right.
+fn result_subtype(returned: ReturnedPart) -> Option<SubtypeView>
+    ensures { result ≡ result_subtype returned }
+{
+    match returned {
+        ReturnedPart::NoValue => None,
+        ReturnedPart::Value(Ok(of)) => Some(of),
+        ReturnedPart::Value(Err(_)) => None,
+    }
+}
+
+/// The result of a head, which is let go.
+fn result_in(heading: Heading) -> Option<SubtypeView>
+    ensures { result ≡ result_subtype heading.returned }
+{
+    let Heading { returned, .. } = heading;
+    result_subtype(returned)
+}
+
+/// What return statements stand in, in the innermost body.
+pub fn returns_in(state: &CheckState) -> ReturnContext
+    ensures { result ≡ returns_in state.now }
+{
+    match state.bodies.innermost() {
+        Some(body) => body.returns,
+        None => ReturnContext {
+            body: EnclosingBody::Package,
+            words: 0,
+            bounds: None,
+        },
+    }
+}
+
+/// One more body round the place, whose formals are declared.
+fn push_body(
+    state: &mut CheckState,
+    read: AnalyzedHeading,
+    outer: OuterFrame,
+    outside: Outside,
+    formals: Seq<FormalWords>,
+) -> Result<(), NoMemory>
+    ensures { OnOk result (state.new ≡ with_body state.old read outer outside formals) }
+{
+    let AnalyzedHeading { heading, symbol } = read;
+    let standard = &state.unit.labeller.predefined.standard;
+    let returns = return_context(standard, &heading.returned);
+    let result = result_in(heading);
+    let body = OpenBody {
+        symbol,
+        number: state.entered,
+        formals,
+        returns,
+        result,
+        after: state.env.progress.words.frame,
+        outer,
+        outside,
+    };
+    state.bodies.push(body)?;
+    state.pending = None;
+    state.entered = state.entered.saturating_add(1);
+    Ok(())
+}
+
+/// At a place in a body's region and frame, both just begun, the formals are declared; what stands round the body is this.
+fn open_body(
+    alloc: Global,
+    state: &mut CheckState,
+    read: AnalyzedHeading,
+    outer: OuterFrame,
+    outside: Outside,
+) -> Result<(), NoMemory>
+    requires { 0 < length state.old.env.scope.regions }
+    ensures { OnOk result (state.new ≡ body_opened state.old read outer outside) }
+{
+    let standard = &state.unit.labeller.predefined.standard;
+    let formals = declare_all_formals(alloc, standard, &mut state.env, &read.heading)?;
+    push_body(state, read, outer, outside, formals)
+}
+
+/// Enters a body in a region of its own, after its head (ARM 6.3, 8.1).
+pub fn enter_nested(
+    alloc: Global,
+    state: &mut CheckState,
+    read: AnalyzedHeading,
+) -> Result<(), NoMemory>
+    ensures { OnOk result (state.new ≡ nested_entered state.old read) }
+{
+    let symbol = read.symbol.copy(alloc)?;
+    let (outer, outside) = enter_subprogram(alloc, &mut state.env, symbol)?;
+    open_body(alloc, state, read, outer, outside)
+}
+
+/// Nothing waits and nothing is declared from here on.
+fn set_aside(alloc: Global, env: &mut Environment) -> Outside
+    ensures env { env.new ≡ set_aside env.old }
+    ensures outside { result ≡ outside_of env.old }
+{
+    let uncompleted = mem::replace(&mut env.uncompleted, Uncompleted::new(alloc));
+    let declared = mem::replace(&mut env.declared, Interface::new(alloc));
+    Outside {
+        uncompleted,
+        declared,
+    }
+}
+
+/// Enters the body of a unit that is one subprogram, in the unit's own region.
+pub fn enter_whole(
+    alloc: Global,
+    state: &mut CheckState,
+    read: AnalyzedHeading,
+) -> Result<(), NoMemory>
+    requires { 0 < length state.old.env.scope.regions }
+    ensures { OnOk result (state.new ≡ whole_entered state.old read) }
+{
+    let (depth, word) = enter_body(&mut state.env.progress);
+    let outside = set_aside(alloc, &mut state.env);
+    open_body(alloc, state, read, OuterFrame { depth, word }, outside)
+}
+
+/// Leaves the region of a body, which has been taken away, unless it is that of the unit.
+fn leave_own_region(state: &mut CheckState)
+    ensures { state.new ≡ own_region_left state.old }
+{
+    if state.is_whole() {
+        return;
+    }
+    leave_region(&mut state.env.scope);
+}
+
+/// Outside of a body, which has been taken away: its region is left, unless it is that of the unit.
+fn leave_open(state: &mut CheckState, body: OpenBody)
+    ensures { state.new ≡ left_open state.old body }
+{
+    let OpenBody { outer, outside, .. } = body;
+    leave_own_region(state);
+    leave_body(&mut state.env.progress, (outer.depth, outer.word));
+    take_back(&mut state.env, outside);
+}
+
+/// Leaves the innermost body, if one is open: the frame round it, and what waited and was declared there, go on.
+pub fn leave_innermost(state: &mut CheckState)
+    ensures { state.new ≡ out_of_body state.old }
+{
+    match state.bodies.pop() {
+        Some(body) => leave_open(state, body),
+        None => {}
+    }
+}
+
+fn is_input(mode: &Mode) -> bool
+    ensures { result ≡ is_input mode.now }
+{
+    match mode {
+        Mode::In => true,
+        Mode::InOut => false,
+        Mode::Out => false,
+    }
+}
+
+fn with_copied(words: u32, formal: &FormalWords) -> u32
+    ensures { result ≡ with_copied words formal.now }
+{
+    if is_input(&formal.mode) {
+        return words;
+    }
+    words.saturating_add(formal.words)
+}
+
+/// How many words a procedure with these formals copies back (ARM 6.4.1(17)).
+fn copied_words(formals: &[FormalWords]) -> u32
+    ensures { result ≡ copied_words formals.now }
+{
+    let mut words = 0;
+    for formal in formals {
+        words = with_copied(words, formal);
+    }
+    words
+}
+
+/// The line of the first token of a specification.
+pub fn first_line(specification: &Specification) -> usize
+    ensures { result ≡ first_line (specification_model specification.now) }
+{
+    match specification {
+        Specification::Procedure(place, _, _) => place.line as usize,
+        Specification::Function(place, _, _, _, _) => place.line as usize,
+    }
+}
+
+/// The line of the `end` of the body of that number, where it is told.
+fn end_line(state: &CheckState, number: usize, other: usize) -> usize
+    ensures { result ≡ end_line state.now number other }
+{
+    match state.unit.ends.as_slice().get(number) {
+        Some(line) => *line,
+        None => other,
+    }
+}
+
+fn kind_of(returns: ReturnContext, copied: u32, end: usize) -> BodyKind
+    ensures { result ≡ kind_of returns.body returns copied end }
+{
+    match returns.body {
+        EnclosingBody::Function => BodyKind::Function {
+            words: returns.words,
+            end,
+        },
+        _ => BodyKind::Procedure { copied },
+    }
+}
+
+fn copied_formals(alloc: Global, formals: &[FormalWords]) -> Result<Seq<FormalWords>, NoMemory>
+    ensures { IfOk result (λ copy. copy ≡ formals.now) }
+{
+    let mut copy = Seq::empty(alloc);
+    for formal in formals {
+        copy.push(*formal)?;
+    }
+    Ok(copy)
+}
+
+/// A body that is open with its labels, without what stands inside it.
+fn open_labelled(
+    alloc: Global,
+    state: &CheckState,
+    body: &OpenBody,
+    inside: Elaboration,
+) -> Result<TypedBody, NoMemory>
+    ensures { IfOk result (λ made. body_model made ≡ labelled_body state.now (elaboration_model inside) (Some body.now)) }
+{
+    let formals = copied_formals(alloc, body.formals.as_slice())?;
+    let symbol = body.symbol.copy(alloc)?;
+    let copied = copied_words(body.formals.as_slice());
+    let end = end_line(state, body.number, inside.line);
+    Ok(TypedBody {
+        symbol,
+        kind: kind_of(body.returns, copied, end),
+        depth: state.env.progress.depth,
+        formals,
+        inside,
+    })
+}
+
+fn none_labelled(
+    alloc: Global,
+    state: &CheckState,
+    inside: Elaboration,
+) -> Result<TypedBody, NoMemory>
+    ensures { IfOk result (λ made. body_model made ≡ labelled_body state.now (elaboration_model inside) None) }
+{
+    let symbol = state.unit.own.symbol.copy(alloc)?;
+    Ok(TypedBody {
+        symbol,
+        kind: BodyKind::Procedure { copied: 0 },
+        depth: state.env.progress.depth,
+        formals: Seq::empty(alloc),
+        inside,
+    })
+}
+
+/// The words of the frame after the formals.
+fn frame_words(state: &CheckState) -> u32
+    ensures { result ≡ frame_words state.now (innermost state.now.bodies) }
+{
+    match state.bodies.innermost() {
+        Some(body) => state.env.progress.words.frame.saturating_sub(body.after),
+        None => 0,
+    }
+}
+
+/// The innermost body with its labels and this inside it.
+fn labelled_inside(
+    alloc: Global,
+    state: &CheckState,
+    inside: Elaboration,
+) -> Result<TypedBody, NoMemory>
+    ensures { IfOk result (λ made. body_model made ≡ labelled_body state.now (elaboration_model inside) (innermost state.now.bodies)) }
+{
+    match state.bodies.innermost() {
+        Some(body) => open_labelled(alloc, state, body, inside),
+        None => none_labelled(alloc, state, inside),
+    }
+}
+
+/// The innermost body with its labels, after what stands inside it.
+pub fn labelled(
+    alloc: Global,
+    state: &CheckState,
+    specification: &Specification,
+    declarations: Vec<TypedDeclaration>,
+    statements: Vec<TypedStatement>,
+) -> Result<TypedBody, NoMemory>
+    ensures { IfOk result (λ body. body_model body ≡ labelled state.now (specification_model specification.now) (effects_model declarations) (map statement_model statements.items)) }
+{
+    let inside = Elaboration {
+        line: first_line(specification),
+        frame: frame_words(state),
+        declarations,
+        statements,
+    };
+    labelled_inside(alloc, state, inside)
+}

@@ -1,0 +1,171 @@
+// What the walk over a unit's text leaves.
+ghost use Rattle.std.specs.Prelude.{◌≡◌, ◌++◌, ◌∷◌, [], drop, IfOk, OnOk};
+ghost use Rattle.al_check_here.specs.Ends.{ends_of, parts_ended, stub_names, use_inside, uses_inside};
+
+use crate::parts::copied_clause;
+use crate::state::{CheckState, UnitText, UseHere};
+use al_base::{Name, NoMemory};
+use al_decl_here::Environment;
+use al_decl_judged::Progress;
+use al_decl_type::Declaration;
+use al_query::{Completion, UseInPart};
+use al_query_outcome::{Parts, StubDeclarations};
+use al_view::{Interface, Part, Seq};
+use std::alloc::Global;
+
+/// What the walk over a unit's text leaves.
+#[derive(Drop)]
+pub struct Ends {
+    /// Its words, its objects and its flags.
+    pub progress: Progress,
+    /// What its declaration leaves to its body.
+    pub completions: Seq<Completion>,
+    /// What its parts declare, with its stubs.
+    pub parts: Parts,
+    /// The use clauses that stand immediately in its parts.
+    pub uses: Seq<UseInPart>,
+    /// Of a library subprogram, or of a body that acts as its declaration, its name with its own view.
+    pub own: Seq<Declaration>,
+    pub unit: UnitText,
+}
+
+fn add_name(alloc: Global, names: &mut Seq<Name>, stub: &StubDeclarations) -> Result<(), NoMemory>
+    ensures { OnOk result (names.new ≡ names.old ++ stub.now.stub ∷ []) }
+{
+    let name = Name::from_slice(alloc, stub.stub.as_slice())?;
+    names.push(name)?;
+    Ok(())
+}
+
+/// The names of stubs.
+pub fn stub_names(alloc: Global, stubs: &[StubDeclarations]) -> Result<Seq<Name>, NoMemory>
+    ensures { IfOk result (λ names. names ≡ stub_names stubs.now) }
+{
+    let mut names = Seq::empty(alloc);
+    for stub in stubs {
+        add_name(alloc, &mut names, stub)?;
+    }
+    Ok(names)
+}
+
+/// The stubs after so many of them.
+fn stubs_after(stubs: &[StubDeclarations], number: usize) -> &[StubDeclarations]
+    ensures { result.now ≡ drop number stubs.now }
+{
+    if number < stubs.len() {
+        return &stubs[number..];
+    }
+    &[]
+}
+
+fn use_inside(
+    alloc: Global,
+    stubs: &[StubDeclarations],
+    found: &UseHere,
+) -> Result<UseInPart, NoMemory>
+    ensures { IfOk result (λ made. made ≡ use_inside stubs.now found.now) }
+{
+    let before = stub_names(alloc, stubs_after(stubs, found.stubs))?;
+    let part = found.part.copy(alloc)?;
+    let clause = copied_clause(alloc, &found.clause)?;
+    Ok(UseInPart {
+        part,
+        clause,
+        before,
+    })
+}
+
+fn add_use(
+    alloc: Global,
+    made: &mut Seq<UseInPart>,
+    stubs: &[StubDeclarations],
+    found: &UseHere,
+) -> Result<(), NoMemory>
+    ensures { OnOk result (made.new ≡ made.old ++ use_inside stubs.now found.now ∷ []) }
+{
+    let one = use_inside(alloc, stubs, found)?;
+    made.push(one)?;
+    Ok(())
+}
+
+fn uses_inside(
+    alloc: Global,
+    stubs: &[StubDeclarations],
+    uses: &[UseHere],
+) -> Result<Seq<UseInPart>, NoMemory>
+    ensures { IfOk result (λ made. made ≡ uses_inside stubs.now uses.now) }
+{
+    let mut made = Seq::empty(alloc);
+    for found in uses {
+        add_use(alloc, &mut made, stubs, found)?;
+    }
+    Ok(made)
+}
+
+fn parts_ended(
+    alloc: Global,
+    part: &Part,
+    visible: Interface,
+    declared: Interface,
+    stubs: Seq<StubDeclarations>,
+) -> Parts
+    ensures { result ≡ parts_ended part.now visible declared stubs }
+{
+    let none = Interface::new(alloc);
+    match part {
+        Part::Visible => Parts {
+            visible: declared,
+            private_part: none,
+            body: Interface::new(alloc),
+            stubs,
+        },
+        Part::Private => Parts {
+            visible,
+            private_part: declared,
+            body: none,
+            stubs,
+        },
+        _ => Parts {
+            visible: none,
+            private_part: Interface::new(alloc),
+            body: declared,
+            stubs,
+        },
+    }
+}
+
+fn ended(alloc: Global, state: CheckState, uses: Seq<UseInPart>) -> Ends
+    ensures { result ≡ record (ends_of state) { uses = uses } }
+{
+    let CheckState {
+        unit,
+        env,
+        part,
+        visible,
+        stubs,
+        own,
+        ..
+    } = state;
+    let Environment {
+        progress,
+        uncompleted,
+        declared,
+        ..
+    } = env;
+    Ends {
+        progress,
+        completions: uncompleted.into_completions(),
+        parts: parts_ended(alloc, &part, visible, declared, stubs),
+        uses,
+        own,
+        unit,
+    }
+}
+
+/// What is left after the end of a unit's text.
+pub fn into_ends(alloc: Global, state: CheckState) -> Result<Ends, NoMemory>
+    ensures { IfOk result (λ ends. ends ≡ ends_of state) }
+{
+    let uses = uses_inside(alloc, state.stubs.as_slice(), state.uses.as_slice())?;
+    Ok(ended(alloc, state, uses))
+}

@@ -1,0 +1,189 @@
+// Parts of a unit, its stubs and its use clauses.
+ghost use Rattle.std.specs.Prelude.{◌≡◌, ◌<◌, ℕ, List, Some, fold, length, slice_get, IfOk, OnOk};
+ghost use Rattle.al_view.specs.Interfaces.{with_view};
+ghost use Rattle.al_view.specs.declared.view.ViewKind.{ViewKind};
+ghost use Rattle.al_check_here.specs.PartsHere.{before_stub, in_statements, private_begun, stub_here, stub_view, told_again, use_here, with_stub, with_use, with_uses, with_views};
+
+use crate::state::{CheckState, UseHere};
+use al_base::{Name, NoMemory};
+use al_decl_profile::{Heading, subprogram_view};
+use al_query::UseClause;
+use al_query_outcome::StubDeclarations;
+use al_view::{Interface, Part, Symbol, View, copied_unit};
+use std::alloc::Global;
+use std::mem;
+
+/// The private part of a package's declaration begins (ARM 7.1): what stands before it is its visible part.
+pub fn begin_private(alloc: Global, state: &mut CheckState)
+    ensures { state.new ≡ private_begun state.old }
+{
+    state.visible = mem::replace(&mut state.env.declared, Interface::new(alloc));
+    state.part = Part::Private;
+}
+
+/// The statements of a package's body begin, in the frame of the unit's elaboration (ARM 7.2).
+pub fn enter_statements(state: &mut CheckState)
+    ensures { state.new ≡ in_statements state.old }
+{
+    state.env.progress.depth = 1;
+}
+
+/// One more view of a name.
+fn add_view(answered: &mut Interface, name: &[u8], view: &View) -> Result<(), NoMemory>
+    ensures { OnOk result (answered.new ≡ with_view answered.old name.now view.now) }
+{
+    let view = view.share()?;
+    answered.declare(name, view)?;
+    Ok(())
+}
+
+/// Views of a name, after others.
+fn add_views(answered: &mut Interface, name: &[u8], views: &[View]) -> Result<(), NoMemory>
+    ensures { OnOk result (answered.new ≡ with_views answered.old (name.now, views.now)) }
+{
+    for view in views {
+        add_view(answered, name, view)?;
+    }
+    Ok(())
+}
+
+/// The i-th name of what is declared, with its views, after others.
+fn add_name(answered: &mut Interface, declared: &Interface, i: usize) -> Result<(), NoMemory>
+    requires { i < length declared.now }
+    ensures { OnOk result ((named : List ℕ × List ViewKind) → slice_get declared.now i ≡ Some named → answered.new ≡ with_views answered.old named) }
+{
+    match declared.at(i) {
+        Some((name, views)) => add_views(answered, name, views),
+        None => Ok(()),
+    }
+}
+
+/// What is declared once more, name by name.
+pub fn copied_interface(alloc: Global, declared: &Interface) -> Result<Interface, NoMemory>
+    ensures { IfOk result (λ answered. answered ≡ told_again declared.now) }
+{
+    let mut answered = Interface::new(alloc);
+    for i in 0..declared.len() {
+        add_name(&mut answered, declared, i)?;
+    }
+    Ok(answered)
+}
+
+/// The subprogram that a stub with that head stands for.
+fn stub_view(
+    alloc: Global,
+    state: &CheckState,
+    heading: &Heading,
+    symbol: &Symbol,
+) -> Result<View, NoMemory>
+    ensures { IfOk result (λ view. view ≡ stub_view state.now heading.now symbol.now) }
+{
+    let standard = &state.unit.labeller.predefined.standard;
+    let depth = state.env.progress.depth;
+    subprogram_view(alloc, standard, symbol, depth, None, heading)
+}
+
+/// What stands before a stub, and its own subprogram under the reserved word `separate`, which no text can name: there a subunit finds what it completes.
+fn before_stub(
+    alloc: Global,
+    state: &CheckState,
+    heading: &Heading,
+    symbol: &Symbol,
+) -> Result<Interface, NoMemory>
+    ensures { IfOk result (λ before. before ≡ before_stub state.now heading.now symbol.now) }
+{
+    let mut before = copied_interface(alloc, &state.env.declared)?;
+    let view = stub_view(alloc, state, heading, symbol)?;
+    before.declare(b"separate", view)?;
+    Ok(before)
+}
+
+fn stub_here(
+    alloc: Global,
+    state: &CheckState,
+    heading: &Heading,
+    symbol: &Symbol,
+) -> Result<StubDeclarations, NoMemory>
+    ensures { IfOk result (λ stub. stub ≡ stub_here state.now heading.now symbol.now) }
+{
+    let before = before_stub(alloc, state, heading, symbol)?;
+    let symbol = symbol.copy(alloc)?;
+    let stub = Name::from_slice(alloc, heading.name.name.as_slice())?;
+    Ok(StubDeclarations {
+        stub,
+        symbol,
+        before,
+    })
+}
+
+/// A stub with that head stands here (ARM 10.1.3).
+pub fn add_stub(
+    alloc: Global,
+    state: &mut CheckState,
+    heading: &Heading,
+    symbol: &Symbol,
+) -> Result<(), NoMemory>
+    ensures { OnOk result (state.new ≡ with_stub state.old heading.now symbol.now) }
+{
+    let stub = stub_here(alloc, state, heading, symbol)?;
+    state.stubs.push(stub)?;
+    Ok(())
+}
+
+pub(crate) fn copied_clause(alloc: Global, clause: &UseClause) -> Result<UseClause, NoMemory>
+    ensures { IfOk result (λ copy. copy ≡ clause.now) }
+{
+    match clause {
+        UseClause::Package(unit) => {
+            let unit = copied_unit(alloc, unit)?;
+            Ok(UseClause::Package(unit))
+        }
+        UseClause::Type(symbol) => {
+            let symbol = symbol.copy(alloc)?;
+            Ok(UseClause::Type(symbol))
+        }
+    }
+}
+
+fn use_here(alloc: Global, state: &CheckState, clause: &UseClause) -> Result<UseHere, NoMemory>
+    ensures { IfOk result (λ made. made ≡ use_here state.now clause.now) }
+{
+    let part = state.part.copy(alloc)?;
+    let clause = copied_clause(alloc, clause)?;
+    Ok(UseHere {
+        part,
+        clause,
+        stubs: state.stubs.as_slice().len(),
+    })
+}
+
+fn add_use(alloc: Global, state: &mut CheckState, clause: &UseClause) -> Result<(), NoMemory>
+    ensures { OnOk result (state.new ≡ with_use state.old clause.now) }
+{
+    let made = use_here(alloc, state, clause)?;
+    state.uses.push(made)?;
+    Ok(())
+}
+
+fn add_each(alloc: Global, state: &mut CheckState, clauses: &[UseClause]) -> Result<(), NoMemory>
+    ensures { OnOk result (state.new ≡ fold with_use state.old clauses.now) }
+{
+    for clause in clauses {
+        add_use(alloc, state, clause)?;
+    }
+    Ok(())
+}
+
+/// Use clauses stand here; those immediately in a part of the unit are told to its continuations (ARM 8.4(7)).
+pub fn add_uses(
+    alloc: Global,
+    state: &mut CheckState,
+    clauses: &[UseClause],
+) -> Result<(), NoMemory>
+    ensures { OnOk result (state.new ≡ with_uses state.old clauses.now) }
+{
+    if state.is_immediate() {
+        return add_each(alloc, state, clauses);
+    }
+    Ok(())
+}

@@ -1,0 +1,62 @@
+// What stands round a place, the innermost last.
+ghost use Rattle.std.specs.Prelude.{◌≡◌, [], ◌∷◌, ◌++◌, is_ok, length, if◌then◌else◌};
+ghost use Rattle.std.specs.Option.{option_copied};
+ghost use Rattle.al_check_here.specs.Stacks.{innermost, without_innermost};
+
+use std::alloc::{AllocError, Global};
+use std::marker::Model;
+
+/// What stands round a place, outermost first, as its items alone.
+#[derive(Drop)]
+pub struct Stack<T> {
+    items: Vec<T>,
+}
+
+impl<T> Model for Stack<T> {
+    ghost use Rattle.std.specs.Prelude.{List};
+
+    ghost Value = { List T };
+
+    ghost view = { λ s. s.items.items };
+}
+
+impl<T: Drop> Stack<T> {
+    /// Nothing. It takes no memory.
+    pub fn empty(alloc: Global) -> Self
+        ensures { result ≡ [] }
+    {
+        Stack {
+            items: Vec::new(alloc),
+        }
+    }
+
+    /// One more item, which is the innermost.
+    pub fn push(&mut self, item: T) -> Result<(), AllocError>
+        ensures { self.new ≡ (if is_ok result then self.old ++ item ∷ [] else self.old) }
+    {
+        self.items.push(item)?;
+        Ok(())
+    }
+
+    /// Takes the innermost item away, if there is one.
+    pub fn pop(&mut self) -> Option<T>
+        ensures left { self.new ≡ without_innermost self.old }
+        ensures item { result ≡ innermost self.old }
+    {
+        self.items.pop()
+    }
+
+    /// The innermost item.
+    pub fn innermost(&self) -> Option<&T>
+        ensures { option_copied result ≡ innermost self.now }
+    {
+        self.items.last()
+    }
+
+    /// How many items there are.
+    pub fn len(&self) -> usize
+        ensures { result ≡ length self.now }
+    {
+        self.items.len()
+    }
+}

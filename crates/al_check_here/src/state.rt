@@ -1,0 +1,142 @@
+// Where the check of a unit stands.
+ghost use Rattle.std.specs.Prelude.{◌≡◌};
+ghost use Rattle.al_check_here.specs.Standings.{begun_at, first_part};
+
+use crate::stack::Stack;
+use al_base::{UnitKey, UnitKind};
+use al_decl_body::{OuterFrame, Outside};
+use al_decl_completion::Uncompleted;
+use al_decl_here::Environment;
+use al_decl_judged::Progress;
+use al_decl_profile::Heading;
+use al_decl_type::Declaration;
+use al_overload_nodes::Labeller;
+use al_query::UseClause;
+use al_query_outcome::StubDeclarations;
+use al_scope::Scope;
+use al_scope_unit::OwnText;
+use al_stmts::ReturnContext;
+use al_view::{Bounds, Interface, Part, Seq, SubtypeView, Symbol, Types};
+use al_view_typed::FormalWords;
+
+/// What stays the same in a unit.
+#[derive(Drop)]
+pub struct UnitText {
+    /// What every unit has, and the protected object in whose bodies the text stands, which is none.
+    pub labeller: Labeller,
+    /// The library packages that are mentioned in the unit.
+    pub packages: Seq<UnitKey>,
+    /// What the unit's own text says of its place.
+    pub own: OwnText,
+    /// The lines of the words `end` of its bodies, in the order of their first tokens.
+    pub ends: Seq<usize>,
+}
+
+/// The head of a body that was read: what stands before its `is`, and what its code is known by.
+#[derive(Drop)]
+pub struct AnalyzedHeading {
+    pub heading: Heading,
+    pub symbol: Symbol,
+}
+
+/// A body round the place.
+#[derive(Drop)]
+pub struct OpenBody {
+    pub symbol: Symbol,
+    /// How many bodies of the unit were entered before it.
+    pub number: usize,
+    /// Its formals with their words.
+    pub formals: Seq<FormalWords>,
+    /// What its return statements stand in, and of a function the subtype of its result.
+    pub returns: ReturnContext,
+    pub result: Option<SubtypeView>,
+    /// The first word of the frame after the formals.
+    pub after: u32,
+    /// The frame round it, and what waits and is declared there.
+    pub outer: OuterFrame,
+    pub outside: Outside,
+}
+
+/// A use clause that stands immediately in a part of the unit, and how many stubs stand before it.
+#[derive(Drop)]
+pub struct UseHere {
+    pub part: Part,
+    pub clause: UseClause,
+    pub stubs: usize,
+}
+
+/// The type of the range of a for loop, with the types among which it is: nothing where every unit has it. All values of the type are the parameter's where
+/// the bounds of the range aren't static.
+#[derive(Drop)]
+pub struct LoopType {
+    pub of: Symbol,
+    pub types: Types,
+    pub values: Bounds,
+}
+
+/// Where the check of a unit stands.
+#[derive(Drop)]
+pub struct CheckState {
+    pub unit: UnitText,
+    /// The place, and how far the check has come there.
+    pub env: Environment,
+    /// What waits and is declared round each loop and each block that the place is in, outermost first.
+    pub blocks: Stack<Outside>,
+    /// The bodies that the place is in, outermost first.
+    pub bodies: Stack<OpenBody>,
+    /// The head that was read last, until its body is entered.
+    pub pending: Option<AnalyzedHeading>,
+    /// The type of the range of a for loop that was read last.
+    pub parameter: Option<LoopType>,
+    /// The part of the unit that the place is in, and what its visible part declares, where that lies after.
+    pub part: Part,
+    pub visible: Interface,
+    /// The stubs that stand before the place.
+    pub stubs: Seq<StubDeclarations>,
+    /// The use clauses that stand immediately in the unit's parts.
+    pub uses: Seq<UseHere>,
+    /// Of a library subprogram, or of a body that acts as its declaration, its name with its own view.
+    pub own: Seq<Declaration>,
+    /// How many bodies were entered.
+    pub entered: usize,
+}
+
+/// In which part the text of a unit begins.
+fn first_part(own: &OwnText) -> Part
+    ensures { result ≡ first_part own.now }
+{
+    match own.unit.kind {
+        UnitKind::Decl => Part::Visible,
+        UnitKind::Body => Part::Body,
+        UnitKind::Sub => Part::Body,
+    }
+}
+
+impl CheckState {
+    /// The start of a unit's text: its place, what was taken before it, and what waits for a body. It takes no memory.
+    pub fn new(unit: UnitText, scope: Scope, progress: Progress, uncompleted: Uncompleted) -> Self
+        ensures { result ≡ begun_at unit scope progress uncompleted }
+    {
+        let alloc = unit.labeller.alloc;
+        let part = first_part(&unit.own);
+        CheckState {
+            unit,
+            env: Environment {
+                scope,
+                progress,
+                uncompleted,
+                declared: Interface::new(alloc),
+            },
+            blocks: Stack::empty(alloc),
+            bodies: Stack::empty(alloc),
+            pending: None,
+            parameter: None,
+            part,
+            visible: Interface::new(alloc),
+            stubs: Seq::empty(alloc),
+            uses: Seq::empty(alloc),
+            own: Seq::empty(alloc),
+            entered: 0,
+        }
+    }
+}

@@ -1,0 +1,55 @@
+// What of a standing is looked at, and its words.
+ghost use Rattle.std.specs.Prelude.{◌≡◌};
+ghost use Rattle.al_check_here.specs.Standings.{at_word, is_immediate, is_nowhere, is_whole, with_word, word_of};
+
+use crate::state::CheckState;
+
+impl CheckState {
+    /// The next word of the frame.
+    pub fn word(&self) -> u32
+        ensures { result ≡ word_of self.now }
+    {
+        self.env.progress.words.frame
+    }
+
+    /// This is the next word of the frame.
+    pub fn set_word(&mut self, word: u32)
+        ensures { self.new ≡ at_word self.old word }
+    {
+        self.env.progress.words.frame = word;
+    }
+
+    /// The next word of the frame is taken.
+    pub fn take_word(&mut self)
+        ensures { self.new ≡ with_word self.old }
+    {
+        let _ = self.env.progress.words.take_frame(1);
+    }
+
+    /// Whether no region is open.
+    pub fn is_nowhere(&self) -> bool
+        ensures { result ≡ is_nowhere self.now }
+    {
+        self.env.scope.is_empty()
+    }
+
+    /// Whether the head and the body that come are those of the unit, which is one subprogram.
+    pub fn is_whole(&self) -> bool
+        ensures { result ≡ is_whole self.now }
+    {
+        !self.unit.own.is_package && self.bodies.len() == 0
+    }
+
+    /// Whether the place is immediately in a part of the unit.
+    pub fn is_immediate(&self) -> bool
+        ensures { result ≡ is_immediate self.now }
+    {
+        if self.blocks.len() != 0 {
+            return false;
+        }
+        if self.unit.own.is_package {
+            return self.bodies.len() == 0;
+        }
+        self.bodies.len() == 1
+    }
+}

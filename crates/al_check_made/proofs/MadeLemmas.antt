@@ -1,0 +1,53 @@
+-- What was walked is what the walk's record tells.
+use Rattle.std.proofs.Common.{◌≡◌, ◌∙◌, Bool, true, false, List, [], ◌∷◌, Option, Some, None, length, refl, ap, if◌then◌else◌}
+use Rattle.std.specs.Option.{option_map}
+use Rattle.al_base.specs.declared.diagnostic.Diagnostic.{Diagnostic}
+use Rattle.al_base.specs.declared.unit_key.UnitKind.TheVariants.{Sub}
+use Rattle.al_view.specs.Symbols.{same_kind}
+use Rattle.al_view.specs.declared.view.ViewKind.{ViewKind}
+use Rattle.al_view_typed.specs.UnitTrees.{ElaborationTree, elaboration_model, unit_model}
+use Rattle.al_view_typed.specs.declared.unit.Elaboration.{Elaboration}
+use Rattle.al_view_typed.specs.declared.unit.ProtectedWords.{ProtectedWords}
+use Rattle.al_view_typed.specs.declared.unit.TypedUnit.{TypedUnit}
+use Rattle.al_stmts_walked.specs.WalkedViews.{inside_model}
+use Rattle.al_stmts_walked.specs.declared.inside.WalkedInside.{WalkedInside}
+use Rattle.al_query_outcome.specs.Tables.{interface_of}
+use Rattle.al_check_within.specs.Verdicts.{Verdict, sound_of}
+use Rattle.al_check_within.specs.Verdicts.Verdict.{Wrong, Right}
+use Rattle.al_check_made.specs.Ended.{viewed, walked_unit}
+use Rattle.al_check_made.specs.Made.{finding_of, made, unless_wrong}
+use Rattle.al_check_made.specs.declared.after.EndedText.{EndedText}
+use Rattle.al_check_made.specs.declared.after.UnitFacts.{UnitFacts}
+use Rattle.al_check_made.specs.declared.made.WalkedUnit.{WalkedUnit}
+
+elaborated : (b : Bool) (e : Elaboration) → option_map elaboration_model (if b then None else Some e) ≡ (if b then None else Some (elaboration_model e))
+elaborated true e = refl
+elaborated false e = refl
+
+abbrev inside_of : WalkedUnit → Elaboration
+inside_of w = record { line = w.line; frame = w.frame; declarations = w.declarations; statements = w.statements }
+
+unit_of : WalkedUnit → Option Elaboration → List ProtectedWords → TypedUnit
+unit_of w e rows = record { unit = w.unit; elaboration = e; bodies = w.bodies; words = w.words; objects = w.objects; flags = w.flags; protected_objects = rows }
+
+-- a unit in which no fault was found
+pub sound_is : (w : WalkedUnit) (e : Option Elaboration) (rows : List ProtectedWords) → e ≡ (if same_kind w.unit.kind Sub then None else Some (inside_of w)) → rows ≡ [] → sound_of (record { properties = w.properties; parts = w.parts; tree = record { unit = w.unit; elaboration = e; bodies = w.bodies; words = w.words; objects = w.objects; flags = w.flags; protected_objects = rows } }) ≡ made w
+unfolding unit_of unit_model elaboration_model
+sound_is w e rows is none =
+    ap (λ (x : Option Elaboration). Right (interface_of w.properties w.parts) (unit_model (unit_of w x rows))) is
+    ∙ ap (λ (ys : List ProtectedWords). Right (interface_of w.properties w.parts) (unit_model (unit_of w (if same_kind w.unit.kind Sub then None else Some (inside_of w)) ys))) none
+    ∙ ap (λ (x : Option ElaborationTree). Right (interface_of w.properties w.parts) (record (unit_model (unit_of w None [])) { elaboration = x })) (elaborated (same_kind w.unit.kind Sub) (inside_of w))
+
+-- what is found with a view
+pub with_kind : (r : UnitFacts) (kind : ViewKind) (e : EndedText) (inside : WalkedInside) → finding_of inside.faults (walked_unit r kind e inside.declarations inside.statements inside.bodies) ≡ viewed r (Some kind) e (inside_model inside)
+unfolding finding_of inside_model
+with_kind r kind e inside = refl
+
+-- faults are told where there are some
+pub some_wrong : (ds : List Diagnostic) (v : Verdict) → (length ds ≡ 0 → ⊥) → Wrong ds ≡ unless_wrong ds v
+some_wrong [] v h = absurd (h refl)
+some_wrong (d ∷ ds) v h = refl
+
+pub none_wrong : (ds : List Diagnostic) (v : Verdict) → length ds ≡ 0 → v ≡ unless_wrong ds v
+none_wrong [] v h = refl
+none_wrong (d ∷ ds) v h = absurd (cc)

@@ -1,0 +1,165 @@
+// What is found in the text of a unit after its end.
+ghost use Rattle.std.specs.Prelude.{◌≡◌, Some, IfOk};
+ghost use Rattle.al_stmts_walked.specs.WalkedViews.{inside_model};
+ghost use Rattle.al_check_within.specs.Verdicts.{verdict_of};
+ghost use Rattle.al_check_within.specs.Verdicts.Verdict.{Wrong};
+ghost use Rattle.al_check_made.specs.Made.{faults_in};
+ghost use Rattle.al_check_made.specs.Ended.{ended, viewed, walked_unit};
+
+use crate::faults::faults_in;
+use crate::made::{WalkedUnit, finding_of};
+use crate::said::{SaidUnit, own_view, properties_of};
+use al_base::{NoMemory, UnitKey};
+use al_check_within::UnitVerdict;
+use al_decl_judged::Progress;
+use al_decl_type::Declaration;
+use al_query::{Completion, UseInPart};
+use al_query_outcome::Parts;
+use al_scope_unit::OwnText;
+use al_stmts_walked::WalkedInside;
+use al_view::{Seq, View};
+use al_view_typed::{TypedBody, TypedDeclaration, TypedStatement};
+use std::alloc::Global;
+
+/// What is known of a unit before its text is walked: whether it needs a body, the line of its first token, its parent, and the view that
+/// it completes.
+#[derive(Drop)]
+pub struct UnitFacts {
+    pub needs_body: bool,
+    pub line: usize,
+    pub parent: Option<UnitKey>,
+    pub view: Option<View>,
+}
+
+/// What the walk over a unit's text left.
+#[derive(Drop)]
+pub struct EndedText {
+    pub own: OwnText,
+    /// The unit's words, its objects and its flags.
+    pub progress: Progress,
+    /// What its declaration leaves to its body.
+    pub completions: Seq<Completion>,
+    pub parts: Parts,
+    /// The use clauses that stand immediately in its parts.
+    pub uses: Seq<UseInPart>,
+    /// Of a library subprogram, or of a body that acts as its declaration, its name with its own view.
+    pub declared: Seq<Declaration>,
+}
+
+/// The unit that was walked, with its own view.
+fn walked_unit(
+    unit_facts: UnitFacts,
+    kind: View,
+    ends: EndedText,
+    declarations: Vec<TypedDeclaration>,
+    statements: Vec<TypedStatement>,
+    bodies: Vec<TypedBody>,
+) -> WalkedUnit
+    ensures { result ≡ walked_unit unit_facts kind ends declarations statements bodies }
+{
+    let UnitFacts {
+        needs_body,
+        line,
+        parent,
+        ..
+    } = unit_facts;
+    let EndedText {
+        own,
+        progress,
+        completions,
+        parts,
+        uses,
+        ..
+    } = ends;
+    let Progress {
+        unit,
+        words,
+        objects,
+        flags,
+        ..
+    } = progress;
+    let properties = properties_of(SaidUnit {
+        own,
+        kind,
+        parent,
+        needs_body,
+        uses_inside: uses,
+        completions,
+    });
+    WalkedUnit {
+        unit,
+        properties,
+        parts,
+        line,
+        frame: words.frame.saturating_sub(3),
+        words: words.data,
+        objects,
+        flags,
+        declarations,
+        statements,
+        bodies,
+    }
+}
+
+/// The unit with its own view, unless something is wrong with it.
+fn with_view(
+    alloc: Global,
+    unit_facts: UnitFacts,
+    kind: View,
+    ends: EndedText,
+    inside: WalkedInside,
+) -> Result<UnitVerdict, NoMemory>
+    ensures { IfOk result (λ finding. verdict_of finding ≡ viewed unit_facts (Some kind) ends (inside_model inside)) }
+{
+    let WalkedInside {
+        faults,
+        declarations,
+        statements,
+        bodies,
+    } = inside;
+    let walked = walked_unit(unit_facts, kind, ends, declarations, statements, bodies);
+    finding_of(alloc, faults, walked)
+}
+
+#[tactic(auto, unfolding(al_stmts_walked::specs::WalkedViews::inside_model))]
+/// What is wrong with a unit that has no view.
+fn without_view(
+    alloc: Global,
+    ends: EndedText,
+    inside: WalkedInside,
+) -> Result<UnitVerdict, NoMemory>
+    ensures { IfOk result (λ finding. verdict_of finding ≡ Wrong (faults_in ends.progress.unit (inside_model inside).faults)) }
+{
+    let WalkedInside { faults, .. } = inside;
+    let wrong = faults_in(alloc, &ends.progress.unit, faults);
+    drop(ends);
+    match wrong {
+        Ok(wrong) => Ok(UnitVerdict::Faulty(wrong)),
+        Err(error) => Err(error),
+    }
+}
+
+/// What is found in the text of a unit after its end.
+#[tactic(auto, unfolding(crate::specs::Ended::ended))]
+pub fn found_after(
+    alloc: Global,
+    unit_facts: UnitFacts,
+    ends: EndedText,
+    inside: WalkedInside,
+) -> Result<UnitVerdict, NoMemory>
+    ensures { IfOk result (λ finding. verdict_of finding ≡ ended unit_facts ends (inside_model inside)) }
+{
+    match own_view(alloc, &ends.own, ends.declared.as_slice(), &unit_facts.view) {
+        Ok(Some(kind)) => with_view(alloc, unit_facts, kind, ends, inside),
+        Ok(None) => {
+            drop(unit_facts);
+            without_view(alloc, ends, inside)
+        }
+        Err(error) => {
+            drop(unit_facts);
+            drop(ends);
+            drop(inside);
+            Err(error)
+        }
+    }
+}

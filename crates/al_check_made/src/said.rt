@@ -1,0 +1,93 @@
+// What a unit says of itself.
+ghost use Rattle.std.specs.Prelude.{◌≡◌, IfOk};
+ghost use Rattle.al_view.specs.declared.view.ViewKind.TheVariants.{OfPackage};
+ghost use Rattle.al_check_made.specs.Said.{own_view, said, view_of_subprogram};
+
+use al_base::{NoMemory, UnitKey};
+use al_decl_type::Declaration;
+use al_query::{Completion, ContextView, UseInPart};
+use al_query_outcome::Properties;
+use al_scope_unit::OwnText;
+use al_view::{Seq, Symbol, View, ViewKind};
+use std::alloc::Global;
+
+fn package_view(alloc: Global, symbol: &Symbol) -> Result<View, NoMemory>
+    ensures { IfOk result (λ view. view ≡ OfPackage symbol.now) }
+{
+    let symbol = symbol.copy(alloc)?;
+    Ok(View::new(alloc, ViewKind::OfPackage(symbol))?)
+}
+
+/// The own view of a subprogram: as its own text declares it, or else that of what its body completes.
+fn view_of_subprogram(
+    declared: &[Declaration],
+    completed: &Option<View>,
+) -> Result<Option<View>, NoMemory>
+    ensures { IfOk result (λ view. view ≡ view_of_subprogram declared.now completed.now) }
+{
+    match declared.first() {
+        Some(declaration) => Ok(Some(declaration.view.share()?)),
+        None => match completed {
+            Some(view) => Ok(Some(view.share()?)),
+            None => Ok(None),
+        },
+    }
+}
+
+/// The own view of a unit: a package, or a subprogram as its own text declares it, or else as what its body completes.
+pub fn own_view(
+    alloc: Global,
+    own: &OwnText,
+    declared: &[Declaration],
+    completed: &Option<View>,
+) -> Result<Option<View>, NoMemory>
+    ensures { IfOk result (λ view. view ≡ own_view own.now declared.now completed.now) }
+{
+    if own.is_package {
+        return Ok(Some(package_view(alloc, &own.symbol)?));
+    }
+    view_of_subprogram(declared, completed)
+}
+
+/// What its text and its place say of a unit, with its own view and its parent.
+#[derive(Drop)]
+pub struct SaidUnit {
+    pub own: OwnText,
+    pub kind: View,
+    pub parent: Option<UnitKey>,
+    pub needs_body: bool,
+    pub uses_inside: Seq<UseInPart>,
+    pub completions: Seq<Completion>,
+}
+
+/// What a unit says of itself. It takes no memory.
+pub fn properties_of(unit: SaidUnit) -> Properties
+    ensures { result ≡ said unit }
+{
+    let SaidUnit {
+        own,
+        kind,
+        parent,
+        needs_body,
+        uses_inside,
+        completions,
+    } = unit;
+    let OwnText {
+        is_private,
+        withs,
+        uses,
+        ..
+    } = own;
+    Properties {
+        kind,
+        parent,
+        is_private,
+        context: ContextView {
+            withs,
+            uses,
+            uses_inside,
+        },
+        needs_body,
+        completions,
+    }
+}

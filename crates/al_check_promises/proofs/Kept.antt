@@ -1,0 +1,187 @@
+-- What holds of a result that was tested.
+use Rattle.std.proofs.Common.{◌≡◌, ◌+◌, ◌≤◌, ℕ, Bool, true, false, ◌&&◌, ◌||◌, ◌⊎◌, inl, inr, List, [], ◌∷◌, ◌++◌, map, length, refl, sym, ap, subst, ◌∙◌, if◌then◌else◌, nat_le, nat_lt, arith}
+use Rattle.std.specs.List.{All, Contains, flat_map, list_all}
+use Rattle.std.proofs.lemmas.Bool.Decides.{nat_tests}
+use Rattle.std.proofs.lemmas.List.Elements.{All-nil, All-cons, Contains-append_cases, Contains-append_left, Contains-append_right}
+use Rattle.std.proofs.lemmas.Slice.Eq.{bytes_eq-Decides}
+use Rattle.al_base.specs.Batch.{key_of}
+use Rattle.al_base.specs.FileNames.{file_name_of}
+use Rattle.al_base.specs.declared.diagnostic.Diagnostic.{Diagnostic}
+use Rattle.al_base.specs.declared.unit_key.UnitKey.{UnitKey}
+use Rattle.al_base_graph.proofs.Members.{first, first_or_later, later, nowhere}
+use Rattle.al_view.specs.Symbols.{same_unit}
+use Rattle.al_view.proofs.SymbolLemmas.{same_unit-one, same_unit-self}
+use Rattle.al_view.specs.ViewUses.{link, view_uses}
+use Rattle.al_view.specs.declared.link.LinkKind.TheVariants as kind
+use Rattle.al_view.specs.declared.link.LinkSymbol.{LinkSymbol}
+use Rattle.al_view.specs.declared.view.ViewKind.{ViewKind}
+use Rattle.al_query.specs.Answers.{view_units}
+use Rattle.al_query.specs.Known.{AreAmong, has_unit, known_after}
+use Rattle.al_query.specs.Reads.{Log}
+use Rattle.al_query.proofs.KnownLemmas.{has_unit-cases, has_unit-first, has_unit-right}
+use Rattle.al_view_typed.specs.UnitTrees.{UnitTree}
+use Rattle.al_view_typed.specs.Uses.{unit_defines, unit_uses}
+use Rattle.al_view_typed.specs.WellFormed.{IsWellFormed}
+use Rattle.al_query_outcome.specs.Defines.{DefinesOwn, ShowsOnly, interface_uses}
+use Rattle.al_query_outcome.specs.ReadsLaw.{FaultsFit, NamesOnly, UsesOnly, answer_uses, is_fault_of, log_uses, outcome_units}
+use Rattle.al_query_outcome.specs.Results.{Faulty, Sound}
+use Rattle.al_query_outcome.specs.declared.interface.StubDeclarations.{StubDeclarations}
+use Rattle.al_query_outcome.specs.declared.interface.UnitInterface.{UnitInterface}
+use Rattle.al_query_outcome.proofs.Members.{all-at}
+use Rattle.al_view_used.specs.Links.{is_among}
+use Rattle.al_check_promises.specs.Laws.{FaultsAreReported, Promised, WhatIsTestedKeeps}
+use Rattle.al_check_promises.specs.SelfChecks.{accounted, checked_faults, is_allowed, is_kept, is_well_formed, known_units, not_checked, self_checked}
+use Rattle.al_check_promises.specs.Shown.{WereShown}
+use Rattle.al_check_promises.proofs.Used.{among-contains, both}
+
+-- ---- a result that was kept
+
+module _ (unit : UnitKey) (first_known known : List UnitKey) (log : Log) (shown : List ViewKind) (i : UnitInterface) (tree : UnitTree) (among : AreAmong known (known_after first_known log)) (were : WereShown unit first_known log shown) where
+  abbrev Allowed : LinkSymbol → Bool
+  Allowed x = is_allowed unit (flat_map view_uses shown) (accounted i tree) x
+
+  self : (u : UnitKey) → u ≡ unit → has_unit (unit ∷ known_after first_known log) u ≡ true
+  self u is = subst (λ (v : UnitKey). has_unit (unit ∷ known_after first_known log) v ≡ true) (sym is) (has_unit-first unit (known_after first_known log))
+
+  after : (u : UnitKey) → has_unit (known_after first_known log) u ≡ true → has_unit (unit ∷ known_after first_known log) u ≡ true
+  after u h = has_unit-right (unit ∷ []) (known_after first_known log) u h
+
+  -- a unit that may be named is known
+  is_known : (u : UnitKey) → has_unit (known_units unit known shown) u ≡ true → has_unit (unit ∷ known_after first_known log) u ≡ true
+  is_known u h =
+      elim (has_unit-cases (unit ∷ known) (flat_map view_units shown) u h) [
+        | inl a ↦
+            elim (has_unit-cases (unit ∷ []) known u a) [
+              | inl o ↦ self u (one_of (same_unit u unit) refl o)
+              | inr k ↦ after u (among u k)
+            ]
+        | inr s ↦ elim (were.1 u s) [ inl own ↦ self u own | inr k ↦ after u k ]
+      ]
+    where
+      one_of : (b : Bool) → same_unit u unit ≡ b → (b || false) ≡ true → u ≡ unit
+      one_of true is o = same_unit-one u unit is
+      one_of false is o = absurd (cc)
+
+  names : list_all (has_unit (known_units unit known shown)) (outcome_units (Sound i tree)) ≡ true → NamesOnly (unit ∷ known_after first_known log) (Sound i tree)
+  names h = weaker (outcome_units (Sound i tree)) h
+    where
+      weaker : (xs : List UnitKey) → list_all (has_unit (known_units unit known shown)) xs ≡ true → list_all (has_unit (unit ∷ known_after first_known log)) xs ≡ true
+      weaker [] h = refl
+      weaker (x ∷ xs) h =
+          let two = both (has_unit (known_units unit known shown) x) (list_all (has_unit (known_units unit known shown)) xs) h in
+          ap (λ b. b && list_all (has_unit (unit ∷ known_after first_known log)) xs) (is_known x two.0) ∙ weaker xs two.1
+
+  -- what is allowed is the unit's own, or was shown
+  own_or_shown : (x : LinkSymbol) → Allowed x ≡ true → (x.symbol.unit ≡ unit) ⊎ Contains (log_uses log) x
+  own_or_shown x h = by (same_unit x.symbol.unit unit) refl h
+    where
+      by : (b : Bool) → same_unit x.symbol.unit unit ≡ b → (if b then is_among (accounted i tree) x else is_among (flat_map view_uses shown) x) ≡ true → (x.symbol.unit ≡ unit) ⊎ Contains (log_uses log) x
+      by true is h = inl (same_unit-one x.symbol.unit unit is)
+      by false is h = were.0 x (among-contains (flat_map view_uses shown) x h)
+
+  -- what is allowed of its own is accounted for
+  own_accounted : (x : LinkSymbol) → x.symbol.unit ≡ unit → Allowed x ≡ true → Contains (accounted i tree) x
+  own_accounted x own h = by (same_unit x.symbol.unit unit) refl h
+    where
+      itself : same_unit x.symbol.unit unit ≡ true
+      itself = subst (λ (u : UnitKey). same_unit x.symbol.unit u ≡ true) own (same_unit-self x.symbol.unit)
+
+      by : (b : Bool) → same_unit x.symbol.unit unit ≡ b → (if b then is_among (accounted i tree) x else is_among (flat_map view_uses shown) x) ≡ true → Contains (accounted i tree) x
+      by true is h = among-contains (accounted i tree) x h
+      by false is h = absurd (cc (itself, is))
+
+  stub_of : (stubs : List StubDeclarations) (x : LinkSymbol) → Contains (map (λ s. link kind.Code s.symbol) stubs) x → (stub : StubDeclarations) × Contains stubs stub × (x ≡ link kind.Code stub.symbol)
+  stub_of [] x c = absurd (nowhere x c)
+  stub_of (s ∷ stubs) x c =
+      elim (first_or_later (link kind.Code s.symbol) (map (λ s. link kind.Code s.symbol) stubs) x c) [
+        | inl is ↦ (s, first s stubs, sym is)
+        | inr k ↦ let r = stub_of stubs x k in (r.0, later s stubs r.0 r.1, r.2)
+      ]
+
+  module _ (allowed : list_all Allowed (unit_uses tree ++ interface_uses i) ≡ true) where
+    uses : UsesOnly unit log (Sound i tree)
+    uses x c = own_or_shown x (all-at Allowed (unit_uses tree ++ interface_uses i) x allowed (Contains-append_left (unit_uses tree) (interface_uses i) x c))
+
+    shows : ShowsOnly unit log (Sound i tree)
+    shows x c = own_or_shown x (all-at Allowed (unit_uses tree ++ interface_uses i) x allowed (Contains-append_right (unit_uses tree) (interface_uses i) x c))
+
+    defines : DefinesOwn unit (Sound i tree)
+    defines x own c =
+        elim (Contains-append_cases (unit_defines tree) (answer_uses i.properties.completions ++ map (λ s. link kind.Code s.symbol) i.parts.stubs) x (own_accounted x own (all-at Allowed (unit_uses tree ++ interface_uses i) x allowed c))) [
+          | inl d ↦ inl d
+          | inr r ↦
+              elim (Contains-append_cases (answer_uses i.properties.completions) (map (λ s. link kind.Code s.symbol) i.parts.stubs) x r) [
+                | inl l ↦ inr (inl l)
+                | inr s ↦ inr (inr (stub_of i.parts.stubs x s))
+              ]
+        ]
+
+-- ---- code
+
+all_from : {X : Type 0} (p : X → Bool) (P : X → Type 0) → ((x : X) → p x ≡ true → P x) → (xs : List X) → list_all p xs ≡ true → All P xs
+all_from p P f [] h = All-nil P
+all_from p P f (x ∷ xs) h = let two = both (p x) (list_all p xs) h in All-cons P x xs (f x two.0) (all_from p P f xs two.1)
+
+le_is : (a b : ℕ) → nat_le a b ≡ true → a ≤ b
+le_is a b h = grind (arith, nat_tests)
+
+lt_is : (a b : ℕ) → nat_lt a b ≡ true → a + 1 ≤ b
+lt_is a b h = grind (arith, nat_tests)
+
+well_formed : (tree : UnitTree) → is_well_formed tree ≡ true → IsWellFormed tree
+well_formed tree h =
+    let two = both (list_all (λ p. nat_le p.word tree.words) tree.objects) (list_all (λ p. nat_lt p.word tree.words) tree.flags && list_all (λ p. nat_le (p.word + p.words) tree.words) tree.protected_objects) h in
+    let more = both (list_all (λ p. nat_lt p.word tree.words) tree.flags) (list_all (λ p. nat_le (p.word + p.words) tree.words) tree.protected_objects) two.1 in
+    record {
+      objects = all_from (λ p. nat_le p.word tree.words) (λ p. p.word ≤ tree.words) (λ p e. le_is p.word tree.words e) tree.objects two.0;
+      flags = all_from (λ p. nat_lt p.word tree.words) (λ p. p.word + 1 ≤ tree.words) (λ p e. lt_is p.word tree.words e) tree.flags more.0;
+      regions = all_from (λ p. nat_le (p.word + p.words) tree.words) (λ p. p.word + p.words ≤ tree.words) (λ p e. le_is (p.word + p.words) tree.words e) tree.protected_objects more.1;
+    }
+
+-- ---- faults
+
+own_fault : (unit : UnitKey) → list_all (is_fault_of unit) (not_checked unit) ≡ true
+own_fault unit = ap (λ b. (b && true) && true) ((bytes_eq-Decides (file_name_of (key_of unit)) (file_name_of (key_of unit))).1 refl)
+
+module _ (unit : UnitKey) (known : List UnitKey) (log : Log) where
+  wrong : (faults : List Diagnostic) → FaultsFit unit (Faulty faults) → Promised unit known log (Faulty faults)
+  unfolding outcome_units
+  wrong faults fit = record { names = refl; uses = tt; defines = tt; shows = tt; code = tt; faults = fit }
+
+  pub not_yet : Promised unit known log (Faulty (not_checked unit))
+  not_yet = wrong (not_checked unit) (refl, own_fault unit)
+
+  answered : (b c : Bool) (faults : List Diagnostic) → (b && c ≡ true → FaultsFit unit (Faulty faults)) → Promised unit known log (if b && c then Faulty faults else Faulty (not_checked unit))
+  answered true true faults fit = wrong faults (fit refl)
+  answered true false faults fit = not_yet
+  answered false c faults fit = not_yet
+
+pub faults_told : FaultsAreReported
+unfolding checked_faults
+faults_told unit known log faults =
+    answered unit known log (nat_lt 0 (length faults)) (list_all (is_fault_of unit) faults) faults (λ h. both (nat_lt 0 (length faults)) (list_all (is_fault_of unit) faults) h)
+
+pub tested_keeps : WhatIsTestedKeeps
+unfolding is_kept self_checked
+tested_keeps unit first_known known log shown i tree among were = by (is_kept unit known shown i tree) refl
+  where
+    by : (b : Bool) → is_kept unit known shown i tree ≡ b → Promised unit first_known log (if b then Sound i tree else Faulty (not_checked unit))
+    by false is = not_yet unit first_known log
+    by true is =
+        let a = both (list_all (has_unit (known_units unit known shown)) (outcome_units (Sound i tree))) _ is in
+        let b = both (list_all (is_allowed unit (flat_map view_uses shown) (accounted i tree)) (unit_uses tree ++ interface_uses i)) _ a.1 in
+        let c = both (same_unit tree.unit unit) (is_well_formed tree) b.1 in
+        record {
+          names = names unit first_known known log shown i tree among were a.0;
+          uses = uses unit first_known known log shown i tree among were b.0;
+          defines = defines unit first_known known log shown i tree among were b.0;
+          shows = shows unit first_known known log shown i tree among were b.0;
+          code = (same_unit-one tree.unit unit c.0, well_formed tree c.1);
+          faults = tt;
+        }
+
+-- the faults that are told, by the test
+pub when_fit : (unit : UnitKey) (faults same : List Diagnostic) (fit : Bool) → same ≡ faults → fit ≡ (nat_lt 0 (length same) && list_all (is_fault_of unit) same) → (if fit then Faulty faults else Faulty (not_checked unit)) ≡ checked_faults unit faults
+unfolding checked_faults
+when_fit unit faults same fit is test =
+    ap (λ (b : Bool). if b then Faulty faults else Faulty (not_checked unit)) (test ∙ ap (λ (ds : List Diagnostic). nat_lt 0 (length ds) && list_all (is_fault_of unit) ds) is)

@@ -1,0 +1,79 @@
+// Results that their own check has tested.
+ghost use Rattle.std.specs.Prelude.{◌≡◌, IfOk, if◌then◌else◌};
+ghost use Rattle.al_view_typed.specs.UnitTrees.{unit_model};
+ghost use Rattle.al_query_outcome.specs.Results.{checked_model, Faulty as Wrong, Sound};
+ghost use Rattle.al_query_outcome.specs.Tables.{interface_of};
+ghost use Rattle.al_check_promises.specs.SelfChecks.{not_checked, self_checked};
+
+use crate::faults::not_checked;
+use crate::tested::is_kept;
+use al_base::{NoMemory, UnitKey};
+use al_query_outcome::{Checked, Parts, Properties, UnitInterface};
+use al_view::View;
+use al_view_typed::TypedUnit;
+use std::alloc::Global;
+
+/// A unit in which no fault was found: what it says of itself, what its parts declare, and its labelled tree.
+#[derive(Drop)]
+pub struct SoundUnit {
+    pub properties: Properties,
+    pub parts: Parts,
+    pub tree: TypedUnit,
+}
+
+/// The result of a check in which no fault was found.
+fn made(alloc: Global, sound: SoundUnit) -> Result<Checked, NoMemory>
+    ensures { IfOk result (λ checked. checked_model checked ≡ Sound (interface_of sound.properties sound.parts) (unit_model sound.tree)) }
+{
+    let SoundUnit {
+        properties,
+        parts,
+        tree,
+    } = sound;
+    match UnitInterface::new(alloc, properties, parts) {
+        Ok(interface) => Ok(Checked::Sound(interface, tree)),
+        Err(error) => {
+            drop(tree);
+            Err(error)
+        }
+    }
+}
+
+/// The result of a check in which no fault was found, where it is kept; else E700.
+fn answered(
+    alloc: Global,
+    unit: &UnitKey,
+    kept: bool,
+    sound: SoundUnit,
+) -> Result<Checked, NoMemory>
+    ensures { IfOk result (λ checked. checked_model checked ≡ (if kept then Sound (interface_of sound.properties sound.parts) (unit_model sound.tree) else Wrong (not_checked unit.now))) }
+{
+    if kept {
+        made(alloc, sound)
+    } else {
+        drop(sound);
+        not_checked(alloc, unit)
+    }
+}
+
+/// The result of a check in which no fault was found, where it is what the check promises: it names only units that the check
+/// knows of at the end (these, and those that the views name that it was shown); it uses and shows nothing of other units but what
+/// these views show; what it uses and shows of its own is defined, left to its body, or the code of a stub; and there is code for
+/// it. Else E700, as something is compiled that can't be yet.
+pub fn self_checked(
+    alloc: Global,
+    unit: &UnitKey,
+    known: &[UnitKey],
+    shown: &[View],
+    sound: SoundUnit,
+) -> Result<Checked, NoMemory>
+    ensures { IfOk result (λ checked. checked_model checked ≡ self_checked unit.now known.now shown.now (interface_of sound.properties sound.parts) (unit_model sound.tree)) }
+{
+    match is_kept(alloc, unit, known, shown, &sound) {
+        Ok(kept) => answered(alloc, unit, kept, sound),
+        Err(error) => {
+            drop(sound);
+            Err(error)
+        }
+    }
+}

@@ -1,0 +1,9 @@
+use Rattle.std.proofs.Common.{Bool, ap}
+use Rattle.al_check_here.proofs.Lists.{if_ok}
+use Rattle.al_stmts_walk.specs.Readings.{giving}
+use Rattle.al_check_reading.specs.Ada.{ada}
+use Rattle.al_check_reading.proofs.analyzer.AdaReaderReader.are_right.Goals as goal
+
+pub returns-clause-answered : goal.returns-clause-answered
+unfolding ada
+returns-clause-answered g c = if_ok c.are_right.result _ _ (λ x e t h. (h, ap (λ (y : Bool). giving c.args.self.now.state y) e)) c.are_right.ensures

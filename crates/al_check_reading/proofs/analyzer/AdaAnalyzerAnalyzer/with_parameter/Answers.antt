@@ -1,0 +1,7 @@
+use Rattle.al_check_here.proofs.Lists.{on_ok}
+use Rattle.al_check_reading.specs.Ada.{ada}
+use Rattle.al_check_reading.proofs.analyzer.AdaReaderReader.with_parameter.Goals as goal
+
+pub returns-clause-answered : goal.returns-clause-answered
+unfolding ada
+returns-clause-answered g c = on_ok c.declare_parameter.result _ _ (λ e t h. (h, e)) c.declare_parameter.ensures

@@ -1,0 +1,6 @@
+use Rattle.al_check_reading.specs.Ada.{ada}
+use Rattle.al_check_reading.proofs.analyzer.AdaReaderReader.with_word.Goals as goal
+
+pub returns-clause-answered : goal.returns-clause-answered
+unfolding ada
+returns-clause-answered g c = λ t h. (h, c.take_word.ensures)

@@ -1,0 +1,239 @@
+// Who reads Ada texts for the walk over a unit.
+use al_base::{NoMemory, Place};
+use al_base_fault::{CheckResult, Fault};
+use al_check_declared::{
+    declared, enter_body, enter_private, nested_head, nested_subprogram, no_place, open_stub,
+    whole_head, whole_subprogram,
+};
+use al_check_here::{
+    CheckState, declare_parameter, enter_block, enter_loop, enter_statements, labelled,
+    leave_block, leave_innermost, returns_in,
+};
+use al_check_values as values;
+use al_query::{Answers, Recorder};
+use al_stmts::{LoopRange, LoopWords, ReturnContext};
+use al_stmts_choices::{Choice, Selector};
+use al_stmts_reader::{Analyzer, CallEffect};
+use al_stmts_right_choices::are_right;
+use al_tree::{
+    Choice as ChoiceOfText, CommonDeclaration, DiscreteRange, Expression, Identifier, Specification,
+};
+use al_view::{Bounds, Seq};
+use al_view_typed::{Typed, TypedBody, TypedDeclaration, TypedStatement};
+use std::alloc::Global;
+
+/// Reads the text of a unit where it stands, by what a recorder answers.
+#[derive(Drop)]
+pub struct AdaAnalyzer<A: Answers> {
+    pub state: CheckState,
+    pub recorder: Recorder<A>,
+}
+
+impl<A: Answers> AdaAnalyzer<A> {
+    ghost use Rattle.std.specs.Prelude.{◌≡◌};
+
+    /// At the start of a unit's text.
+    pub fn new(state: CheckState, recorder: Recorder<A>) -> Self
+        ensures state { result.state ≡ state }
+        ensures recorder { result.recorder ≡ recorder }
+    {
+        AdaAnalyzer { state, recorder }
+    }
+
+    fn alloc(&self) -> Global {
+        self.state.unit.labeller.alloc
+    }
+}
+
+#[tactic(auto, unfolding(crate::specs::Ada::ada))]
+impl<A: Answers> Analyzer for AdaAnalyzer<A> {
+    ghost use Rattle.al_check_reading.specs.Ada.{ada};
+
+    type Environment = CheckState;
+
+    type Asked = A;
+
+    ghost env = { λ r. r.state };
+
+    ghost asked = { λ r. r.recorder.asked };
+
+    ghost log = { λ r. r.recorder.log };
+
+    ghost reading = { ada };
+
+    fn condition(&mut self, expression: &Expression) -> Result<CheckResult<Typed>, NoMemory> {
+        values::condition(&mut self.state, expression, &mut self.recorder)
+    }
+
+    fn moment(&mut self, expression: &Expression) -> Result<CheckResult<Typed>, NoMemory> {
+        values::moment(&mut self.state, expression, &mut self.recorder)
+    }
+
+    fn target(&mut self, expression: &Expression) -> Result<CheckResult<Typed>, NoMemory> {
+        values::target(&mut self.state, expression, &mut self.recorder)
+    }
+
+    fn source(
+        &mut self,
+        target: &Expression,
+        value: &Expression,
+    ) -> Result<CheckResult<Typed>, NoMemory> {
+        values::source(&mut self.state, target, value, &mut self.recorder)
+    }
+
+    fn call_effect(&mut self, name: &Expression) -> Result<CheckResult<CallEffect>, NoMemory> {
+        values::call_effect(&mut self.state, name, &mut self.recorder)
+    }
+
+    fn result_value(&mut self, expression: &Expression) -> Result<CheckResult<Typed>, NoMemory> {
+        values::result_value(&mut self.state, expression, &mut self.recorder)
+    }
+
+    fn selector(&mut self, expression: &Expression) -> Result<CheckResult<Typed>, NoMemory> {
+        values::selector(&mut self.state, expression, &mut self.recorder)
+    }
+
+    fn whole(&mut self, selector: &Expression) -> Result<Bounds, NoMemory> {
+        values::whole(&self.state, selector, &mut self.recorder)
+    }
+
+    fn choice(
+        &mut self,
+        selector: &Expression,
+        choice: &ChoiceOfText,
+    ) -> Result<CheckResult<Choice>, NoMemory> {
+        values::choice(&self.state, selector, choice, &mut self.recorder)
+    }
+
+    fn are_right(
+        &mut self,
+        selector: Selector,
+        alternatives: &[Seq<Choice>],
+    ) -> Result<bool, NoMemory> {
+        are_right(self.alloc(), alternatives, selector)
+    }
+
+    fn word(&mut self) -> Result<u32, NoMemory> {
+        Ok(self.state.word())
+    }
+
+    fn with_word(&mut self) -> Result<(), NoMemory> {
+        self.state.take_word();
+        Ok(())
+    }
+
+    fn loop_entered(&mut self, parameter: &Identifier) -> Result<(), NoMemory> {
+        enter_loop(self.alloc(), &mut self.state, parameter)
+    }
+
+    fn loop_range(&mut self, range: &DiscreteRange) -> Result<CheckResult<LoopRange>, NoMemory> {
+        values::loop_range(&mut self.state, range, &mut self.recorder)
+    }
+
+    fn with_parameter(
+        &mut self,
+        parameter: &Identifier,
+        range: &LoopRange,
+        words: LoopWords,
+    ) -> Result<(), NoMemory> {
+        declare_parameter(self.alloc(), &mut self.state, parameter, range, words)
+    }
+
+    fn block_entered(&mut self) -> Result<(), NoMemory> {
+        enter_block(self.alloc(), &mut self.state)
+    }
+
+    fn left(&mut self) -> Result<(), NoMemory> {
+        leave_block(&mut self.state);
+        Ok(())
+    }
+
+    fn declared(
+        &mut self,
+        declaration: &CommonDeclaration,
+    ) -> Result<CheckResult<Vec<TypedDeclaration>>, NoMemory> {
+        declared(&mut self.state, declaration, &mut self.recorder)
+    }
+
+    fn subprogram(
+        &mut self,
+        specification: &Specification,
+    ) -> Result<CheckResult<Vec<TypedDeclaration>>, NoMemory> {
+        if self.state.is_nowhere() {
+            return no_place(&mut self.state);
+        }
+        if self.state.is_whole() {
+            return whole_subprogram(&mut self.state, specification, &mut self.recorder);
+        }
+        nested_subprogram(&mut self.state, specification, &mut self.recorder)
+    }
+
+    fn stub(
+        &mut self,
+        specification: &Specification,
+        _separate: Place,
+    ) -> Result<CheckResult<Vec<TypedDeclaration>>, NoMemory> {
+        if self.state.is_nowhere() {
+            return no_place(&mut self.state);
+        }
+        open_stub(&mut self.state, specification, &mut self.recorder)
+    }
+
+    fn not_yet(&mut self) -> Result<Fault, NoMemory> {
+        Ok(values::not_yet_fault())
+    }
+
+    fn missing(&mut self, end: Place) -> Result<Option<Fault>, NoMemory> {
+        Ok(self.state.env.uncompleted.missing_fault(end))
+    }
+
+    fn head(
+        &mut self,
+        specification: &Specification,
+    ) -> Result<CheckResult<Vec<TypedDeclaration>>, NoMemory> {
+        if self.state.is_nowhere() {
+            return no_place(&mut self.state);
+        }
+        if self.state.is_whole() {
+            return whole_head(&mut self.state, specification, &mut self.recorder);
+        }
+        nested_head(&mut self.state, specification, &mut self.recorder)
+    }
+
+    fn body_entered(&mut self, _specification: &Specification) -> Result<(), NoMemory> {
+        enter_body(&mut self.state, &mut self.recorder)
+    }
+
+    fn returns(&mut self) -> Result<ReturnContext, NoMemory> {
+        Ok(returns_in(&self.state))
+    }
+
+    fn body(
+        &mut self,
+        specification: &Specification,
+        declarations: Vec<TypedDeclaration>,
+        statements: Vec<TypedStatement>,
+    ) -> Result<TypedBody, NoMemory> {
+        labelled(
+            self.alloc(),
+            &self.state,
+            specification,
+            declarations,
+            statements,
+        )
+    }
+
+    fn body_left(&mut self) -> Result<(), NoMemory> {
+        leave_innermost(&mut self.state);
+        Ok(())
+    }
+
+    fn private_entered(&mut self) -> Result<(), NoMemory> {
+        enter_private(&mut self.state, &mut self.recorder)
+    }
+
+    fn statements_entered(&mut self) -> Result<(), NoMemory> {
+        enter_statements(&mut self.state);
+        Ok(())
+    }
+}

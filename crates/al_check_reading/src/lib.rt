@@ -1,0 +1,6 @@
+//! The reading of Ada texts: what the walk over a unit asks of names, expressions and declarations, by a table of answers.
+#![tactic(auto)]
+
+mod analyzer;
+
+pub use analyzer::AdaAnalyzer;

@@ -1,0 +1,171 @@
+-- How the check of a unit begins: what its text says of its place, the place, what waits there, and whether its name is taken (ARM 10.1, 10.2), told from
+-- answers.
+use Rattle.std.specs.Prelude.{ℕ, Bool, true, false, ◌&&◌, ◌||◌, List, [], ◌∷◌, not, Option, Some, None, Result, Ok, if◌then◌else◌}
+use Rattle.std.specs.Option.{is_none, option_map, unwrap_or}
+use Rattle.al_base.specs.Rules.{number_of}
+use Rattle.al_base.specs.declared.rule.Rule.TheVariants.{Duplicate}
+use Rattle.al_base.specs.declared.unit_key.UnitKey.{UnitKey}
+use Rattle.al_scope_context.specs.Contexts.{all_mentioned, context_at, mentioned, packaged}
+use Rattle.al_scope_context.specs.declared.context.Context.{Context}
+use Rattle.al_decl_judged.specs.declared.progress.Progress.{Progress}
+use Rattle.al_scope_context.specs.ContextPragmas.{full_name}
+use Rattle.al_unit_header.specs.Units.{is_private, item_name, place_of}
+use Rattle.al_base_fault.specs.Faults.{fault_at}
+use Rattle.al_base_fault.specs.Judging.{next, unless}
+use Rattle.al_base_fault.specs.declared.fault.Fault.{Fault}
+use Rattle.al_overload_keys.specs.Keys as keys
+use Rattle.al_query.specs.Answers.{completions_of, declaration, own_view_of, views_of}
+use Rattle.al_query.specs.Reads.{Table}
+use Rattle.al_query.specs.declared.answer.Completion.{Completion}
+use Rattle.al_query.specs.declared.query.Property.TheVariants.{Completions, Kind}
+use Rattle.al_query.specs.declared.query.Query.TheVariants.{Named, Of}
+use Rattle.al_scope.specs.Places.{Place}
+use Rattle.al_scope.specs.declared.region.UnitPart.{UnitPart}
+use Rattle.al_tree_syntax.specs.UnitTrees.{CompilationUnitTree, LibraryItemTree}
+use Rattle.al_tree_syntax.specs.UnitTrees.LibraryItemTree.{LibrarySubprogram, LibraryPackage, LibraryBody, LibraryPackageBody, Subunit}
+use Rattle.al_unit_graph.specs.Names as names
+use Rattle.al_scope_unit.specs.UnitPlaces.{mentioned_names, standard_unit, unit_regions, view_symbol}
+use Rattle.al_scope_unit.specs.declared.own.OwnText.{OwnText}
+use Rattle.al_view.specs.declared.part.Part.TheVariants as part
+use Rattle.al_view.specs.declared.symbol.Symbol.{Symbol}
+use Rattle.al_view.specs.declared.view.CallKind.{CallKind}
+use Rattle.al_view.specs.declared.view.CallKind.TheVariants as calls
+use Rattle.al_view.specs.declared.view.ViewKind.{ViewKind}
+use Rattle.al_view.specs.declared.view.ViewKind.TheVariants.{OfPackage, OfSubprogram}
+use Rattle.al_check_start.specs.Subunits.{body_named, last_of, stub_view, stubs_round}
+use Rattle.al_check_start.specs.declared.completed.Completed.{Completed}
+use Rattle.al_check_start.specs.declared.unit.UnitStart.{UnitStart}
+
+-- ---- what a unit completes
+
+abbrev pub plain_symbol : UnitKey → Symbol
+plain_symbol unit = record { unit = unit; name = last_of unit.name; number = 0 }
+
+-- the own view of the declaration of a library body
+abbrev pub declared_view : Table → UnitKey → Option ViewKind
+declared_view t unit = own_view_of (t (Of (declaration unit.name) Kind))
+
+-- the declaration of a library unit's parent
+abbrev pub above : UnitKey → Option UnitKey
+above unit = option_map declaration (names.parent_of unit.name)
+
+-- of a library unit, with what it completes
+abbrev pub of_library : UnitKey → Option ViewKind → Completed
+of_library unit view = record { view = view; parent = above unit; stubs = [] }
+
+-- of a subunit with this parent body
+abbrev pub of_subunit : Table → UnitKey → List ℕ → Completed
+of_subunit t unit parent = record { view = stub_view t unit.name parent; parent = Some (body_named t parent); stubs = stubs_round t unit.name parent }
+
+-- the declaration of a library body, the stub of a subunit
+abbrev pub completed_at : Table → UnitKey → LibraryItemTree → Completed
+completed_at t unit (LibrarySubprogram p s) = of_library unit None
+completed_at t unit (LibraryPackage p l k) = of_library unit None
+completed_at t unit (LibraryBody s b) = of_library unit (declared_view t unit)
+completed_at t unit (LibraryPackageBody l k) = of_library unit (declared_view t unit)
+completed_at t unit (Subunit l o n s b) = of_subunit t unit (full_name n)
+
+-- ---- what its text says of its place
+
+abbrev pub is_package_item : LibraryItemTree → Bool
+is_package_item (LibrarySubprogram p s) = false
+is_package_item (LibraryPackage p l k) = true
+is_package_item (LibraryBody s b) = false
+is_package_item (LibraryPackageBody l k) = true
+is_package_item (Subunit l o n s b) = false
+
+abbrev pub symbol_of : UnitKey → Option ViewKind → Symbol
+symbol_of unit view = unwrap_or (view_symbol view) (plain_symbol unit)
+
+abbrev pub own_text : UnitKey → LibraryItemTree → Context → Option ViewKind → List UnitPart → OwnText
+own_text unit item context view stubs = record {
+  unit = unit;
+  symbol = symbol_of unit view;
+  is_package = is_package_item item;
+  is_private = is_private item;
+  stubs = stubs;
+  withs = context.withs;
+  uses = context.uses;
+}
+
+-- ---- its place
+
+-- a library package is seen in its own declaration
+abbrev pub own_view : UnitKey → LibraryItemTree → Option ViewKind
+own_view unit (LibraryPackage p l k) = Some (OfPackage (plain_symbol unit))
+own_view unit (LibrarySubprogram p s) = None
+own_view unit (LibraryBody s b) = None
+own_view unit (LibraryPackageBody l k) = None
+own_view unit (Subunit l o n s b) = None
+
+-- the regions round its start, and the units that are mentioned there, with the packages among them
+abbrev pub place_at : Table → OwnText → Option ViewKind → Place × List UnitKey
+place_at t own view =
+    let entered : Place = record { mentioned = []; regions = unit_regions t own [] } in
+    all_mentioned t (mentioned view own.unit.name entered) (packaged view own.unit.name []) (mentioned_names t own)
+
+-- ---- what waits there
+
+abbrev pub completion : UnitKey → Option ViewKind → List Completion
+completion unit None = []
+completion unit (Some v) = record { name = last_of unit.name; view = v } ∷ []
+
+-- of a package body what its declaration leaves to it; of another body what it completes itself
+abbrev pub waiting : Table → UnitKey → LibraryItemTree → Option ViewKind → List Completion
+waiting t unit (LibraryPackageBody l k) view = completions_of (t (Of (declaration unit.name) Completions))
+waiting t unit (LibraryBody s b) view = completion unit view
+waiting t unit (Subunit l o n s b) view = completion unit view
+waiting t unit (LibrarySubprogram p s) view = []
+waiting t unit (LibraryPackage p l k) view = []
+
+-- in how many bodies a stub stands
+abbrev pub call_depth : CallKind → ℕ
+call_depth (calls.Subprogram depth) = depth
+call_depth _ = 0
+
+abbrev pub depth_of : LibraryItemTree → Option ViewKind → ℕ
+depth_of (Subunit l o n s b) (Some (OfSubprogram s')) = call_depth s'.call
+depth_of _ _ = 0
+
+abbrev pub progress_at : UnitKey → ℕ → Progress
+progress_at unit depth = record { unit = unit; depth = depth; words = record { frame = 3; «data» = 0 }; homonyms = []; objects = []; flags = [] }
+
+-- ---- its name
+
+-- a declaration, or a body that acts as one (ARM 10.1.4(4))
+abbrev pub declares : LibraryItemTree → Option ViewKind → Bool
+declares (LibrarySubprogram p s) view = true
+declares (LibraryPackage p l k) view = true
+declares (LibraryBody s b) view = is_none view
+declares (LibraryPackageBody l k) view = false
+declares (Subunit l o n s b) view = false
+
+abbrev pub has_views : List ViewKind → Bool
+has_views vs = not (keys.is_none vs)
+
+-- whether the parent's visible or private part declares the name, of a root unit Standard (ARM 8.3(26), 10.1.1)
+abbrev pub taken_in : Table → List ℕ → Option (List ℕ) → Bool
+taken_in t name None = has_views (views_of (t (Named standard_unit part.Visible name)))
+taken_in t name (Some p) =
+    has_views (views_of (t (Named (declaration p) part.Visible name))) || has_views (views_of (t (Named (declaration p) part.Private name)))
+
+-- E301 at the name of a unit
+abbrev pub name_fault : Table → UnitKey → LibraryItemTree → Option ViewKind → Option Fault
+name_fault t unit item view =
+    if declares item view && taken_in t (last_of unit.name) (names.parent_of unit.name) then Some (fault_at (place_of (item_name item)) (number_of Duplicate)) else None
+
+-- ---- all of it
+
+abbrev pub start_with : Table → UnitKey → LibraryItemTree → Context → Completed → UnitStart
+start_with t unit item context completed =
+    let own = own_text unit item context completed.view completed.stubs in
+    let place = place_at t own (own_view unit item) in
+    record { own = own; scope = place.0; packages = place.1; progress = progress_at unit (depth_of item completed.view); uncompleted = waiting t unit item completed.view; parent = completed.parent; view = completed.view }
+
+abbrev pub start_after : Table → UnitKey → LibraryItemTree → Context → Result UnitStart Fault
+start_after t unit item context =
+    let completed = completed_at t unit item in
+    unless (name_fault t unit item completed.view) (Ok (start_with t unit item context completed))
+
+unfoldable pub unit_at : Table → UnitKey → CompilationUnitTree → Result UnitStart Fault
+unit_at t unit u = next (context_at t u.context) (start_after t unit u.item)

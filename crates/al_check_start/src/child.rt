@@ -1,0 +1,146 @@
+// Whether the name of a unit is taken (ARM 8.3(26), 10.1.1).
+ghost use Rattle.std.specs.Prelude.{◌≡◌, ◌&&◌, ◌||◌, Some, None, IfOk, if◌then◌else◌};
+ghost use Rattle.al_base.specs.Rules.{number_of};
+ghost use Rattle.al_base.specs.declared.rule.Rule.TheVariants.{Duplicate};
+ghost use Rattle.al_unit_header.specs.Units.{item_name, place_of};
+ghost use Rattle.al_base_fault.specs.Faults.{fault_at};
+ghost use Rattle.al_query.specs.Answers.{declaration, views_of};
+ghost use Rattle.al_query.specs.Reads.{FromAnswers};
+ghost use Rattle.al_query.specs.declared.query.Query.TheVariants.{Named};
+ghost use Rattle.al_tree.specs.UnitViews.{library_item_model};
+ghost use Rattle.al_check_start.specs.Subunits.{last_of};
+ghost use Rattle.al_check_start.specs.UnitsAt.{declares, has_views, name_fault, taken_in};
+ghost use Rattle.al_unit_graph.specs.Names as names;
+
+use crate::item::item_name;
+use crate::names::last_of;
+use al_base::{Name, NoMemory, Rule, UnitKey, UnitKind};
+use al_base_fault::Fault;
+use al_overload_keys::is_none;
+use al_query::{Answers, Query, Recorder};
+use al_tree::LibraryItem;
+use al_unit_graph::parent_of;
+use al_view::{Part, View};
+use std::alloc::Global;
+
+/// Whether the unit is a declaration, or a body that acts as one, where it completes this.
+fn declares(item: &LibraryItem, view: &Option<View>) -> bool
+    ensures { result ≡ declares (library_item_model item.now) view.now }
+{
+    match item {
+        LibraryItem::Subprogram(_, _) => true,
+        LibraryItem::Package(_, _, _) => true,
+        LibraryItem::Body(_, _) => view.is_none(),
+        LibraryItem::PackageBody(_, _) => false,
+        LibraryItem::Subunit(_, _, _, _, _) => false,
+    }
+}
+
+/// The question for a name in a part of a declaration.
+fn question(alloc: Global, unit: &[u8], part: Part, name: &[u8]) -> Result<Query, NoMemory>
+    ensures { IfOk result (λ query. query ≡ Named (declaration unit.now) part name.now) }
+{
+    let unit = Name::from_slice(alloc, unit)?;
+    let kind = UnitKind::Decl;
+    let unit = UnitKey { name: unit, kind };
+    let name = Name::from_slice(alloc, name)?;
+    Ok(Query::Named { unit, part, name })
+}
+
+/// Whether there are views.
+fn has_views(views: &[View]) -> bool
+    ensures { result ≡ has_views views.now }
+{
+    !is_none(views)
+}
+
+/// Whether a part of a declaration declares the name.
+fn has<A: Answers>(
+    alloc: Global,
+    unit: &[u8],
+    part: Part,
+    name: &[u8],
+    recorder: &mut Recorder<A>,
+) -> Result<bool, NoMemory>
+    ensures asked { recorder.new.asked ≡ recorder.old.asked }
+    ensures answered { IfOk result (λ has. FromAnswers recorder.old.log recorder.new.log (λ t. has ≡ has_views (views_of (t (Named (declaration unit.now) part name.now))))) }
+{
+    let query = question(alloc, unit, part, name)?;
+    let answer = recorder.ask(&query)?;
+    let has = has_views(answer.views());
+    Ok(has)
+}
+
+fn either(one: bool, other: bool) -> bool
+    ensures { result ≡ (one || other) }
+{
+    one || other
+}
+
+/// Whether the parent of that name declares the name; both parts are asked.
+fn taken_in_parent<A: Answers>(
+    alloc: Global,
+    parent: &[u8],
+    name: &[u8],
+    recorder: &mut Recorder<A>,
+) -> Result<bool, NoMemory>
+    ensures asked { recorder.new.asked ≡ recorder.old.asked }
+    ensures answered { IfOk result (λ taken. FromAnswers recorder.old.log recorder.new.log (λ t. taken ≡ taken_in t name.now (Some parent.now))) }
+{
+    let visible = has(alloc, parent, Part::Visible, name, recorder)?;
+    let private = has(alloc, parent, Part::Private, name, recorder)?;
+    let taken = either(visible, private);
+    Ok(taken)
+}
+
+/// Whether the parent of the unit of that full name declares its last identifier, of a root unit Standard.
+fn is_taken<A: Answers>(
+    alloc: Global,
+    name: &[u8],
+    recorder: &mut Recorder<A>,
+) -> Result<bool, NoMemory>
+    ensures asked { recorder.new.asked ≡ recorder.old.asked }
+    ensures answered { IfOk result (λ taken. FromAnswers recorder.old.log recorder.new.log (λ t. taken ≡ taken_in t (last_of name.now) (names.parent_of name.now))) }
+{
+    let last = last_of(name);
+    match parent_of(name) {
+        Some(parent) => taken_in_parent(alloc, parent, last, recorder),
+        None => has(alloc, b"standard", Part::Visible, last, recorder),
+    }
+}
+
+/// E301 at the name of the item.
+fn duplicate(item: &LibraryItem) -> Fault
+    ensures { result ≡ fault_at (place_of (item_name (library_item_model item.now))) (number_of Duplicate) }
+{
+    Fault {
+        place: item_name(item).first.place,
+        code: Rule::Duplicate.number(),
+    }
+}
+
+/// E301 at the name of an item that declares a name which is taken.
+fn duplicate_if(declares: bool, taken: bool, item: &LibraryItem) -> Option<Fault>
+    ensures { result ≡ (if declares && taken then Some (fault_at (place_of (item_name (library_item_model item.now))) (number_of Duplicate)) else None) }
+{
+    if declares && taken {
+        return Some(duplicate(item));
+    }
+    None
+}
+
+/// E301 at the name of a unit that its parent declares too, where the unit completes this.
+pub(crate) fn name_fault<A: Answers>(
+    alloc: Global,
+    unit: &UnitKey,
+    item: &LibraryItem,
+    view: &Option<View>,
+    recorder: &mut Recorder<A>,
+) -> Result<Option<Fault>, NoMemory>
+    ensures asked { recorder.new.asked ≡ recorder.old.asked }
+    ensures answered { IfOk result (λ fault. FromAnswers recorder.old.log recorder.new.log (λ t. fault ≡ name_fault t unit.now (library_item_model item.now) view.now)) }
+{
+    let taken = is_taken(alloc, unit.name.as_slice(), recorder)?;
+    let fault = duplicate_if(declares(item, view), taken, item);
+    Ok(fault)
+}

@@ -1,0 +1,111 @@
+// What a unit completes.
+ghost use Rattle.std.specs.Prelude.{◌≡◌, IfOk};
+ghost use Rattle.al_scope_context.specs.ContextPragmas.{full_name};
+ghost use Rattle.al_query.specs.Reads.{FromAnswers};
+ghost use Rattle.al_tree.specs.DeclarationViews.{compound_model};
+ghost use Rattle.al_tree.specs.UnitViews.{library_item_model};
+ghost use Rattle.al_check_start.specs.UnitsAt.{above, completed_at, declared_view, of_library, of_subunit};
+
+use crate::stub::{body_named, stub_view, stubs_round};
+use al_base::{Name, NoMemory, UnitKey, UnitKind};
+use al_query::{Answers, Recorder};
+use al_scope::UnitPart;
+use al_scope_context::{full_name, view_of};
+use al_tree::{CompoundName, LibraryItem};
+use al_unit_graph::parent_of;
+use al_view::{Seq, View};
+use std::alloc::Global;
+
+/// What a unit completes, and round which unit it stands.
+#[derive(Drop)]
+pub struct Completed {
+    /// The own view of the declaration of a library body, or the subprogram that the stub of a subunit stands for.
+    pub view: Option<View>,
+    /// The declaration of a library unit's parent; the parent body of a subunit.
+    pub parent: Option<UnitKey>,
+    /// Of a subunit the stubs round it, outermost first.
+    pub stubs: Seq<UnitPart>,
+}
+
+/// The declaration of a library unit's parent.
+fn above(alloc: Global, unit: &UnitKey) -> Result<Option<UnitKey>, NoMemory>
+    ensures { IfOk result (λ parent. parent ≡ above unit.now) }
+{
+    match parent_of(unit.name.as_slice()) {
+        Some(parent) => {
+            let name = Name::from_slice(alloc, parent)?;
+            let kind = UnitKind::Decl;
+            Ok(Some(UnitKey { name, kind }))
+        }
+        None => Ok(None),
+    }
+}
+
+/// Of a library unit, with what it completes.
+fn of_library(alloc: Global, unit: &UnitKey, view: Option<View>) -> Result<Completed, NoMemory>
+    ensures { IfOk result (λ completed. completed ≡ of_library unit.now view) }
+{
+    let parent = above(alloc, unit)?;
+    let stubs = Seq::empty(alloc);
+    Ok(Completed {
+        view,
+        parent,
+        stubs,
+    })
+}
+
+/// Of a library body.
+fn of_body<A: Answers>(
+    alloc: Global,
+    unit: &UnitKey,
+    recorder: &mut Recorder<A>,
+) -> Result<Completed, NoMemory>
+    ensures asked { recorder.new.asked ≡ recorder.old.asked }
+    ensures answered { IfOk result (λ completed. FromAnswers recorder.old.log recorder.new.log (λ t. completed ≡ of_library unit.now (declared_view t unit.now))) }
+{
+    let view = view_of(alloc, unit.name.as_slice(), UnitKind::Decl, recorder)?;
+    let completed = of_library(alloc, unit, view)?;
+    Ok(completed)
+}
+
+/// Of a subunit with this parent body.
+fn of_subunit<A: Answers>(
+    alloc: Global,
+    unit: &UnitKey,
+    parent: &CompoundName,
+    recorder: &mut Recorder<A>,
+) -> Result<Completed, NoMemory>
+    ensures asked { recorder.new.asked ≡ recorder.old.asked }
+    ensures answered { IfOk result (λ completed. FromAnswers recorder.old.log recorder.new.log (λ t. completed ≡ of_subunit t unit.now (full_name (compound_model parent.now)))) }
+{
+    let name = unit.name.as_slice();
+    let full = full_name(alloc, parent)?;
+    let view = stub_view(alloc, name, full.as_slice(), recorder)?;
+    let parent = body_named(alloc, full.as_slice(), recorder)?;
+    let stubs = stubs_round(alloc, name, full.as_slice(), recorder)?;
+    let parent = Some(parent);
+    Ok(Completed {
+        view,
+        parent,
+        stubs,
+    })
+}
+
+/// What a unit completes, and round which unit it stands.
+pub(crate) fn completed_at<A: Answers>(
+    alloc: Global,
+    unit: &UnitKey,
+    item: &LibraryItem,
+    recorder: &mut Recorder<A>,
+) -> Result<Completed, NoMemory>
+    ensures asked { recorder.new.asked ≡ recorder.old.asked }
+    ensures answered { IfOk result (λ completed. FromAnswers recorder.old.log recorder.new.log (λ t. completed ≡ completed_at t unit.now (library_item_model item.now))) }
+{
+    match item {
+        LibraryItem::Subprogram(_, _) => of_library(alloc, unit, None),
+        LibraryItem::Package(_, _, _) => of_library(alloc, unit, None),
+        LibraryItem::Body(_, _) => of_body(alloc, unit, recorder),
+        LibraryItem::PackageBody(_, _) => of_body(alloc, unit, recorder),
+        LibraryItem::Subunit(_, _, parent, _, _) => of_subunit(alloc, unit, parent, recorder),
+    }
+}

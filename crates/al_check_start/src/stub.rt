@@ -1,0 +1,181 @@
+// Where the stub of a subunit stands (ARM 10.1.3).
+ghost use Rattle.std.specs.Prelude.{◌≡◌, ◌∷◌, [], ◌++◌, codes, Some, IfOk, OnOk, if◌then◌else◌};
+ghost use Rattle.std.specs.Option.{option_copied};
+ghost use Rattle.al_query_outcome.specs.ReadsLaw.{subunit};
+ghost use Rattle.al_query.specs.Answers.{parent_of};
+ghost use Rattle.al_query.specs.Known.{body};
+ghost use Rattle.al_query.specs.Reads.{FromAnswers};
+ghost use Rattle.al_query.specs.declared.query.Property.TheVariants.{Parent};
+ghost use Rattle.al_query.specs.declared.query.Query.TheVariants.{Named, Of};
+ghost use Rattle.al_scope_unit.specs.UnitPlaces.{is_subunit, part_of};
+ghost use Rattle.al_view.specs.declared.part.Part.TheVariants.{Stub};
+ghost use Rattle.al_check_start.specs.Subunits.{body_named, first_view, last_of, next_body, stub_view, stubs_in, stubs_round};
+
+use crate::names::last_of;
+use al_base::{Name, NoMemory, UnitKey, UnitKind};
+use al_query::{Answers, Property, Query, Recorder};
+use al_scope::UnitPart;
+use al_scope_context::view_of;
+use al_view::{Part, Seq, View, copied_unit};
+use std::alloc::Global;
+
+/// The unit of that name: a body, or a subunit.
+fn named(alloc: Global, name: &[u8], is_body: bool) -> Result<UnitKey, NoMemory>
+    ensures { IfOk result (λ unit. unit ≡ (if is_body then body name.now else subunit name.now)) }
+{
+    let name = Name::from_slice(alloc, name)?;
+    if is_body {
+        let kind = UnitKind::Body;
+        return Ok(UnitKey { name, kind });
+    }
+    let kind = UnitKind::Sub;
+    Ok(UnitKey { name, kind })
+}
+
+/// The body of that name, or else the subunit.
+pub(crate) fn body_named<A: Answers>(
+    alloc: Global,
+    name: &[u8],
+    recorder: &mut Recorder<A>,
+) -> Result<UnitKey, NoMemory>
+    ensures asked { recorder.new.asked ≡ recorder.old.asked }
+    ensures answered { IfOk result (λ unit. FromAnswers recorder.old.log recorder.new.log (λ t. unit ≡ body_named t name.now)) }
+{
+    let view = view_of(alloc, name, UnitKind::Body, recorder)?;
+    let unit = named(alloc, name, view.is_some())?;
+    Ok(unit)
+}
+
+/// The unit once more, if there is one.
+fn copied(alloc: Global, unit: Option<&UnitKey>) -> Result<Option<UnitKey>, NoMemory>
+    ensures { IfOk result (λ copy. copy ≡ option_copied unit.entry) }
+{
+    match unit {
+        Some(unit) => Ok(Some(copied_unit(alloc, unit)?)),
+        None => Ok(None),
+    }
+}
+
+/// The parent of a unit, as it answers.
+fn parent_at<A: Answers>(
+    alloc: Global,
+    unit: &UnitKey,
+    recorder: &mut Recorder<A>,
+) -> Result<Option<UnitKey>, NoMemory>
+    ensures asked { recorder.new.asked ≡ recorder.old.asked }
+    ensures answered { IfOk result (λ parent. FromAnswers recorder.old.log recorder.new.log (λ t. parent ≡ parent_of (t (Of unit.now Parent)))) }
+{
+    let unit = copied_unit(alloc, unit)?;
+    let property = Property::Parent;
+    let query = Query::Of { unit, property };
+    let answer = recorder.ask(&query)?;
+    let parent = copied(alloc, answer.parent())?;
+    Ok(parent)
+}
+
+/// Whether it is a subunit.
+fn is_subunit(unit: &UnitKey) -> bool
+    ensures { result ≡ is_subunit unit.now }
+{
+    matches!(unit.kind, UnitKind::Sub)
+}
+
+/// In which body the stub of a subunit stands; a library body has none.
+fn next_body<A: Answers>(
+    alloc: Global,
+    unit: &UnitKey,
+    recorder: &mut Recorder<A>,
+) -> Result<Option<UnitKey>, NoMemory>
+    ensures asked { recorder.new.asked ≡ recorder.old.asked }
+    ensures answered { IfOk result (λ next. FromAnswers recorder.old.log recorder.new.log (λ t. next ≡ next_body t unit.now)) }
+{
+    if is_subunit(unit) {
+        return parent_at(alloc, unit, recorder);
+    }
+    Ok(None)
+}
+
+/// What stands before the stub of a unit of that name in a body.
+fn stub_in(alloc: Global, unit: &UnitKey, name: &[u8]) -> Result<UnitPart, NoMemory>
+    ensures { IfOk result (λ part. part ≡ part_of unit.now (Stub (last_of name.now))) }
+{
+    let name = Name::from_slice(alloc, last_of(name))?;
+    let unit = copied_unit(alloc, unit)?;
+    let part = Part::Stub(name);
+    Ok(UnitPart { unit, part })
+}
+
+/// The stubs round a subunit of that name, whose own stub stands in this body, the outermost first, so many at most.
+fn stubs_in<A: Answers>(
+    alloc: Global,
+    name: &[u8],
+    next: Option<UnitKey>,
+    most: usize,
+    recorder: &mut Recorder<A>,
+) -> Result<Seq<UnitPart>, NoMemory>
+    ensures asked { recorder.new.asked ≡ recorder.old.asked }
+    ensures answered { IfOk result (λ parts. FromAnswers recorder.old.log recorder.new.log (λ t. parts ≡ stubs_in t most name.now next)) }
+{
+    if most == 0 {
+        return Ok(Seq::empty(alloc));
+    }
+    let Some(unit) = next else {
+        return Ok(Seq::empty(alloc));
+    };
+    let outer = next_body(alloc, &unit, recorder)?;
+    let mut parts = stubs_in(alloc, unit.name.as_slice(), outer, most - 1, recorder)?;
+    let part = stub_in(alloc, &unit, name)?;
+    parts.push(part)?;
+    Ok(parts)
+}
+
+/// The stubs round a subunit of that name, the outermost first.
+pub(crate) fn stubs_round<A: Answers>(
+    alloc: Global,
+    name: &[u8],
+    parent: &[u8],
+    recorder: &mut Recorder<A>,
+) -> Result<Seq<UnitPart>, NoMemory>
+    ensures asked { recorder.new.asked ≡ recorder.old.asked }
+    ensures answered { IfOk result (λ parts. FromAnswers recorder.old.log recorder.new.log (λ t. parts ≡ stubs_round t name.now parent.now)) }
+{
+    let first = body_named(alloc, parent, recorder)?;
+    let stubs = stubs_in(alloc, name, Some(first), name.len(), recorder)?;
+    Ok(stubs)
+}
+
+/// The first of some views.
+fn first_view(views: &[View]) -> Result<Option<View>, NoMemory>
+    ensures { IfOk result (λ view. view ≡ first_view views.now) }
+{
+    match views {
+        [view, ..] => Ok(Some(view.share()?)),
+        [] => Ok(None),
+    }
+}
+
+/// The question for the subprogram that the stub of a unit of that name stands for.
+fn stub_question(alloc: Global, unit: UnitKey, name: &[u8]) -> Result<Query, NoMemory>
+    ensures { IfOk result (λ query. query ≡ Named unit (Stub (last_of name.now)) (codes "separate")) }
+{
+    let part = Part::Stub(Name::from_slice(alloc, last_of(name))?);
+    let name = Name::from_slice(alloc, b"separate")?;
+    Ok(Query::Named { unit, part, name })
+}
+
+/// The subprogram that the stub of a subunit stands for.
+pub(crate) fn stub_view<A: Answers>(
+    alloc: Global,
+    name: &[u8],
+    parent: &[u8],
+    recorder: &mut Recorder<A>,
+) -> Result<Option<View>, NoMemory>
+    ensures asked { recorder.new.asked ≡ recorder.old.asked }
+    ensures answered { IfOk result (λ view. FromAnswers recorder.old.log recorder.new.log (λ t. view ≡ stub_view t name.now parent.now)) }
+{
+    let unit = body_named(alloc, parent, recorder)?;
+    let query = stub_question(alloc, unit, name)?;
+    let answer = recorder.ask(&query)?;
+    let view = first_view(answer.views())?;
+    Ok(view)
+}

@@ -1,0 +1,109 @@
+// How the check of a unit begins.
+ghost use Rattle.std.specs.Prelude.{◌≡◌, IfOk};
+ghost use Rattle.al_query.specs.Reads.{FromAnswers};
+ghost use Rattle.al_tree.specs.UnitViews.{library_item_model, unit_model};
+ghost use Rattle.al_check_start.specs.UnitsAt.{start_after, start_with, unit_at};
+
+use crate::child::name_fault;
+use crate::completed::{Completed, completed_at};
+use crate::place::{own_text, own_view, place_at};
+use crate::waiting::{progress_at, waiting};
+use al_base::{NoMemory, UnitKey};
+use al_base_fault::{CheckResult, unless};
+use al_decl_completion::Uncompleted;
+use al_decl_judged::Progress;
+use al_query::{Answers, Recorder};
+use al_scope::Scope;
+use al_scope_context::{Context, context_at};
+use al_scope_unit::OwnText;
+use al_tree::{CompilationUnit, LibraryItem};
+use al_view::{Seq, View};
+use std::alloc::Global;
+
+/// Where the check of a unit begins.
+#[derive(Drop)]
+pub struct UnitStart {
+    /// What its text says of its place.
+    pub own: OwnText,
+    /// The regions round its start, and the units that are mentioned there.
+    pub scope: Scope,
+    /// The packages among these.
+    pub packages: Seq<UnitKey>,
+    pub progress: Progress,
+    /// Of a package body what its declaration leaves to it, of another body what it completes itself.
+    pub uncompleted: Uncompleted,
+    /// The declaration of a library unit's parent; the parent body of a subunit.
+    pub parent: Option<UnitKey>,
+    /// The own view of the declaration that a library body completes, or the subprogram of a subunit's stub.
+    pub view: Option<View>,
+}
+
+/// Where the check of a unit begins that completes this, after this context clause.
+fn start_with<A: Answers>(
+    alloc: Global,
+    unit: &UnitKey,
+    item: &LibraryItem,
+    context: Context,
+    completed: Completed,
+    recorder: &mut Recorder<A>,
+) -> Result<UnitStart, NoMemory>
+    ensures asked { recorder.new.asked ≡ recorder.old.asked }
+    ensures answered { IfOk result (λ start. FromAnswers recorder.old.log recorder.new.log (λ t. start ≡ start_with t unit.now (library_item_model item.now) context completed)) }
+{
+    let Completed {
+        view,
+        parent,
+        stubs,
+    } = completed;
+    let own = own_text(alloc, unit, item, context, &view, stubs)?;
+    let seen = own_view(alloc, unit, item)?;
+    let mut packages = Seq::empty(alloc);
+    let scope = place_at(alloc, &own, &seen, &mut packages, recorder)?;
+    let progress = progress_at(alloc, unit, item, &view)?;
+    let uncompleted = waiting(alloc, unit, item, &view, recorder)?;
+    Ok(UnitStart {
+        own,
+        scope,
+        packages,
+        progress,
+        uncompleted,
+        parent,
+        view,
+    })
+}
+
+/// Where the check of a unit begins after this context clause, or E301 at its name.
+fn start_after<A: Answers>(
+    alloc: Global,
+    unit: &UnitKey,
+    item: &LibraryItem,
+    context: Context,
+    recorder: &mut Recorder<A>,
+) -> Result<CheckResult<UnitStart>, NoMemory>
+    ensures asked { recorder.new.asked ≡ recorder.old.asked }
+    ensures answered { IfOk result (λ start. FromAnswers recorder.old.log recorder.new.log (λ t. start ≡ start_after t unit.now (library_item_model item.now) context)) }
+{
+    let completed = completed_at(alloc, unit, item, recorder)?;
+    let fault = name_fault(alloc, unit, item, &completed.view, recorder)?;
+    let start = start_with(alloc, unit, item, context, completed, recorder)?;
+    let checked = unless(fault, Ok(start));
+    Ok(checked)
+}
+
+/// How the check of a unit begins: its context clause is read, then its place is made, and what waits there; the first fault of the context
+/// clause, or else E301 at a name that the parent declares too (ARM 8.3(26), 10.1.1, 10.1.2).
+pub fn unit_at<A: Answers>(
+    alloc: Global,
+    unit: &UnitKey,
+    text: &CompilationUnit,
+    recorder: &mut Recorder<A>,
+) -> Result<CheckResult<UnitStart>, NoMemory>
+    ensures asked { recorder.new.asked ≡ recorder.old.asked }
+    ensures answered { IfOk result (λ start. FromAnswers recorder.old.log recorder.new.log (λ t. start ≡ unit_at t unit.now (unit_model text.now))) }
+{
+    let context = context_at(alloc, text.context.as_slice(), recorder)?;
+    match context {
+        Ok(context) => start_after(alloc, unit, &text.item, context, recorder),
+        Err(fault) => Ok(Err(fault)),
+    }
+}

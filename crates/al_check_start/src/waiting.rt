@@ -1,0 +1,121 @@
+// What waits at the start of a unit, and how far its check has come there.
+ghost use Rattle.std.specs.Prelude.{◌≡◌, IfOk};
+ghost use Rattle.al_query.specs.Answers.{completions_of, declaration};
+ghost use Rattle.al_query.specs.Reads.{FromAnswers};
+ghost use Rattle.al_query.specs.declared.query.Property.TheVariants.{Completions};
+ghost use Rattle.al_query.specs.declared.query.Query.TheVariants.{Of};
+ghost use Rattle.al_tree.specs.UnitViews.{library_item_model};
+ghost use Rattle.al_check_start.specs.UnitsAt.{call_depth, completion, depth_of, progress_at, waiting};
+
+use crate::names::last_of;
+use al_base::{Name, NoMemory, UnitKey, UnitKind};
+use al_decl_completion::Uncompleted;
+use al_decl_judged::Progress;
+use al_decl_type::{Homonyms, Words};
+use al_query::{Answers, Completion, Property, Query, Recorder};
+use al_tree::LibraryItem;
+use al_view::{CallKind, Seq, View, ViewKind, copied_unit};
+use std::alloc::Global;
+
+/// What a body completes, under the last identifier of its name.
+fn completion(alloc: Global, unit: &UnitKey, view: &Option<View>) -> Result<Uncompleted, NoMemory>
+    ensures { IfOk result (λ uncompleted. uncompleted ≡ completion unit.now view.now) }
+{
+    let Some(view) = view else {
+        return Ok(Uncompleted::new(alloc));
+    };
+    let name = Name::from_slice(alloc, last_of(unit.name.as_slice()))?;
+    let view = view.share()?;
+    let one = [Completion { name, view }];
+    Uncompleted::of(alloc, one.as_slice())
+}
+
+/// The question what the declaration of that name leaves to its body.
+fn question(alloc: Global, name: &[u8]) -> Result<Query, NoMemory>
+    ensures { IfOk result (λ query. query ≡ Of (declaration name.now) Completions) }
+{
+    let name = Name::from_slice(alloc, name)?;
+    let kind = UnitKind::Decl;
+    let unit = UnitKey { name, kind };
+    let property = Property::Completions;
+    Ok(Query::Of { unit, property })
+}
+
+/// What the declaration of a package body leaves to it.
+fn left<A: Answers>(
+    alloc: Global,
+    unit: &UnitKey,
+    recorder: &mut Recorder<A>,
+) -> Result<Uncompleted, NoMemory>
+    ensures asked { recorder.new.asked ≡ recorder.old.asked }
+    ensures answered { IfOk result (λ uncompleted. FromAnswers recorder.old.log recorder.new.log (λ t. uncompleted ≡ completions_of (t (Of (declaration unit.now.name) Completions)))) }
+{
+    let query = question(alloc, unit.name.as_slice())?;
+    let answer = recorder.ask(&query)?;
+    let uncompleted = Uncompleted::of(alloc, answer.completions())?;
+    Ok(uncompleted)
+}
+
+/// What waits at the start of a unit that completes this.
+pub(crate) fn waiting<A: Answers>(
+    alloc: Global,
+    unit: &UnitKey,
+    item: &LibraryItem,
+    view: &Option<View>,
+    recorder: &mut Recorder<A>,
+) -> Result<Uncompleted, NoMemory>
+    ensures asked { recorder.new.asked ≡ recorder.old.asked }
+    ensures answered { IfOk result (λ uncompleted. FromAnswers recorder.old.log recorder.new.log (λ t. uncompleted ≡ waiting t unit.now (library_item_model item.now) view.now)) }
+{
+    match item {
+        LibraryItem::PackageBody(_, _) => left(alloc, unit, recorder),
+        LibraryItem::Body(_, _) => completion(alloc, unit, view),
+        LibraryItem::Subunit(_, _, _, _, _) => completion(alloc, unit, view),
+        LibraryItem::Subprogram(_, _) => Ok(Uncompleted::new(alloc)),
+        LibraryItem::Package(_, _, _) => Ok(Uncompleted::new(alloc)),
+    }
+}
+
+/// In how many bodies a subprogram is declared.
+fn call_depth(call: &CallKind) -> u32
+    ensures { result ≡ call_depth call.now }
+{
+    match call {
+        CallKind::Subprogram { depth } => *depth,
+        _ => 0,
+    }
+}
+
+/// In how many bodies a unit stands, where it completes this: only a subunit stands in one.
+fn depth_of(item: &LibraryItem, view: &Option<View>) -> u32
+    ensures { result ≡ depth_of (library_item_model item.now) view.now }
+{
+    match (item, view) {
+        (LibraryItem::Subunit(_, _, _, _, _), Some(view)) => match view.kind() {
+            ViewKind::OfSubprogram(subprogram) => call_depth(&subprogram.call),
+            _ => 0,
+        },
+        _ => 0,
+    }
+}
+
+/// How far the check has come at the start.
+pub(crate) fn progress_at(
+    alloc: Global,
+    unit: &UnitKey,
+    item: &LibraryItem,
+    view: &Option<View>,
+) -> Result<Progress, NoMemory>
+    ensures { IfOk result (λ progress. progress ≡ progress_at unit.now (depth_of (library_item_model item.now) view.now)) }
+{
+    let unit = copied_unit(alloc, unit)?;
+    let depth = depth_of(item, view);
+    Ok(Progress {
+        unit,
+        depth,
+        words: Words { frame: 3, data: 0 },
+        homonyms: Homonyms::new(alloc),
+        objects: Seq::empty(alloc),
+        flags: Seq::empty(alloc),
+    })
+}

@@ -1,0 +1,41 @@
+-- What is asked within bounds is asked of units that are known, and by the words of the text.
+use Rattle.std.proofs.Common.{◌≡◌, ℕ, Bool, true, List, [], refl, sym, subst}
+use Rattle.al_base.specs.declared.unit_key.UnitKey.{UnitKey}
+use Rattle.al_query.specs.Asked.{AsksOf, OfKnown, by_property}
+use Rattle.al_query.specs.Known.{AreAmong, AreKnown, Grounded, has_unit, known_after}
+use Rattle.al_query.specs.Reads.{Log}
+use Rattle.al_query.specs.declared.query.Query.{Query}
+use Rattle.al_query.proofs.AskLemmas.{asks_of-grounded, asks_of-known, asks_of-wanted, asks_then}
+use Rattle.al_query.proofs.KnownLemmas.{are_known, known_after-more}
+use Rattle.al_check_bounds.specs.Bounding.{AsksByNames, allowed}
+use Rattle.al_check_bounds.specs.declared.bounds.Bounds.{Bounds}
+use Rattle.al_check_bounds.proofs.NameLemmas.{asks-by-names, by-property, within-bounds}
+
+any : Log → Query → Bool
+any log q = true
+
+wider : (units : List UnitKey) (wanted : Log → Query → Bool) (old new : Log) → AsksOf units wanted old new → AsksOf units any old new
+unfolding any
+wider units wanted old new asks = asks_of-wanted units wanted any old new (λ log q h. refl) asks
+
+-- first what makes units known, then of these
+pub grounded : (named known : List UnitKey) (wanted within : Log → Query → Bool) (a b c : Log) → AsksOf named wanted [] a → AreKnown (known_after named a) known → AsksOf known within a b → AsksOf known within b c → Grounded named c
+grounded named known wanted within a b c one known_then two three =
+    asks_of-grounded named any c
+    (asks_then (OfKnown named any) [] a c (wider named wanted [] a one)
+    (asks_of-known known named any a c known_then (wider known within a c (asks_then (OfKnown known within) a b c two three))))
+
+-- units stay known
+pub still_known : (named known units : List UnitKey) (within : Log → Query → Bool) (a b c : Log) → AreKnown (known_after named a) units → AsksOf known within a b → AsksOf known within b c → AreAmong units (known_after named c)
+still_known named known units within a b c known_then two three u h =
+    let asks = asks_then (OfKnown known within) a b c two three in
+    subst (λ (log : Log). has_unit (known_after named log) u ≡ true) (sym asks.1)
+    (known_after-more named a asks.0 u (are_known (known_after named a) units known_then u h))
+
+-- first what makes units known is asked for properties, then within bounds
+pub by_words : (b : Bounds) (unit : UnitKey) (words : List (List ℕ)) (named : List UnitKey) (one two three : Log) → b.unit ≡ unit → b.names ≡ words → AsksOf named by_property [] one → AsksOf b.known (allowed b) one two → AsksOf b.known (allowed b) two three → AsksByNames unit words three
+by_words b unit words named one two three own is first second third =
+    let before = asks-by-names b.unit b.names named by_property (by-property b.unit b.names) [] one first refl in
+    let found = asks-by-names b.unit b.names b.known (allowed b) (within-bounds b) one two second before in
+    let all = asks-by-names b.unit b.names b.known (allowed b) (within-bounds b) two three third found in
+    subst (λ (ns : List (List ℕ)). AsksByNames unit ns three) is (subst (λ (u : UnitKey). AsksByNames u b.names three) own all)

@@ -1,0 +1,49 @@
+use Rattle.std.proofs.Common.{sym, subst}
+use Rattle.al_base.specs.declared.unit_key.UnitKey.{UnitKey}
+use Rattle.al_unit_header.specs.Units as headers
+use Rattle.al_tree.specs.UnitViews.{unit_model}
+use Rattle.al_query.specs.Asked.{by_property}
+use Rattle.al_query_outcome.specs.ReadsLaw.{AsksOthers, named_by}
+use Rattle.al_query_outcome.specs.Results.{checked_model}
+use Rattle.al_check_bounds.specs.Bounding.{allowed}
+use Rattle.al_check_promises.specs.Laws.{Promised}
+use Rattle.al_check_within.specs.Verdicts.{verdict_of}
+use Rattle.al_check_within.proofs.Bounding.{means}
+use Rattle.al_check_within.specs.Words.{words_of}
+use Rattle.al_check_within.proofs.Grounds.{by_words, grounded, still_known}
+use Rattle.al_check_within.proofs.checking.check_within.Goals as goal
+
+pub returns-clause-checked : goal.returns-clause-checked
+returns-clause-checked g c =
+    let b = c.in_ok-bounds.bounds in
+    let are = c.in_ok-bounds.ensures.bounds in
+    let found = c.in_ok-found.ensures in
+    let last = c.in_ok-checked.ensures in
+    let tree = unit_model c.args.tree.now in
+    let named = named_by (headers.header_of (unit_model c.args.tree.now)) in
+    let one = c.bounds_of.new.recorder.log in
+    let two = c.found_within.new.recorder.log in
+    let three = c.concluded_within.new.recorder.log in
+    record {
+      meaning = λ t h. let gives = last.answered t h in
+          let finds = found.found t gives.0 in
+          means g.F.UnitFinder.units g.F.UnitFinder.verdict c.args.unit.now c.args.text.now tree t b (verdict_of c.in_ok-found.found.finding) (checked_model c.in_ok-checked.checked) (are.answered t finds.0) finds.1 gives.1;
+      grounded = grounded named b.known by_property (allowed b) one two three are.asks are.known found.asks last.asks;
+      promised = subst (λ (u : UnitKey). Promised u named three (checked_model c.in_ok-checked.checked)) are.own
+          (last.promised named (still_known named b.known b.known (allowed b) one two three are.known found.asks last.asks));
+    }
+
+pub returns-clause-others : goal.returns-clause-others
+returns-clause-others g c =
+    let are = c.in_ok-bounds.ensures.bounds in
+    subst (λ (u : UnitKey). AsksOthers u c.concluded_within.new.recorder.log) are.own
+    (c.in_ok-checked.ensures.others (c.in_ok-found.ensures.others (subst (λ (u : UnitKey). AsksOthers u c.bounds_of.new.recorder.log) (sym are.own) are.others)))
+
+pub returns-clause-names : goal.returns-clause-names
+returns-clause-names g c =
+    let are = c.in_ok-bounds.ensures.bounds in
+    by_words c.in_ok-bounds.bounds c.args.unit.now (words_of c.args.text.now) (named_by (headers.header_of (unit_model c.args.tree.now))) c.bounds_of.new.recorder.log c.found_within.new.recorder.log c.concluded_within.new.recorder.log
+    are.own are.names are.asks c.in_ok-found.ensures.asks c.in_ok-checked.ensures.asks
+
+pub concluded_within-requires : goal.concluded_within-requires
+concluded_within-requires g c t h = (c.in_ok-found.ensures.answered t h).1

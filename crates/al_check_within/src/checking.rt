@@ -1,0 +1,102 @@
+// The check of a unit within bounds.
+ghost use Rattle.std.specs.Prelude.{◌≡◌, ◌≤◌, [], length, IfOk, OnOk};
+ghost use Rattle.al_tree.specs.UnitViews.{unit_model};
+ghost use Rattle.al_unit_header.specs.Units as headers;
+ghost use Rattle.al_query.specs.Asked.{AsksOf};
+ghost use Rattle.al_query.specs.Reads.{Agrees, FromAnswers};
+ghost use Rattle.al_query_outcome.specs.ReadsLaw.{AsksOthers};
+ghost use Rattle.al_query_outcome.specs.Results.{checked_model};
+ghost use Rattle.al_check_bounds.specs.Bounding.{AsksByNames, allowed, bounded};
+ghost use Rattle.al_check_within.specs.Verdicts.{verdict_of};
+ghost use Rattle.al_check_within.specs.Within.{AreBounds, IsChecked, meaning_within};
+ghost use Rattle.al_check_within.specs.Words.{words_of};
+
+use crate::concluding::concluded_within;
+use crate::finder::UnitFinder;
+use crate::finding::UnitResult;
+use crate::words::words_of;
+use al_base::{NoMemory, UnitKey};
+use al_check_bounds::{Bounded, Bounds, replay};
+use al_query::{Answers, Recorder};
+use al_query_outcome::Checked;
+use al_tree::CompilationUnit;
+use al_unit_header::header_of;
+use al_view::{Seq, copied_unit};
+use std::alloc::Global;
+
+/// What may be asked: the units that are known, by the words of the text.
+fn bounds_of<F: UnitFinder, A: Answers>(
+    alloc: Global,
+    finder: &F,
+    unit: &UnitKey,
+    text: &[u8],
+    tree: &CompilationUnit,
+    recorder: &mut Recorder<A>,
+) -> Result<Bounds, NoMemory>
+    requires text { length text.now ≤ 4294967294 }
+    requires log { recorder.old.log ≡ [] }
+    ensures asked { recorder.new.asked ≡ recorder.old.asked }
+    ensures bounds { IfOk result (λ bounds. AreBounds (F.units unit.now (headers.header_of (unit_model tree.now))) (headers.header_of (unit_model tree.now)) unit.now text.now recorder.new.log bounds) }
+{
+    let header = header_of(alloc, tree)?;
+    let known = finder.units_known(alloc, unit, &header, recorder)?;
+    let unit = copied_unit(alloc, unit)?;
+    let names = words_of(alloc, text)?;
+    Ok(Bounds {
+        unit,
+        known: Seq::new(known),
+        names,
+    })
+}
+
+/// What is found in the text of a unit within bounds.
+fn found_within<F: UnitFinder, A: Answers>(
+    alloc: Global,
+    finder: &F,
+    bounds: &Bounds,
+    text: &[u8],
+    tree: &CompilationUnit,
+    recorder: &mut Recorder<A>,
+) -> Result<UnitResult, NoMemory>
+    requires { length text.now ≤ 4294967294 }
+    ensures asked { recorder.new.asked ≡ recorder.old.asked }
+    ensures answered { IfOk result (λ found. FromAnswers recorder.old.log recorder.new.log (λ t. Agrees (bounded bounds.now t) found.log)) }
+    ensures found { IfOk result (λ found. FromAnswers recorder.old.log recorder.new.log (λ t. verdict_of found.finding ≡ F.verdict bounds.now.unit text.now (unit_model tree.now) (bounded bounds.now t))) }
+    ensures asks { OnOk result (AsksOf bounds.now.known (allowed bounds.now) recorder.old.log recorder.new.log) }
+    ensures others { OnOk result (AsksOthers bounds.now.unit recorder.old.log → AsksOthers bounds.now.unit recorder.new.log) }
+{
+    let inner = Recorder::new(
+        alloc,
+        Bounded {
+            alloc,
+            asked: recorder.source(),
+            bounds,
+        },
+    );
+    let found = finder.find(alloc, &bounds.unit, text, tree, inner)?;
+    replay(bounds, &found.log, recorder)?;
+    Ok(found)
+}
+
+/// The check of a unit with this text, which is read as this tree: whoever finds what it says asks within bounds, and the result is
+/// tested.
+pub fn check_within<F: UnitFinder, A: Answers>(
+    alloc: Global,
+    finder: &F,
+    unit: &UnitKey,
+    text: &[u8],
+    tree: &CompilationUnit,
+    recorder: &mut Recorder<A>,
+) -> Result<Checked, NoMemory>
+    requires text { length text.now ≤ 4294967294 }
+    requires log { recorder.old.log ≡ [] }
+    ensures asked { recorder.new.asked ≡ recorder.old.asked }
+    ensures checked { IfOk result (λ checked. IsChecked unit.now (headers.header_of (unit_model tree.now)) (meaning_within F.units F.verdict unit.now text.now (unit_model tree.now)) recorder.new.log (checked_model checked)) }
+    ensures others { OnOk result (AsksOthers unit.now recorder.new.log) }
+    ensures names { OnOk result (AsksByNames unit.now (words_of text.now) recorder.new.log) }
+{
+    let bounds = bounds_of(alloc, finder, unit, text, tree, recorder)?;
+    let found = found_within(alloc, finder, &bounds, text, tree, recorder)?;
+    let checked = concluded_within(alloc, &bounds, found, recorder)?;
+    Ok(checked)
+}

@@ -1,0 +1,133 @@
+// Objects.
+ghost use Rattle.std.specs.Prelude.{◌≡◌, ◌≤◌, length};
+ghost use Rattle.al_code_object.specs.Objects.{Keeps};
+
+use al_view::{LinkSymbol, Priority};
+use std::marker::Model;
+
+/// Where a symbol stands: so many bytes after the front of the unit's code, at this of its words, or as this of its
+/// protected objects.
+#[derive(Drop)]
+pub struct Address {
+    pub symbol: LinkSymbol,
+    pub offset: u32,
+}
+
+/// Where the operand of an instruction counts from the place of a symbol.
+#[derive(Drop)]
+pub struct Relocation {
+    pub place: u32,
+    pub symbol: LinkSymbol,
+}
+
+/// The words of the components of a protected object in the words of its unit, and its ceiling (ARM D.3), which is 0 to 30.
+#[derive(Clone, Copy)]
+pub struct Region {
+    pub word: u32,
+    pub words: u32,
+    pub ceiling: Priority,
+}
+
+/// The code of a unit and what the linker must know of it.
+#[derive(Drop)]
+pub struct Compiled {
+    code: Vec<u8>,
+    uses: Vec<Relocation>,
+    defines: Vec<Address>,
+    data_words: u32,
+    tasks: u32,
+    protected: Vec<Region>,
+}
+
+/// What a unit leaves for the linker.
+#[derive(Drop)]
+pub enum Object {
+    /// Its code is longer than that of any image.
+    Large,
+    Compiled(Compiled),
+}
+
+impl Model for Compiled {
+    ghost use Rattle.al_code_object.specs.Objects.{CompiledCode, Keeps};
+
+    ghost Value = { CompiledCode };
+
+    ghost view = { λ o. record { code = o.code.items; uses = o.uses.items; defines = o.defines.items; data_words = o.data_words; tasks = o.tasks; protected = o.protected.items } };
+
+    ghost invariant = { λ o. Keeps (record { code = o.code.items; uses = o.uses.items; defines = o.defines.items; data_words = o.data_words; tasks = o.tasks; protected = o.protected.items }) };
+}
+
+impl Compiled {
+    /// The code of a unit, where the symbols stand that it uses and defines, how many words and tasks it has, and its
+    /// protected objects.
+    pub fn new(
+        code: Vec<u8>,
+        uses: Vec<Relocation>,
+        defines: Vec<Address>,
+        data_words: u32,
+        tasks: u32,
+        protected: Vec<Region>,
+    ) -> Compiled
+        requires { Keeps (record { code = code.items; uses = uses.items; defines = defines.items; data_words = data_words; tasks = tasks; protected = protected.items }) }
+        ensures { result ≡ record { code = code.items; uses = uses.items; defines = defines.items; data_words = data_words; tasks = tasks; protected = protected.items } }
+    {
+        Compiled {
+            code,
+            uses,
+            defines,
+            data_words,
+            tasks,
+            protected,
+        }
+    }
+
+    /// What each of them keeps. It does nothing.
+    pub fn keeps(&self)
+        ensures { Keeps self.now }
+    {
+        let _words = self.tasks;
+    }
+
+    /// The bytes of its instructions, with the operands that the linker fills in as they count from their symbols.
+    pub fn code(&self) -> &[u8]
+        ensures value { result.now ≡ self.now.code }
+        ensures within { length result.now ≤ 16777216 }
+    {
+        self.code.as_slice()
+    }
+
+    /// Where symbols are used, in the order of their places.
+    pub fn uses(&self) -> &[Relocation]
+        ensures { result.now ≡ self.now.uses }
+    {
+        self.uses.as_slice()
+    }
+
+    /// Where symbols stand.
+    pub fn defines(&self) -> &[Address]
+        ensures { result.now ≡ self.now.defines }
+    {
+        self.defines.as_slice()
+    }
+
+    /// How many words its objects and flags take.
+    pub fn data_words(&self) -> u32
+        ensures { result ≡ self.now.data_words }
+    {
+        self.data_words
+    }
+
+    /// How many tasks it has.
+    pub fn tasks(&self) -> u32
+        ensures { result ≡ self.now.tasks }
+    {
+        self.tasks
+    }
+
+    /// Its protected objects by their numbers.
+    pub fn protected(&self) -> &[Region]
+        ensures { result.now ≡ self.now.protected }
+    {
+        self.protected.as_slice()
+    }
+}

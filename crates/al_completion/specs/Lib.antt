@@ -1,4 +1,0 @@
-pub mod Awaiting
-pub mod Completing
-pub mod Conformance
-pub mod Standing

@@ -1,0 +1,90 @@
+// The body of a unit that is one subprogram (ARM 10.1.1, 10.1.3).
+ghost use Rattle.std.specs.Prelude.{◌≡◌, ◌<◌, length, IfOk};
+ghost use Rattle.al_decl_profile.specs.Bodies.{IsWaiting};
+ghost use Rattle.al_decl_profile.specs.Profiles.{specification_of};
+ghost use Rattle.al_view.specs.declared.view.ViewKind.TheVariants.{OfSubprogram};
+ghost use Rattle.al_decl_completes.specs.CompletingFound.{conformance, unit_completing, view_completed};
+
+use al_base::{NoMemory, Place, Rule};
+use al_base_fault::Fault;
+use al_decl_completion::{Specification, Uncompleted, conformance_fault};
+use al_decl_profile::{Completing, Heading, specification_of};
+use al_view::{ObjectPlace, Profile, SubprogramView, ViewKind};
+use std::alloc::Global;
+
+/// E303 at that place, unless the specification conforms.
+fn conformance(place: Place, specification: &Specification, profile: &Profile) -> Option<Fault>
+    ensures { result ≡ conformance place specification.now profile.now }
+{
+    conformance_fault(place, specification, profile)
+}
+
+fn copied_flag(alloc: Global, flag: &Option<ObjectPlace>) -> Result<Option<ObjectPlace>, NoMemory>
+    ensures { IfOk result (λ copy. copy ≡ flag.now) }
+{
+    match flag {
+        Some(flag) => {
+            let copy = flag.copy(alloc)?;
+            Ok(Some(copy))
+        }
+        None => Ok(None),
+    }
+}
+
+/// What waits first is this subprogram.
+fn subprogram_completed(
+    alloc: Global,
+    place: Place,
+    specification: &Specification,
+    subprogram: &SubprogramView,
+) -> Result<Completing, NoMemory>
+    ensures { IfOk result (λ completing. completing ≡ view_completed 0 place specification.now (OfSubprogram subprogram.now)) }
+{
+    let symbol = subprogram.symbol.copy(alloc)?;
+    let flag = copied_flag(alloc, &subprogram.flag)?;
+    let fault = conformance(place, specification, &subprogram.profile);
+    Ok(Completing::Declared {
+        at: 0,
+        symbol,
+        flag,
+        fault,
+    })
+}
+
+/// What waits first has this view: what is no subprogram has no such body.
+fn view_completed(
+    alloc: Global,
+    place: Place,
+    specification: &Specification,
+    view: &ViewKind,
+) -> Result<Completing, NoMemory>
+    ensures { IfOk result (λ completing. completing ≡ view_completed 0 place specification.now view.now) }
+{
+    match view {
+        ViewKind::OfSubprogram(subprogram) => {
+            subprogram_completed(alloc, place, specification, subprogram)
+        }
+        _ => {
+            let code = Rule::NotConformant.number();
+            Ok(Completing::Alone(Some(Fault { place, code })))
+        }
+    }
+}
+
+/// What the body of a unit is to what waits for it there, its declaration or its stub: it completes what waits first, whatever the types are, and E303
+/// stands at its name where it doesn't conform. Where nothing waits it acts as its declaration (ARM 10.1.4(4)).
+pub fn unit_completing(
+    alloc: Global,
+    uncompleted: &Uncompleted,
+    heading: &Heading,
+) -> Result<Completing, NoMemory>
+    ensures found { IfOk result (λ completing. completing ≡ unit_completing uncompleted.now heading.now.name (specification_of heading.now)) }
+    ensures waiting { IfOk result (λ completing. IsWaiting uncompleted.now completing) }
+{
+    let place = heading.name.place;
+    let specification = specification_of(alloc, heading)?;
+    if uncompleted.missing_fault(place).is_none() {
+        return Ok(Completing::Alone(None));
+    }
+    view_completed(alloc, place, &specification, uncompleted.at(0).view.kind())
+}

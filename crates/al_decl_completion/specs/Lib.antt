@@ -1,0 +1,4 @@
+pub mod Uncompleted
+pub mod Completing
+pub mod Conformance
+pub mod Standing

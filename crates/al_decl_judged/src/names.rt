@@ -1,0 +1,80 @@
+// Names that a declaration declares, and those that stand twice in it (ARM 8.3(26)).
+ghost use Rattle.std.specs.Prelude.{◌≡◌, [], IfOk, OnOk};
+ghost use Rattle.std.specs.List.{list_any};
+ghost use Rattle.std.specs.Str.{bytes_eq};
+ghost use Rattle.al_decl_judged.specs.DefiningNames.{duplicate_at, named_so, names_of, repeated};
+ghost use Rattle.al_decl_judged.specs.Progressing.{with_all_counted};
+
+use crate::progress::Progress;
+use al_base::{Name, NoMemory, Place, Rule};
+use al_base_fault::Fault;
+use al_view::Seq;
+use std::alloc::Global;
+
+/// A defining name in lower case, and where it stands.
+#[derive(Drop)]
+pub struct DefiningName {
+    pub name: Name,
+    pub place: Place,
+}
+
+fn duplicate_at(name: &DefiningName) -> Fault
+    ensures { result ≡ duplicate_at name.now }
+{
+    let code = Rule::Duplicate.number();
+    Fault {
+        place: name.place,
+        code,
+    }
+}
+
+fn is_among(names: &[DefiningName], name: &DefiningName) -> bool
+    ensures { result ≡ list_any (λ m. bytes_eq m.name name.now.name) names.now }
+{
+    let spelled = name.name.as_slice();
+    names.iter().any(|other| other.name.as_slice() == spelled)
+}
+
+/// E301 at the first of these names that stands before it among them.
+pub fn repeated(names: &[DefiningName]) -> Option<Fault>
+    ensures { result ≡ repeated [] names.now }
+{
+    for i in 0..names.len() {
+        let name = &names[i];
+        if is_among(&names[..i], name) {
+            return Some(duplicate_at(name));
+        }
+    }
+    None
+}
+
+/// E301 at the first of these names that is this one.
+pub fn named_so(name: &[u8], names: &[DefiningName]) -> Option<Fault>
+    ensures { result ≡ named_so name.now names.now }
+{
+    match names.iter().find(|other| other.name.as_slice() == name) {
+        Some(found) => Some(duplicate_at(found)),
+        None => None,
+    }
+}
+
+/// The names alone.
+pub(crate) fn names_of(alloc: Global, names: &[DefiningName]) -> Result<Seq<Name>, NoMemory>
+    ensures { IfOk result (λ row. row ≡ names_of names.now) }
+{
+    let mut row = Seq::empty(alloc);
+    for name in names {
+        row.push(Name::from_slice(alloc, name.name.as_slice())?)?;
+    }
+    Ok(row)
+}
+
+/// One more declaration of each name.
+pub(crate) fn count_all(progress: &mut Progress, names: &[DefiningName]) -> Result<(), NoMemory>
+    ensures { OnOk result (progress.new ≡ with_all_counted progress.old (names_of names.now)) }
+{
+    for name in names {
+        progress.count(name.name.as_slice())?;
+    }
+    Ok(())
+}

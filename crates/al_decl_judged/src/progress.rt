@@ -1,0 +1,97 @@
+// What the declarations of a unit have taken so far.
+ghost use Rattle.std.specs.Prelude.{◌≡◌, IfOk, OnOk};
+ghost use Rattle.al_decl_judged.specs.Progressing.{after_flag, after_object, is_library_level, next_place, symbol_of, with_counted};
+
+use al_base::{NoMemory, UnitKey};
+use al_decl_type::{Homonyms, Words, next_symbol};
+use al_view::{ObjectPlace, Seq, Symbol};
+use al_view_typed::DataPlace;
+use std::alloc::Global;
+
+/// How far the check of a unit's text has come: what the declarations before a place have taken.
+#[derive(Drop)]
+pub struct Progress {
+    pub unit: UnitKey,
+    /// In how many bodies the place stands; 0 is library level, where there is no frame.
+    pub depth: u32,
+    /// The next words of the innermost frame and of the unit.
+    pub words: Words,
+    /// How many declarations of each name there are in the unit.
+    pub homonyms: Homonyms,
+    /// The unit's objects, by their first words.
+    pub objects: Seq<DataPlace>,
+    /// The unit's flags, by their words.
+    pub flags: Seq<DataPlace>,
+}
+
+impl Progress {
+    /// Whether what is declared here is at library level.
+    pub fn is_library_level(&self) -> bool
+        ensures { result ≡ is_library_level self.now }
+    {
+        self.depth == 0
+    }
+
+    /// One more declaration of a name: its symbol.
+    pub fn next_symbol(&mut self, alloc: Global, name: &[u8]) -> Result<Symbol, NoMemory>
+        ensures symbol { IfOk result (λ symbol. symbol ≡ symbol_of self.old name.now) }
+        ensures counted { OnOk result (self.new ≡ with_counted self.old name.now) }
+    {
+        next_symbol(alloc, &self.unit, &mut self.homonyms, name)
+    }
+
+    /// One more declaration of a name that has no symbol.
+    pub fn count(&mut self, name: &[u8]) -> Result<(), NoMemory>
+        ensures { OnOk result (self.new ≡ with_counted self.old name.now) }
+    {
+        self.homonyms.number(name)?;
+        Ok(())
+    }
+
+    /// Where the next object or flag lies: in the unit's words, or in the innermost frame.
+    pub fn next_place(&self, alloc: Global, symbol: &Symbol) -> Result<ObjectPlace, NoMemory>
+        ensures { IfOk result (λ place. place ≡ next_place self.now symbol.now) }
+    {
+        if self.is_library_level() {
+            let symbol = symbol.copy(alloc)?;
+            return Ok(ObjectPlace::Static { symbol, word: 0 });
+        }
+        Ok(ObjectPlace::Frame {
+            depth: self.depth,
+            word: self.words.frame,
+        })
+    }
+
+    /// An object of so many words lies there.
+    pub fn take_object(
+        &mut self,
+        alloc: Global,
+        symbol: &Symbol,
+        words: u32,
+    ) -> Result<(), NoMemory>
+        ensures { OnOk result (self.new ≡ after_object self.old symbol.now words) }
+    {
+        if self.is_library_level() {
+            let symbol = symbol.copy(alloc)?;
+            let word = self.words.take_data(words);
+            self.objects.push(DataPlace { symbol, word })?;
+            return Ok(());
+        }
+        let _ = self.words.take_frame(words);
+        Ok(())
+    }
+
+    /// A flag of one word lies there.
+    pub fn take_flag(&mut self, alloc: Global, symbol: &Symbol) -> Result<(), NoMemory>
+        ensures { OnOk result (self.new ≡ after_flag self.old symbol.now) }
+    {
+        if self.is_library_level() {
+            let symbol = symbol.copy(alloc)?;
+            let word = self.words.take_data(1);
+            self.flags.push(DataPlace { symbol, word })?;
+            return Ok(());
+        }
+        let _ = self.words.take_frame(1);
+        Ok(())
+    }
+}

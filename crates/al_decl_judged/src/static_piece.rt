@@ -1,0 +1,62 @@
+// Expressions that must be static (ARM 4.9).
+ghost use Rattle.std.specs.Prelude.{◌≡◌};
+ghost use Rattle.al_view_typed.specs.ExpressionViews.{typed_model};
+ghost use Rattle.al_decl_judged.specs.StaticPieces.{place_label, static_of, static_range, value_label, wanted_at};
+
+use al_base::{Place, Rule};
+use al_base_fault::{CheckResult, Fault, both};
+use al_decl_type::StaticRange;
+use al_view::{Bounds, StaticValue};
+use al_view_typed::Typed;
+
+/// The value of an expression, where it is static.
+#[tactic(auto, using(crate::proofs::Layers::value_layer))]
+pub(crate) fn value_label(expression: &Typed) -> Option<StaticValue>
+    ensures { result ≡ value_label (typed_model expression.now) }
+{
+    expression.labels.value
+}
+
+/// Where it begins.
+#[tactic(auto, using(crate::proofs::Layers::place_layer))]
+fn place_label(expression: &Typed) -> Place
+    ensures { result ≡ place_label (typed_model expression.now) }
+{
+    expression.labels.place
+}
+
+fn wanted_at(place: Place, value: Option<StaticValue>) -> CheckResult<StaticValue>
+    ensures { result ≡ wanted_at place value }
+{
+    match value {
+        Some(value) => Ok(value),
+        None => {
+            let code = Rule::NotStatic.number();
+            Err(Fault { place, code })
+        }
+    }
+}
+
+/// The value of an expression that must be static; E304 at its first token where it isn't.
+pub fn static_of(expression: &Typed) -> CheckResult<StaticValue>
+    ensures { result ≡ static_of (typed_model expression.now) }
+{
+    wanted_at(place_label(expression), value_label(expression))
+}
+
+/// A range whose bounds must be static; E304 at the first bound that isn't.
+pub fn static_range(low: &Typed, high: &Typed) -> CheckResult<StaticRange>
+    ensures { result ≡ static_range (typed_model low.now) (typed_model high.now) }
+{
+    match both(static_of(low), static_of(high)) {
+        Ok(bounds) => Ok(StaticRange {
+            bounds: Bounds {
+                low: bounds.0.word,
+                high: bounds.1.word,
+            },
+            low: place_label(low),
+            high: place_label(high),
+        }),
+        Err(fault) => Err(fault),
+    }
+}

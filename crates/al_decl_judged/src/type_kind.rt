@@ -1,0 +1,186 @@
+// Declarations of types (ARM 3.2.1).
+ghost use Rattle.std.specs.Prelude.{◌≡◌, [], IfOk, OnOk};
+ghost use Rattle.al_base_fault.specs.Judging.{both, next, map_ok, unless};
+ghost use Rattle.al_decl_type.specs.Types.{array_type, integer_type, record_type};
+ghost use Rattle.al_decl_judged.specs.Declaring.{declared_model, joined};
+ghost use Rattle.al_decl_judged.specs.DefiningNames.{names_of};
+ghost use Rattle.al_decl_judged.specs.TypeKinds.{array_declared, counts_after, declarations_of, enumeration_declared, integer_declared, literals_fault, record_declared, with_type};
+
+use crate::declared::Declared;
+use crate::names::{DefiningName, named_so, names_of, repeated};
+use crate::progress::Progress;
+use al_base::NoMemory;
+use al_base_fault::{CheckResult, Fault, both, earlier, unless};
+use al_decl_type::{
+    Declaration, Homonyms, Part, StaticRange, array_type, declared_by, enumeration_type,
+    integer_type, own_type, record_type,
+};
+use al_view::{Names, Seq, SubtypeView, Symbol, Types};
+use al_view_predefined::{StandardTypes, no_names};
+use std::alloc::Global;
+
+/// What the declaration of the last of these types declares.
+fn declarations_of(
+    alloc: Global,
+    homonyms: &mut Homonyms,
+    types: &Types,
+    literals: &Names,
+) -> Result<Seq<Declaration>, NoMemory>
+    ensures declared { IfOk result (λ declared. declared ≡ declarations_of types.now literals.now homonyms.old) }
+    ensures counted { OnOk result (homonyms.new ≡ counts_after types.now literals.now homonyms.old) }
+{
+    match own_type(types) {
+        Some(of) => declared_by(alloc, homonyms, types, of, literals),
+        None => Ok(Seq::empty(alloc)),
+    }
+}
+
+/// A type whose name is counted already, with its literals.
+fn with_type(
+    alloc: Global,
+    progress: &mut Progress,
+    names: Option<Fault>,
+    literals: &Names,
+    types: CheckResult<Types>,
+) -> Result<CheckResult<Declared>, NoMemory>
+    ensures { IfOk result (λ checked. joined progress.new (map_ok declared_model checked) ≡ map_ok (with_type progress.old literals.now) (unless names types)) }
+{
+    let types = match unless(names, types) {
+        Ok(types) => types,
+        Err(fault) => return Ok(Err(fault)),
+    };
+    let declarations = declarations_of(alloc, &mut progress.homonyms, &types, literals)?;
+    Ok(Ok(Declared {
+        declarations,
+        effect: None,
+    }))
+}
+
+fn no_literals(alloc: Global) -> Result<Names, NoMemory>
+    ensures { IfOk result (λ names. names ≡ []) }
+{
+    let names = no_names(alloc)?;
+    Ok(names)
+}
+
+fn checked_integer(
+    alloc: Global,
+    symbol: &Symbol,
+    range: CheckResult<StaticRange>,
+) -> Result<CheckResult<Types>, NoMemory>
+    ensures { IfOk result (λ checked. checked ≡ next range (λ r. Ok (integer_type symbol.now r.bounds))) }
+{
+    match range {
+        Ok(range) => {
+            let types = integer_type(alloc, symbol, range.bounds)?;
+            Ok(Ok(types))
+        }
+        Err(fault) => Ok(Err(fault)),
+    }
+}
+
+/// `type N is range L .. H` (ARM 3.5.4). `duplicate` is E301 at the name where its region has a homograph, here and below.
+pub fn declare_integer(
+    alloc: Global,
+    progress: &mut Progress,
+    name: &DefiningName,
+    duplicate: Option<Fault>,
+    range: CheckResult<StaticRange>,
+) -> Result<CheckResult<Declared>, NoMemory>
+    ensures { IfOk result (λ checked. joined progress.new (map_ok declared_model checked) ≡ integer_declared progress.old name.now duplicate range) }
+{
+    let symbol = progress.next_symbol(alloc, name.name.as_slice())?;
+    let types = checked_integer(alloc, &symbol, range)?;
+    let literals = no_literals(alloc)?;
+    with_type(alloc, progress, duplicate, &literals, types)
+}
+
+fn literals_fault(name: &DefiningName, literals: &[DefiningName]) -> Option<Fault>
+    ensures { result ≡ literals_fault name.now literals.now }
+{
+    earlier(named_so(name.name.as_slice(), literals), repeated(literals))
+}
+
+/// `type N is (L, L, ..)` (ARM 3.5.1). `duplicate` is E301 at the first of the name and the literals whose region has a homograph.
+pub fn declare_enumeration(
+    alloc: Global,
+    progress: &mut Progress,
+    name: &DefiningName,
+    duplicate: Option<Fault>,
+    literals: &[DefiningName],
+) -> Result<CheckResult<Declared>, NoMemory>
+    ensures { IfOk result (λ checked. joined progress.new (map_ok declared_model checked) ≡ enumeration_declared progress.old name.now duplicate literals.now) }
+{
+    let fault = earlier(duplicate, literals_fault(name, literals));
+    let symbol = progress.next_symbol(alloc, name.name.as_slice())?;
+    let literals = Names::new(alloc, names_of(alloc, literals)?)?;
+    let types = enumeration_type(alloc, &symbol, &literals)?;
+    with_type(alloc, progress, fault, &literals, Ok(types))
+}
+
+fn checked_array(
+    alloc: Global,
+    standard: &StandardTypes,
+    symbol: &Symbol,
+    name: &DefiningName,
+    index: CheckResult<SubtypeView>,
+    component: CheckResult<SubtypeView>,
+) -> Result<CheckResult<Types>, NoMemory>
+    ensures { IfOk result (λ checked. checked ≡ next (both index component) (λ s. array_type symbol.now name.now.place s.0 s.1)) }
+{
+    match both(index, component) {
+        Ok(parts) => array_type(alloc, standard, symbol, name.place, &parts.0, &parts.1),
+        Err(fault) => Ok(Err(fault)),
+    }
+}
+
+/// `type N is array (I) of C` (ARM 3.6).
+pub fn declare_array(
+    alloc: Global,
+    standard: &StandardTypes,
+    progress: &mut Progress,
+    name: &DefiningName,
+    duplicate: Option<Fault>,
+    index: CheckResult<SubtypeView>,
+    component: CheckResult<SubtypeView>,
+) -> Result<CheckResult<Declared>, NoMemory>
+    ensures { IfOk result (λ checked. joined progress.new (map_ok declared_model checked) ≡ array_declared progress.old name.now duplicate index component) }
+{
+    let symbol = progress.next_symbol(alloc, name.name.as_slice())?;
+    let types = checked_array(alloc, standard, &symbol, name, index, component)?;
+    let literals = no_literals(alloc)?;
+    with_type(alloc, progress, duplicate, &literals, types)
+}
+
+fn checked_record(
+    alloc: Global,
+    standard: &StandardTypes,
+    symbol: &Symbol,
+    name: &DefiningName,
+    parts: &CheckResult<Seq<Part>>,
+) -> Result<CheckResult<Types>, NoMemory>
+    ensures { IfOk result (λ checked. checked ≡ next parts.now (λ ps. record_type symbol.now name.now.place ps)) }
+{
+    match parts {
+        Ok(parts) => record_type(alloc, standard, symbol, name.place, parts.as_slice()),
+        Err(fault) => Ok(Err(*fault)),
+    }
+}
+
+/// `type N is record P; P; .. end record`, and a null record of no parts (ARM 3.8). What is wrong with the parts is the first of their faults, E301 of
+/// their names among them.
+pub fn declare_record(
+    alloc: Global,
+    standard: &StandardTypes,
+    progress: &mut Progress,
+    name: &DefiningName,
+    duplicate: Option<Fault>,
+    parts: &CheckResult<Seq<Part>>,
+) -> Result<CheckResult<Declared>, NoMemory>
+    ensures { IfOk result (λ checked. joined progress.new (map_ok declared_model checked) ≡ record_declared progress.old name.now duplicate parts.now) }
+{
+    let symbol = progress.next_symbol(alloc, name.name.as_slice())?;
+    let types = checked_record(alloc, standard, &symbol, name, parts)?;
+    let literals = no_literals(alloc)?;
+    with_type(alloc, progress, duplicate, &literals, types)
+}

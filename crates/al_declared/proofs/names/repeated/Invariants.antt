@@ -1,7 +1,0 @@
-use Rattle.std.proofs.Common.{◌≡◌, [], take, drop}
-use Rattle.al_declared.specs.DefiningNames.{repeated}
-use Rattle.al_declared.proofs.names.repeated.Given as goal
-
--- none of those so far stands before itself
-abbrev pub invariant-loop-i : goal.invariant-loop-i
-invariant-loop-i l = repeated (take l.i l.names) (drop l.i l.names) ≡ repeated [] l.names

@@ -1,6 +1,0 @@
-use Rattle.std.proofs.Common.{◌≡◌, take}
-use Rattle.al_declared.specs.Numbers.{number_declarations}
-use Rattle.al_declared.proofs.number.number_declarations.Given as goal
-
-abbrev pub invariant-loop-name : goal.invariant-loop-name
-invariant-loop-name l = l.declarations ≡ number_declarations l.value (take l.name-index l.names)

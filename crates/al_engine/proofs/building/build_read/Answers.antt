@@ -1,0 +1,28 @@
+use Rattle.std.proofs.Common.{◌≡◌, ℕ, List, sym, subst}
+use Rattle.al_unit_graph.specs.Headers.{Library}
+use Rattle.al_unit_order.specs.Read.{AreHeaded, NameParentBodies}
+use Rattle.al_unit_map.specs.Units.{at_unit}
+use Rattle.al_engine_recheck.specs.Rechecks.{setting_of}
+use Rattle.al_engine_batch.specs.Batches.{IsCompiled}
+use Rattle.al_engine_rebuild.specs.Rebuilds.{IsRebuilt}
+use Rattle.al_engine.proofs.building.build_read.Goals as goal
+
+pub rebuild-requires-clause-headed : goal.rebuild-requires-clause-headed
+rebuild-requires-clause-headed g c = subst (λ (l : Library). AreHeaded g.C.UnitCheck.header l) (sym c.sources.ensures) (c.requires.reading.headed (g.R.ReadFiles.files c.args.read))
+
+pub rebuild-requires-clause-bodies : goal.rebuild-requires-clause-bodies
+rebuild-requires-clause-bodies g c = subst (λ (l : Library). NameParentBodies l) (sym c.sources.ensures) (c.requires.reading.bodies (g.R.ReadFiles.files c.args.read))
+
+pub returns-clause-rebuilt : goal.returns-clause-rebuilt
+returns-clause-rebuilt g c =
+    subst (λ (l : Library). IsRebuilt g.C.UnitCheck.meaning g.C.UnitCheck.header (g.P.Answers.table c.args.predefined.now) l c.args.main.now (at_unit c.args.cache.now.entries) (at_unit c.rebuild.new.cache.entries) c.in_ok-gave.gave) c.sources.ensures c.in_ok-gave.ensures.rebuilt
+
+pub returns-clause-right : goal.returns-clause-right
+returns-clause-right g c =
+    let meaning = g.C.UnitCheck.meaning in
+    let header = g.C.UnitCheck.header in
+    let table = g.P.Answers.table c.args.predefined.now in
+    let lib = g.R.ReadFiles.library (g.R.ReadFiles.files c.args.read) in
+    let is = subst (λ (l : Library). IsRebuilt meaning header table l c.args.main.now (at_unit c.args.cache.now.entries) (at_unit c.rebuild.new.cache.entries) c.in_ok-gave.gave) c.sources.ensures c.in_ok-gave.ensures.rebuilt in
+    let compiled = c.rebuilds_are_compiled.ensures meaning header table lib c.args.main.now (at_unit c.args.cache.now.entries) (at_unit c.rebuild.new.cache.entries) c.in_ok-gave.gave is in
+    subst (λ (m : List ℕ). IsCompiled meaning (setting_of header table lib) m c.in_ok-gave.gave.compiled) (sym c.in_ok-main_name.ensures) compiled

@@ -1,0 +1,50 @@
+-- What a library stands for.
+use Rattle.std.specs.Prelude.{ℕ, List, [], Option, IfSome}
+use Rattle.std.specs.Option.{option_map_or}
+use Rattle.al_base.specs.Files.{Texts}
+use Rattle.al_base.specs.declared.unit_key.UnitKey.{UnitKey}
+use Rattle.al_unit_graph.specs.Headers.{Header, Library}
+use Rattle.al_unit_graph.specs.Traces.{AreReadAlike}
+use Rattle.al_unit_order.specs.Read.{AreHeaded, NameParentBodies}
+use Rattle.al_query.specs.declared.answer.AnswerKind.{AnswerKind}
+use Rattle.al_query.specs.declared.query.Query.{Query}
+use Rattle.al_engine_setting.specs.Settings.{ArePredefined}
+use Rattle.al_entries.specs.EntryLaw.{TextMeaning}
+use Rattle.al_engine_recheck.specs.UnitCache.{Kept}
+use Rattle.al_engine_recheck.specs.Rechecks.{setting_of}
+use Rattle.al_engine_batch.specs.Batches.{IsCompiled}
+use Rattle.al_engine_rebuild.specs.declared.rebuilding.Rebuilt.{Rebuilt}
+
+-- the files that a build found, its main unit, and what it gave
+pub record Built : Type 0 where
+  pub files : Texts
+  pub main : List ℕ
+  pub gave : Rebuilt
+
+-- a library with its checker and the predefined units: what is kept of its units, its files, and its last build
+pub record Held (C P : Type 0) : Type 0 where
+  pub cache : Kept C
+  pub predefined : P
+  pub files : Texts
+  pub built : Option Built
+
+-- files are read by their texts alone; what a checker takes as a text's header is what is read in it; and just the subunits name a
+-- parent body
+pub record AreReadFor (header : List ℕ → Header) (library : Texts → Library) : Type 0 where
+  pub headed : (files : Texts) → AreHeaded header (library files)
+  pub bodies : (files : Texts) → NameParentBodies (library files)
+  pub alike : (old new : Texts) → AreReadAlike (library old) (library new)
+
+-- what the last build gave is what compiling its files from nothing gives
+abbrev pub IsBuiltRight : TextMeaning → (List ℕ → Header) → (Query → AnswerKind) → (Texts → Library) → Option Built → Type 0
+IsBuiltRight meaning header predefined library built = IfSome built (λ b. IsCompiled meaning (setting_of header predefined (library b.files)) b.main b.gave.compiled)
+
+-- what every library keeps, beside the law of its entries
+pub record IsRight (meaning : TextMeaning) (header : List ℕ → Header) (predefined : Query → AnswerKind) (library : Texts → Library) (built : Option Built) : Type 0 where
+  pub read : AreReadFor header library
+  pub predefined_units : ArePredefined predefined
+  pub built_right : IsBuiltRight meaning header predefined library built
+
+-- the units that the last build checked
+abbrev pub last_checked : Option Built → List UnitKey
+last_checked built = option_map_or (λ b. b.gave.checked) built []

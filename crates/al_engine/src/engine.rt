@@ -1,0 +1,258 @@
+// The library.
+ghost use Rattle.std.specs.Prelude.{◌≡◌, [], None, Some, Ok, Err, IfOk, MatchResult, OnOk, OnErr, length, map, option_map};
+ghost use Rattle.al_base.specs.Batch.{key_of};
+ghost use Rattle.al_base.specs.Files.{with_file, without_file, with_renamed, put_refusal, delete_refusal, rename_refusal, AnswersRefusal, AnswersFirst};
+ghost use Rattle.al_unit_obsolete.specs.Units.{unit_model, units_of};
+ghost use Rattle.al_unit_map.specs.Units.{at_unit};
+ghost use Rattle.al_entries.specs.EntryLaw.{AllKeepLaw};
+ghost use Rattle.al_engine_setting.specs.Settings.{ArePredefined};
+ghost use Rattle.al_engine_reported.specs.Gave.{order_of, program_of};
+ghost use Rattle.al_engine.specs.States.{AreReadFor, IsBuiltRight, last_checked};
+ghost use Rattle.al_engine.specs.Builds.{IsBuild};
+ghost use Rattle.al_engine.specs.Reports.{found_last, gave_last, obsolete_refusal, obsolete_since, reported};
+ghost use Rattle.al_engine.specs.Runs.{AnswersRun};
+
+use crate::building::{build_read, obsolete_since, read_now};
+use crate::last_build::LastBuild;
+use crate::read_files::ReadFiles;
+use al_base::{Diagnostic, Files, Name, NoMemory, Refusal, UnitKey};
+use al_engine_batch::{Compiled, Program};
+use al_engine_recheck::UnitCache;
+use al_engine_reported::{diagnostics_of, order_of, program_of};
+use al_query::Answers;
+use al_query_check::UnitCheck;
+use al_tasks_run::{RunReport, run};
+use al_unit_obsolete::units;
+use std::alloc::Global;
+use std::marker::Model;
+
+/// A library of compilation units: its files, what is kept of its units, and its last build.
+#[derive(Drop)]
+pub struct Engine<R: ReadFiles, C: UnitCheck, P: Answers> {
+    alloc: Global,
+    cache: UnitCache<C>,
+    predefined: P,
+    files: Files,
+    last: Option<LastBuild<R>>,
+}
+
+impl<R: ReadFiles, C: UnitCheck, P: Answers> Model for Engine<R, C, P> {
+    ghost use Rattle.std.specs.Option.{option_map};
+    ghost use Rattle.std.specs.Coded.{codes};
+    ghost use Rattle.al_view_typed.specs.contracts.expression.Typed as expression;
+    ghost use Rattle.al_view_typed.specs.contracts.statement.TypedStatement as statement;
+    ghost use Rattle.al_engine.specs.States.{Held, IsRight};
+
+    ghost Value = { Held C P };
+
+    ghost coded = { Prim.hlevel (codes, expression.the_row.coded, statement.the_row.coded) };
+
+    ghost view = { λ e. record { cache = e.cache; predefined = e.predefined; files = e.files; built = option_map (λ b. record { files = R.files b.read; main = b.main; gave = b.gave }) e.last } };
+
+    ghost invariant = { λ e. IsRight C.meaning C.header (P.table e.predefined) R.library (option_map (λ b. record { files = R.files b.read; main = b.main; gave = b.gave }) e.last) };
+}
+
+impl<R: ReadFiles, C: UnitCheck, P: Answers> Engine<R, C, P> {
+    /// A library with no file and no build. It takes no memory.
+    pub fn new(alloc: Global, checker: C, predefined: P) -> Self
+        requires reading { AreReadFor C.header R.library }
+        requires predefined { ArePredefined (P.table predefined) }
+        ensures checker { (result.cache.checker ≡ checker) × (result.predefined ≡ predefined) }
+        ensures nothing { (result.cache.entries ≡ []) × (result.files ≡ []) × (result.built ≡ None) }
+    {
+        Engine {
+            alloc,
+            cache: UnitCache::new(alloc, checker),
+            predefined,
+            files: Files::new(alloc),
+            last: None,
+        }
+    }
+
+    /// What every library keeps, whatever happened: each entry the law of what was read, and the last build is what compiling its
+    /// files from nothing gives. It does nothing.
+    pub fn keeps(&self)
+        ensures law { AllKeepLaw C.meaning C.header (at_unit self.now.cache.entries) }
+        ensures built { IsBuiltRight C.meaning C.header (P.table self.now.predefined) R.library self.now.built }
+    {
+        let _last = &self.last;
+        self.cache.keep_the_law();
+    }
+
+    /// The refusal that a put of so many bytes under the name would meet.
+    pub fn check_put(&self, name: &[u8], len: usize) -> Result<(), Refusal>
+        ensures { AnswersRefusal result (put_refusal self.now.files name.now len) }
+    {
+        self.files.check_put(name, len)
+    }
+
+    /// Sets the text of a file, a new one too.
+    pub fn put(&mut self, name: &[u8], text: Vec<u8>) -> Result<(), Refusal>
+        ensures answer { AnswersFirst result (put_refusal self.old.files name.now (length text.items)) }
+        ensures ok { OnOk result (self.new ≡ record self.old { files = with_file self.old.files name.now text.items }) }
+        ensures err { OnErr result (self.new ≡ self.old) }
+    {
+        self.files.put(name, text)
+    }
+
+    /// Takes a file away. It takes no memory.
+    pub fn delete(&mut self, name: &[u8]) -> Result<(), Refusal>
+        ensures answer { AnswersRefusal result (delete_refusal self.old.files name.now) }
+        ensures ok { OnOk result (self.new ≡ record self.old { files = without_file self.old.files name.now }) }
+        ensures err { OnErr result (self.new ≡ self.old) }
+    {
+        self.files.delete(name)
+    }
+
+    /// Gives a file another name, which no file has.
+    pub fn rename(&mut self, old: &[u8], new: &[u8]) -> Result<(), Refusal>
+        ensures answer { AnswersFirst result (rename_refusal self.old.files old.now new.now) }
+        ensures ok { OnOk result (self.new ≡ record self.old { files = with_renamed self.old.files old.now new.now }) }
+        ensures err { OnErr result (self.new ≡ self.old) }
+    {
+        self.files.rename(old, new)
+    }
+
+    /// Compiles the files, with this main unit in lower case, and checks again what an edit reached. The last build is this one then,
+    /// whether something is wrong with the files or not.
+    ///
+    /// # Errors
+    ///
+    /// `NoMemory` where memory was wanted and not given: the files, the last build and all entries are as before.
+    pub fn build(&mut self, main: &[u8]) -> Result<(), NoMemory>
+        ensures files { (self.new.files ≡ self.old.files) × (self.new.predefined ≡ self.old.predefined) }
+        ensures ok { OnOk result (IsBuild C.meaning C.header C.count (P.table self.old.predefined) R.library main.now self.old self.new) }
+        ensures err { OnErr result ((self.new.cache.entries ≡ self.old.cache.entries) × (self.new.built ≡ self.old.built)) }
+    {
+        let read = read_now(self.alloc, &self.files, &self.last)?;
+        let last = build_read(self.alloc, &mut self.cache, &self.predefined, read, main)?;
+        self.last = Some(last);
+        Ok(())
+    }
+
+    /// The last build, if there was one: its main unit, and what compiling gave. It takes no memory.
+    pub fn last(&self) -> Option<(&[u8], &Compiled)>
+        ensures { option_map (λ b. (b.0.now, b.1.now)) result ≡ option_map gave_last self.now.built }
+    {
+        match &self.last {
+            Some(last) => Some((last.main.as_slice(), &last.gave.compiled)),
+            None => None,
+        }
+    }
+
+    /// The units that the last build checked, by unit and kind; none before the first. It takes no memory.
+    pub fn last_checked(&self) -> &[UnitKey]
+        ensures { result.now ≡ last_checked self.now.built }
+    {
+        match &self.last {
+            Some(last) => last.gave.checked.as_slice(),
+            None => &[],
+        }
+    }
+
+    /// How many checks were made, to 2^64-1.
+    pub fn checks(&self) -> u64
+        ensures { result ≡ C.count self.now.cache.checker }
+    {
+        self.cache.checks()
+    }
+
+    /// What the last build found wrong, by file, place and number. It takes no memory.
+    ///
+    /// # Errors
+    ///
+    /// `NotBuilt` where there was no build.
+    pub fn diagnostics(&self) -> Result<&[Diagnostic], Refusal>
+        ensures { MatchResult result (λ found. found_last self.now.built ≡ Ok found.now) (λ e. found_last self.now.built ≡ Err e) }
+    {
+        match &self.last {
+            Some(last) => Ok(diagnostics_of(&last.gave.compiled)),
+            None => Err(Refusal::NotBuilt),
+        }
+    }
+
+    /// The order in which the last build's partition is elaborated. It takes no memory.
+    ///
+    /// # Errors
+    ///
+    /// `NotBuilt` where there was no build; `NoImage` where it gave no order.
+    pub fn order(&self) -> Result<&[UnitKey], Refusal>
+        ensures { MatchResult result (λ order. reported order_of self.now.built ≡ Ok order.now) (λ e. reported order_of self.now.built ≡ Err e) }
+    {
+        let Some(build) = &self.last else {
+            return Err(Refusal::NotBuilt);
+        };
+        match order_of(&build.gave.compiled) {
+            Some(order) => Ok(order),
+            None => Err(Refusal::NoImage),
+        }
+    }
+
+    /// The program of the last build: its order, its image and the image's bytes. It takes no memory.
+    ///
+    /// # Errors
+    ///
+    /// `NotBuilt` where there was no build; `NoImage` where it gave no image.
+    pub fn image(&self) -> Result<&Program, Refusal>
+        ensures { MatchResult result (λ program. reported program_of self.now.built ≡ Ok program.now) (λ e. reported program_of self.now.built ≡ Err e) }
+    {
+        let Some(last) = &self.last else {
+            return Err(Refusal::NotBuilt);
+        };
+        match program_of(&last.gave.compiled) {
+            Some(program) => Ok(program),
+            None => Err(Refusal::NoImage),
+        }
+    }
+
+    /// Runs the image of the last build from its start, for at most so many events, with a tick of the clock after each `tick`
+    /// instructions.
+    ///
+    /// # Errors
+    ///
+    /// `NotBuilt` where there was no build; `NoImage` where it gave no image; else `NoMemory` where memory was wanted and not given.
+    pub fn run(&self, tick: u32, steps: u64) -> Result<RunReport, Refusal>
+        ensures { AnswersRun result self.now.built tick steps }
+    {
+        let _last = &self.last;
+        let alloc = self.alloc;
+        match self.image() {
+            Ok(program) => match run(alloc, &program.image, tick, steps) {
+                Ok(ran) => Ok(ran),
+                Err(NoMemory) => Err(Refusal::NoMemory),
+            },
+            Err(refusal) => Err(refusal),
+        }
+    }
+
+    /// The files as they are, by name, each with the unit that it holds, if it holds a sound one (ARM 10.1).
+    ///
+    /// # Errors
+    ///
+    /// `NoMemory` where memory was wanted and not given.
+    pub fn units(&self) -> Result<Vec<(Name, Option<UnitKey>)>, NoMemory>
+        ensures { IfOk result (λ files. map unit_model files.items ≡ units_of (R.library self.now.files)) }
+    {
+        let read = read_now(self.alloc, &self.files, &self.last)?;
+        let list = units(self.alloc, read.sources())?;
+        Ok(list)
+    }
+
+    /// The units that are obsolete since the last build (ARM 10.1.4), by name and kind.
+    ///
+    /// # Errors
+    ///
+    /// `NotBuilt` where there was no build; else `NoMemory` where memory was wanted and not given.
+    pub fn obsolete(&self) -> Result<Vec<UnitKey>, Refusal>
+        ensures answer { AnswersFirst result (obsolete_refusal self.now.built) }
+        ensures ok { IfOk result (λ units. Some (map key_of units.items) ≡ obsolete_since R.library self.now.built self.now.files) }
+    {
+        let Some(last) = &self.last else {
+            return Err(Refusal::NotBuilt);
+        };
+        match obsolete_since(self.alloc, last, &self.files) {
+            Ok(units) => Ok(units),
+            Err(NoMemory) => Err(Refusal::NoMemory),
+        }
+    }
+}

@@ -1,0 +1,11 @@
+// What a library keeps of its last build.
+use al_base::Name;
+use al_engine_rebuild::Rebuilt;
+
+/// The files that a build found, with what they are read as, its main unit, and what it gave.
+#[derive(Drop)]
+pub(crate) struct LastBuild<R> {
+    pub read: R,
+    pub main: Name,
+    pub gave: Rebuilt,
+}

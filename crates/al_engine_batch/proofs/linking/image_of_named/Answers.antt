@@ -1,0 +1,27 @@
+use Rattle.std.proofs.Common.{◌≡◌, map, ap, subst, ◌∙◌}
+use Rattle.al_link.specs.Images.{image_of}
+use Rattle.al_link.specs.Partitions.{IsFaultOf}
+use Rattle.al_link_image.specs.declared.fault.LinkFault.{LinkFault}
+use Rattle.al_engine_batch.specs.ObjectsSeen.{left_model, object_model}
+use Rattle.al_engine_batch.proofs.LinkLemmas.{linkable-of, linkable-to, named-left, units-are}
+use Rattle.al_engine_batch.proofs.linking.image_of_named.Goals as goal
+
+pub link-requires : goal.link-requires
+link-requires c =
+    named-left c.as_slice.result.now (map object_model c.args.objects.now) (ap (map left_model) c.as_slice.ensures.value ∙ c.in_ok-left.ensures) c.requires
+
+pub returns-in-Ok : goal.returns-in-Ok
+returns-in-Ok c =
+    let left = c.as_slice.result.now in
+    let us = map object_model c.args.objects.now in
+    let same : map left_model left ≡ us = ap (map left_model) c.as_slice.ensures.value ∙ c.in_ok-left.ensures in (
+      linkable-of left us same c.requires c.in-Ok.ensures.within,
+      c.in-Ok.ensures.image ∙ ap (image_of c.args.main.now) (units-are left us same),
+    )
+
+pub returns-in-Err-TooLarge : goal.returns-in-Err-TooLarge
+returns-in-Err-TooLarge c is =
+    let left = c.as_slice.result.now in
+    let us = map object_model c.args.objects.now in
+    let same : map left_model left ≡ us = ap (map left_model) c.as_slice.ensures.value ∙ c.in_ok-left.ensures in
+    (subst (λ (e : LinkFault). IsFaultOf left e) c.in-Err-TooLarge.field-0-is c.in-Err-TooLarge.ensures.fault) (linkable-to left us same is)

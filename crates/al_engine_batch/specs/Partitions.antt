@@ -1,0 +1,28 @@
+-- The image of a main unit's partition.
+use Rattle.std.specs.Prelude.{ℕ, ◌≡◌, List, map, Option}
+use Rattle.al_base.specs.Batch.{Key}
+use Rattle.al_base.specs.declared.unit_key.UnitKey.{UnitKey}
+use Rattle.al_unit_graph.specs.Headers.{Library}
+use Rattle.al_bind.specs.Binding.{IsElaboration}
+use Rattle.al_link_placed.specs.Placed.{ArePlaced}
+use Rattle.al_link.specs.Images.{image_of}
+use Rattle.al_link_image.specs.Images.{Image, image_bytes}
+use Rattle.al_query_outcome.specs.Equations.{unit_named}
+use Rattle.al_query_outcome.specs.Results.{Outcome}
+use Rattle.al_engine_batch.specs.Objects.{IsLinkable, linked_units, main_symbol, objects_at}
+
+-- the objects of the items in the order of their elaboration, those of a body's subunits after it, would pass a limit of images
+pub record IsTooLarge (lib : Library) (f : UnitKey → Option Outcome) (main : List ℕ) (order : List Key) : Type 0 where
+  pub ordered : IsElaboration lib main order
+  pub placed : List Key
+  pub are_placed : ArePlaced lib order placed
+  pub passes : IsLinkable (objects_at f (map unit_named placed)) → ⊥
+
+-- .. are linked into this image with the main subprogram, and these are its bytes
+pub record IsProgram (lib : Library) (f : UnitKey → Option Outcome) (main : List ℕ) (order : List Key) (image : Image) (bytes : List ℕ) : Type 0 where
+  pub ordered : IsElaboration lib main order
+  pub placed : List Key
+  pub are_placed : ArePlaced lib order placed
+  pub linkable : IsLinkable (objects_at f (map unit_named placed))
+  pub image_is : image ≡ image_of (main_symbol lib main) (linked_units (objects_at f (map unit_named placed)))
+  pub bytes_are : bytes ≡ image_bytes image

@@ -1,0 +1,61 @@
+// Ada files with what they are read as.
+ghost use Rattle.al_unit.specs.Catalogs.{library_of};
+ghost use Rattle.al_engine_files.specs.AdaFiles.{FilesAreRead};
+
+use crate::sources::sources_after;
+use al_base::{Files, NoMemory};
+use al_engine::ReadFiles;
+use al_unit::texts_are_read_alike;
+use al_unit_graph::Sources;
+use al_unit_headers::laws::texts_are_headed;
+use std::alloc::Global;
+use std::marker::Model;
+
+/// Ada files with what the graph of units needs of them.
+#[derive(Drop)]
+pub struct AdaFiles {
+    sources: Sources,
+}
+
+impl Model for AdaFiles {
+    ghost use Rattle.al_base.specs.Files.{Texts};
+    ghost use Rattle.al_unit.specs.Catalogs.{texts_of};
+    ghost use Rattle.al_engine_files.specs.AdaFiles.{AreOfTexts};
+
+    ghost Value = { Texts };
+
+    ghost view = { λ f. texts_of f.sources };
+
+    ghost invariant = { λ f. AreOfTexts f.sources };
+}
+
+impl AdaFiles {
+    /// Where a checker takes for a text's header what is read in it, Ada files are read for it. It does nothing.
+    pub fn are_read()
+        ensures { FilesAreRead }
+    {
+        texts_are_headed();
+        texts_are_read_alike();
+    }
+}
+
+impl ReadFiles for AdaFiles {
+    ghost library = { library_of };
+
+    ghost files = { λ f. f };
+
+    fn of(alloc: Global, now: &Files) -> Result<Self, NoMemory> {
+        let none = Sources::new(alloc);
+        let sources = sources_after(alloc, now, &none)?;
+        Ok(AdaFiles { sources })
+    }
+
+    fn after(alloc: Global, now: &Files, before: &Self) -> Result<Self, NoMemory> {
+        let sources = sources_after(alloc, now, &before.sources)?;
+        Ok(AdaFiles { sources })
+    }
+
+    fn sources(&self) -> &Sources {
+        &self.sources
+    }
+}

@@ -1,0 +1,10 @@
+//! What is kept of a library's units, for every checker, from build to build: which units a build checks again, and which entries stay.
+#![tactic(auto)]
+
+mod kept_units;
+pub mod laws;
+mod rechecking;
+mod sorted;
+
+pub use kept_units::UnitCache;
+pub use rechecking::{Rechecked, recheck};

@@ -1,0 +1,94 @@
+// One unit of a build.
+ghost use Rattle.std.specs.Prelude.{◌≡◌, [], IfOk, OnOk, MatchOption, Some};
+ghost use Rattle.al_query.specs.Reads.{Agrees};
+ghost use Rattle.al_unit_map.specs.Units.{at_unit};
+ghost use Rattle.al_query_outcome.specs.ReadsLaw.{one_more};
+ghost use Rattle.al_entries.specs.EntryLaw.{HasCurrent, IsCurrent, KeepsLaw};
+ghost use Rattle.al_engine_refresh.specs.Builds.{has_sound_dependences, present, results_of, text_of};
+ghost use Rattle.al_engine_refresh.specs.Handling.{Handled};
+
+use crate::present::{Present, rests_on_sound, text_of};
+use al_base::{NoMemory, UnitKey};
+use al_entries::Entry;
+use al_query::{Answers, Recorder};
+use al_query_check::UnitCheck;
+use al_unit_graph::Sources;
+use al_unit_map::UnitMap;
+use al_view::{Seq, copied_unit};
+use std::alloc::Global;
+use std::rc::Rc;
+
+/// The entry of a unit, where it may be used again.
+fn current_entry<A: Answers>(
+    old: &UnitMap<Entry>,
+    unit: &UnitKey,
+    text: &Rc<Vec<u8>>,
+    asked: &A,
+) -> Result<Option<Entry>, NoMemory>
+    ensures { IfOk result (λ found. MatchOption found (HasCurrent (at_unit old.now unit.now) text.now.value.items (A.table asked.now) → ⊥) (λ e. (at_unit old.now unit.now ≡ Some e) × IsCurrent e text.now.value.items (A.table asked.now))) }
+{
+    let Some(entry) = old.get(unit) else {
+        return Ok(None);
+    };
+    if entry.is_current(text.as_slice(), asked)? {
+        Ok(Some(entry.share()?))
+    } else {
+        Ok(None)
+    }
+}
+
+/// A new entry of a unit, by a check.
+fn check_unit<C: UnitCheck, A: Answers + Drop>(
+    alloc: Global,
+    checker: &mut C,
+    unit: &UnitKey,
+    text: Rc<Vec<u8>>,
+    asked: A,
+) -> Result<Entry, NoMemory>
+    ensures keeps { IfOk result (λ entry. KeepsLaw C.meaning C.header unit.now entry) }
+    ensures current { IfOk result (λ entry. IsCurrent entry text.value.items (A.table asked)) }
+    ensures counted { OnOk result (C.count checker.new ≡ one_more (C.count checker.old)) }
+{
+    let mut recorder = Recorder::new(alloc, asked);
+    let checked = checker.check(alloc, unit, text.as_slice(), &mut recorder)?;
+    let log = recorder.into_log();
+    Entry::new(alloc, text, log, checked)
+}
+
+/// The entries of a build so far, and the units that it checked, in its order.
+#[derive(Drop)]
+pub(crate) struct Done {
+    pub entries: UnitMap<Entry>,
+    pub checked: Seq<UnitKey>,
+}
+
+/// Brings one unit up to date, where all on which it depends is sound.
+pub(crate) fn refresh_unit<C: UnitCheck, P: Answers>(
+    alloc: Global,
+    checker: &mut C,
+    predefined: &P,
+    sources: &Sources,
+    old: &UnitMap<Entry>,
+    unit: &UnitKey,
+    done: &mut Done,
+) -> Result<(), NoMemory>
+    ensures { let t = present (P.table predefined.now) (results_of (at_unit done.old.entries)) in OnOk result (Handled C.meaning C.header unit.now (text_of sources.now unit.now) (has_sound_dependences sources.now (results_of (at_unit done.old.entries)) unit.now) t (at_unit old.now unit.now) (record { at = at_unit done.old.entries; checked = done.old.checked; count = C.count checker.old }) (record { at = at_unit done.new.entries; checked = done.new.checked; count = C.count checker.new })) }
+{
+    if !rests_on_sound(sources, &done.entries, unit)? {
+        return Ok(());
+    }
+    let text = text_of(alloc, sources, unit)?;
+    let present = Present {
+        alloc,
+        predefined,
+        entries: &done.entries,
+    };
+    if let Some(entry) = current_entry(old, unit, &text, &present)? {
+        done.entries.insert(copied_unit(alloc, unit)?, entry)?;
+        return Ok(());
+    }
+    let entry = check_unit(alloc, checker, unit, text, present)?;
+    done.entries.insert(copied_unit(alloc, unit)?, entry)?;
+    done.checked.push(copied_unit(alloc, unit)?)?;
+    Ok(())
+}

@@ -1,0 +1,5 @@
+mod Known
+mod CheckResult
+mod ToyFiles
+mod Predefined
+mod Results

@@ -1,0 +1,137 @@
+-- The toy checker and its language. A text is a byte for what the unit is, a byte for whether it is marked, its name, and the names
+-- of the units that it mentions, with blanks between names. A unit's parent is the first unit that it mentions, and a unit is faulty
+-- where the parent of its parent is marked. So a check asks a unit of which its text says nothing.
+use Rattle.std.specs.Prelude.{ℕ, ◌≡◌, ◌==◌, Bool, true, false, List, [], ◌∷◌, ◌++◌, map, Option, Some, None, if◌then◌else◌}
+use Rattle.al_base.specs.Files.{Texts}
+use Rattle.al_base.specs.declared.unit_key.UnitKey.{UnitKey}
+use Rattle.al_unit_graph.specs.Headers.{Header, Headed, Library, Mention, Source}
+use Rattle.al_unit_graph.specs.Traces.{AreReadAlike}
+use Rattle.al_unit_graph.specs.declared.header.UnitForm.{UnitForm}
+use Rattle.al_unit_graph.specs.declared.header.UnitForm.TheVariants.{PackageDeclaration, SubprogramBody}
+use Rattle.al_unit_order.specs.Read.{AreHeaded, NameParentBodies}
+use Rattle.al_view.specs.Symbols.{same_unit}
+use Rattle.al_query.specs.Answers.{declaration, is_private_of, parent_of}
+use Rattle.al_query.specs.Known.{Grounded, known_after}
+use Rattle.al_query.specs.Reads.{Agrees}
+use Rattle.al_query.specs.declared.answer.AnswerKind.{AnswerKind}
+use Rattle.al_query.specs.declared.query.Property.TheVariants.{IsPrivate, Parent}
+use Rattle.al_query.specs.declared.query.Query.{Query}
+use Rattle.al_query.specs.declared.query.Query.TheVariants.{Of}
+use Rattle.al_query_outcome.specs.ReadsLaw.{AsksOthers, NamesOnly, named_by}
+use Rattle.al_query_outcome.specs.Results.{Outcome}
+use Rattle.al_engine_toy.specs.Outcomes.{faulty, plain}
+
+-- `m` stands for the body of a main procedure, all else for a package
+abbrev pub is_main : ℕ → Bool
+is_main b = b == 109
+
+abbrev pub form_of : ℕ → UnitForm
+form_of b = if is_main b then SubprogramBody else PackageDeclaration
+
+abbrev pub mention_of : List ℕ → Mention
+mention_of name = record { name = name; place = record { line = 1; col = 1 } }
+
+-- a header with this name and form and these mentions
+abbrev pub header_with : List ℕ → UnitForm → Bool → List Mention → Header
+header_with name form main mentions = record {
+  name = name;
+  place = record { line = 1; col = 1 };
+  form = form;
+  is_private = false;
+  needs_body = false;
+  parent_body = None;
+  designator = name;
+  mentions = mentions;
+  stubs = [];
+  elaborate = [];
+  elaborate_all = [];
+  has_elaborate_body = false;
+  is_parameterless_procedure = main;
+}
+
+-- the words of a text after the front of a word: what stands between blanks
+abbrev pub words_from : List ℕ → List ℕ → List (List ℕ)
+words_from word [] = word ∷ []
+words_from word (b ∷ bs) = if b == 32 then word ∷ words_from [] bs else words_from (word ++ b ∷ []) bs
+
+-- what a unit says of itself whose name is the first of these, and that mentions the others
+abbrev pub header_of : ℕ → List (List ℕ) → Header
+header_of form [] = header_with [] PackageDeclaration false []
+header_of form (name ∷ mentions) = header_with name (form_of form) (is_main form) (map mention_of mentions)
+
+-- what a text says of its unit
+abbrev pub header_in : List ℕ → Header
+header_in (form ∷ mark ∷ names) = header_of form (words_from [] names)
+header_in _ = header_with [] PackageDeclaration false []
+
+-- the second byte is an exclamation mark
+abbrev pub is_marked : List ℕ → Bool
+is_marked (form ∷ mark ∷ rest) = mark == 33
+is_marked _ = false
+
+-- the file of a text
+abbrev pub source_of : List ℕ → Source
+source_of text = record { text = text; contents = Headed (header_in text) }
+
+-- the library of the texts
+unfoldable pub toy_library : Texts → Library
+toy_library files = map (λ file. (file.0, source_of file.1)) files
+
+-- the texts of a library
+abbrev pub texts_of : Library → Texts
+texts_of lib = map (λ file. (file.0, file.1.text)) lib
+
+-- a library is that of its texts
+abbrev pub AreToys : Library → Type 0
+AreToys lib = lib ≡ toy_library (texts_of lib)
+
+-- equal texts are read alike in any two libraries; each unit's header is that of its text; none names a parent body
+pub record ToysAreRead : Type 0 where
+  pub headed : (files : Texts) → AreHeaded header_in (toy_library files)
+  pub bodies : (files : Texts) → NameParentBodies (toy_library files)
+  pub alike : (old new : Texts) → AreReadAlike (toy_library old) (toy_library new)
+
+-- the declaration of the first unit that is mentioned
+abbrev pub first_mentioned : List Mention → Option UnitKey
+first_mentioned [] = None
+first_mentioned (m ∷ ms) = Some (declaration m.name)
+
+-- a unit other than this one
+abbrev pub another : UnitKey → Option UnitKey → Option UnitKey
+another unit None = None
+another unit (Some d) = if same_unit unit d then None else Some d
+
+abbrev pub first_named : UnitKey → Header → Option UnitKey
+first_named unit h = another unit (first_mentioned h.mentions)
+
+-- the parent of the parent is private or not
+abbrev pub by_private : UnitKey → UnitKey → Bool → Bool → Outcome
+by_private unit first marked true = faulty unit
+by_private unit first marked false = plain unit (Some first) marked
+
+-- the parent's parent is this, if it has one that isn't the unit itself
+abbrev pub by_second : UnitKey → UnitKey → Bool → Option UnitKey → (Query → AnswerKind) → Outcome
+by_second unit first marked None t = plain unit (Some first) marked
+by_second unit first marked (Some second) t = by_private unit first marked (is_private_of (t (Of second IsPrivate)))
+
+-- the parent is this, if there is one
+abbrev pub by_first : UnitKey → Bool → Option UnitKey → (Query → AnswerKind) → Outcome
+by_first unit marked None t = plain unit None marked
+by_first unit marked (Some first) t = by_second unit first marked (another unit (parent_of (t (Of first Parent)))) t
+
+-- the outcome of a unit with a text under a table of answers
+abbrev pub toy_meaning : UnitKey → List ℕ → (Query → AnswerKind) → Outcome
+toy_meaning unit text t = by_first unit (is_marked text) (first_named unit (header_in text)) t
+
+-- an outcome of the toy
+pub data IsToys (unit : UnitKey) : Outcome → Type 0 where
+  is_plain : (parent : Option UnitKey) (marked : Bool) → IsToys unit (plain unit parent marked)
+  is_faulty : IsToys unit (faulty unit)
+
+-- a check of a unit with this header asked these questions, and gave this
+pub record IsJudged (unit : UnitKey) (h : Header) (marked : Bool) (log : List (Query × AnswerKind)) (outcome : Outcome) : Type 0 where
+  pub meaning : (t : Query → AnswerKind) → Agrees t log → outcome ≡ by_first unit marked (first_named unit h) t
+  pub others : AsksOthers unit log
+  pub grounded : Grounded (named_by h) log
+  pub names : NamesOnly (unit ∷ known_after (named_by h) log) outcome
+  pub toys : IsToys unit outcome

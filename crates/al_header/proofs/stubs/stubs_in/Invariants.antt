@@ -1,7 +1,0 @@
-use Rattle.std.proofs.Common.{◌≡◌, map, take}
-use Rattle.al_tree.specs.StatementViews.{item_seen, items_of}
-use Rattle.al_header.specs.Units.{stubs_in}
-use Rattle.al_header.proofs.stubs.stubs_in.Given as goal
-
-abbrev pub invariant-loop-item : goal.invariant-loop-item
-invariant-loop-item l = l.names.items ≡ stubs_in (items_of (map item_seen (take l.item-index l.items)))

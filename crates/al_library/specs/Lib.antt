@@ -1,4 +1,0 @@
-pub mod States
-pub mod Builds
-pub mod Reports
-pub mod Runs

@@ -1,0 +1,110 @@
+// The image of a partition.
+ghost use Rattle.std.specs.Prelude.{◌≡◌, ◌≤◌, ◌∷◌, ◌++◌, [], length, IfOk};
+ghost use Rattle.al_instr.specs.Codes.{code_bytes};
+ghost use Rattle.al_link_image.specs.Images.{IsImage, image_bytes};
+ghost use Rattle.al_link_image.specs.Parts.{IsWhole, image_of};
+
+use crate::bytes::{push_bytes, push_mark, push_objects, push_regions, push_word};
+use crate::code::instructions_of;
+use crate::parts::{ImageObject, ImageParts, Region};
+use al_base::NoMemory;
+use al_instr::Instr;
+use std::alloc::Global;
+use std::marker::Model;
+
+/// The compiled code of a partition with all that its run starts from, within the limits of images.
+#[derive(Drop)]
+pub struct Image {
+    parts: ImageParts,
+}
+
+impl Model for Image {
+    ghost use Rattle.al_link_image.specs.Images as images;
+    ghost use Rattle.al_link_image.specs.Parts.{IsWhole, image_of};
+
+    ghost Value = { images.Image };
+
+    ghost view = { λ i. image_of i.parts };
+
+    ghost invariant = { λ i. IsWhole i.parts };
+}
+
+impl Image {
+    /// The image of parts that are within the limits, and whose code is one of instructions. It takes no memory.
+    pub fn new(parts: ImageParts) -> Image
+        requires { IsWhole parts }
+        ensures { result ≡ image_of parts }
+    {
+        Image { parts }
+    }
+
+    /// Each image is within the limits.
+    pub fn limits(&self)
+        ensures { IsImage self.now }
+    {
+        let _tasks = self.parts.tasks;
+    }
+
+    /// How many tasks it has besides the environment task.
+    pub fn tasks(&self) -> u32
+        ensures value { result ≡ self.now.tasks }
+        ensures within { result ≤ 63 }
+    {
+        self.parts.tasks
+    }
+
+    pub fn data_words(&self) -> u32
+        ensures value { result ≡ self.now.data_words }
+        ensures within { result ≤ 1048576 }
+    {
+        self.parts.data_words
+    }
+
+    /// The protected objects by their numbers.
+    pub fn protected(&self) -> &[Region]
+        ensures value { result.now ≡ self.now.protected }
+        ensures within { length result.now ≤ 65535 }
+    {
+        self.parts.protected.as_slice()
+    }
+
+    /// The units whose code it holds, in the order of their elaboration.
+    pub fn objects(&self) -> &[ImageObject]
+        ensures value { result.now ≡ self.now.objects }
+        ensures within { length result.now ≤ 65535 }
+    {
+        self.parts.objects.as_slice()
+    }
+
+    /// The bytes of the code.
+    pub fn code(&self) -> &[u8]
+        ensures value { result.now ≡ code_bytes self.now.code }
+        ensures within { length result.now ≤ 16777216 }
+    {
+        self.parts.code.as_slice()
+    }
+
+    /// The code's instructions.
+    pub fn instructions(&self, alloc: Global) -> Result<Vec<Instr>, NoMemory>
+        ensures { IfOk result (λ instructions. instructions.items ≡ self.now.code) }
+    {
+        instructions_of(alloc, self.parts.code.as_slice())
+    }
+
+    /// The image's bytes, in all numbers the highest byte first.
+    #[tactic(auto, unfolding(crate::specs::Images::image_bytes))]
+    pub fn bytes(&self, alloc: Global) -> Result<Vec<u8>, NoMemory>
+        ensures { IfOk result (λ bytes. bytes.items ≡ image_bytes self.now) }
+    {
+        let parts = &self.parts;
+        let mut out = Vec::new(alloc);
+        push_mark(&mut out)?;
+        push_word(&mut out, parts.tasks)?;
+        push_word(&mut out, parts.data_words)?;
+        push_regions(&mut out, &parts.protected)?;
+        push_objects(&mut out, &parts.objects)?;
+        push_word(&mut out, parts.code.len() as u32)?;
+        push_bytes(&mut out, &parts.code)?;
+        Ok(out)
+    }
+}

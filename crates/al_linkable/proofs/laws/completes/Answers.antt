@@ -1,5 +1,0 @@
-use Rattle.al_linkable.proofs.Completing.{all_complete}
-use Rattle.al_linkable.proofs.laws.completes.Goals as goal
-
-pub returns : goal.returns
-returns c = λ meaning s is main f solves sound keeps shows complete. all_complete meaning s is main f solves sound keeps complete shows

@@ -1,0 +1,202 @@
+// Expressions whose names, calls and operators have their candidates, and which of these are meant.
+ghost use Rattle.std.specs.Prelude.{◌≡◌, [], ◌∷◌, ◌++◌, IfOk, is_ok, if◌then◌else◌};
+ghost use Rattle.al_overload_choice.specs.Counts.{AreCounted, candidates, counted_all, plain, plain_all};
+ghost use Rattle.al_overload_choice.specs.Labelling.{Tree as tree, Trees as trees, with_candidate};
+
+use crate::count::Count;
+use crate::types::{Expected, Given};
+use al_base::NoMemory;
+use al_view::Seq;
+use smallvec::SmallVec;
+use std::alloc::Global;
+use std::default::MadeWith;
+use std::marker::Model;
+
+/// A declaration that the name, call or operator at the head of an expression may mean.
+#[derive(Drop)]
+pub struct Candidate {
+    /// What its operands are wanted to be.
+    pub operands: Seq<Expected>,
+    pub given: Given,
+    /// Whether it is an operator of the root type of all integer types (ARM 3.4.1(8)), which is preferred (ARM 8.6(29)).
+    pub is_root: bool,
+}
+
+/// A candidate, and in how many ways its operands can be what it wants.
+#[derive(Drop)]
+pub struct Choice {
+    pub candidate: Candidate,
+    pub ways: Count,
+}
+
+// What stands in an inline place that no choice has taken yet.
+impl MadeWith<Global> for Choice {
+    fn made_with(alloc: Global) -> Choice {
+        let candidate = Candidate {
+            operands: Seq::empty(alloc),
+            given: Given::Nothing,
+            is_root: false,
+        };
+        Choice {
+            candidate,
+            ways: Count::None,
+        }
+    }
+}
+
+/// The candidates of a head: mostly two, which take no memory of their own.
+#[derive(Drop)]
+pub struct Choices {
+    items: SmallVec<Choice, 2>,
+}
+
+impl Model for Choices {
+    ghost use Rattle.std.specs.Prelude.{List};
+    ghost use Rattle.al_overload_choice.specs.declared.term.Choice.{Choice};
+
+    ghost Value = { List Choice };
+
+    ghost view = { λ c. c.items.items };
+}
+
+/// An expression inside another one: the candidates of the name, call or operator at its head, and its operands.
+#[cycle(term)]
+#[derive(Drop)]
+pub enum Term {
+    Head(Choices, Terms),
+}
+
+#[cycle(term)]
+#[derive(Drop)]
+pub enum Terms {
+    NoTerms,
+    MoreTerms(Box<Term>, Box<Terms>),
+}
+
+/// Operands, in the order of the text.
+#[derive(Drop)]
+pub struct Operands {
+    pub(crate) terms: Terms,
+}
+
+impl Model for Operands {
+    ghost use Rattle.al_overload_choice.specs.contracts.term.Terms as list;
+    ghost use Rattle.al_overload_choice.specs.declared.term.Terms.{Terms};
+    ghost use Rattle.al_overload_choice.specs.Counts.{AreCounted};
+    ghost use Rattle.std.specs.Coded.{codes};
+
+    ghost Value = { Terms };
+
+    ghost coded = { Prim.hlevel (codes, list.the_row.coded) };
+
+    ghost view = { λ o. o.terms };
+
+    ghost invariant = { λ o. AreCounted o.terms };
+}
+
+/// An expression: the candidates of the name, call or operator at its head, and its operands.
+#[derive(Drop)]
+pub struct Expression {
+    pub(crate) choices: Choices,
+    pub(crate) operands: Terms,
+}
+
+impl Model for Expression {
+    ghost use Rattle.al_overload_choice.specs.contracts.term.Term as term;
+    ghost use Rattle.al_overload_choice.specs.declared.term.Term.{Term, Head};
+    ghost use Rattle.al_overload_choice.specs.Counts.{IsHead};
+    ghost use Rattle.std.specs.Coded.{codes};
+
+    ghost Value = { Term };
+
+    ghost coded = { Prim.hlevel (codes, term.the_row.coded) };
+
+    ghost view = { λ e. Head e.choices e.operands };
+
+    ghost invariant = { λ e. IsHead e.choices e.operands };
+}
+
+/// An expression with the candidate, by its number, that each head means.
+#[cycle(labelled)]
+#[derive(Drop)]
+pub enum Labelled {
+    /// The candidate of this number, from 0, and whether it is an operator of the root type.
+    HeadAs(usize, bool, LabelledTerms),
+}
+
+#[cycle(labelled)]
+#[derive(Drop)]
+pub enum LabelledTerms {
+    NoLabelled,
+    MoreLabelled(Box<Labelled>, Box<LabelledTerms>),
+}
+
+impl Choices {
+    pub fn new(alloc: Global) -> Choices
+        ensures { result ≡ [] }
+    {
+        Choices {
+            items: SmallVec::new(alloc),
+        }
+    }
+
+    pub fn as_slice(&self) -> &[Choice]
+        ensures { result.now ≡ self.now }
+    {
+        self.items.as_slice()
+    }
+
+    /// One more candidate for the head of these operands.
+    #[tactic(auto, using(crate::proofs::Counting::counted_more))]
+    pub fn add(&mut self, candidate: Candidate, operands: &Terms) -> Result<(), NoMemory>
+        requires counted { self.old ≡ counted_all (plain_all operands.now) (candidates self.old) }
+        requires operands { AreCounted operands.now }
+        ensures candidates { candidates self.new ≡ (if is_ok result then candidates self.old ++ candidate ∷ [] else candidates self.old) }
+        ensures counted { self.new ≡ counted_all (plain_all operands.now) (candidates self.new) }
+    {
+        let choice = Choice::new(candidate, operands);
+        self.items.push(choice)?;
+        Ok(())
+    }
+}
+
+impl Operands {
+    /// No operands.
+    pub fn none() -> Operands
+        ensures { plain_all result ≡ trees.NoTree }
+    {
+        Operands {
+            terms: Terms::NoTerms,
+        }
+    }
+
+    /// One operand before these.
+    pub fn before(alloc: Global, operand: Expression, more: Operands) -> Result<Operands, NoMemory>
+        ensures { IfOk result (λ all. plain_all all ≡ trees.MoreTrees (plain operand) (plain_all more)) }
+    {
+        let operand = Box::new(alloc, Term::Head(operand.choices, operand.operands))?;
+        let more = Box::new(alloc, more.terms)?;
+        Ok(Operands {
+            terms: Terms::MoreTerms(operand, more),
+        })
+    }
+}
+
+impl Expression {
+    /// An expression whose head has no candidate yet: nothing fits it.
+    pub fn new(alloc: Global, operands: Operands) -> Expression
+        ensures { plain result ≡ tree.Node [] (plain_all operands) }
+    {
+        Expression {
+            choices: Choices::new(alloc),
+            operands: operands.terms,
+        }
+    }
+
+    /// One more candidate of its head.
+    pub fn add(&mut self, candidate: Candidate) -> Result<(), NoMemory>
+        ensures { plain self.new ≡ (if is_ok result then with_candidate (plain self.old) candidate else plain self.old) }
+    {
+        self.choices.add(candidate, &self.operands)
+    }
+}

@@ -1,0 +1,73 @@
+-- Chains of operators, indexes and the like: each has what stands at its left for its left operand.
+use Rattle.std.specs.Prelude.{◌≡◌, ◌<◌, Bool, true, false, ◌&&◌, List, [], ◌∷◌, None, Some}
+use Rattle.al_overload_choice.specs.Counts.{plain, plain_all}
+use Rattle.al_overload_choice.specs.Labelling.{Tree, Trees, MoreTrees}
+use Rattle.al_overload_choice.specs.Ranges.{alike}
+use Rattle.al_overload_heads.specs.Heads.{concatenation, head_of, infixed, possible, short_circuit, sole}
+use Rattle.al_overload_heads.specs.Universal.{computes_two, is_universal}
+use Rattle.al_overload_heads.specs.declared.chain.Joint.{Joint}
+use Rattle.al_overload_heads.specs.declared.chain.Sign.{Sign}
+use Rattle.al_overload_heads.specs.declared.chain.Sign.TheVariants as signs
+use Rattle.al_overload_heads.specs.declared.chain.Step.{Step}
+use Rattle.al_overload_heads.specs.declared.chain.Step.TheVariants as steps
+use Rattle.al_overload_heads.specs.declared.everywhere.Predefined.{Predefined}
+use Rattle.al_overload_term.specs.Terms.{TermTree, TermTree as t}
+use Rattle.al_overload_term.specs.TermViews.{term_model}
+use Rattle.al_overload_term.specs.declared.term.Term.{Term, size-Term}
+
+-- which terms begin with an operand, or with a name that is called
+abbrev pub leans : TermTree → Bool
+leans (t.SelectedTerm prefix name) = true
+leans (t.AppliedTerm prefix arguments) = true
+leans (t.InfixTerm operator visible left right) = true
+leans (t.ConcatenationTerm left right) = true
+leans (t.ShortCircuitTerm form left right) = true
+leans (t.MemberTerm value is_negated mark) = true
+leans (t.RangeMemberTerm value is_negated low high) = true
+leans _ = false
+
+-- the head of a link with its operands, and whether these are of numbers alone
+abbrev pub joint_head : Predefined → Sign → Trees → Bool → Tree
+joint_head p (signs.Operator operator visible) operands of_numbers = infixed p operator visible.now of_numbers operands
+joint_head p signs.Concatenation operands of_numbers = sole concatenation operands
+joint_head p signs.ShortCircuit operands of_numbers = sole (short_circuit p) operands
+joint_head p signs.Range operands of_numbers = alike p.root p.types.integer (Some p.types.boolean) operands
+joint_head p (signs.Part candidate) operands of_numbers = possible candidate operands
+
+-- whether it is of numbers alone itself
+abbrev pub joint_universal : Sign → Bool → Bool
+joint_universal (signs.Operator operator visible) of_numbers = computes_two operator && of_numbers
+joint_universal signs.Concatenation of_numbers = false
+joint_universal signs.ShortCircuit of_numbers = false
+joint_universal signs.Range of_numbers = false
+joint_universal (signs.Part candidate) of_numbers = false
+
+-- the same of a chain, from its first operand on; the last link of the text comes first
+abbrev pub chained_universal : List Joint → Bool → Bool
+chained_universal [] universal = universal
+chained_universal (joint ∷ joints) universal = joint_universal joint.sign (chained_universal joints universal && joint.right.are_universal)
+
+abbrev pub chained_head : Predefined → List Joint → Tree → Bool → Tree
+chained_head p [] head universal = head
+chained_head p (joint ∷ joints) head universal =
+    joint_head p joint.sign (MoreTrees (chained_head p joints head universal) (plain_all joint.right.operands)) (chained_universal joints universal && joint.right.are_universal)
+
+-- what a step down makes of a term, with what stands at the left
+abbrev pub stepped_head : Predefined → Step → Tree
+stepped_head p (steps.Down sign right left) =
+    joint_head p sign (MoreTrees (head_of p None (term_model left.now)) (plain_all right.operands)) (is_universal (term_model left.now) && right.are_universal)
+stepped_head p (steps.Last built) = plain built.expression
+
+abbrev pub stepped_universal : Step → Bool
+stepped_universal (steps.Down sign right left) = joint_universal sign (is_universal (term_model left.now) && right.are_universal)
+stepped_universal (steps.Last built) = built.is_universal
+
+-- where the step goes, if it goes on
+abbrev pub IsAt : Term → Step → Type 0
+IsAt term (steps.Down sign right left) = left.now ≡ term
+IsAt term (steps.Last built) = Unit
+
+-- what stands at the left is less deep than the whole
+abbrev pub IsBelow : Term → Step → Type 0
+IsBelow term (steps.Down sign right left) = size-Term left.now < size-Term term
+IsBelow term (steps.Last built) = Unit

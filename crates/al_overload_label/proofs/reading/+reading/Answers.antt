@@ -1,0 +1,140 @@
+use Rattle.std.proofs.Common.{◌≡◌, map, refl, sym, ap, subst, ◌∙◌, arith, rules, Box, Global}
+use Rattle.al_overload_choice.specs.Counts.{label_of}
+use Rattle.al_overload_heads.specs.Parts.{declared_under, nominal, part_of}
+use Rattle.al_overload_nodes.specs.Gathering.{no_parts}
+use Rattle.al_overload_nodes.specs.Names.{object_node}
+use Rattle.al_overload_nodes.specs.Views.{reading_model, values_model}
+use Rattle.al_overload_nodes.specs.declared.node.Reading.{Reading}
+use Rattle.al_overload_term.specs.Places.{first_place}
+use Rattle.al_overload_term.specs.TermViews.{term_model, terms_of}
+use Rattle.al_overload_term.specs.declared.term.Term.{Term, size-Term}
+use Rattle.al_overload_term.specs.declared.term.Term.TheViews.{sized-Infix, sized-ShortCircuit}
+use Rattle.al_overload_types.specs.Leaves.{application}
+use Rattle.al_overload_types.specs.FromAnswers.{test_type, types_in}
+use Rattle.al_overload_label.specs.Chains.{IsBelow, stepped}
+use Rattle.al_overload_label.specs.Readings.{operand_read, reading, values_read}
+use Rattle.al_overload_label.specs.declared.chain.Step.{Step}
+use Rattle.al_overload_label.proofs.ChainLemmas.{infix_begins, infix_below, longer, short_circuit_begins, short_circuit_below}
+use Rattle.al_overload_label.proofs.Gathered.{values_step}
+use Rattle.al_overload_label.proofs.TermKinds.{attribute_is, kept_is, many_indexes, member_is, member_model, selected_is}
+use Rattle.al_overload_label.proofs.Wholes.{applied_call_model, element_model, object_element_is, part_element_is, part_element_model, range_member_model, three_made}
+use Rattle.al_overload_label.proofs.reading.+reading.Goals as goal
+
+pub read-returns-in-Member : goal.read-returns-in-Member
+read-returns-in-Member t c =
+    member_model c.args.labeller.now.predefined c.args.labeller.now.own c.args.term.now c.in-Member.value c.in-Member.is_negated c.in-Member.subtype (label_of c.args.label.now) c.args.types.now c.args.at.now
+    c.deref-in-Member.result.now c.read_member.result c.in-Member.is c.deref-in-Member.ensures c.read_member.ensures
+
+pub read_attribute-returns : goal.read_attribute-returns
+read_attribute-returns t c =
+    attribute_is c.args.labeller.now.predefined c.args.labeller.now.own c.args.place c.args.conversion c.args.subtype.now (term_model c.args.argument.now) (label_of c.args.label.now) c.args.types.now c.args.at.now
+    c.argument_type-of.result.now _ c.attribute_reading.result c.argument_type-of.ensures c.in_ok-argument.ensures c.attribute_reading.ensures
+
+pub read_index-returns-in-len2-up : goal.read_index-returns-in-len2-up
+read_index-returns-in-len2-up t c =
+    many_indexes c.args.labeller.now.predefined c.args.labeller.now.own c.args.place c.args.position (label_of c.args.label.now) c.args.types.now c.args.at.now c.args.arguments.now _
+    c.in-len2-up.len_at_least c.misfit-in-len2-up.ensures
+
+pub read_member-returns : goal.read_member-returns
+read_member-returns t c =
+    member_is c.args.labeller.now.predefined c.args.labeller.now.own (term_model c.args.value.now) c.args.is_negated c.args.subtype.now (label_of c.args.label.now) c.first_place-place.result _
+    c.in_mark_reading.result c.first_place-place.ensures c.in_ok-value.ensures c.in_mark_reading.ensures
+
+pub read_selected-returns : goal.read_selected-returns
+read_selected-returns t c = search (rules, selected_is)
+
+pub read-returns-in-CallOf : goal.read-returns-in-CallOf
+read-returns-in-CallOf t c =
+    applied_call_model c.args.labeller.now.predefined c.args.labeller.now.own c.args.term.now c.in-Applied.name c.in-Applied.arguments c.as_slice-arguments.result.now (label_of c.args.label.now) c.args.types.now c.args.at.now c.first_place-place.result c.in-CallOf.subprogram.now c.read_call.result
+    c.in-Applied.is c.as_slice-arguments.ensures.value (c.first_place-place.ensures ∙ ap (λ (x : Term). first_place (term_model x)) c.deref-in-Applied.ensures)
+    (c.in-CallOf.ensures ∙ ap (λ (x : Term). application (declared_under (term_model x)) (part_of (term_model x)) (label_of c.args.label.now)) c.deref-in-Applied-2.ensures)
+    c.read_call.ensures
+
+pub read_object_element-returns : goal.read_object_element-returns
+read_object_element-returns t c =
+    object_element_is c.args.labeller.now.predefined c.args.labeller.now.own c.args.place c.args.object.now c.args.arguments.now (label_of c.args.label.now) (reading_model c.in_ok-whole.whole) c.read_element.result c.in_ok-whole.ensures c.read_element.ensures
+
+pub read_part_element-returns : goal.read_part_element-returns
+read_part_element-returns t c =
+    part_element_is c.args.labeller.now.predefined c.args.labeller.now.own c.args.place c.args.types.now c.args.of.now c.args.arguments.now (label_of c.args.label.now) c.into_inner-whole.result c.args.whole.value c.read_element.result c.into_inner-whole.ensures c.read_element.ensures
+
+pub read-returns-in-ElementOf : goal.read-returns-in-ElementOf
+read-returns-in-ElementOf t c =
+    element_model c.args.labeller.now.predefined c.args.labeller.now.own c.args.term.now c.in-Applied.name c.in-Applied.arguments c.as_slice-arguments.result.now (label_of c.args.label.now) c.args.types.now c.args.at.now c.first_place-place.result c.in-ElementOf.object.now
+    (object_node c.args.labeller.now.predefined.root c.first_place-place.result c.in-ElementOf.object.now) c.read_object_element.result
+    c.in-Applied.is c.as_slice-arguments.ensures.value (c.first_place-place.ensures ∙ ap (λ (x : Term). first_place (term_model x)) c.deref-in-Applied.ensures)
+    (c.in-ElementOf.ensures ∙ ap (λ (x : Term). application (declared_under (term_model x)) (part_of (term_model x)) (label_of c.args.label.now)) c.deref-in-Applied-2.ensures)
+    refl c.read_object_element.ensures
+
+pub read-returns-in_ok-whole-in-ElementOfPart : goal.read-returns-in_ok-whole-in-ElementOfPart
+read-returns-in_ok-whole-in-ElementOfPart t c =
+    part_element_model c.args.labeller.now.predefined c.args.labeller.now.own c.args.term.now c.in-Applied.name c.in-Applied.arguments c.as_slice-arguments.result.now (label_of c.args.label.now) c.args.types.now c.args.at.now c.first_place-place.result (nominal c.in-ElementOfPart.part.now c.in-ElementOfPart.subtype.now)
+    (reading_model c.in_ok-whole-in-ElementOfPart.whole.value) c.read_part_element.result
+    c.in-Applied.is c.as_slice-arguments.ensures.value (c.first_place-place.ensures ∙ ap (λ (x : Term). first_place (term_model x)) c.deref-in-Applied.ensures)
+    (c.in-ElementOfPart.ensures ∙ ap (λ (x : Term). application (declared_under (term_model x)) (part_of (term_model x)) (label_of c.args.label.now)) c.deref-in-Applied-2.ensures)
+    (c.in_ok-whole-in-ElementOfPart.ensures ∙ ap (λ (x : Term). operand_read c.args.labeller.now.predefined c.args.labeller.now.own c.first_place-place.result 0 (term_model x) (label_of c.args.label.now) c.args.types.now c.args.at.now) c.deref-in-ElementOfPart.ensures)
+    c.read_part_element.ensures
+
+pub read-returns-in_ok-value-in-RangeMember : goal.read-returns-in_ok-value-in-RangeMember
+read-returns-in_ok-value-in-RangeMember t c =
+    let all = three_made (λ (r : Box Reading Global). reading_model r.value ≡ (operand_read c.args.labeller.now.predefined c.args.labeller.now.own c.first_place-place-in-RangeMember.result 0 (term_model c.deref-in-RangeMember-5.result.now) (label_of c.args.label.now) c.types_of_test.result.0.now c.types_of_test.result.1.now))
+    (λ (r : Box Reading Global). reading_model r.value ≡ (operand_read c.args.labeller.now.predefined c.args.labeller.now.own c.first_place-place-in-RangeMember.result 1 (term_model c.deref-in-RangeMember-6.result.now) (label_of c.args.label.now) c.types_of_test.result.0.now c.types_of_test.result.1.now))
+    (λ (r : Box Reading Global). reading_model r.value ≡ (operand_read c.args.labeller.now.predefined c.args.labeller.now.own c.first_place-place-in-RangeMember.result 2 (term_model c.deref-in-RangeMember-7.result.now) (label_of c.args.label.now) c.types_of_test.result.0.now c.types_of_test.result.1.now))
+    c.read_kept-value.result c.read_kept-low.result c.read_kept-high.result c.together.result c.together-in-RangeMember.result
+    c.in_ok-value-in-RangeMember.value c.in_ok-value-in-RangeMember.low c.in_ok-value-in-RangeMember.high
+    c.together.ensures c.together-in-RangeMember.ensures c.in_ok-value-in-RangeMember.was c.read_kept-value.ensures c.read_kept-low.ensures c.read_kept-high.ensures in
+    range_member_model c.args.labeller.now.predefined c.args.labeller.now.own c.args.term.now c.in-RangeMember.value c.in-RangeMember.is_negated c.in-RangeMember.low c.in-RangeMember.high (label_of c.args.label.now) c.args.types.now c.types_of_test.result.0.now c.args.at.now c.types_of_test.result.1.now c.first_place-place-in-RangeMember.result
+    (reading_model c.in_ok-value-in-RangeMember.value.value) (reading_model c.in_ok-value-in-RangeMember.low.value) (reading_model c.in_ok-value-in-RangeMember.high.value) c.membership_of.result
+    c.in-RangeMember.is (c.first_place-place-in-RangeMember.ensures ∙ ap (λ (x : Term). first_place (term_model x)) c.deref-in-RangeMember.ensures)
+    (c.types_of_test.ensures.types ∙ ap (λ (x : Term). types_in c.args.types.now (test_type c.args.labeller.now.predefined (term_model x) (term_model c.deref-in-RangeMember-3.result.now) (term_model c.deref-in-RangeMember-4.result.now) (label_of c.args.label.now))) c.deref-in-RangeMember-2.ensures ∙ ap (λ (x : Term). types_in c.args.types.now (test_type c.args.labeller.now.predefined (term_model c.in-RangeMember.value.value) (term_model x) (term_model c.deref-in-RangeMember-4.result.now) (label_of c.args.label.now))) c.deref-in-RangeMember-3.ensures ∙ ap (λ (x : Term). types_in c.args.types.now (test_type c.args.labeller.now.predefined (term_model c.in-RangeMember.value.value) (term_model c.in-RangeMember.low.value) (term_model x) (label_of c.args.label.now))) c.deref-in-RangeMember-4.ensures)
+    (c.types_of_test.ensures.of ∙ ap (λ (x : Term). (test_type c.args.labeller.now.predefined (term_model x) (term_model c.deref-in-RangeMember-3.result.now) (term_model c.deref-in-RangeMember-4.result.now) (label_of c.args.label.now)).of) c.deref-in-RangeMember-2.ensures ∙ ap (λ (x : Term). (test_type c.args.labeller.now.predefined (term_model c.in-RangeMember.value.value) (term_model x) (term_model c.deref-in-RangeMember-4.result.now) (label_of c.args.label.now)).of) c.deref-in-RangeMember-3.ensures ∙ ap (λ (x : Term). (test_type c.args.labeller.now.predefined (term_model c.in-RangeMember.value.value) (term_model c.in-RangeMember.low.value) (term_model x) (label_of c.args.label.now)).of) c.deref-in-RangeMember-4.ensures)
+    (all.0 ∙ ap (λ (x : Term). operand_read c.args.labeller.now.predefined c.args.labeller.now.own c.first_place-place-in-RangeMember.result 0 (term_model x) (label_of c.args.label.now) c.types_of_test.result.0.now c.types_of_test.result.1.now) c.deref-in-RangeMember-5.ensures)
+    (all.1.0 ∙ ap (λ (x : Term). operand_read c.args.labeller.now.predefined c.args.labeller.now.own c.first_place-place-in-RangeMember.result 1 (term_model x) (label_of c.args.label.now) c.types_of_test.result.0.now c.types_of_test.result.1.now) c.deref-in-RangeMember-6.ensures)
+    (all.1.1 ∙ ap (λ (x : Term). operand_read c.args.labeller.now.predefined c.args.labeller.now.own c.first_place-place-in-RangeMember.result 2 (term_model x) (label_of c.args.label.now) c.types_of_test.result.0.now c.types_of_test.result.1.now) c.deref-in-RangeMember-7.ensures)
+    c.membership_of.ensures
+
+pub read_other-returns : goal.read_other-returns
+read_other-returns t c = kept_is _ c.read-reading.result c.kept.result c.read-reading.ensures c.kept.ensures
+
+pub read_values-loop-position-preserved : goal.read_values-loop-position-preserved
+read_values-loop-position-preserved t c =
+    values_step c.args.labeller.now.predefined c.args.labeller.now.own c.args.types.now c.args.at.now (label_of c.args.label.now) c.args.components.now c.loop-position.position c.index-components-position.result (values_model c.loop-position.values) (values_model c.read_value.new.values)
+    (values_read c.args.labeller.now.predefined c.args.labeller.now.own c.args.types.now c.args.at.now (label_of c.args.label.now) 0 no_parts (terms_of (map term_model c.args.components.now)))
+    c.loop-position.invariant c.loop-position-test.true c.index-components-position.is c.in_ok-read_value.ensures
+
+-- ---- steps down a chain of operators
+
+pub step-step_infix-requires : goal.step-step_infix-requires
+step-step_infix-requires t c = let a = ap size-Term c.in-Infix.is in let b = ap size-Term c.deref.ensures in (
+  omega (arith, c.decreases, sized-Infix c.in-Infix.operator c.in-Infix.views c.in-Infix.left c.in-Infix.right, a, b),
+  infix_begins c.args.term.now c.deref-in-Infix.result.now c.in-Infix.operator c.in-Infix.views c.in-Infix.left c.in-Infix.right c.args.place c.in-Infix.is c.deref-in-Infix.ensures c.requires,
+)
+
+pub step-step_short_circuit-requires : goal.step-step_short_circuit-requires
+step-step_short_circuit-requires t c = let a = ap size-Term c.in-ShortCircuit.is in let b = ap size-Term c.deref-in-ShortCircuit.ensures in (
+  omega (arith, c.decreases, sized-ShortCircuit c.in-ShortCircuit.form c.in-ShortCircuit.left c.in-ShortCircuit.right, a, b),
+  short_circuit_begins c.args.term.now c.deref-in-ShortCircuit-2.result.now c.in-ShortCircuit.form c.in-ShortCircuit.left c.in-ShortCircuit.right c.args.place c.in-ShortCircuit.is c.deref-in-ShortCircuit-2.ensures c.requires,
+)
+
+pub step-returns-in-Infix-clause-below : goal.step-returns-in-Infix-clause-below
+step-returns-in-Infix-clause-below t c =
+    infix_below c.args.term.now c.deref-in-Infix.result.now c.in-Infix.operator c.in-Infix.views c.in-Infix.left c.in-Infix.right c.step_infix.result c.in-Infix.is c.deref-in-Infix.ensures c.step_infix.ensures.at
+
+pub step-returns-in-ShortCircuit-clause-below : goal.step-returns-in-ShortCircuit-clause-below
+step-returns-in-ShortCircuit-clause-below t c =
+    short_circuit_below c.args.term.now c.deref-in-ShortCircuit-2.result.now c.in-ShortCircuit.form c.in-ShortCircuit.left c.in-ShortCircuit.right c.step_short_circuit.result c.in-ShortCircuit.is c.deref-in-ShortCircuit-2.ensures c.step_short_circuit.ensures.at
+
+pub read_boxed-loop-joints-preserved : goal.read_boxed-loop-joints-preserved
+read_boxed-loop-joints-preserved t c =
+    let p = c.args.labeller.now.predefined in let own = c.args.labeller.now.own in let place = c.first_place-place.result in
+    let P : Step → Type 0 = λ s. IsBelow c.loop-joints.rest.now s in let below = subst P c.in-Down.is c.in_ok-joint.ensures.below in (
+      longer p place c.loop-joints.joints.items c.push.new.self.items c.in-Down.joint
+          (reading p own (term_model c.loop-joints.rest.now) (label_of c.loop-joints.label.now) c.loop-joints.types.now c.loop-joints.at.now)
+          (reading p own (term_model c.in-Down.left.now) (label_of c.in-Down.left_label.now) c.in-Down.among.now c.in-Down.of.now)
+          (reading p own (term_model c.args.term.now) (label_of c.args.label.now) c.args.types.now c.args.at.now)
+          c.in_ok-push-in-Down.ensures.items
+          (ap (λ (s : Step). stepped p own place s) (sym c.in-Down.is) ∙ c.in_ok-joint.ensures.read)
+          c.loop-joints.invariant.0,
+      c.loop-joints.invariant.1 ∙ sym below.1,
+      omega (arith, below.0, c.loop-joints.invariant.2),
+    )

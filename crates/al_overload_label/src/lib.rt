@@ -1,0 +1,13 @@
+//! The labelled tree of a term and its labelling (ARM 8.6).
+#![tactic(auto)]
+
+mod chain;
+mod context;
+mod made;
+mod meaning;
+mod pair;
+mod range;
+mod reading;
+
+pub use context::{check_call, check_target, check_term, read_call, read_term};
+pub use range::{DeterminedValue, FoundType, Pair, check_bounds, check_selector};

@@ -1,0 +1,212 @@
+// Pairs of bounds and selectors, with the types that they tell (ARM 3.5, 3.6(18), 5.4(4), 5.5).
+ghost use Rattle.std.specs.Prelude.{◌≡◌, IfOk, [], unwrap_or};
+ghost use Rattle.std.specs.Option.{option_copied};
+ghost use Rattle.al_overload_choice.specs.Counts.{label_of};
+ghost use Rattle.al_base_fault.specs.Judging.{both, map_ok};
+ghost use Rattle.al_overload_term.specs.TermViews.{term_model};
+ghost use Rattle.al_view_typed.specs.ExpressionViews.{typed_model};
+ghost use Rattle.al_overload_nodes.specs.Nodes.{checked};
+ghost use Rattle.al_overload_nodes.specs.Views.{pair_model as typed_pair_model};
+ghost use Rattle.al_overload_label.specs.Ranges.{bound_at, bounds_checked, found_of, found_type, pair_of, pair_read, selector_at, selector_checked, selector_read};
+ghost use Rattle.al_overload_label.specs.RangesSeen.{found_model, pair_model};
+ghost use Rattle.al_overload_types.specs.Seen.{told_model};
+
+use crate::context::stands_at;
+use crate::meaning::interpret;
+use crate::pair::together;
+use crate::reading::{read, read_operand};
+use al_base::NoMemory;
+use al_base_fault::{CheckResult, both};
+use al_overload::Context;
+use al_overload_choice::Labelled;
+use al_overload_heads::interpret_bounds;
+use al_overload_nodes::{Labeller, checked};
+use al_overload_term::{Term, first_place};
+use al_overload_types::{
+    DeterminedType, among, everywhere, pair_type, range_type, type_told, types_in,
+};
+use al_view::{Seq, Symbol, Types};
+use al_view_typed::Typed;
+use std::alloc::Global;
+
+/// A type with the types among which it is: nothing where every unit has it.
+#[derive(Drop)]
+pub struct FoundType {
+    pub of: Symbol,
+    pub types: Types,
+}
+
+/// Two bounds, with the type of their range.
+#[derive(Drop)]
+pub struct Pair {
+    pub low: Typed,
+    pub high: Typed,
+    pub range: FoundType,
+}
+
+/// An expression, with the type that it tells.
+#[derive(Drop)]
+pub struct DeterminedValue {
+    pub value: Typed,
+    pub found: FoundType,
+}
+
+fn no_types(alloc: Global) -> Result<Types, NoMemory>
+    ensures { IfOk result (λ types. types ≡ []) }
+{
+    let types = Types::new(alloc, Seq::empty(alloc))?;
+    Ok(types)
+}
+
+/// The same types once more; nothing where there are none.
+fn shared(alloc: Global, types: Option<&Types>) -> Result<Types, NoMemory>
+    ensures { IfOk result (λ copy. copy ≡ unwrap_or (option_copied types.entry) []) }
+{
+    match types {
+        Some(types) => {
+            let copy = types.share()?;
+            Ok(copy)
+        }
+        None => no_types(alloc),
+    }
+}
+
+fn found_type(alloc: Global, determined: &DeterminedType<'_>) -> Result<FoundType, NoMemory>
+    ensures { IfOk result (λ found. found ≡ found_type (told_model determined.now)) }
+{
+    let (of, types) = together(determined.of.copy(alloc), shared(alloc, determined.types))?;
+    Ok(FoundType { of, types })
+}
+
+fn pair_of(range: FoundType, bounds: CheckResult<(Typed, Typed)>) -> CheckResult<Pair>
+    ensures { map_ok pair_model result ≡ map_ok (pair_of range) (map_ok typed_pair_model bounds) }
+{
+    match bounds {
+        Ok((low, high)) => Ok(Pair { low, high, range }),
+        Err(fault) => Err(fault),
+    }
+}
+
+/// A bound at the type of the pair.
+fn bound_at(
+    labeller: &Labeller,
+    types: &Types,
+    low: &Term,
+    position: usize,
+    bound: &Term,
+    label: &Labelled,
+    determined: &DeterminedType<'_>,
+) -> Result<CheckResult<Typed>, NoMemory>
+    ensures { IfOk result (λ typed. map_ok typed_model typed ≡ checked (bound_at labeller.now.predefined labeller.now.own types.now (term_model low.now) position (term_model bound.now) (label_of label.now) (told_model determined.now))) }
+{
+    let (among, of) = (types_in(types, determined), determined.of);
+    let reading = read_operand(
+        labeller,
+        bound,
+        first_place(low),
+        position,
+        label,
+        among,
+        of,
+    )?;
+    Ok(checked(reading))
+}
+
+fn read_pair(
+    labeller: &Labeller,
+    types: &Types,
+    at: &Symbol,
+    low: &Term,
+    high: &Term,
+    label: &Labelled,
+) -> Result<CheckResult<Pair>, NoMemory>
+    ensures { IfOk result (λ pair. map_ok pair_model pair ≡ pair_read labeller.now.predefined labeller.now.own types.now at.now (term_model low.now) (term_model high.now) (label_of label.now)) }
+{
+    let otherwise = among(types, at);
+    let determined = pair_type(labeller, otherwise, low, high, label);
+    let first = bound_at(labeller, types, low, 0, low, label, &determined);
+    let last = bound_at(labeller, types, low, 1, high, label, &determined);
+    let range = found_type(labeller.alloc, &range_type(labeller, determined));
+    let (range, (first, last)) = together(range, together(first, last))?;
+    Ok(pair_of(range, both(first, last)))
+}
+
+/// A pair of bounds, with the type of their range: E402 or E403 at the first token of the low one, where the two have no interpretation,
+/// or several; else the first fault in them. A type that the context wants is among `types` or one that every unit has.
+pub fn check_bounds(
+    labeller: &Labeller,
+    context: &Context,
+    types: &Types,
+    low: &Term,
+    high: &Term,
+) -> Result<CheckResult<Pair>, NoMemory>
+    ensures { IfOk result (λ pair. map_ok pair_model pair ≡ bounds_checked labeller.now.predefined labeller.now.own context.now types.now (term_model low.now) (term_model high.now)) }
+{
+    match interpret_bounds(labeller.alloc, &labeller.predefined, context, low, high)? {
+        Ok(label) => {
+            let at = stands_at(&labeller.predefined, context);
+            let pair = read_pair(labeller, types, at, low, high, &label);
+            drop(label);
+            pair
+        }
+        Err(fault) => Ok(Err(fault)),
+    }
+}
+
+fn found_of(found: FoundType, value: CheckResult<Typed>) -> CheckResult<DeterminedValue>
+    ensures { map_ok found_model result ≡ map_ok (found_of found) (map_ok typed_model value) }
+{
+    match value {
+        Ok(value) => Ok(DeterminedValue { value, found }),
+        Err(fault) => Err(fault),
+    }
+}
+
+fn selector_at(
+    labeller: &Labeller,
+    term: &Term,
+    label: &Labelled,
+    determined: &DeterminedType<'_>,
+) -> Result<CheckResult<DeterminedValue>, NoMemory>
+    ensures { IfOk result (λ found. map_ok found_model found ≡ selector_at labeller.now.predefined labeller.now.own (term_model term.now) (label_of label.now) (told_model determined.now)) }
+{
+    let found = found_type(labeller.alloc, determined)?;
+    let reading = read(labeller, term, label, &found.types, determined.of);
+    let (found, reading) = together(Ok(found), reading)?;
+    Ok(found_of(found, checked(reading)))
+}
+
+fn read_selector(
+    labeller: &Labeller,
+    term: &Term,
+    label: &Labelled,
+) -> Result<CheckResult<DeterminedValue>, NoMemory>
+    ensures { IfOk result (λ found. map_ok found_model found ≡ selector_read labeller.now.predefined labeller.now.own (term_model term.now) (label_of label.now)) }
+{
+    match type_told(labeller, term, label) {
+        Some(determined) => selector_at(labeller, term, label, &determined),
+        None => selector_at(
+            labeller,
+            term,
+            label,
+            &everywhere(&labeller.predefined.root),
+        ),
+    }
+}
+
+/// The selector of a case statement with its type, which is the root type where it is of numbers alone.
+pub fn check_selector(
+    labeller: &Labeller,
+    term: &Term,
+) -> Result<CheckResult<DeterminedValue>, NoMemory>
+    ensures { IfOk result (λ found. map_ok found_model found ≡ selector_checked labeller.now.predefined labeller.now.own (term_model term.now)) }
+{
+    match interpret(labeller, Context::Selector, term)? {
+        Ok(label) => {
+            let found = read_selector(labeller, term, &label);
+            drop(label);
+            found
+        }
+        Err(fault) => Ok(Err(fault)),
+    }
+}

@@ -1,0 +1,156 @@
+// The names of an expression's text, looked up at its place.
+ghost use Rattle.std.specs.Prelude.{◌≡◌, [], ◌∷◌, IfOk, OnOk, map};
+ghost use Rattle.al_overload_lookup.specs.Lookups.{asked_name, asked_units, found, is_new, looked_up, looked_up_all, names_at, with_prefixed, with_visible};
+ghost use Rattle.al_overload_lookup.specs.TextNames.{names_in};
+ghost use Rattle.al_query.specs.Asked.{AsksOf, by_name};
+ghost use Rattle.al_query.specs.Reads.{FromAnswers};
+ghost use Rattle.al_scope.specs.Places.{place_units};
+ghost use Rattle.al_tree.specs.ExpressionViews.{expression_model};
+
+use crate::name::TextName;
+use crate::select::{add_each, add_views};
+use crate::text::names_in;
+use al_base::{NoMemory, UnitKey};
+use al_overload_keys::{Names, dotted, is_none};
+use al_query::{Answers, Recorder};
+use al_scope::Scope;
+use al_tree::Expression;
+use al_view::{Interface, Views};
+use std::alloc::Global;
+
+/// All that is visible under a name.
+fn find_visible<A: Answers>(
+    scope: &Scope,
+    names: &mut Names,
+    name: &[u8],
+    recorder: &mut Recorder<A>,
+) -> Result<(), NoMemory>
+    ensures asked { recorder.new.asked ≡ recorder.old.asked }
+    ensures answered { OnOk result (FromAnswers recorder.old.log recorder.new.log (λ t. names.new ≡ with_visible t scope.now name.now names.old)) }
+    ensures asks { OnOk result (AsksOf (place_units scope.now) (by_name (name.now ∷ [])) recorder.old.log recorder.new.log) }
+{
+    let found = scope.visible(name, recorder)?;
+    add_views(&mut names.visible, name, found.as_slice())?;
+    Ok(())
+}
+
+/// What is selected after a name.
+fn find_selected<A: Answers>(
+    alloc: Global,
+    scope: &Scope,
+    packages: &[UnitKey],
+    names: &mut Names,
+    prefix: &[u8],
+    name: &[u8],
+    recorder: &mut Recorder<A>,
+) -> Result<(), NoMemory>
+    ensures asked { recorder.new.asked ≡ recorder.old.asked }
+    ensures answered { OnOk result (FromAnswers recorder.old.log recorder.new.log (λ t. names.new ≡ with_prefixed t scope.now packages.now prefix.now name.now names.old)) }
+    ensures asks { OnOk result (AsksOf (asked_units scope.now packages.now) (by_name (name.now ∷ [])) recorder.old.log recorder.new.log) }
+{
+    let key = dotted(alloc, prefix, name)?;
+    let mut views = Views::new(alloc);
+    views.append(names.visible.views(prefix))?;
+    let (key, views) = (key.as_slice(), views.as_slice());
+    add_each(scope, packages, names, key, name, views, recorder)?;
+    Ok(())
+}
+
+/// Whether the name wasn't found yet.
+fn is_new(alloc: Global, names: &Names, of: &TextName) -> Result<bool, NoMemory>
+    ensures { IfOk result (λ new. new ≡ is_new names.now of.now) }
+{
+    match of {
+        TextName::Simple(name) => Ok(is_none(names.visible.views(name.as_slice()))),
+        TextName::Selected { prefix, name } => {
+            let key = dotted(alloc, prefix.as_slice(), name.as_slice())?;
+            Ok(is_none(names.prefixes.views(key.as_slice())))
+        }
+    }
+}
+
+/// Finds what a name denotes.
+fn find<A: Answers>(
+    alloc: Global,
+    scope: &Scope,
+    packages: &[UnitKey],
+    names: &mut Names,
+    of: &TextName,
+    recorder: &mut Recorder<A>,
+) -> Result<(), NoMemory>
+    ensures asked { recorder.new.asked ≡ recorder.old.asked }
+    ensures answered { OnOk result (FromAnswers recorder.old.log recorder.new.log (λ t. names.new ≡ found t scope.now packages.now names.old of.now)) }
+    ensures asks { OnOk result (AsksOf (asked_units scope.now packages.now) (by_name (asked_name of.now ∷ [])) recorder.old.log recorder.new.log) }
+{
+    match of {
+        TextName::Simple(name) => {
+            find_visible(scope, names, name.as_slice(), recorder)?;
+            Ok(())
+        }
+        TextName::Selected { prefix, name } => {
+            let (prefix, name) = (prefix.as_slice(), name.as_slice());
+            find_selected(alloc, scope, packages, names, prefix, name, recorder)?;
+            Ok(())
+        }
+    }
+}
+
+/// Looks one name up, unless it was found already.
+#[tactic(auto, unfolding(crate::specs::Lookups::looked_up))]
+fn look_up<A: Answers>(
+    alloc: Global,
+    scope: &Scope,
+    packages: &[UnitKey],
+    names: &mut Names,
+    of: &TextName,
+    recorder: &mut Recorder<A>,
+) -> Result<(), NoMemory>
+    ensures asked { recorder.new.asked ≡ recorder.old.asked }
+    ensures answered { OnOk result (FromAnswers recorder.old.log recorder.new.log (λ t. names.new ≡ looked_up t scope.now packages.now names.old of.now)) }
+    ensures asks { OnOk result (AsksOf (asked_units scope.now packages.now) (by_name (asked_name of.now ∷ [])) recorder.old.log recorder.new.log) }
+{
+    if is_new(alloc, names, of)? {
+        find(alloc, scope, packages, names, of, recorder)?;
+        return Ok(());
+    }
+    Ok(())
+}
+
+/// What these names denote at a place, each looked up once.
+pub fn look_up_all<A: Answers>(
+    alloc: Global,
+    scope: &Scope,
+    packages: &[UnitKey],
+    of: &[TextName],
+    recorder: &mut Recorder<A>,
+) -> Result<Names, NoMemory>
+    ensures asked { recorder.new.asked ≡ recorder.old.asked }
+    ensures answered { IfOk result (λ names. FromAnswers recorder.old.log recorder.new.log (λ t. names ≡ looked_up_all t scope.now packages.now of.now)) }
+    ensures asks { IfOk result (λ _. AsksOf (asked_units scope.now packages.now) (by_name (map asked_name of.now)) recorder.old.log recorder.new.log) }
+{
+    let mut names = Names {
+        visible: Interface::new(alloc),
+        prefixes: Interface::new(alloc),
+    };
+    for one in of {
+        look_up(alloc, scope, packages, &mut names, one, recorder)?;
+    }
+    Ok(names)
+}
+
+/// What the names of an expression's text denote at its place, where these packages are mentioned.
+pub fn names<A: Answers>(
+    alloc: Global,
+    scope: &Scope,
+    packages: &[UnitKey],
+    expression: &Expression,
+    recorder: &mut Recorder<A>,
+) -> Result<Names, NoMemory>
+    ensures asked { recorder.new.asked ≡ recorder.old.asked }
+    ensures answered { IfOk result (λ names. FromAnswers recorder.old.log recorder.new.log (λ t. names ≡ names_at t scope.now packages.now (expression_model expression.now))) }
+    ensures asks { IfOk result (λ _. AsksOf (asked_units scope.now packages.now) (by_name (map asked_name (names_in (expression_model expression.now)))) recorder.old.log recorder.new.log) }
+{
+    let of = names_in(alloc, expression)?;
+    let names = look_up_all(alloc, scope, packages, &of, recorder)?;
+    Ok(names)
+}

@@ -1,0 +1,40 @@
+-- Two things that are judged each by itself, as they are seen, and trees by their fields.
+use Rattle.std.proofs.Common.{◌≡◌, ◌<◌, ◌-◌, List, [], ◌∷◌, map, length, get_or, Option, Some, None, option_map, Result, Ok, Err, refl, sym, ap, ◌∙◌, arith, lit<}
+use Rattle.al_base_fault.specs.Judging.{both, map_ok}
+use Rattle.al_base_fault.specs.declared.fault.Fault.{Fault}
+use Rattle.al_view_typed.specs.ExpressionTrees.{TypedTree as typed_trees}
+use Rattle.al_view_typed.specs.ExpressionViews.{form_model, typed_model}
+use Rattle.al_view_typed.specs.declared.expression.Typed.{Typed, out-Typed, roll-out-Typed}
+use Rattle.al_view_typed.proofs.ExpressionsMade.{typed_made, literal_made, named_made, unary_made, binary_made, short_circuit_made, membership_made, converted_made, aggregate_made, others_made, call_form_made, clock_made, in_made, variable_made}
+use Rattle.al_overload_nodes.specs.Calls.{sole}
+
+pub both_model : {A B C D : Type 0} (f : A → C) (g : B → D) (a : Result A Fault) (b : Result B Fault)
+    → both (map_ok f a) (map_ok g b) ≡ map_ok (λ (p : A × B). (f p.0, g p.1)) (both a b)
+both_model f g (Ok a) (Ok b) = refl
+both_model f g (Ok a) (Err h) = refl
+both_model f g (Err h) (Ok b) = refl
+both_model f g (Err h) (Err k) = refl
+
+pub typed_layers : (t : Typed) → typed_model t ≡ typed_trees.Labelled (out-Typed t).labels (form_model (out-Typed t).form)
+typed_layers t = ap typed_model (sym (roll-out-Typed t)) ∙ typed_made (out-Typed t).labels (out-Typed t).form
+
+-- what forms and actual parameters are seen as
+pub ruleset forms_made = (literal_made, named_made, unary_made, binary_made, short_circuit_made, membership_made, converted_made, aggregate_made, others_made, call_form_made, clock_made)
+
+pub ruleset actuals_made = (in_made, variable_made)
+
+-- the only one of a list
+pub sole_model : {A B : Type 0} (f : A → B) (xs : List A) → sole (map f xs) ≡ option_map f (sole xs)
+sole_model f [] = refl
+sole_model f (x ∷ []) = refl
+sole_model f (x ∷ (y ∷ more)) = refl
+
+pub sole_popped : {A : Type 0} (xs : List A) (r : Option A) → length xs ≡ 1 → ((d : A) → 0 < length xs → r ≡ Some (get_or xs (length xs - 1) d)) → r ≡ sole xs
+sole_popped [] r one is = absurd (omega (arith, one))
+sole_popped (x ∷ []) r one is = is x (lit< tt)
+sole_popped (x ∷ (y ∷ more)) r one is = absurd (omega (arith, one))
+
+pub sole_none : {A : Type 0} (xs : List A) → (length xs ≡ 1 → ⊥) → sole xs ≡ None
+sole_none [] none = refl
+sole_none (x ∷ []) none = absurd (none refl)
+sole_none (x ∷ (y ∷ more)) none = refl

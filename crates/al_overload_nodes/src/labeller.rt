@@ -1,0 +1,12 @@
+// What is the same for all terms of a body.
+use al_overload_heads::Predefined;
+use al_view::Symbol;
+use std::alloc::Global;
+
+/// What labels terms: what every unit has, and the protected object in whose bodies the text stands, if any.
+#[derive(Drop)]
+pub struct Labeller {
+    pub alloc: Global,
+    pub predefined: Predefined,
+    pub own: Option<Symbol>,
+}

@@ -1,0 +1,382 @@
+// The term of an expression's text.
+ghost use Rattle.std.specs.Prelude.{◌≡◌, IfOk, map, option_map};
+ghost use Rattle.al_base_fault.specs.Judging.{next, map_ok};
+ghost use Rattle.al_overload_keys.specs.Keys.{denoted};
+ghost use Rattle.al_overload_keys.specs.Places.{place_of};
+ghost use Rattle.al_overload_term.specs.Terms.{TermTree as terms};
+ghost use Rattle.al_overload_term.specs.TermViews.{term_model};
+ghost use Rattle.al_overload_readings.specs.ReadingViews.{reading_model};
+ghost use Rattle.al_overload_readings.specs.Readings.{named, ranging, valued};
+ghost use Rattle.al_overload_readings.specs.TermLists.{all_model};
+ghost use Rattle.al_overload_terms.specs.Texts.{group_term, is_name, is_range, is_range_attribute, is_selector, mark_of_text, number_value, one_range, read, read_more, read_part, term_of, unless_range};
+ghost use Rattle.al_overload_readings.specs.Steps.{started};
+ghost use Rattle.al_tree.specs.ExpressionViews.{expression_model, expressions_of, group_model, member_model, part_model};
+ghost use Rattle.al_tree.specs.Lexemes.{identifier_label, number_label, string_label};
+
+use crate::chain::{Joint, chained};
+use al_base::NoMemory;
+use al_base_fault::{CheckResult, Fault, unless};
+use al_overload_keys::{Names, first_place};
+use al_overload_readings::{
+    Reading, added, aggregated, apply, apply_to, as_mark, as_single, as_value, attribute_of,
+    bounds, called, grouped, join, member, named, of_value, operate, qualify, range_attribute_of,
+    range_member, repeated, select, started, together, wrong_kind,
+};
+use al_overload_term::Term;
+use al_tree::{Expression, Group, Identifier, Member, NamePart, NumericLiteral, StringLiteral};
+use al_view::{StaticValue, SubtypeView};
+use al_view_predefined::StandardTypes;
+use std::alloc::Global;
+
+/// The greatest value of a numeric literal that a text has.
+const MOST: u64 = 9223372036854775807;
+
+#[tactic(auto, unfolding(crate::specs::Texts::number_value))]
+fn number_value(literal: &NumericLiteral) -> StaticValue
+    ensures { result ≡ number_value (number_label literal.now) }
+{
+    let value = if literal.value < MOST {
+        literal.value
+    } else {
+        MOST
+    };
+    StaticValue { word: value as i64 }
+}
+
+fn number(literal: &NumericLiteral) -> Term
+    ensures { term_model result ≡ terms.NumberTerm (place_of (number_label literal.now)) (number_value (number_label literal.now)) }
+{
+    Term::number(literal.place, number_value(literal))
+}
+
+fn string(alloc: Global, literal: &StringLiteral) -> Result<Term, NoMemory>
+    ensures { IfOk result (λ term. term_model term ≡ terms.TextTerm (place_of (string_label literal.now)) (string_label literal.now).text) }
+{
+    let bytes = Vec::from_slice(alloc, literal.text.as_slice())?;
+    Ok(Term::text(literal.place, bytes))
+}
+
+/// What an identifier alone may be; E401 where nothing is visible under it.
+pub fn read_identifier(
+    alloc: Global,
+    names: &Names,
+    identifier: &Identifier,
+) -> Result<CheckResult<Reading>, NoMemory>
+    ensures { IfOk result (λ checked. map_ok reading_model checked ≡ named (place_of (identifier_label identifier.now)) (identifier_label identifier.now).text ((denoted names.now).visible (identifier_label identifier.now).text) (identifier_label identifier.now)) }
+{
+    let name = identifier.name.as_slice();
+    let key = Vec::from_slice(alloc, name)?;
+    named(
+        alloc,
+        identifier.place,
+        key,
+        names.visible.views(name),
+        identifier,
+    )
+}
+
+#[tactic(auto, using(al_tree::proofs::ExpressionsMade::part_selector_model, al_tree::proofs::ExpressionsMade::part_arguments_model, al_tree::proofs::ExpressionsMade::part_attribute_model, al_tree::proofs::ExpressionsMade::part_range_attribute_model, al_tree::proofs::ExpressionsMade::part_operand_model))]
+fn is_selector(part: &NamePart) -> bool
+    ensures { result ≡ is_selector (part_model part.now) }
+{
+    match part {
+        NamePart::Selector(_) => true,
+        NamePart::Arguments(_, _, _) => false,
+        NamePart::Attribute(_) => false,
+        NamePart::RangeAttribute => false,
+        NamePart::Operand(_) => false,
+    }
+}
+
+#[tactic(auto, using(al_tree::proofs::ExpressionsMade::part_selector_model, al_tree::proofs::ExpressionsMade::part_arguments_model, al_tree::proofs::ExpressionsMade::part_attribute_model, al_tree::proofs::ExpressionsMade::part_range_attribute_model, al_tree::proofs::ExpressionsMade::part_operand_model))]
+fn is_range_attribute(part: &NamePart) -> bool
+    ensures { result ≡ is_range_attribute (part_model part.now) }
+{
+    match part {
+        NamePart::Selector(_) => false,
+        NamePart::Arguments(_, _, _) => false,
+        NamePart::Attribute(_) => false,
+        NamePart::RangeAttribute => true,
+        NamePart::Operand(_) => false,
+    }
+}
+
+/// Whether it is written as a name.
+#[tactic(auto, using(crate::proofs::ReadLemmas::longer_is_name, crate::proofs::ReadLemmas::prefixed_is_name, crate::proofs::ReadLemmas::infix_is_name, crate::proofs::ReadLemmas::member_is_name, al_tree::proofs::ExpressionsMade::expression_numeric_model, al_tree::proofs::ExpressionsMade::expression_text_model, al_tree::proofs::ExpressionsMade::expression_name_model, al_tree::proofs::ExpressionsMade::expression_longer_model, al_tree::proofs::ExpressionsMade::expression_prefixed_model, al_tree::proofs::ExpressionsMade::expression_infix_model, al_tree::proofs::ExpressionsMade::expression_member_model, al_tree::proofs::ExpressionsMade::expression_group_model))]
+fn is_name(expression: &Expression) -> bool
+    ensures { result ≡ is_name (expression_model expression.now) }
+{
+    match expression {
+        Expression::Name(_) => true,
+        Expression::Longer(longer) => { is_selector(&longer.part) && is_name(&longer.prefix) }
+        Expression::Numeric(_) => false,
+        Expression::Text(_) => false,
+        Expression::Prefixed(_) => false,
+        Expression::Infix(_) => false,
+        Expression::Member(_) => false,
+        Expression::Group(_) => false,
+    }
+}
+
+/// Whether it is written as a name or a Range attribute.
+#[tactic(auto, using(crate::proofs::ReadLemmas::longer_is_range, crate::proofs::ReadLemmas::prefixed_is_range, crate::proofs::ReadLemmas::infix_is_range, crate::proofs::ReadLemmas::member_is_range, al_tree::proofs::ExpressionsMade::expression_numeric_model, al_tree::proofs::ExpressionsMade::expression_text_model, al_tree::proofs::ExpressionsMade::expression_name_model, al_tree::proofs::ExpressionsMade::expression_longer_model, al_tree::proofs::ExpressionsMade::expression_prefixed_model, al_tree::proofs::ExpressionsMade::expression_infix_model, al_tree::proofs::ExpressionsMade::expression_member_model, al_tree::proofs::ExpressionsMade::expression_group_model))]
+fn is_range(expression: &Expression) -> bool
+    ensures { result ≡ is_range (expression_model expression.now) }
+{
+    match expression {
+        Expression::Name(_) => true,
+        Expression::Longer(longer) => {
+            is_range_attribute(&longer.part)
+                || (is_selector(&longer.part) && is_name(&longer.prefix))
+        }
+        Expression::Numeric(_) => false,
+        Expression::Text(_) => false,
+        Expression::Prefixed(_) => false,
+        Expression::Infix(_) => false,
+        Expression::Member(_) => false,
+        Expression::Group(_) => false,
+    }
+}
+
+/// E404 at the first token of what is written as neither.
+#[tactic(auto, unfolding(crate::specs::Texts::unless_range))]
+fn unless_range(expression: &Expression) -> Option<Fault>
+    ensures { result ≡ unless_range (expression_model expression.now) }
+{
+    if is_range(expression) {
+        None
+    } else {
+        Some(wrong_kind(first_place(expression)))
+    }
+}
+
+/// As a range of one part.
+#[tactic(auto, unfolding(crate::specs::Texts::one_range))]
+fn as_range(
+    alloc: Global,
+    expression: &Expression,
+    checked: CheckResult<Reading>,
+) -> Result<CheckResult<SubtypeView>, NoMemory>
+    ensures { IfOk result (λ range. range ≡ one_range (expression_model expression.now) (map_ok reading_model checked)) }
+{
+    let checked = as_single(alloc, checked)?;
+    Ok(unless(unless_range(expression), checked))
+}
+
+/// What an expression may be, until what stands round it is known; E401 or E404 where a name in it has one.
+#[cycle(text)]
+#[tactic(auto, using(crate::proofs::ReadLemmas::number_read, crate::proofs::ReadLemmas::text_read, crate::proofs::ReadLemmas::name_read, crate::proofs::ReadLemmas::longer_read, crate::proofs::ReadLemmas::prefix_read, crate::proofs::ReadLemmas::infix_read, crate::proofs::ReadLemmas::group_read, al_tree::proofs::ExpressionsMade::expression_numeric_model, al_tree::proofs::ExpressionsMade::expression_text_model, al_tree::proofs::ExpressionsMade::expression_name_model, al_tree::proofs::ExpressionsMade::expression_longer_model, al_tree::proofs::ExpressionsMade::expression_prefixed_model, al_tree::proofs::ExpressionsMade::expression_infix_model, al_tree::proofs::ExpressionsMade::expression_member_model, al_tree::proofs::ExpressionsMade::expression_group_model))]
+pub fn read(
+    alloc: Global,
+    standard: &StandardTypes,
+    names: &Names,
+    expression: &Expression,
+) -> Result<CheckResult<Reading>, NoMemory>
+    ensures { IfOk result (λ checked. map_ok reading_model checked ≡ read (denoted names.now) (expression_model expression.now)) }
+{
+    match expression {
+        Expression::Numeric(literal) => Ok(Ok(Reading::Value(number(literal)))),
+        Expression::Text(literal) => {
+            let term = string(alloc, literal)?;
+            Ok(Ok(Reading::Value(term)))
+        }
+        Expression::Name(name) => read_identifier(alloc, names, name),
+        Expression::Longer(longer) => {
+            let name = read(alloc, standard, names, &longer.prefix)?;
+            read_part(alloc, standard, names, name, &longer.part)
+        }
+        Expression::Prefixed(prefixed) => {
+            let operand = term_of(alloc, standard, names, &prefixed.operand)?;
+            operate(alloc, names, &prefixed.operator, operand)
+        }
+        Expression::Infix(infix) => {
+            let left = term_of(alloc, standard, names, &infix.left);
+            let right = term_of(alloc, standard, names, &infix.right);
+            let (left, right) = together(left, right)?;
+            join(alloc, names, &infix.operator, left, right)
+        }
+        Expression::Member(tested) => read_member(alloc, standard, names, tested),
+        Expression::Group(group) => {
+            let term = group_term(alloc, standard, names, group)?;
+            Ok(of_value(term))
+        }
+    }
+}
+
+/// A membership test.
+#[cycle(text)]
+#[tactic(auto, using(crate::proofs::ReadLemmas::member_in_mark, crate::proofs::ReadLemmas::member_in_range))]
+fn read_member(
+    alloc: Global,
+    standard: &StandardTypes,
+    names: &Names,
+    tested: &Member,
+) -> Result<CheckResult<Reading>, NoMemory>
+    ensures { IfOk result (λ checked. map_ok reading_model checked ≡ read (denoted names.now) (member_model tested.now)) }
+{
+    let is_negated = tested.not.is_some();
+    let value = term_of(alloc, standard, names, &tested.left);
+    match &tested.high {
+        None => {
+            let range = one_range(alloc, standard, names, &tested.low);
+            let (value, range) = together(value, range)?;
+            member(alloc, is_negated, value, range)
+        }
+        Some(high) => {
+            let low = term_of(alloc, standard, names, &tested.low);
+            let high = term_of(alloc, standard, names, high);
+            let (value, (low, high)) = together(value, together(low, high))?;
+            range_member(alloc, is_negated, value, bounds(low, high))
+        }
+    }
+}
+
+/// The subtype of a mark or a Range attribute alone; E404 at the first token of what is neither.
+#[cycle(text)]
+pub fn one_range(
+    alloc: Global,
+    standard: &StandardTypes,
+    names: &Names,
+    expression: &Expression,
+) -> Result<CheckResult<SubtypeView>, NoMemory>
+    ensures { IfOk result (λ range. range ≡ one_range (expression_model expression.now) (read (denoted names.now) (expression_model expression.now))) }
+{
+    let checked = read(alloc, standard, names, expression)?;
+    as_range(alloc, expression, checked)
+}
+
+/// With a part after it.
+#[cycle(text)]
+#[tactic(auto, using(crate::proofs::ReadLemmas::selector_read, crate::proofs::ReadLemmas::argument_read, crate::proofs::ReadLemmas::arguments_read, crate::proofs::ReadLemmas::attribute_read, crate::proofs::ReadLemmas::range_attribute_read, crate::proofs::ReadLemmas::operand_read, al_tree::proofs::ExpressionsMade::part_selector_model, al_tree::proofs::ExpressionsMade::part_arguments_model, al_tree::proofs::ExpressionsMade::part_attribute_model, al_tree::proofs::ExpressionsMade::part_range_attribute_model, al_tree::proofs::ExpressionsMade::part_operand_model))]
+fn read_part(
+    alloc: Global,
+    standard: &StandardTypes,
+    names: &Names,
+    name: CheckResult<Reading>,
+    part: &NamePart,
+) -> Result<CheckResult<Reading>, NoMemory>
+    ensures { IfOk result (λ checked. map_ok reading_model checked ≡ read_part (denoted names.now) (map_ok reading_model name) (part_model part.now)) }
+{
+    match part {
+        NamePart::Selector(identifier) => select(alloc, names, identifier, name),
+        NamePart::Arguments(_, first, others) => {
+            let name = called(alloc, name);
+            match others.as_slice() {
+                [] => {
+                    let first = term_of(alloc, standard, names, first);
+                    let (name, first) = together(name, first)?;
+                    apply(alloc, name, first)
+                }
+                [_, ..] => {
+                    let first = term_of(alloc, standard, names, first)?;
+                    let all = several(alloc, standard, names, others, first);
+                    let (name, all) = together(name, all)?;
+                    apply_to(alloc, name, all)
+                }
+            }
+        }
+        NamePart::Attribute(identifier) => attribute_of(alloc, standard, identifier, name),
+        NamePart::RangeAttribute => range_attribute_of(alloc, standard, name),
+        NamePart::Operand(group) => {
+            let mark = as_mark(alloc, name);
+            let operand = group_term(alloc, standard, names, group);
+            let (mark, operand) = together(mark, operand)?;
+            qualify(alloc, mark, operand)
+        }
+    }
+}
+
+/// What stands in parentheses.
+#[cycle(text)]
+#[tactic(auto, using(crate::proofs::ReadLemmas::sole_group, crate::proofs::ReadLemmas::aggregate_group, crate::proofs::ReadLemmas::others_group, al_tree::proofs::ExpressionsMade::group_positional_model, al_tree::proofs::ExpressionsMade::group_others_aggregate_model))]
+fn group_term(
+    alloc: Global,
+    standard: &StandardTypes,
+    names: &Names,
+    group: &Group,
+) -> Result<CheckResult<Term>, NoMemory>
+    ensures { IfOk result (λ checked. map_ok term_model checked ≡ group_term (denoted names.now) (group_model group.now)) }
+{
+    match group {
+        Group::Positional(opening, first, others) => {
+            match others.as_slice() {
+                [] => {
+                    let first = term_of(alloc, standard, names, first)?;
+                    grouped(alloc, *opening, first)
+                }
+                [_, ..] => {
+                    let first = term_of(alloc, standard, names, first)?;
+                    let all = several(alloc, standard, names, others, first)?;
+                    Ok(aggregated(*opening, all))
+                }
+            }
+        }
+        Group::OthersAggregate(opening, value) => {
+            let value = term_of(alloc, standard, names, value)?;
+            repeated(alloc, *opening, value)
+        }
+    }
+}
+
+/// Several terms: the first and others.
+#[cycle(text)]
+#[tactic(auto, using(crate::proofs::ReadLemmas::none_more, crate::proofs::ReadLemmas::more_read))]
+fn several(
+    alloc: Global,
+    standard: &StandardTypes,
+    names: &Names,
+    others: &[Expression],
+    first: CheckResult<Term>,
+) -> Result<CheckResult<Vec<Term>>, NoMemory>
+    ensures { IfOk result (λ checked. map_ok all_model checked ≡ read_more (denoted names.now) (started (map_ok term_model first)) (expressions_of (map expression_model others.now))) }
+{
+    let mut done = started(alloc, first)?;
+    for next in others {
+        let term = term_of(alloc, standard, names, next);
+        let (before, term) = together(Ok(done), term)?;
+        done = added(before, term)?;
+    }
+    Ok(done)
+}
+
+/// The term of a whole text; E401 or E404 at the first of its names that isn't visible or isn't what is wanted. A chain of operators is gone down
+/// by a loop, so that it takes no more of the stack than one operator does.
+#[cycle(text)]
+pub fn term_of(
+    alloc: Global,
+    standard: &StandardTypes,
+    names: &Names,
+    expression: &Expression,
+) -> Result<CheckResult<Term>, NoMemory>
+    ensures { IfOk result (λ checked. map_ok term_model checked ≡ term_of (denoted names.now) (expression_model expression.now)) }
+{
+    let mut joints = Vec::new(alloc);
+    let mut rest = expression;
+    while let Expression::Infix(infix) = rest {
+        let right = term_of(alloc, standard, names, &infix.right)?;
+        joints.push(Joint {
+            operator: infix.operator,
+            right,
+        })?;
+        rest = &infix.left;
+    }
+    let first = read(alloc, standard, names, rest)?;
+    chained(alloc, names, joints, as_value(first))
+}
+
+/// The subtype that a mark names.
+#[tactic(auto, unfolding(crate::specs::Texts::mark_of_text))]
+pub fn mark_of_text(
+    alloc: Global,
+    standard: &StandardTypes,
+    names: &Names,
+    expression: &Expression,
+) -> Result<CheckResult<SubtypeView>, NoMemory>
+    ensures { IfOk result (λ mark. mark ≡ mark_of_text (denoted names.now) (expression_model expression.now)) }
+{
+    let checked = read(alloc, standard, names, expression)?;
+    match as_mark(alloc, checked)? {
+        Ok((_, subtype)) => Ok(Ok(subtype)),
+        Err(fault) => Ok(Err(fault)),
+    }
+}

@@ -1,0 +1,85 @@
+-- A name with one selector more.
+use Rattle.std.proofs.Common.{◌≡◌, ℕ, zero, suc, ◌<◌, List, [], ◌∷◌, ◌++◌, map, length, take, get_or, Option, Some, Result, refl, sym, ap, ◌∙◌, arith}
+use Rattle.std.specs.Prelude.{fold}
+use Rattle.al_tree_grammar.specs.Grammar.{Label}
+use Rattle.al_base_fault.specs.Judging.{next}
+use Rattle.al_base_fault.specs.declared.fault.Fault.{Fault}
+use Rattle.al_overload_keys.specs.Keys.{Denotations, dotted, key_of, key_with}
+use Rattle.al_overload_keys.specs.Places.{place_of}
+use Rattle.al_overload_lookup.specs.TextNames.{names_in, part_names, selected_names, sign_names}
+use Rattle.al_overload_lookup.specs.declared.name.TextName.{TextName}
+use Rattle.al_overload_readings.specs.Readings.{ReadTree, named, selected}
+use Rattle.al_tree_syntax.specs.ExpressionTrees.{ExpressionTree, ExpressionTree as e, PartTree as part}
+use Rattle.al_overload_terms.specs.Texts.{read, read_part}
+use Rattle.al_overload_terms_at.specs.CompoundNames.{name_text, with_selector}
+use Rattle.al_tree.specs.Lexemes.{identifier_label}
+use Rattle.al_tree.specs.declared.names.Identifier.{Identifier}
+
+folded : (x : ExpressionTree) (xs : List Identifier) (i : ℕ) (d : Identifier) → i < length xs → d ≡ get_or xs i d
+    → fold with_selector x (map identifier_label (take (suc i) xs)) ≡ with_selector (fold with_selector x (map identifier_label (take i xs))) (identifier_label d)
+folded x [] i d h here = absurd (omega arith)
+folded x (y ∷ ys) zero d h here = ap (λ (z : Identifier). with_selector x (identifier_label z)) (sym here)
+folded x (y ∷ ys) (suc i) d h here = folded (with_selector x (identifier_label y)) ys i d (omega arith) here
+
+text_more : (first : Label) (xs : List Identifier) (n i : ℕ) (d : Identifier) → n ≡ suc i → i < length xs → d ≡ get_or xs i d
+    → name_text (record { first = first; selectors = map identifier_label (take n xs) })
+    ≡ with_selector (name_text (record { first = first; selectors = map identifier_label (take i xs) })) (identifier_label d)
+unfolding name_text
+text_more first xs n i d is h here = ap (λ (k : ℕ). fold with_selector (e.Name first) (map identifier_label (take k xs))) is ∙ folded (e.Name first) xs i d h here
+
+-- its names, the key of what is selected in it next, and what it may be
+names_more : (x : ExpressionTree) (l : Label) → names_in (with_selector x l) ≡ names_in x ++ selected_names (key_of x) l.text
+unfolding names_in part_names
+names_more x l = refl
+
+read_more : (d : Denotations) (x : ExpressionTree) (l : Label) → read d (with_selector x l) ≡ next (read d x) (selected d l)
+unfolding read read_part
+read_more d x l = refl
+
+pub found_more : (first : Label) (xs : List Identifier) (n i : ℕ) (d : Identifier) (before after : List TextName) (key : List ℕ) → n ≡ suc i → i < length xs → d ≡ get_or xs i d
+    → before ≡ names_in (name_text (record { first = first; selectors = map identifier_label (take i xs) }))
+    → Some key ≡ key_of (name_text (record { first = first; selectors = map identifier_label (take i xs) }))
+    → after ≡ before ++ selected_names (Some key) (identifier_label d).text
+    → after ≡ names_in (name_text (record { first = first; selectors = map identifier_label (take n xs) }))
+found_more first xs n i d before after key is h here b k a =
+    let l = identifier_label d in
+    let x = name_text (record { first = first; selectors = map identifier_label (take i xs) }) in
+    a
+    ∙ ap (λ (ns : List TextName). ns ++ selected_names (Some key) l.text) b
+    ∙ ap (λ (o : Option (List ℕ)). names_in x ++ selected_names o l.text) k
+    ∙ sym (names_more x l)
+    ∙ ap names_in (sym (text_more first xs n i d is h here))
+
+pub key_more : (first : Label) (xs : List Identifier) (n i : ℕ) (d : Identifier) (key longer : List ℕ) → n ≡ suc i → i < length xs → d ≡ get_or xs i d
+    → Some key ≡ key_of (name_text (record { first = first; selectors = map identifier_label (take i xs) }))
+    → longer ≡ dotted key (identifier_label d).text
+    → Some longer ≡ key_of (name_text (record { first = first; selectors = map identifier_label (take n xs) }))
+key_more first xs n i d key longer is h here k a =
+    let l = identifier_label d in
+    ap (λ (b : List ℕ). Some b) a
+    ∙ ap (λ (o : Option (List ℕ)). key_with o (part.Selector l)) k
+    ∙ ap key_of (sym (text_more first xs n i d is h here))
+
+pub checked_more : (names : Denotations) (first : Label) (xs : List Identifier) (n i : ℕ) (d : Identifier) (before after : Result ReadTree Fault) → n ≡ suc i → i < length xs → d ≡ get_or xs i d
+    → before ≡ read names (name_text (record { first = first; selectors = map identifier_label (take i xs) }))
+    → after ≡ next before (selected names (identifier_label d))
+    → after ≡ read names (name_text (record { first = first; selectors = map identifier_label (take n xs) }))
+checked_more names first xs n i d before after is h here b a =
+    let l = identifier_label d in
+    a
+    ∙ ap (λ (r : Result ReadTree Fault). next r (selected names l)) b
+    ∙ sym (read_more names (name_text (record { first = first; selectors = map identifier_label (take i xs) })) l)
+    ∙ ap (read names) (sym (text_more first xs n i d is h here))
+
+-- the first identifier alone
+pub first_named : (first : Label) → names_in (name_text (record { first = first; selectors = [] })) ≡ sign_names (Some first.text)
+unfolding name_text names_in
+first_named first = refl
+
+pub first_keyed : (first : Label) → key_of (name_text (record { first = first; selectors = [] })) ≡ Some first.text
+unfolding name_text
+first_keyed first = refl
+
+pub first_read : (d : Denotations) (first : Label) → read d (name_text (record { first = first; selectors = [] })) ≡ named (place_of first) first.text (d.visible first.text) first
+unfolding name_text read
+first_read d first = refl

@@ -1,0 +1,3 @@
+pub mod FromAnswers
+pub mod Leaves
+pub mod Seen

@@ -1,0 +1,212 @@
+// Targets and sources of assignments (ARM 5.2).
+ghost use Rattle.std.specs.Prelude.{◌≡◌, IfOk, ◌++◌, [], Some};
+ghost use Rattle.al_overload_heads.specs.Parts.{nominal};
+ghost use Rattle.al_base_fault.specs.Judging.{next, map_ok, unless};
+ghost use Rattle.al_overload_label.specs.Contexts.{target_judged};
+ghost use Rattle.al_overload_name.specs.Types.{value_type};
+ghost use Rattle.al_overload.specs.declared.context.Context.TheVariants as contexts;
+ghost use Rattle.al_overload_prefixes.specs.TextsAt.{term_with_model};
+ghost use Rattle.al_query.specs.Asked.{AsksOf, by_name};
+ghost use Rattle.al_query.specs.Reads.{FromAnswers};
+ghost use Rattle.al_overload_term.specs.TermViews.{term_model};
+ghost use Rattle.al_overload_terms_at.specs.TermsAt.{term_at, text_names};
+ghost use Rattle.al_tree.specs.ExpressionViews.{expression_model};
+ghost use Rattle.al_view_typed.specs.ExpressionViews.{typed_model};
+ghost use Rattle.al_overload_values.specs.Surroundings.{site_model, site_units};
+ghost use Rattle.al_overload_values.specs.ValuesAt.{source_at, source_checked, target_at, target_part, value_at};
+ghost use Rattle.al_overload_values.specs.Words.{with_words};
+
+use crate::context::no_types;
+use crate::site::Site;
+use crate::value::value_at;
+use crate::words::take_words;
+use al_base::NoMemory;
+use al_base_fault::{CheckResult, Fault, unless};
+use al_overload::Context;
+use al_overload_heads::{Nominal, part_of};
+use al_overload_label::check_target;
+use al_overload_name::value_type;
+use al_overload_nodes::{Labeller, nothing_fits};
+use al_overload_prefixes::context_with_at;
+use al_overload_term::{Term, first_place};
+use al_overload_terms_at::term_at;
+use al_query::{Answers, Recorder};
+use al_tree::Expression;
+use al_view::{Subtype, Types};
+use al_view_typed::Typed;
+
+fn check_assigned(labeller: &Labeller, term: &Term) -> Result<CheckResult<Typed>, NoMemory>
+    ensures { IfOk result (λ checked. map_ok typed_model checked ≡ target_judged labeller.now.predefined labeller.now.own [] (term_model term.now)) }
+{
+    let types = no_types(labeller.alloc)?;
+    check_target(labeller, &types, term)
+}
+
+#[tactic(auto, using(al_overload_prefixes::proofs::Seen::seen_unless))]
+fn check_found_target(
+    labeller: &Labeller,
+    term: CheckResult<(Term, Option<Fault>)>,
+) -> Result<CheckResult<Typed>, NoMemory>
+    ensures { IfOk result (λ checked. map_ok typed_model checked ≡ next (map_ok term_with_model term) (λ w. unless w.1 (target_judged labeller.now.predefined labeller.now.own [] w.0))) }
+{
+    match term {
+        Ok((term, fault)) => {
+            let checked = check_assigned(labeller, &term);
+            drop(term);
+            Ok(unless(fault, checked?))
+        }
+        Err(fault) => Ok(Err(fault)),
+    }
+}
+
+/// What is assigned to (ARM 5.2): E406 at its first token where it is no name of a variable.
+pub fn target_at<A: Answers>(
+    site: &Site<'_>,
+    expression: &Expression,
+    word: &mut u32,
+    recorder: &mut Recorder<A>,
+) -> Result<CheckResult<Typed>, NoMemory>
+    ensures asked { recorder.new.asked ≡ recorder.old.asked }
+    ensures answered { IfOk result (λ checked. FromAnswers recorder.old.log recorder.new.log (λ t. (word.new, map_ok typed_model checked) ≡ target_at t (site_model site.now) (expression_model expression.now) word.old)) }
+    ensures asks { IfOk result (λ _. AsksOf (site_units (site_model site.now)) (by_name (text_names (expression_model expression.now))) recorder.old.log recorder.new.log) }
+{
+    let labeller = site.labeller;
+    let (scope, packages) = (site.scope, site.packages);
+    let term = context_with_at(labeller, scope, packages, expression, recorder)?;
+    let mut checked = check_found_target(labeller, term)?;
+    take_words(&mut checked, word);
+    Ok(checked)
+}
+
+/// A nominal subtype of its own.
+fn nominal(labeller: &Labeller, subtype: &Subtype, types: &Types) -> Result<Nominal, NoMemory>
+    ensures { IfOk result (λ of. of ≡ nominal types.now subtype.now) }
+{
+    let types = types.share()?;
+    let subtype = subtype.copy(labeller.alloc)?;
+    Ok(Nominal { subtype, types })
+}
+
+/// The nominal subtype of a target.
+#[tactic(auto, unfolding(crate::specs::ValuesAt::target_part))]
+fn part_in(labeller: &Labeller, term: &Term) -> Result<CheckResult<Nominal>, NoMemory>
+    ensures { IfOk result (λ checked. checked ≡ target_part (term_model term.now)) }
+{
+    match part_of(&labeller.predefined.standard, term) {
+        Some((subtype, types)) => {
+            let of = nominal(labeller, subtype, types)?;
+            Ok(Ok(of))
+        }
+        None => Ok(Err(nothing_fits(first_place(term)))),
+    }
+}
+
+fn target_part(
+    labeller: &Labeller,
+    term: CheckResult<Term>,
+) -> Result<CheckResult<Nominal>, NoMemory>
+    ensures { IfOk result (λ checked. checked ≡ next (map_ok term_model term) target_part) }
+{
+    match term {
+        Ok(term) => {
+            let checked = part_in(labeller, &term);
+            drop(term);
+            checked
+        }
+        Err(fault) => Ok(Err(fault)),
+    }
+}
+
+fn source_context(labeller: &Labeller, of: &Nominal) -> Result<Context, NoMemory>
+    ensures { IfOk result (λ context. context ≡ contexts.Source (value_type of.now.types of.now.subtype.base)) }
+{
+    let standard = &labeller.predefined.standard;
+    let of = value_type(labeller.alloc, standard, &of.types, &of.subtype.base)?;
+    Ok(Context::Source(of))
+}
+
+/// A value in that context, where an aggregate of this nominal subtype may stand.
+fn value_of<A: Answers>(
+    site: &Site<'_>,
+    of: &Nominal,
+    context: &Context,
+    value: &Expression,
+    word: &mut u32,
+    recorder: &mut Recorder<A>,
+) -> Result<CheckResult<Typed>, NoMemory>
+    ensures asked { recorder.new.asked ≡ recorder.old.asked }
+    ensures answered { IfOk result (λ checked. FromAnswers recorder.old.log recorder.new.log (λ t. (word.new, map_ok typed_model checked) ≡ value_at t (site_model site.now) context.now (Some of.now) of.now.types (expression_model value.now) word.old)) }
+    ensures asks { IfOk result (λ _. AsksOf (site_units (site_model site.now)) (by_name (text_names (expression_model value.now))) recorder.old.log recorder.new.log) }
+{
+    let allowed = Some(nominal(site.labeller, &of.subtype, &of.types)?);
+    value_at(site, context, &allowed, &of.types, value, word, recorder)
+}
+
+fn source_of<A: Answers>(
+    site: &Site<'_>,
+    of: &Nominal,
+    value: &Expression,
+    word: &mut u32,
+    recorder: &mut Recorder<A>,
+) -> Result<CheckResult<Typed>, NoMemory>
+    ensures asked { recorder.new.asked ≡ recorder.old.asked }
+    ensures answered { IfOk result (λ checked. FromAnswers recorder.old.log recorder.new.log (λ t. (word.new, map_ok typed_model checked) ≡ with_words word.old (source_checked t (site_model site.now) (expression_model value.now) of.now))) }
+    ensures asks { IfOk result (λ _. AsksOf (site_units (site_model site.now)) (by_name (text_names (expression_model value.now))) recorder.old.log recorder.new.log) }
+{
+    let context = source_context(site.labeller, of)?;
+    value_of(site, of, &context, value, word, recorder)
+}
+
+fn source_in<A: Answers>(
+    site: &Site<'_>,
+    of: CheckResult<Nominal>,
+    value: &Expression,
+    word: &mut u32,
+    recorder: &mut Recorder<A>,
+) -> Result<CheckResult<Typed>, NoMemory>
+    ensures asked { recorder.new.asked ≡ recorder.old.asked }
+    ensures answered { IfOk result (λ checked. FromAnswers recorder.old.log recorder.new.log (λ t. (word.new, map_ok typed_model checked) ≡ with_words word.old (next of (source_checked t (site_model site.now) (expression_model value.now))))) }
+    ensures asks { IfOk result (λ _. AsksOf (site_units (site_model site.now)) (by_name (text_names (expression_model value.now))) recorder.old.log recorder.new.log) }
+{
+    match of {
+        Ok(of) => {
+            let checked = source_of(site, &of, value, word, recorder);
+            drop(of);
+            checked
+        }
+        Err(fault) => Ok(Err(fault)),
+    }
+}
+
+fn target_part_at<A: Answers>(
+    site: &Site<'_>,
+    target: &Expression,
+    recorder: &mut Recorder<A>,
+) -> Result<CheckResult<Nominal>, NoMemory>
+    ensures asked { recorder.new.asked ≡ recorder.old.asked }
+    ensures answered { IfOk result (λ checked. FromAnswers recorder.old.log recorder.new.log (λ t. checked ≡ next (term_at t (site_model site.now).place (site_model site.now).packages (expression_model target.now)) target_part)) }
+    ensures asks { IfOk result (λ _. AsksOf (site_units (site_model site.now)) (by_name (text_names (expression_model target.now))) recorder.old.log recorder.new.log) }
+{
+    let labeller = site.labeller;
+    let standard = &labeller.predefined.standard;
+    let (scope, packages) = (site.scope, site.packages);
+    let term = term_at(labeller.alloc, standard, scope, packages, target, recorder)?;
+    target_part(labeller, term)
+}
+
+/// What is assigned to this target (ARM 5.2), which is wanted at the type of the target's nominal subtype; an aggregate of that may stand
+/// there.
+pub fn source_at<A: Answers>(
+    site: &Site<'_>,
+    target: &Expression,
+    value: &Expression,
+    word: &mut u32,
+    recorder: &mut Recorder<A>,
+) -> Result<CheckResult<Typed>, NoMemory>
+    ensures asked { recorder.new.asked ≡ recorder.old.asked }
+    ensures answered { IfOk result (λ checked. FromAnswers recorder.old.log recorder.new.log (λ t. (word.new, map_ok typed_model checked) ≡ source_at t (site_model site.now) (expression_model target.now) (expression_model value.now) word.old)) }
+    ensures asks { IfOk result (λ _. AsksOf (site_units (site_model site.now)) (by_name (text_names (expression_model target.now) ++ text_names (expression_model value.now))) recorder.old.log recorder.new.log) }
+{
+    let of = target_part_at(site, target, recorder)?;
+    source_in(site, of, value, word, recorder)
+}

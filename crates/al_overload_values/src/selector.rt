@@ -1,0 +1,73 @@
+// Selectors of case statements (ARM 5.4).
+ghost use Rattle.std.specs.Prelude.{◌≡◌, IfOk};
+ghost use Rattle.al_base_fault.specs.Judging.{next, map_ok, unless};
+ghost use Rattle.al_overload_label.specs.Ranges.{selector_checked};
+ghost use Rattle.al_overload_label.specs.RangesSeen.{found_model};
+ghost use Rattle.al_overload_prefixes.specs.TextsAt.{term_with_model};
+ghost use Rattle.al_query.specs.Asked.{AsksOf, by_name};
+ghost use Rattle.al_query.specs.Reads.{FromAnswers};
+ghost use Rattle.al_overload_terms_at.specs.TermsAt.{text_names};
+ghost use Rattle.al_tree.specs.ExpressionViews.{expression_model};
+ghost use Rattle.al_overload_values.specs.Surroundings.{site_model, site_units};
+ghost use Rattle.al_overload_values.specs.ValuesAt.{selector_at, selector_judged_at};
+
+use crate::site::Site;
+use crate::words::take_found_words;
+use al_base::NoMemory;
+use al_base_fault::{CheckResult, Fault, unless};
+use al_overload_label::{DeterminedValue, check_selector};
+use al_overload_nodes::Labeller;
+use al_overload_prefixes::context_with_at;
+use al_overload_term::Term;
+use al_query::{Answers, Recorder};
+use al_tree::Expression;
+
+#[tactic(auto, using(al_overload_prefixes::proofs::Seen::seen_unless))]
+fn check_found(
+    labeller: &Labeller,
+    term: CheckResult<(Term, Option<Fault>)>,
+) -> Result<CheckResult<DeterminedValue>, NoMemory>
+    ensures { IfOk result (λ checked. map_ok found_model checked ≡ next (map_ok term_with_model term) (λ w. unless w.1 (selector_checked labeller.now.predefined labeller.now.own w.0))) }
+{
+    match term {
+        Ok((term, fault)) => {
+            let checked = check_selector(labeller, &term);
+            drop(term);
+            Ok(unless(fault, checked?))
+        }
+        Err(fault) => Ok(Err(fault)),
+    }
+}
+
+/// The selector of a case statement with its type, which is the root type where it is of numbers alone (ARM 5.4(4)). Its temporaries have no
+/// words yet.
+pub fn selector_judged_at<A: Answers>(
+    site: &Site<'_>,
+    expression: &Expression,
+    recorder: &mut Recorder<A>,
+) -> Result<CheckResult<DeterminedValue>, NoMemory>
+    ensures asked { recorder.new.asked ≡ recorder.old.asked }
+    ensures answered { IfOk result (λ checked. FromAnswers recorder.old.log recorder.new.log (λ t. map_ok found_model checked ≡ selector_judged_at t (site_model site.now) (expression_model expression.now))) }
+    ensures asks { IfOk result (λ _. AsksOf (site_units (site_model site.now)) (by_name (text_names (expression_model expression.now))) recorder.old.log recorder.new.log) }
+{
+    let labeller = site.labeller;
+    let (scope, packages) = (site.scope, site.packages);
+    let term = context_with_at(labeller, scope, packages, expression, recorder)?;
+    check_found(labeller, term)
+}
+
+/// The same with the words of its temporaries, from `word` on, in which the next one stands then.
+pub fn selector_at<A: Answers>(
+    site: &Site<'_>,
+    expression: &Expression,
+    word: &mut u32,
+    recorder: &mut Recorder<A>,
+) -> Result<CheckResult<DeterminedValue>, NoMemory>
+    ensures asked { recorder.new.asked ≡ recorder.old.asked }
+    ensures answered { IfOk result (λ checked. FromAnswers recorder.old.log recorder.new.log (λ t. (word.new, map_ok found_model checked) ≡ selector_at t (site_model site.now) (expression_model expression.now) word.old)) }
+    ensures asks { IfOk result (λ _. AsksOf (site_units (site_model site.now)) (by_name (text_names (expression_model expression.now))) recorder.old.log recorder.new.log) }
+{
+    let mut checked = selector_judged_at(site, expression, recorder)?;
+    take_found_words(&mut checked, word);
+    Ok(checked)
+}

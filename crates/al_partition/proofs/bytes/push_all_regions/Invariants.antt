@@ -1,7 +1,0 @@
-use Rattle.std.proofs.Common.{◌≡◌, ◌++◌, take}
-use Rattle.std.specs.List.{flat_map}
-use Rattle.al_partition.specs.Images.{region_bytes}
-use Rattle.al_partition.proofs.bytes.push_all_regions.Given as goal
-
-abbrev pub invariant-loop-region : goal.invariant-loop-region
-invariant-loop-region l = l.out.items ≡ l.initial.out.items ++ flat_map region_bytes (take l.region-index l.regions)

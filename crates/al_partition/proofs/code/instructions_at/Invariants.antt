@@ -1,9 +1,0 @@
-use Rattle.std.proofs.Common.{length}
-use Rattle.al_partition.proofs.CodeLemmas.{CodeSoFar}
-use Rattle.al_partition.proofs.code.instructions_at.Given as goal
-
-abbrev pub invariant-instructions : goal.invariant-instructions
-invariant-instructions l = CodeSoFar l.fn.bytes l.instructions.items l.rest
-
-abbrev pub decreases-instructions : goal.decreases-instructions
-decreases-instructions l = length l.rest

@@ -1,0 +1,172 @@
+// What a unit answers to questions of it.
+ghost use Rattle.std.specs.Prelude.{◌≡◌, [], IfOk};
+ghost use Rattle.std.specs.Option.{option_copied};
+ghost use Rattle.al_query.specs.declared.answer.AnswerKind.TheVariants as answers;
+ghost use Rattle.al_view.specs.Interfaces.{views_of};
+ghost use Rattle.al_query_outcome.specs.Tables.{answer_of, before_stub, interface_of, no_answer, part_of, properties_of, property_of};
+
+use al_base::{Name, NoMemory, UnitKey};
+use al_query::{Answer, AnswerKind, Completion, ContextView, Property, Query};
+use al_view::{Interface, Part, Seq, Symbol, View, Views};
+use std::alloc::Global;
+
+/// What a unit without faults says of itself beside what it declares.
+#[derive(Drop)]
+pub struct Properties {
+    /// What it is, by its own view (ARM 10.1.1).
+    pub kind: View,
+    /// Its parent unit; none of a root unit (ARM 10.1.1(10)).
+    pub parent: Option<UnitKey>,
+    /// Whether it is a private unit (ARM 10.1.1(12)).
+    pub is_private: bool,
+    /// Its with and use clauses as resolved (ARM 10.1.2, 8.4).
+    pub context: ContextView,
+    /// Whether it needs a body (ARM 7.2(4)).
+    pub needs_body: bool,
+    /// What its body must complete (ARM 3.11.1).
+    pub completions: Seq<Completion>,
+}
+
+/// A stub (ARM 10.1.3): its name, the subprogram whose body it stands for, and what stands before it in its body, with the
+/// regions round it (ARM 10.1.3(8)).
+#[derive(Drop)]
+pub struct StubDeclarations {
+    pub stub: Name,
+    pub symbol: Symbol,
+    pub before: Interface,
+}
+
+/// What the parts of a unit declare; a part that it hasn't declares nothing.
+#[derive(Drop)]
+pub struct Parts {
+    pub visible: Interface,
+    pub private_part: Interface,
+    pub body: Interface,
+    pub stubs: Seq<StubDeclarations>,
+}
+
+/// What a unit without faults answers of its properties.
+#[derive(Drop)]
+pub struct PropertyAnswers {
+    is_private: bool,
+    needs_body: bool,
+    kind: View,
+    parent: Answer,
+    context: Answer,
+    completions: Answer,
+}
+
+/// What a unit without faults answers. It is made of what it says of itself and of what its parts declare, and of nothing
+/// else.
+#[derive(Drop)]
+pub struct UnitInterface {
+    properties: PropertyAnswers,
+    parts: Parts,
+}
+
+impl PropertyAnswers {
+    fn new(alloc: Global, properties: Properties) -> Result<PropertyAnswers, NoMemory>
+        ensures { IfOk result (λ answers. answers ≡ properties_of properties) }
+    {
+        let Properties {
+            kind,
+            parent,
+            is_private,
+            context,
+            needs_body,
+            completions,
+        } = properties;
+        let parent = Answer::new(alloc, AnswerKind::Parent(parent))?;
+        let context = Answer::new(alloc, AnswerKind::Context(context))?;
+        let completions = Answer::new(alloc, AnswerKind::Completions(completions))?;
+        Ok(PropertyAnswers {
+            is_private,
+            needs_body,
+            kind,
+            parent,
+            context,
+            completions,
+        })
+    }
+
+    /// One of the properties.
+    fn answer(&self, alloc: Global, property: Property) -> Result<Answer, NoMemory>
+        ensures { IfOk result (λ answer. answer ≡ property_of self.now property) }
+    {
+        match property {
+            Property::Kind => Answer::new(alloc, AnswerKind::Kind(self.kind.share()?)),
+            Property::Parent => self.parent.share(),
+            Property::IsPrivate => Answer::new(alloc, AnswerKind::IsPrivate(self.is_private)),
+            Property::Context => self.context.share(),
+            Property::NeedsBody => Answer::new(alloc, AnswerKind::NeedsBody(self.needs_body)),
+            Property::Completions => self.completions.share(),
+        }
+    }
+}
+
+impl Parts {
+    /// The views of a name in a part, in text order; none where the part doesn't declare it, or isn't there.
+    fn views(&self, part: &Part, name: &[u8]) -> &[View]
+        ensures { result.now ≡ views_of (part_of self.now part.now) name.now }
+    {
+        match part {
+            Part::Visible => self.visible.views(name),
+            Part::Private => self.private_part.views(name),
+            Part::Body => self.body.views(name),
+            Part::Stub(stub) => match self.before(stub.as_slice()) {
+                Some(before) => before.views(name),
+                None => &[],
+            },
+        }
+    }
+
+    /// What stands before the stub of that name, where there is one.
+    fn before(&self, name: &[u8]) -> Option<&Interface>
+        ensures { option_copied result ≡ before_stub self.now.stubs name.now }
+    {
+        let stub = self
+            .stubs
+            .as_slice()
+            .iter()
+            .find(|stub| stub.stub.as_slice() == name)?;
+        Some(&stub.before)
+    }
+}
+
+impl UnitInterface {
+    /// The answers of a unit that says this of itself and whose parts declare this.
+    pub fn new(
+        alloc: Global,
+        properties: Properties,
+        parts: Parts,
+    ) -> Result<UnitInterface, NoMemory>
+        ensures { IfOk result (λ interface. interface ≡ interface_of properties parts) }
+    {
+        let properties = PropertyAnswers::new(alloc, properties)?;
+        Ok(UnitInterface { properties, parts })
+    }
+
+    /// The answer to a question of the unit.
+    pub fn answer(&self, alloc: Global, query: &Query) -> Result<Answer, NoMemory>
+        ensures { IfOk result (λ answer. answer ≡ answer_of self.now query.now) }
+    {
+        match query {
+            Query::Named { part, name, .. } => {
+                let mut views = Views::new(alloc);
+                views.append(self.parts.views(part, name.as_slice()))?;
+                Answer::new(alloc, AnswerKind::Views(views))
+            }
+            Query::Of { property, .. } => self.properties.answer(alloc, *property),
+        }
+    }
+}
+
+/// The answer to a question of a unit that has faults, or that isn't there: no views, no property.
+pub fn no_answer(alloc: Global, query: &Query) -> Result<Answer, NoMemory>
+    ensures { IfOk result (λ answer. answer ≡ no_answer query.now) }
+{
+    match query {
+        Query::Named { .. } => Answer::new(alloc, AnswerKind::Views(Views::new(alloc))),
+        Query::Of { .. } => Answer::new(alloc, AnswerKind::Nothing),
+    }
+}

@@ -1,6 +1,0 @@
-//! What is told of a build, by what it gave: what is wrong with the files, the order of elaboration, the program.
-#![tactic(auto)]
-
-mod gave;
-
-pub use gave::{diagnostics_of, files_told, order_of, program_of};

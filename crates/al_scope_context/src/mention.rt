@@ -1,0 +1,164 @@
+// Library units that are mentioned at a place (ARM 10.1.2(6)).
+ghost use Rattle.std.specs.Prelude.{◌≡◌, ◌∷◌, [], ◌++◌, fold, IfOk, OnOk, Some, if◌then◌else◌};
+ghost use Rattle.std.specs.Option.{option_copied};
+ghost use Rattle.al_base.specs.declared.unit_key.UnitKind.{UnitKind};
+ghost use Rattle.al_query.specs.Answers.{declaration, own_view_of};
+ghost use Rattle.al_query.specs.Known.{has_unit};
+ghost use Rattle.al_query.specs.Reads.{FromAnswers};
+ghost use Rattle.al_query.specs.declared.query.Property.TheVariants.{Kind};
+ghost use Rattle.al_query.specs.declared.query.Query.TheVariants.{Of};
+ghost use Rattle.al_scope_unit.specs.UnitPlaces.{is_package_view};
+ghost use Rattle.al_scope_context.specs.Contexts.{Mentioned, all_mentioned, library_view, mentioned, packaged, view_or};
+
+use al_base::{Name, NoMemory, UnitKey, UnitKind};
+use al_query::{Answers, Property, Query, Recorder};
+use al_scope::Scope;
+use al_view::{Seq, View, ViewKind, is_unit};
+use std::alloc::Global;
+
+/// The question what the unit of that name and kind is.
+fn question(alloc: Global, name: &[u8], kind: UnitKind) -> Result<Query, NoMemory>
+    ensures { IfOk result (λ query. query ≡ Of (record { name = name.now; kind = kind }) Kind) }
+{
+    let name = Name::from_slice(alloc, name)?;
+    let unit = UnitKey { name, kind };
+    let property = Property::Kind;
+    Ok(Query::Of { unit, property })
+}
+
+/// The view once more, if there is one.
+pub fn shared(view: Option<&View>) -> Result<Option<View>, NoMemory>
+    ensures { IfOk result (λ copy. copy ≡ option_copied view.entry) }
+{
+    match view {
+        Some(view) => Ok(Some(view.share()?)),
+        None => Ok(None),
+    }
+}
+
+/// The own view of the declaration or the body of that name.
+pub fn view_of<A: Answers>(
+    alloc: Global,
+    name: &[u8],
+    kind: UnitKind,
+    recorder: &mut Recorder<A>,
+) -> Result<Option<View>, NoMemory>
+    ensures asked { recorder.new.asked ≡ recorder.old.asked }
+    ensures answered { IfOk result (λ view. FromAnswers recorder.old.log recorder.new.log (λ t. view ≡ own_view_of (t (Of (record { name = name.now; kind = kind }) Kind)))) }
+{
+    let query = question(alloc, name, kind)?;
+    let answer = recorder.ask(&query)?;
+    let view = shared(answer.own_view())?;
+    Ok(view)
+}
+
+/// The first view, or else the other one.
+fn view_or(view: Option<View>, other: Option<View>) -> Option<View>
+    ensures { result ≡ view_or view other }
+{
+    match view {
+        Some(view) => Some(view),
+        None => other,
+    }
+}
+
+/// What a library unit is by its own view: by that of its declaration, or else by that of the body that acts as one (ARM 10.1.4(4)).
+pub fn library_view<A: Answers>(
+    alloc: Global,
+    name: &[u8],
+    recorder: &mut Recorder<A>,
+) -> Result<Option<View>, NoMemory>
+    ensures asked { recorder.new.asked ≡ recorder.old.asked }
+    ensures answered { IfOk result (λ view. FromAnswers recorder.old.log recorder.new.log (λ t. view ≡ library_view t name.now)) }
+{
+    let declared = view_of(alloc, name, UnitKind::Decl, recorder)?;
+    let acting = view_of(alloc, name, UnitKind::Body, recorder)?;
+    let view = view_or(declared, acting);
+    Ok(view)
+}
+
+/// Whether it is the view of a package.
+fn is_package(view: &View) -> bool
+    ensures { result ≡ is_package_view (Some view.now) }
+{
+    matches!(view.kind(), ViewKind::OfPackage(_))
+}
+
+/// Whether the unit is among these.
+fn has_unit(units: &[UnitKey], unit: &UnitKey) -> bool
+    ensures { result ≡ has_unit units.now unit.now }
+{
+    units.iter().any(|other| is_unit(unit, other))
+}
+
+/// One package more, unless it is there.
+fn add_package(alloc: Global, name: &[u8], packages: &mut Seq<UnitKey>) -> Result<(), NoMemory>
+    ensures { OnOk result (packages.new ≡ (if has_unit packages.old (declaration name.now) then packages.old else packages.old ++ declaration name.now ∷ [])) }
+{
+    let name = Name::from_slice(alloc, name)?;
+    let kind = UnitKind::Decl;
+    let unit = UnitKey { name, kind };
+    if has_unit(packages.as_slice(), &unit) {
+        return Ok(());
+    }
+    packages.push(unit)?;
+    Ok(())
+}
+
+/// A unit with this view is mentioned, if there is one; it is one of the packages, if it is one.
+pub fn mention_view(
+    alloc: Global,
+    scope: &mut Scope,
+    packages: &mut Seq<UnitKey>,
+    name: &[u8],
+    view: &Option<View>,
+) -> Result<(), NoMemory>
+    ensures scope { OnOk result (scope.new ≡ mentioned view.now name.now scope.old) }
+    ensures packages { OnOk result (packages.new ≡ packaged view.now name.now packages.old) }
+    ensures regions { scope.new.regions ≡ scope.old.regions }
+{
+    let Some(view) = view else {
+        return Ok(());
+    };
+    scope.mention(name, view.share()?)?;
+    if is_package(view) {
+        add_package(alloc, name, packages)?;
+        return Ok(());
+    }
+    Ok(())
+}
+
+/// The unit of that name is mentioned, if it is there.
+fn mention_one<A: Answers>(
+    alloc: Global,
+    scope: &mut Scope,
+    packages: &mut Seq<UnitKey>,
+    name: &[u8],
+    recorder: &mut Recorder<A>,
+) -> Result<(), NoMemory>
+    ensures asked { recorder.new.asked ≡ recorder.old.asked }
+    ensures answered { OnOk result (FromAnswers recorder.old.log recorder.new.log (λ t. Mentioned t name.now scope.old packages.old scope.new packages.new)) }
+    ensures regions { scope.new.regions ≡ scope.old.regions }
+{
+    let view = library_view(alloc, name, recorder)?;
+    mention_view(alloc, scope, packages, name, &view)?;
+    Ok(())
+}
+
+/// The units of these names are mentioned at a place, as far as they are there, and the packages among them are known as such.
+pub fn mention_all<A: Answers>(
+    alloc: Global,
+    scope: &mut Scope,
+    packages: &mut Seq<UnitKey>,
+    names: &[Name],
+    recorder: &mut Recorder<A>,
+) -> Result<(), NoMemory>
+    ensures asked { recorder.new.asked ≡ recorder.old.asked }
+    ensures answered { OnOk result (FromAnswers recorder.old.log recorder.new.log (λ t. (scope.new, packages.new) ≡ all_mentioned t scope.old packages.old names.now)) }
+    ensures regions { scope.new.regions ≡ scope.old.regions }
+{
+    for name in names {
+        mention_one(alloc, scope, packages, name.as_slice(), recorder)?;
+    }
+    Ok(())
+}

@@ -1,8 +1,0 @@
-use Rattle.std.proofs.Common.{take}
-use Rattle.std.specs.List.{flat_map}
-use Rattle.al_view.specs.ViewUses.{view_uses}
-use Rattle.al_used.specs.Links.{Gains}
-use Rattle.al_self_check.proofs.allowed.add_all_shown.Given as goal
-
-abbrev pub invariant-loop-view : goal.invariant-loop-view
-invariant-loop-view l = Gains l.initial.set l.set (flat_map (view_uses) (take l.view-index l.views))

@@ -1,7 +1,0 @@
-use Rattle.al_self_check.specs.SelfChecks.{known_units}
-use Rattle.al_self_check.proofs.Joined.{gathered}
-use Rattle.al_self_check.proofs.tested.known_of.Goals as goal
-
-pub returns : goal.returns
-returns c =
-    gathered c.new-units.result c.add_known.new.set (known_units c.args.unit.now c.args.known.now c.args.shown.now) c.new-units.ensures c.in_ok-add_known.ensures

@@ -1,9 +1,0 @@
-use Rattle.std.proofs.Common.{append_assoc}
-use Rattle.al_served.proofs.pieces.emit_key.Goals as goal
-
-pub returns-clause-told : goal.returns-clause-told
-returns-clause-told g c = λ start before wrote.
-    let one = rw c.as_slice.ensures at (c.emit-so_far.ensures.told start before wrote) in
-    let two = c.emit-so_far-2.ensures.told start _ one in
-    let three = rw c.kind_word.ensures at (c.emit.ensures.told start _ two) in
-    simp append_assoc (simp append_assoc at three)

@@ -1,9 +1,0 @@
-// What a report speaks of.
-
-/// Which part of the last build a report prints.
-#[derive(Clone, Copy, Debug, PartialEq, Eq)]
-pub enum Subject {
-    Diagnostics,
-    Order,
-    Image,
-}

@@ -1,0 +1,7 @@
+use Rattle.al_unit.specs.Catalogs.{library_of}
+use Rattle.al_query_predefined.specs.PredefinedUnits.{predefined_answer}
+use Rattle.al_session_engine.specs.Settled.{is_settled}
+use Rattle.al_session.proofs.laws.builds_are_settled.Goals as goal
+
+pub returns : goal.returns
+returns g c = is_settled g.C.UnitCheck.meaning g.C.UnitCheck.header predefined_answer library_of

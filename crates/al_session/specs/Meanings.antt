@@ -1,0 +1,13 @@
+-- What the files of a library of Ada units mean, for a checker of units.
+use Rattle.std.specs.Prelude.{ℕ, List}
+use Rattle.al_unit_graph.specs.Headers.{Header}
+use Rattle.al_unit.specs.Catalogs.{library_of}
+use Rattle.al_entries.specs.EntryLaw.{TextMeaning}
+use Rattle.al_session_served.specs.Library.{LibraryMeaning}
+use Rattle.al_query_predefined.specs.PredefinedUnits.{predefined_answer}
+use Rattle.al_session_engine.specs.Meanings.{meaning_of}
+
+-- Compiling from nothing, over what each text is read as and what the predefined units answer. No entry that is kept and no earlier build
+-- has a part in it.
+abbrev pub library_meaning : TextMeaning → (List ℕ → Header) → LibraryMeaning
+library_meaning meaning header = meaning_of meaning header predefined_answer library_of

@@ -1,0 +1,35 @@
+// The library of a session.
+ghost use Rattle.std.specs.Prelude.{◌≡◌, IfOk};
+ghost use Rattle.al_unit_headers.specs.Headed.{ReadsHeaders};
+ghost use Rattle.al_session_served.specs.Library.{empty};
+
+use al_base::NoMemory;
+use al_engine_files::AdaFiles;
+use al_query_check::UnitCheck;
+use al_query_predefined::PredefinedUnits;
+use al_query_predefined::laws::units_are_predefined;
+use al_session_engine::Served;
+use std::alloc::Global;
+
+/// A library of Ada units over a checker: its files, what is kept of its units, and its last build.
+pub type Engine<C> = Served<AdaFiles, C, PredefinedUnits>;
+
+/// A library with no file and no build.
+///
+/// # Errors
+///
+/// `NoMemory` where memory was wanted and not given.
+pub fn new_engine<C: UnitCheck + Drop>(alloc: Global, checker: C) -> Result<Engine<C>, NoMemory>
+    requires { ReadsHeaders C.header }
+    ensures { IfOk result (λ library. library ≡ empty) }
+{
+    AdaFiles::are_read();
+    units_are_predefined();
+    match PredefinedUnits::new(alloc) {
+        Ok(predefined) => Ok(Served::new(alloc, checker, predefined)),
+        Err(NoMemory) => {
+            drop(checker);
+            Err(NoMemory)
+        }
+    }
+}

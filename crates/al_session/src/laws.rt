@@ -1,0 +1,44 @@
+// What holds of every session over Ada units, for every checker. The functions do nothing: their contracts are the laws.
+ghost use Rattle.al_session_served.specs.Library.{IsSettled};
+ghost use Rattle.al_session_served.specs.Orders.{BuildsAreRight, SessionsAreOne, SessionsAreOrdered};
+ghost use Rattle.al_session.specs.Meanings.{library_meaning};
+ghost use Rattle.al_session.specs.Reports.{ReportsAscend};
+
+use crate::engine::Engine;
+use al_engine_found_laws::laws::findings_ascend;
+use al_query_check::UnitCheck;
+
+/// What compiling files gives for a main unit is one thing, and so is what a run of its image puts out.
+pub fn builds_are_settled<C: UnitCheck>()
+    ensures { IsSettled (library_meaning C.meaning C.header) }
+{}
+
+/// A session is one thing: the input, and which commands find no memory, settle its replies, the library that it leaves and how it ends.
+pub fn sessions_are_one<C: UnitCheck>()
+    ensures { SessionsAreOne (library_meaning C.meaning C.header) }
+{
+    al_session_served::sessions_are_one::<Engine<C>>();
+}
+
+/// The names of a library's files ascend, and those of its last build's files do, whatever the commands were.
+pub fn sessions_are_ordered<C: UnitCheck>()
+    ensures { SessionsAreOrdered (library_meaning C.meaning C.header) }
+{
+    al_session_served::sessions_are_ordered::<Engine<C>>();
+}
+
+/// What the last build gave is what compiling its files from an empty library gives, whatever the commands were.
+pub fn builds_are_right<C: UnitCheck>()
+    ensures { BuildsAreRight (library_meaning C.meaning C.header) }
+{
+    al_session_served::builds_are_right::<Engine<C>>();
+}
+
+/// The diagnostics of the last build stand by file, place and code, and none twice, whatever the commands were.
+pub fn reports_ascend<C: UnitCheck>()
+    ensures { ReportsAscend C.meaning C.header }
+{
+    sessions_are_ordered::<C>();
+    builds_are_right::<C>();
+    findings_ascend();
+}

@@ -1,0 +1,19 @@
+//! A session over a library of Ada units: from the bytes of commands to the bytes of replies, for every checker of units. A build checks
+//! again what an edit reaches.
+#![tactic(auto)]
+
+mod engine;
+mod laws;
+mod memory;
+mod serving;
+mod whole;
+
+pub use al_session_served::{Ended, MAX_COMMANDS, MAX_PULLS};
+pub use al_session_stream::{Counted, Device, Fault, Sink, Source};
+pub use engine::{Engine, new_engine};
+pub use laws::{
+    builds_are_right, builds_are_settled, reports_ascend, sessions_are_one, sessions_are_ordered,
+};
+pub use memory::serve_bytes;
+pub use serving::{serve, serve_within};
+pub use whole::session;

@@ -1,0 +1,2 @@
+mod FromAnswers
+mod Building

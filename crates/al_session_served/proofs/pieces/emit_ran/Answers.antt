@@ -1,0 +1,13 @@
+use Rattle.std.proofs.Common.{append_assoc}
+use Rattle.al_session_served.proofs.pieces.emit_ran.Goals as goal
+
+pub returns-clause-adds : goal.returns-clause-adds
+returns-clause-adds g c = λ start before wrote.
+    let one = c.emit-so_far.ensures.adds start before wrote in
+    let two = rw c.as_slice-output.ensures.value at (c.emit_number-so_far.ensures.adds start _ one) in
+    let three = c.emit-so_far-2.ensures.adds start _ two in
+    let four = rw c.as_slice-output.ensures.value at (c.emit-so_far-3.ensures.adds start _ three) in
+    let five = c.emit-so_far-4.ensures.adds start _ four in
+    let six = c.emit_end-so_far.ensures.adds start _ five in
+    let seven = c.emit.ensures.adds start _ six in
+    simp append_assoc (simp append_assoc at seven)

@@ -1,0 +1,13 @@
+use Rattle.std.proofs.Common.{append_assoc}
+use Rattle.std.proofs.lemmas.List.{length-map}
+use Rattle.al_base.specs.Batch.{key_of}
+use Rattle.al_session_served.proofs.reports.emit_order.Goals as goal
+
+pub returns-clause-adds : goal.returns-clause-adds
+returns-clause-adds g c = λ start before wrote.
+    let one = c.emit-so_far.ensures.adds start before wrote in
+    let two = c.emit_number-so_far.ensures.adds start _ one in
+    let three = c.emit-so_far-2.ensures.adds start _ two in
+    let four = c.emit_keys.ensures.adds start _ three in
+    let count = length-map c.args.order.now key_of in
+    rw count (simp append_assoc (simp append_assoc at four))

@@ -1,0 +1,12 @@
+pub mod Lines
+pub mod LineSeen
+pub mod Builds
+pub mod Library
+pub mod RunReport
+pub mod Replies
+pub mod Session
+pub mod Outcomes
+pub mod ReplySeen
+pub mod Acting
+pub mod Serving
+pub mod Orders

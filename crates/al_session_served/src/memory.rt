@@ -1,0 +1,33 @@
+// A session over bytes in memory.
+ghost use Rattle.std.specs.Prelude.{◌≤◌, IfOk, IsErrOf};
+ghost use Rattle.al_session_served.specs.Library.{with_tick};
+ghost use Rattle.al_session_served.specs.Serving.{ServesBytes, StopsReadingBytes, StopsWritingBytes};
+
+use crate::library::UnitLibrary;
+use crate::serving::serve;
+use al_session_stream::{Bytes, Counted, Device};
+use std::alloc::Global;
+
+/// The replies to the commands of these bytes, of which some may find no memory. The library is that after all of them.
+///
+/// # Errors
+/// [`Device::Read`] where the session wants more calls of a reader than it may have, which 2,147,483,648 bytes at least can make: the
+/// library is that after the commands that stand whole in what was read. [`Device::Write`] where memory for a reply is refused: the
+/// library is that after its command.
+pub fn serve_bytes<L: UnitLibrary>(
+    alloc: Global,
+    library: &mut L,
+    tick: u32,
+    input: &[u8],
+) -> Result<Vec<u8>, Device>
+    requires some { 1 ≤ tick }
+    requires few { tick ≤ 10000 }
+    ensures served { IfOk result (λ replies. ServesBytes (with_tick L.meaning tick) input.now (L.state library.old) (L.state library.new) replies.items) }
+    ensures read { IsErrOf result Device.Read → StopsReadingBytes (with_tick L.meaning tick) input.now (L.state library.old) (L.state library.new) }
+    ensures write { IsErrOf result Device.Write → StopsWritingBytes (with_tick L.meaning tick) input.now (L.state library.old) (L.state library.new) }
+{
+    let mut reader = Bytes::new(input);
+    let mut writer = Counted::new(Vec::new(alloc));
+    let _ = serve(alloc, &mut reader, &mut writer, library, tick)?;
+    Ok(writer.into_inner())
+}

@@ -1,0 +1,22 @@
+// What is replied to a command.
+use crate::run::RunReport;
+use crate::subject::ReportKind;
+use al_base::{Name, Refusal, UnitKey};
+
+/// A reply. What the last build gave is written as the library holds it, so that it takes no memory.
+#[derive(Drop)]
+pub enum Reply {
+    /// No bytes.
+    Nothing,
+    /// The edit was made.
+    Done,
+    Refused(Refusal),
+    /// What the build that was just made gave.
+    LastBuild,
+    Report(ReportKind),
+    /// The files, each with its sound unit.
+    Units(Vec<(Name, Option<UnitKey>)>),
+    /// The units that are obsolete since the last build.
+    Obsolete(Vec<UnitKey>),
+    RunReport(RunReport),
+}

@@ -1,0 +1,32 @@
+// What a run gives.
+use al_base::UnitKey;
+
+/// What a program can raise (ARM 11.1).
+#[derive(Clone, Copy, Debug, PartialEq, Eq)]
+pub enum Exception {
+    Constraint,
+    Program,
+    Storage,
+}
+
+/// How a run ended.
+#[derive(Debug, Drop, PartialEq, Eq)]
+pub enum RunEnd {
+    /// The main program and all tasks are complete.
+    Finished,
+    /// Every task waits, and no step can be made.
+    Idle,
+    /// The steps that were allowed are spent.
+    Spent,
+    /// The machine has no meaning for the next step.
+    Stuck,
+    /// An exception was raised in the code of this unit, and ended the run.
+    Raised(Exception, UnitKey),
+}
+
+/// What a run put out, and how it ended.
+#[derive(Debug, Drop)]
+pub struct RunReport {
+    pub output: Vec<u8>,
+    pub ended: RunEnd,
+}

@@ -1,5 +1,0 @@
-mod Known
-mod Judged
-mod ToyFiles
-mod Predefined
-mod Results

@@ -1,5 +1,0 @@
-use Rattle.al_toy.proofs.Predefined.{are_predefined}
-use Rattle.al_toy.proofs.packages.Packages.are_predefined.Goals as goal
-
-pub returns : goal.returns
-returns c = are_predefined

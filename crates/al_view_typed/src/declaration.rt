@@ -1,0 +1,92 @@
+// What a declaration does where it stands (ARM 3.11).
+ghost use Rattle.std.specs.Prelude.{◌≡◌, map, option_map};
+ghost use Rattle.al_view_typed.specs.DeclarationTrees.{declaration_model, form_model, DeclarationFormTree as forms};
+ghost use Rattle.al_view_typed.specs.ExpressionViews.{value_model};
+
+use crate::expression::CheckedValue;
+use al_view::{ObjectPlace, Priority, Seq, Symbol};
+
+/// A declaration or body that does something where it stands, with the line of its first token.
+pub struct TypedDeclaration {
+    pub line: usize,
+    pub form: DeclarationForm,
+}
+
+impl Drop for TypedDeclaration {
+    fn drop(self) {
+        let TypedDeclaration { line: _, form: _ } = self;
+    }
+}
+
+/// The value of a component of a protected object (ARM 9.4), which has so many words from this word of its components on.
+pub struct ComponentValue {
+    pub word: u32,
+    pub words: u32,
+    pub value: CheckedValue,
+}
+
+impl Drop for ComponentValue {
+    fn drop(self) {
+        let ComponentValue {
+            word: _,
+            words: _,
+            value: _,
+        } = self;
+    }
+}
+
+/// What a declaration does.
+pub enum DeclarationForm {
+    /// Objects of so many words each, with their initial value (ARM 3.3.1); without one they begin with zeros.
+    Objects {
+        places: Seq<ObjectPlace>,
+        words: u32,
+        value: Option<CheckedValue>,
+    },
+    /// A subprogram's declaration: what tells that its body is elaborated begins with no (ARM 3.11(10)). A flag among a unit's
+    /// words does so by itself.
+    Subprogram(ObjectPlace),
+    /// A body or stub of what has a declaration of its own: its body is elaborated from here on (ARM 3.11(10), 10.1.3).
+    Elaborated(ObjectPlace),
+    /// A single task (ARM 9.1).
+    Task {
+        symbol: Symbol,
+        priority: Priority,
+    },
+    /// A single protected object (ARM 9.4), with the components that have a value, in order.
+    Protected {
+        symbol: Symbol,
+        values: Vec<ComponentValue>,
+    },
+}
+
+impl Drop for DeclarationForm {
+    fn drop(self) {
+        match self {
+            DeclarationForm::Objects {
+                places: _,
+                words: _,
+                value: _,
+            } => {}
+            DeclarationForm::Subprogram(_) => {}
+            DeclarationForm::Elaborated(_) => {}
+            DeclarationForm::Task {
+                symbol: _,
+                priority: _,
+            } => {}
+            DeclarationForm::Protected {
+                symbol: _,
+                values: _,
+            } => {}
+        }
+    }
+}
+
+impl TypedDeclaration {
+    /// A declaration with the line of its first token.
+    pub fn new(line: usize, form: DeclarationForm) -> TypedDeclaration
+        ensures { declaration_model result ≡ record { line = line; form = form_model form } }
+    {
+        TypedDeclaration { line, form }
+    }
+}
