@@ -2,7 +2,7 @@
 use Rattle.std.specs.Prelude.{ℕ, ◌==◌, List, [], ◌∷◌, Option, codes}
 use Rattle.std.specs.List.{find}
 use Rattle.al_base.specs.declared.rule.Rule.{Rule}
-use Rattle.al_base.specs.declared.rule.Rule.TheVariants.{IllegalCharacter, BadIdentifier, BadNumber, NumberTooLarge, BadString, IdentifierTooLong, Syntax, FileName, MissingUnit, DependenceCycle, PrivateChild, MissingParent, NoStub, ReservedUnit, DependsOnFaults, BodyDoesNotFit, Duplicate, MissingCompletion, NotConformant, NotStatic, OutOfLimits, NotAllowedHere, BadPragma, EndName, NoValue, NotVisible, NoInterpretation, Ambiguous, WrongKind, StaticFailure, NotAVariable, BadReturn, BadExit, BadChoices, NoReturn, NotLibraryLevel, SecondEntry, BadBarrier, OwnOperation, NotYet}
+use Rattle.al_base.specs.declared.rule.Rule.TheVariants.{IllegalCharacter, BadIdentifier, BadNumber, NumberTooLarge, BadString, IdentifierTooLong, Syntax, FileName, MissingUnit, DependenceCycle, PrivateChild, MissingParent, NoStub, ReservedUnit, DependsOnFaults, BodyDoesNotFit, Duplicate, MissingCompletion, NotConformant, NotStatic, OutOfLimits, NotAllowedHere, BadPragma, EndName, NoValue, NotComplete, NotVisible, NoInterpretation, Ambiguous, WrongKind, StaticFailure, NotAVariable, BadReturn, BadExit, BadChoices, NoReturn, NotLibraryLevel, SecondEntry, BadBarrier, OwnOperation, NotYet}
 
 unfoldable pub number_of : Rule → ℕ
 number_of IllegalCharacter = 1
@@ -30,6 +30,7 @@ number_of NotAllowedHere = 306
 number_of BadPragma = 307
 number_of EndName = 308
 number_of NoValue = 309
+number_of NotComplete = 310
 number_of NotVisible = 401
 number_of NoInterpretation = 402
 number_of Ambiguous = 403
@@ -73,6 +74,7 @@ message_of NotAllowedHere = codes "E306 not allowed here"
 message_of BadPragma = codes "E307 bad pragma"
 message_of EndName = codes "E308 end name"
 message_of NoValue = codes "E309 no value"
+message_of NotComplete = codes "E310 not complete"
 message_of NotVisible = codes "E401 not visible"
 message_of NoInterpretation = codes "E402 no interpretation"
 message_of Ambiguous = codes "E403 ambiguous"
@@ -95,7 +97,7 @@ all_rules =
     IllegalCharacter ∷ BadIdentifier ∷ BadNumber ∷ NumberTooLarge ∷ BadString ∷ IdentifierTooLong ∷ Syntax ∷
     FileName ∷ MissingUnit ∷ DependenceCycle ∷ PrivateChild ∷ MissingParent ∷ NoStub ∷ ReservedUnit ∷
     DependsOnFaults ∷ BodyDoesNotFit ∷ Duplicate ∷ MissingCompletion ∷ NotConformant ∷ NotStatic ∷
-    OutOfLimits ∷ NotAllowedHere ∷ BadPragma ∷ EndName ∷ NoValue ∷ NotVisible ∷ NoInterpretation ∷ Ambiguous ∷
+    OutOfLimits ∷ NotAllowedHere ∷ BadPragma ∷ EndName ∷ NoValue ∷ NotComplete ∷ NotVisible ∷ NoInterpretation ∷ Ambiguous ∷
     WrongKind ∷ StaticFailure ∷ NotAVariable ∷ BadReturn ∷ BadExit ∷ BadChoices ∷ NoReturn ∷ NotLibraryLevel ∷
     SecondEntry ∷ BadBarrier ∷ OwnOperation ∷ NotYet ∷ []
 

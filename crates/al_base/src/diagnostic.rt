@@ -3,11 +3,21 @@ use crate::name::Name;
 use crate::place::Place;
 
 /// One line of what a build says of the files.
-#[derive(Debug, Drop)]
+#[derive(Debug)]
 pub struct Diagnostic {
     /// The name of the file.
     pub file: Name,
     pub place: Place,
     /// The number of the rule that is broken: 401 is shown as E401.
     pub code: u16,
+}
+
+impl Drop for Diagnostic {
+    fn drop(self) {
+        let Diagnostic {
+            file: _,
+            place: _,
+            code: _,
+        } = self;
+    }
 }

@@ -10,10 +10,15 @@ use std::marker::Model;
 pub const MAX_NAME: usize = 255;
 
 /// The name of a file in at most 255 bytes. It takes no memory.
-#[derive(Drop)]
 pub struct FileKey {
     bytes: [u8; 255],
     len: usize,
+}
+
+impl Drop for FileKey {
+    fn drop(self) {
+        let FileKey { bytes: _, len: _ } = self;
+    }
 }
 
 impl Model for FileKey {

@@ -16,10 +16,15 @@ pub const MAX_FILES: usize = 4096;
 pub const MAX_TEXT: usize = 1_048_576;
 
 /// A finite map from file names to texts, in the order of the names' bytes. Copies share the texts.
-#[derive(Drop)]
 pub struct Files {
     alloc: Global,
     texts: BTreeMap<Vec<u8>, Rc<Vec<u8>>>,
+}
+
+impl Drop for Files {
+    fn drop(self) {
+        let Files { alloc: _, texts: _ } = self;
+    }
 }
 
 impl Model for Files {

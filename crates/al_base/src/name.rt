@@ -14,9 +14,15 @@ use std::hash::{Hash, Hasher};
 use std::marker::Model;
 
 /// The bytes of a name: a unit's in lower case, with dots between its identifiers, or a file's.
-#[derive(Debug, Drop)]
+#[derive(Debug)]
 pub struct Name {
     bytes: Vec<u8>,
+}
+
+impl Drop for Name {
+    fn drop(self) {
+        let Name { bytes: _ } = self;
+    }
 }
 
 impl Model for Name {

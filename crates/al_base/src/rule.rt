@@ -56,6 +56,8 @@ pub enum Rule {
     EndName,
     /// A constant without a value.
     NoValue,
+    /// A private type is used before its full declaration where that must be complete (ARM 3.11.1(8), 7.3(5), 13.14).
+    NotComplete,
     /// No declaration of an identifier is visible (ARM 8.3).
     NotVisible,
     /// No interpretation is acceptable (ARM 8.6).
@@ -89,7 +91,7 @@ pub enum Rule {
 }
 
 /// Each of them, by their numbers.
-const RULES: [Rule; 40] = [
+const RULES: [Rule; 41] = [
     Rule::IllegalCharacter,
     Rule::BadIdentifier,
     Rule::BadNumber,
@@ -115,6 +117,7 @@ const RULES: [Rule; 40] = [
     Rule::BadPragma,
     Rule::EndName,
     Rule::NoValue,
+    Rule::NotComplete,
     Rule::NotVisible,
     Rule::NoInterpretation,
     Rule::Ambiguous,
@@ -132,12 +135,13 @@ const RULES: [Rule; 40] = [
     Rule::NotYet,
 ];
 
-const NUMBERS: [u16; 40] = [
+const NUMBERS: [u16; 41] = [
     1, 2, 3, 4, 5, 6, 101, 201, 202, 203, 204, 205, 206, 207, 208, 209, 301, 302, 303, 304, 305,
-    306, 307, 308, 309, 401, 402, 403, 404, 405, 406, 501, 502, 503, 504, 601, 602, 603, 604, 700,
+    306, 307, 308, 309, 310, 401, 402, 403, 404, 405, 406, 501, 502, 503, 504, 601, 602, 603, 604,
+    700,
 ];
 
-const MESSAGES: [&[u8]; 40] = [
+const MESSAGES: [&[u8]; 41] = [
     b"E001 illegal character",
     b"E002 bad identifier",
     b"E003 bad number",
@@ -163,6 +167,7 @@ const MESSAGES: [&[u8]; 40] = [
     b"E307 bad pragma",
     b"E308 end name",
     b"E309 no value",
+    b"E310 not complete",
     b"E401 not visible",
     b"E402 no interpretation",
     b"E403 ambiguous",

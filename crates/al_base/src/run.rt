@@ -14,8 +14,17 @@ pub enum RunEnd {
 }
 
 /// What a run put out, and how it ended.
-#[derive(Debug, Drop)]
+#[derive(Debug)]
 pub struct Ran {
     pub output: Vec<u8>,
     pub ended: RunEnd,
+}
+
+impl Drop for Ran {
+    fn drop(self) {
+        let Ran {
+            output: _,
+            ended: _,
+        } = self;
+    }
 }

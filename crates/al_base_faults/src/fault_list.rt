@@ -8,13 +8,18 @@ use al_view::Seq;
 use std::alloc::{AllocError, Global};
 
 /// What is wrong with a piece of a text.
-#[derive(Drop)]
 pub struct FaultList {
     /// The faults of its statements: of each one the first rule that it breaks, without the statements inside it, which follow.
     pub faults: Seq<Fault>,
     /// The fault of a declaration, pragma or use clause, or of the end of a body or of its declarations: it ends the list, as
     /// what stands after it isn't looked at.
     pub end: Option<Fault>,
+}
+
+impl Drop for FaultList {
+    fn drop(self) {
+        let FaultList { faults: _, end: _ } = self;
+    }
 }
 
 /// Whether one place stands after another one.

@@ -7,10 +7,18 @@ use std::alloc::{AllocError, Global};
 use std::marker::Model;
 
 /// A directed graph on the numbers below a count. A clause sees the list of each node's successors.
-#[derive(Drop)]
 pub struct Graph {
     alloc: Global,
     successors: Vec<Vec<usize>>,
+}
+
+impl Drop for Graph {
+    fn drop(self) {
+        let Graph {
+            alloc: _,
+            successors: _,
+        } = self;
+    }
 }
 
 impl Model for Graph {

@@ -9,9 +9,14 @@ use al_base_graph::Graph;
 use std::alloc::{AllocError, Global};
 
 /// Nodes each of which has the next one as a predecessor, and the last one the first.
-#[derive(Drop)]
 pub struct Cycle {
     pub nodes: Vec<usize>,
+}
+
+impl Drop for Cycle {
+    fn drop(self) {
+        let Cycle { nodes: _ } = self;
+    }
 }
 
 impl Cycle {

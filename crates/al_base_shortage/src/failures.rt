@@ -7,9 +7,14 @@ use std::marker::Model;
 
 /// How often want of memory was counted, to 2^64-1. A call that keeps this count promises to raise it by one where it answers
 /// want of memory, and not to touch it elsewhere; its code raises it through `of`, over what a growth gave.
-#[derive(Drop)]
 pub struct AllocFailures {
     count: u64,
+}
+
+impl Drop for AllocFailures {
+    fn drop(self) {
+        let AllocFailures { count: _ } = self;
+    }
 }
 
 impl Model for AllocFailures {

@@ -196,6 +196,7 @@ fn rules_by_number(rt: HostRuntime) -> Result<(), Fail> {
         (101, b"E101 syntax"),
         (209, b"E209 body does not fit"),
         (309, b"E309 no value"),
+        (310, b"E310 not complete"),
         (401, b"E401 not visible"),
         (504, b"E504 no return"),
         (604, b"E604 own operation"),

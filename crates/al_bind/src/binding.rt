@@ -17,20 +17,39 @@ use al_unit_graph::Sources;
 use std::alloc::Global;
 
 /// An item that comes after another one, and why.
-#[derive(Debug, Drop)]
+#[derive(Debug)]
 pub struct Line {
     pub after: UnitKey,
     pub before: UnitKey,
     pub reason: Reason,
 }
 
+impl Drop for Line {
+    fn drop(self) {
+        let Line {
+            after: _,
+            before: _,
+            reason: _,
+        } = self;
+    }
+}
+
 /// Why a partition has no elaboration order.
-#[derive(Debug, Drop)]
+#[derive(Debug)]
 pub enum BindFault {
     /// Something is missing.
     Lacks(MissingItem),
     /// A cycle: each line's node comes after that of the next line, and the last line's after that of the first (ARM 10.2.1(17)).
     Cycle(Vec<Line>),
+}
+
+impl Drop for BindFault {
+    fn drop(self) {
+        match self {
+            BindFault::Lacks(_) => {}
+            BindFault::Cycle(_) => {}
+        }
+    }
 }
 
 // Adds the items of a node.

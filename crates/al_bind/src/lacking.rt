@@ -8,7 +8,7 @@ use al_unit_graph::Sources;
 use std::alloc::Global;
 
 /// What a partition lacks.
-#[derive(Debug, Drop)]
+#[derive(Debug)]
 pub enum MissingItem {
     /// The main unit is no procedure without parameters (ARM 10.2(7)).
     Main,
@@ -16,6 +16,16 @@ pub enum MissingItem {
     Body(Name),
     /// The subunit of this name, of a stub of a needed unit, isn't there (ARM 10.2(5)).
     Subunit(Name),
+}
+
+impl Drop for MissingItem {
+    fn drop(self) {
+        match self {
+            MissingItem::Main => {}
+            MissingItem::Body(_) => {}
+            MissingItem::Subunit(_) => {}
+        }
+    }
 }
 
 /// What a partition with this main unit lacks: its main subprogram, or else the body of the least name, or else the subunit of the

@@ -16,10 +16,15 @@ use std::alloc::Global;
 use std::cmp::Ordering;
 
 // The needed units in the order of their keys, and the nodes among them: items that go by themselves, and declarations of pairs.
-#[derive(Drop)]
 pub(crate) struct Places {
     pub(crate) keys: Vec<UnitKey>,
     pub(crate) nodes: Vec<UnitKey>,
+}
+
+impl Drop for Places {
+    fn drop(self) {
+        let Places { keys: _, nodes: _ } = self;
+    }
 }
 
 // Where an item stands among the needed units, and where its node does among the nodes.

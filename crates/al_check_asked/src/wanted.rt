@@ -12,11 +12,20 @@ use al_view::{Part, Seq, is_unit};
 
 /// Which questions may show a unit what it uses of others: of each of these units what it is, what its body must complete, and each of these
 /// names in each of its parts and before each of these stubs.
-#[derive(Drop)]
 pub struct Wanted {
     pub units: Seq<UnitKey>,
     pub stubs: Seq<Name>,
     pub names: NameSet,
+}
+
+impl Drop for Wanted {
+    fn drop(self) {
+        let Wanted {
+            units: _,
+            stubs: _,
+            names: _,
+        } = self;
+    }
 }
 
 fn is_one_of(name: &[u8], names: &[Name]) -> bool

@@ -14,7 +14,6 @@ use al_view::{Seq, is_unit};
 use std::alloc::Global;
 
 /// What a unit may ask.
-#[derive(Drop)]
 pub struct Bounds {
     /// The unit that asks, which isn't asked itself.
     pub unit: UnitKey,
@@ -22,6 +21,16 @@ pub struct Bounds {
     pub known: Seq<UnitKey>,
     /// The names that it may ask for: the words of its text.
     pub names: NameSet,
+}
+
+impl Drop for Bounds {
+    fn drop(self) {
+        let Bounds {
+            unit: _,
+            known: _,
+            names: _,
+        } = self;
+    }
 }
 
 /// Whether the first unit is the declaration of the other one's name.

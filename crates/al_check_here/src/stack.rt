@@ -7,9 +7,14 @@ use std::alloc::{AllocError, Global};
 use std::marker::Model;
 
 /// What stands round a place, outermost first, as its items alone.
-#[derive(Drop)]
 pub struct Stack<T> {
     items: Vec<T>,
+}
+
+impl<T: Drop> Drop for Stack<T> {
+    fn drop(self) {
+        let Stack { items: _ } = self;
+    }
 }
 
 impl<T> Model for Stack<T> {

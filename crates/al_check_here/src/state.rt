@@ -58,11 +58,20 @@ pub struct OpenBody {
 }
 
 /// A use clause that stands immediately in a part of the unit, and how many stubs stand before it.
-#[derive(Drop)]
 pub struct UseHere {
     pub part: Part,
     pub clause: UseClause,
     pub stubs: usize,
+}
+
+impl Drop for UseHere {
+    fn drop(self) {
+        let UseHere {
+            part: _,
+            clause: _,
+            stubs: _,
+        } = self;
+    }
 }
 
 /// The type of the range of a for loop, with the types among which it is: nothing where every unit has it. All values of the type are the parameter's where

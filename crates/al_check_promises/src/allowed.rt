@@ -16,9 +16,14 @@ use al_view_typed::TypedUnit;
 use al_view_used::{LinkSet, LinkTest, add_defines, add_shown};
 
 /// The units that a check knows of.
-#[derive(Drop)]
 pub(crate) struct Known {
     pub(crate) units: UnitSet,
+}
+
+impl Drop for Known {
+    fn drop(self) {
+        let Known { units: _ } = self;
+    }
 }
 
 impl LinkTest for Known {

@@ -27,9 +27,9 @@ pub(crate) fn not_checked(alloc: Global, unit: &UnitKey) -> Result<Checked, NoMe
 }
 
 /// The numbers of the rules that a check finds broken, and 700.
-const CODES: [u16; 24] = [
-    301, 302, 303, 304, 305, 306, 307, 308, 309, 401, 402, 403, 404, 405, 406, 501, 502, 503, 504,
-    601, 602, 603, 604, 700,
+const CODES: [u16; 25] = [
+    301, 302, 303, 304, 305, 306, 307, 308, 309, 310, 401, 402, 403, 404, 405, 406, 501, 502, 503,
+    504, 601, 602, 603, 604, 700,
 ];
 
 fn is_one_of(code: u16, codes: &[u16]) -> bool

@@ -7,17 +7,33 @@ use std::marker::Model;
 
 /// Where a symbol stands: so many bytes after the front of the unit's code, at this of its words, or as this of its
 /// protected objects.
-#[derive(Drop)]
 pub struct Address {
     pub symbol: LinkSymbol,
     pub offset: u32,
 }
 
+impl Drop for Address {
+    fn drop(self) {
+        let Address {
+            symbol: _,
+            offset: _,
+        } = self;
+    }
+}
+
 /// Where the operand of an instruction counts from the place of a symbol.
-#[derive(Drop)]
 pub struct Relocation {
     pub place: u32,
     pub symbol: LinkSymbol,
+}
+
+impl Drop for Relocation {
+    fn drop(self) {
+        let Relocation {
+            place: _,
+            symbol: _,
+        } = self;
+    }
 }
 
 /// The words of the components of a protected object in the words of its unit, and its ceiling (ARM D.3), which is 0 to 30.
@@ -40,11 +56,19 @@ pub struct Compiled {
 }
 
 /// What a unit leaves for the linker.
-#[derive(Drop)]
 pub enum Object {
     /// Its code is longer than that of any image.
     Large,
     Compiled(Compiled),
+}
+
+impl Drop for Object {
+    fn drop(self) {
+        match self {
+            Object::Large => {}
+            Object::Compiled(_) => {}
+        }
+    }
 }
 
 impl Model for Compiled {

@@ -3,15 +3,23 @@ use al_base::Name;
 use al_view::{Mode, Seq, Subtype};
 
 /// A formal parameter as it stands in a text (ARM 6.1(15)). It has no subtype where its mark has a fault of its own.
-#[derive(Drop)]
 pub struct Formal {
     pub name: Name,
     pub mode: Mode,
     pub subtype: Option<Subtype>,
 }
 
+impl Drop for Formal {
+    fn drop(self) {
+        let Formal {
+            name: _,
+            mode: _,
+            subtype: _,
+        } = self;
+    }
+}
+
 /// What a subprogram returns.
-#[derive(Drop)]
 pub enum Returned {
     /// Nothing: it is a procedure.
     NoValue,
@@ -19,15 +27,31 @@ pub enum Returned {
     Value(Option<Subtype>),
 }
 
+impl Drop for Returned {
+    fn drop(self) {
+        match self {
+            Returned::NoValue => {}
+            Returned::Value(_) => {}
+        }
+    }
+}
+
 /// A specification, without its name (ARM 6.1(4)).
-#[derive(Drop)]
 pub struct Specification {
     pub formals: Seq<Formal>,
     pub returned: Returned,
 }
 
+impl Drop for Specification {
+    fn drop(self) {
+        let Specification {
+            formals: _,
+            returned: _,
+        } = self;
+    }
+}
+
 /// What kind of body it is, without its name.
-#[derive(Drop)]
 pub enum BodyHead {
     /// Of a subprogram, or its stub (ARM 6.3, 10.1.3).
     Subprogram(Specification),
@@ -37,4 +61,15 @@ pub enum BodyHead {
     Task,
     /// Of a protected object (ARM 9.4(7)).
     Protected,
+}
+
+impl Drop for BodyHead {
+    fn drop(self) {
+        match self {
+            BodyHead::Subprogram(_) => {}
+            BodyHead::Entry => {}
+            BodyHead::Task => {}
+            BodyHead::Protected => {}
+        }
+    }
 }

@@ -14,10 +14,18 @@ use std::alloc::Global;
 use std::marker::Model;
 
 /// The declarations of a part, and of the package's declaration that it completes, that have no body yet, in text order.
-#[derive(Drop)]
 pub struct Uncompleted {
     alloc: Global,
     declared: Vec<Completion>,
+}
+
+impl Drop for Uncompleted {
+    fn drop(self) {
+        let Uncompleted {
+            alloc: _,
+            declared: _,
+        } = self;
+    }
 }
 
 impl Model for Uncompleted {

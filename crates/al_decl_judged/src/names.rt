@@ -12,10 +12,15 @@ use al_view::Seq;
 use std::alloc::Global;
 
 /// A defining name in lower case, and where it stands.
-#[derive(Drop)]
 pub struct DefiningName {
     pub name: Name,
     pub place: Place,
+}
+
+impl Drop for DefiningName {
+    fn drop(self) {
+        let DefiningName { name: _, place: _ } = self;
+    }
 }
 
 fn duplicate_at(name: &DefiningName) -> Fault

@@ -18,7 +18,6 @@ use al_view_predefined::{StandardTypes, no_names};
 use std::alloc::Global;
 
 /// What stands after the colon of an object declaration.
-#[derive(Drop)]
 pub enum ObjectType {
     /// A subtype.
     Marked(SubtypeView),
@@ -29,12 +28,33 @@ pub enum ObjectType {
     },
 }
 
+impl Drop for ObjectType {
+    fn drop(self) {
+        match self {
+            ObjectType::Marked(_) => {}
+            ObjectType::AnonymousArray {
+                index: _,
+                component: _,
+            } => {}
+        }
+    }
+}
+
 /// An object that is to be declared: its name in lower case, its symbol, which is that of an anonymous array type too, and its subtype.
-#[derive(Drop)]
 pub struct NewObject {
     pub name: Name,
     pub symbol: Symbol,
     pub subtype: SubtypeView,
+}
+
+impl Drop for NewObject {
+    fn drop(self) {
+        let NewObject {
+            name: _,
+            symbol: _,
+            subtype: _,
+        } = self;
+    }
 }
 
 /// The same subtype once more.

@@ -20,7 +20,6 @@ use al_view_typed::{DeclarationForm, TypedDeclaration};
 use std::alloc::Global;
 
 /// What a body or a stub is to the declarations before it.
-#[derive(Drop)]
 pub enum Completing {
     /// It completes the declaration that waits at this number, with its symbol and its flag: E303 where it doesn't conform.
     Declared {
@@ -31,6 +30,20 @@ pub enum Completing {
     },
     /// It completes none: E301 or E303 where it may not stand alone, else it declares its subprogram.
     Alone(Option<Fault>),
+}
+
+impl Drop for Completing {
+    fn drop(self) {
+        match self {
+            Completing::Declared {
+                at: _,
+                symbol: _,
+                flag: _,
+                fault: _,
+            } => {}
+            Completing::Alone(_) => {}
+        }
+    }
 }
 
 /// A body or stub that is right: what it declares and does where it stands, and what its code is known by.

@@ -45,10 +45,15 @@ fn add_parts(
 }
 
 /// The components so far, and the first rule that one of them breaks.
-#[derive(Drop)]
 pub struct ComponentList {
     pub parts: Seq<Part>,
     pub fault: Option<Fault>,
+}
+
+impl Drop for ComponentList {
+    fn drop(self) {
+        let ComponentList { parts: _, fault: _ } = self;
+    }
 }
 
 impl ComponentList {

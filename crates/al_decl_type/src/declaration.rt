@@ -14,10 +14,15 @@ use al_view_predefined::{of_type, operator_view};
 use std::alloc::Global;
 
 /// A declaration: its name in lower case, or the sign of an operator, and its view.
-#[derive(Drop)]
 pub struct Declaration {
     pub name: Name,
     pub view: View,
+}
+
+impl Drop for Declaration {
+    fn drop(self) {
+        let Declaration { name: _, view: _ } = self;
+    }
 }
 
 /// The symbol of the next declaration of a name in a unit.

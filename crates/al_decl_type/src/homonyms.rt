@@ -8,10 +8,18 @@ use std::alloc::Global;
 use std::marker::Model;
 
 /// How many declarations of each name stand before a place in the whole unit. A name is found without a walk.
-#[derive(Drop)]
 pub struct Homonyms {
     alloc: Global,
     by_name: IndexMap<Vec<u8>, usize>,
+}
+
+impl Drop for Homonyms {
+    fn drop(self) {
+        let Homonyms {
+            alloc: _,
+            by_name: _,
+        } = self;
+    }
 }
 
 impl Model for Homonyms {

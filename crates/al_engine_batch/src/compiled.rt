@@ -4,11 +4,20 @@ use al_bind::BindFault;
 use al_link_image::Image;
 
 /// The order in which the items of a partition are elaborated, its image and the image's bytes.
-#[derive(Drop)]
 pub struct Program {
     pub order: Vec<UnitKey>,
     pub image: Image,
     pub bytes: Vec<u8>,
+}
+
+impl Drop for Program {
+    fn drop(self) {
+        let Program {
+            order: _,
+            image: _,
+            bytes: _,
+        } = self;
+    }
 }
 
 /// What compiling gives.

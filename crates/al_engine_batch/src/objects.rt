@@ -17,10 +17,15 @@ use al_view::copied_unit;
 use std::alloc::Global;
 
 /// A unit with its object.
-#[derive(Drop)]
 pub(crate) struct UnitObject {
     pub key: UnitKey,
     pub object: Object,
+}
+
+impl Drop for UnitObject {
+    fn drop(self) {
+        let UnitObject { key: _, object: _ } = self;
+    }
 }
 
 /// Adds the object of a unit, where its check found no fault.

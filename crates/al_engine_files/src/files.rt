@@ -12,9 +12,14 @@ use std::alloc::Global;
 use std::marker::Model;
 
 /// Ada files with what the graph of units needs of them.
-#[derive(Drop)]
 pub struct AdaFiles {
     sources: Sources,
+}
+
+impl Drop for AdaFiles {
+    fn drop(self) {
+        let AdaFiles { sources: _ } = self;
+    }
 }
 
 impl Model for AdaFiles {

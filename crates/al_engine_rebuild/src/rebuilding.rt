@@ -17,12 +17,20 @@ use al_view::Seq;
 use std::alloc::Global;
 
 /// What a build gives.
-#[derive(Drop)]
 pub struct Rebuilt {
     /// What compiling the files gives for the main unit.
     pub compiled: Compiled,
     /// The units that were checked, by unit and kind.
     pub checked: Seq<UnitKey>,
+}
+
+impl Drop for Rebuilt {
+    fn drop(self) {
+        let Rebuilt {
+            compiled: _,
+            checked: _,
+        } = self;
+    }
 }
 
 /// Builds a main unit of a library: each unit is checked that is reached and has no entry for its text, or one with an answer that

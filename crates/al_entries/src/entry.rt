@@ -14,11 +14,20 @@ use std::marker::Model;
 use std::rc::Rc;
 
 /// What an entry is made of.
-#[derive(Drop)]
 struct Kept {
     text: Rc<Vec<u8>>,
     log: ReadLog,
     checked: Checked,
+}
+
+impl Drop for Kept {
+    fn drop(self) {
+        let Kept {
+            text: _,
+            log: _,
+            checked: _,
+        } = self;
+    }
 }
 
 /// The text of a unit as it was checked, each question that the check asked with its answer, and the result. An entry is

@@ -40,9 +40,14 @@ impl Text {
 }
 
 /// The bytes of a literal's name, fewer than 256 of them.
-#[derive(Drop)]
 pub struct Word {
     bytes: Vec<u8>,
+}
+
+impl Drop for Word {
+    fn drop(self) {
+        let Word { bytes: _ } = self;
+    }
 }
 
 impl Model for Word {
@@ -74,9 +79,14 @@ impl Word {
 }
 
 /// The names of literals by their numbers, fewer than 2^32 of them.
-#[derive(Drop)]
 pub struct Words {
     words: Vec<Word>,
+}
+
+impl Drop for Words {
+    fn drop(self) {
+        let Words { words: _ } = self;
+    }
 }
 
 impl Model for Words {

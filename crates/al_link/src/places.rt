@@ -17,10 +17,18 @@ use std::marker::Model;
 
 /// Where symbols stand: code in bytes of the image's code, words among all data words, protected objects by their numbers. A
 /// symbol is found without a walk.
-#[derive(Drop)]
 pub(crate) struct Places {
     alloc: Global,
     by_symbol: IndexMap<LinkSymbol, u32>,
+}
+
+impl Drop for Places {
+    fn drop(self) {
+        let Places {
+            alloc: _,
+            by_symbol: _,
+        } = self;
+    }
 }
 
 impl Model for Places {

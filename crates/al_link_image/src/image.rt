@@ -13,9 +13,14 @@ use std::alloc::Global;
 use std::marker::Model;
 
 /// The compiled code of a partition with all that its run starts from, within the limits of images.
-#[derive(Drop)]
 pub struct Image {
     parts: ImageParts,
+}
+
+impl Drop for Image {
+    fn drop(self) {
+        let Image { parts: _ } = self;
+    }
 }
 
 impl Model for Image {

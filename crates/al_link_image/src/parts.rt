@@ -10,19 +10,39 @@ pub struct Region {
 }
 
 /// The unit of an object, and where its code begins, in bytes from the front of the code.
-#[derive(Drop)]
 pub struct ImageObject {
     pub kind: UnitKind,
     pub name: Name,
     pub place: u32,
 }
 
+impl Drop for ImageObject {
+    fn drop(self) {
+        let ImageObject {
+            kind: _,
+            name: _,
+            place: _,
+        } = self;
+    }
+}
+
 /// The parts of an image, which may not yet be within its limits; the code by its bytes.
-#[derive(Drop)]
 pub struct ImageParts {
     pub tasks: u32,
     pub data_words: u32,
     pub protected: Vec<Region>,
     pub objects: Vec<ImageObject>,
     pub code: Vec<u8>,
+}
+
+impl Drop for ImageParts {
+    fn drop(self) {
+        let ImageParts {
+            tasks: _,
+            data_words: _,
+            protected: _,
+            objects: _,
+            code: _,
+        } = self;
+    }
 }

@@ -8,11 +8,20 @@ use al_overload_choice::{Expected, ValueType};
 use std::alloc::Global;
 
 /// The predefined types that contexts want (ARM A.1, D.8).
-#[derive(Drop)]
 pub struct PredefinedTypes {
     pub boolean: ValueType,
     pub integer: ValueType,
     pub time: ValueType,
+}
+
+impl Drop for PredefinedTypes {
+    fn drop(self) {
+        let PredefinedTypes {
+            boolean: _,
+            integer: _,
+            time: _,
+        } = self;
+    }
 }
 
 /// A complete context, with the type that it has from what stands around it (ARM 8.6(4 to 9)).

@@ -23,10 +23,18 @@ pub struct Candidate {
 }
 
 /// A candidate, and in how many ways its operands can be what it wants.
-#[derive(Drop)]
 pub struct Choice {
     pub candidate: Candidate,
     pub ways: Count,
+}
+
+impl Drop for Choice {
+    fn drop(self) {
+        let Choice {
+            candidate: _,
+            ways: _,
+        } = self;
+    }
 }
 
 // What stands in an inline place that no choice has taken yet.
@@ -45,9 +53,14 @@ impl MadeWith<Global> for Choice {
 }
 
 /// The candidates of a head: mostly two, which take no memory of their own.
-#[derive(Drop)]
 pub struct Choices {
     items: SmallVec<Choice, 2>,
+}
+
+impl Drop for Choices {
+    fn drop(self) {
+        let Choices { items: _ } = self;
+    }
 }
 
 impl Model for Choices {
@@ -61,16 +74,31 @@ impl Model for Choices {
 
 /// An expression inside another one: the candidates of the name, call or operator at its head, and its operands.
 #[cycle(term)]
-#[derive(Drop)]
 pub enum Term {
     Head(Choices, Terms),
 }
 
+impl Drop for Term {
+    fn drop(self) {
+        match self {
+            Term::Head(_, _) => {}
+        }
+    }
+}
+
 #[cycle(term)]
-#[derive(Drop)]
 pub enum Terms {
     NoTerms,
     MoreTerms(Box<Term>, Box<Terms>),
+}
+
+impl Drop for Terms {
+    fn drop(self) {
+        match self {
+            Terms::NoTerms => {}
+            Terms::MoreTerms(_, _) => {}
+        }
+    }
 }
 
 /// Operands, in the order of the text.
@@ -125,10 +153,18 @@ pub enum Labelled {
 }
 
 #[cycle(labelled)]
-#[derive(Drop)]
 pub enum LabelledTerms {
     NoLabelled,
     MoreLabelled(Box<Labelled>, Box<LabelledTerms>),
+}
+
+impl Drop for LabelledTerms {
+    fn drop(self) {
+        match self {
+            LabelledTerms::NoLabelled => {}
+            LabelledTerms::MoreLabelled(_, _) => {}
+        }
+    }
 }
 
 impl Choices {

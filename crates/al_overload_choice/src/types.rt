@@ -17,14 +17,21 @@ pub enum Class {
 }
 
 /// A type, by its symbol, with what its values are.
-#[derive(Drop)]
 pub struct ValueType {
     pub symbol: Symbol,
     pub class: Class,
 }
 
+impl Drop for ValueType {
+    fn drop(self) {
+        let ValueType {
+            symbol: _,
+            class: _,
+        } = self;
+    }
+}
+
 /// What a declaration gives where it stands in an expression.
-#[derive(Drop)]
 pub enum Given {
     /// No value: a procedure or an entry.
     Nothing,
@@ -36,8 +43,18 @@ pub enum Given {
     Text,
 }
 
+impl Drop for Given {
+    fn drop(self) {
+        match self {
+            Given::Nothing => {}
+            Given::Value(_) => {}
+            Given::Universal => {}
+            Given::Text => {}
+        }
+    }
+}
+
 /// What an expression is wanted to be at its place (ARM 8.6(20)).
-#[derive(Drop)]
 pub enum Expected {
     /// A call without a value.
     Nothing,
@@ -51,6 +68,19 @@ pub enum Expected {
     AnyValue,
     /// Text that is put out.
     Text,
+}
+
+impl Drop for Expected {
+    fn drop(self) {
+        match self {
+            Expected::Nothing => {}
+            Expected::Value(_) => {}
+            Expected::AnyInteger => {}
+            Expected::AnyDiscrete => {}
+            Expected::AnyValue => {}
+            Expected::Text => {}
+        }
+    }
 }
 
 impl Class {

@@ -4,9 +4,18 @@ use al_view::Symbol;
 use std::alloc::Global;
 
 /// What labels terms: what every unit has, and the protected object in whose bodies the text stands, if any.
-#[derive(Drop)]
 pub struct Labeller {
     pub alloc: Global,
     pub predefined: Predefined,
     pub own: Option<Symbol>,
+}
+
+impl Drop for Labeller {
+    fn drop(self) {
+        let Labeller {
+            alloc: _,
+            predefined: _,
+            own: _,
+        } = self;
+    }
 }

@@ -18,7 +18,6 @@ use al_view_predefined::StandardTypes;
 use std::alloc::Global;
 
 /// A range with the terms of its bounds.
-#[derive(Drop)]
 pub enum RangeTerm {
     /// A mark or a Range attribute.
     Whole(SubtypeView),
@@ -26,6 +25,16 @@ pub enum RangeTerm {
     Bounds(Term, Term),
     /// `mark range low .. high`
     Marked(SubtypeView, Term, Term),
+}
+
+impl Drop for RangeTerm {
+    fn drop(self) {
+        match self {
+            RangeTerm::Whole(_) => {}
+            RangeTerm::Bounds(_, _) => {}
+            RangeTerm::Marked(_, _, _) => {}
+        }
+    }
 }
 
 /// The terms of both bounds.

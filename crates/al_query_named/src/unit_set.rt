@@ -11,10 +11,15 @@ use std::alloc::Global;
 use std::marker::Model;
 
 /// Units, each once. A unit is found without a walk.
-#[derive(Drop)]
 pub struct UnitSet {
     alloc: Global,
     units: IndexSet<UnitKey>,
+}
+
+impl Drop for UnitSet {
+    fn drop(self) {
+        let UnitSet { alloc: _, units: _ } = self;
+    }
 }
 
 impl Model for UnitSet {

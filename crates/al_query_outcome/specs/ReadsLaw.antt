@@ -95,7 +95,7 @@ HasCode unit (Sound interface tree) = (tree.unit ≡ unit) × IsWellFormed tree
 abbrev pub is_check_code : ℕ → Bool
 is_check_code code =
     list_any (λ c. c == code)
-    (301 ∷ 302 ∷ 303 ∷ 304 ∷ 305 ∷ 306 ∷ 307 ∷ 308 ∷ 309 ∷ 401 ∷ 402 ∷ 403 ∷ 404 ∷ 405 ∷ 406 ∷ 501 ∷ 502 ∷ 503 ∷ 504
+    (301 ∷ 302 ∷ 303 ∷ 304 ∷ 305 ∷ 306 ∷ 307 ∷ 308 ∷ 309 ∷ 310 ∷ 401 ∷ 402 ∷ 403 ∷ 404 ∷ 405 ∷ 406 ∷ 501 ∷ 502 ∷ 503 ∷ 504
     ∷ 601 ∷ 602 ∷ 603 ∷ 604 ∷ 700 ∷ [])
 
 -- a fault in the unit's own file

@@ -10,12 +10,20 @@ use al_view_typed::TypedUnit;
 use std::alloc::Global;
 
 /// What the check of a unit gives.
-#[derive(Drop)]
 pub enum Checked {
     /// What is wrong with it: something at least.
     Faulty(Seq<Diagnostic>),
     /// Nothing is: what it answers to others, and its labelled tree.
     Sound(UnitInterface, TypedUnit),
+}
+
+impl Drop for Checked {
+    fn drop(self) {
+        match self {
+            Checked::Faulty(_) => {}
+            Checked::Sound(_, _) => {}
+        }
+    }
 }
 
 impl Checked {

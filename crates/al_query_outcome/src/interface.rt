@@ -29,15 +29,23 @@ pub struct Properties {
 
 /// A stub (ARM 10.1.3): its name, the subprogram whose body it stands for, and what stands before it in its body, with the
 /// regions round it (ARM 10.1.3(8)).
-#[derive(Drop)]
 pub struct StubDeclarations {
     pub stub: Name,
     pub symbol: Symbol,
     pub before: Interface,
 }
 
+impl Drop for StubDeclarations {
+    fn drop(self) {
+        let StubDeclarations {
+            stub: _,
+            symbol: _,
+            before: _,
+        } = self;
+    }
+}
+
 /// What the parts of a unit declare; a part that it hasn't declares nothing.
-#[derive(Drop)]
 pub struct Parts {
     pub visible: Interface,
     pub private_part: Interface,
@@ -45,8 +53,18 @@ pub struct Parts {
     pub stubs: Seq<StubDeclarations>,
 }
 
+impl Drop for Parts {
+    fn drop(self) {
+        let Parts {
+            visible: _,
+            private_part: _,
+            body: _,
+            stubs: _,
+        } = self;
+    }
+}
+
 /// What a unit without faults answers of its properties.
-#[derive(Drop)]
 pub struct PropertyAnswers {
     is_private: bool,
     needs_body: bool,
@@ -56,12 +74,33 @@ pub struct PropertyAnswers {
     completions: Answer,
 }
 
+impl Drop for PropertyAnswers {
+    fn drop(self) {
+        let PropertyAnswers {
+            is_private: _,
+            needs_body: _,
+            kind: _,
+            parent: _,
+            context: _,
+            completions: _,
+        } = self;
+    }
+}
+
 /// What a unit without faults answers. It is made of what it says of itself and of what its parts declare, and of nothing
 /// else.
-#[derive(Drop)]
 pub struct UnitInterface {
     properties: PropertyAnswers,
     parts: Parts,
+}
+
+impl Drop for UnitInterface {
+    fn drop(self) {
+        let UnitInterface {
+            properties: _,
+            parts: _,
+        } = self;
+    }
 }
 
 impl PropertyAnswers {

@@ -13,10 +13,18 @@ use al_view_predefined::predefined_package;
 use std::alloc::Global;
 
 /// A predefined package, and what it answers to questions.
-#[derive(Drop)]
 pub(crate) struct Package {
     pub unit: UnitKey,
     pub interface: UnitInterface,
+}
+
+impl Drop for Package {
+    fn drop(self) {
+        let Package {
+            unit: _,
+            interface: _,
+        } = self;
+    }
 }
 
 /// The declaration of this name.

@@ -13,10 +13,15 @@ use std::alloc::Global;
 use std::marker::Model;
 
 /// The packages Standard, Ada, `Ada.Text_IO` and `Ada.Real_Time`: what they answer to questions. All values of the type answer alike.
-#[derive(Drop)]
 pub struct PredefinedUnits {
     alloc: Global,
     all: Seq<Package>,
+}
+
+impl Drop for PredefinedUnits {
+    fn drop(self) {
+        let PredefinedUnits { alloc: _, all: _ } = self;
+    }
 }
 
 impl Model for PredefinedUnits {

@@ -11,10 +11,15 @@ use std::collections::BTreeSet;
 use std::marker::Model;
 
 /// Names in the order of their bytes, each once. A name is found without a walk.
-#[derive(Drop)]
 pub struct NameSet {
     alloc: Global,
     names: BTreeSet<Vec<u8>>,
+}
+
+impl Drop for NameSet {
+    fn drop(self) {
+        let NameSet { alloc: _, names: _ } = self;
+    }
 }
 
 impl Model for NameSet {

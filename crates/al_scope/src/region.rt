@@ -10,14 +10,19 @@ use al_view::{Interface, Part, Seq, Symbol, View, is_unit};
 use std::alloc::Global;
 
 /// A part of a unit.
-#[derive(Debug, Drop)]
+#[derive(Debug)]
 pub struct UnitPart {
     pub unit: UnitKey,
     pub part: Part,
 }
 
+impl Drop for UnitPart {
+    fn drop(self) {
+        let UnitPart { unit: _, part: _ } = self;
+    }
+}
+
 /// A declarative region up to a place in it (ARM 8.1).
-#[derive(Drop)]
 pub struct Region {
     /// The package, subprogram, task, protected object or entry whose region it is; none of a block, a loop or a record.
     pub construct: Option<Symbol>,
@@ -29,6 +34,18 @@ pub struct Region {
     pub begun: NameSet,
     /// The use clauses that hold in it so far, those round it too.
     pub uses: UseClauses,
+}
+
+impl Drop for Region {
+    fn drop(self) {
+        let Region {
+            construct: _,
+            parts: _,
+            declared: _,
+            begun: _,
+            uses: _,
+        } = self;
+    }
 }
 
 impl Region {

@@ -65,11 +65,20 @@ fn place_of(regions: &[Region], construct: &Symbol) -> usize
 }
 
 /// The regions round a place, outermost first, and the library units that are mentioned there.
-#[derive(Drop)]
 pub struct Scope {
     alloc: Global,
     mentioned: Interface,
     regions: Vec<Region>,
+}
+
+impl Drop for Scope {
+    fn drop(self) {
+        let Scope {
+            alloc: _,
+            mentioned: _,
+            regions: _,
+        } = self;
+    }
 }
 
 impl Model for Scope {

@@ -89,10 +89,18 @@ impl PackageUse {
 }
 
 /// Use clauses, by the names of the packages. A package is found without a walk.
-#[derive(Drop)]
 pub struct UseClauses {
     alloc: Global,
     by_package: BTreeMap<Vec<u8>, Rc<PackageUse>>,
+}
+
+impl Drop for UseClauses {
+    fn drop(self) {
+        let UseClauses {
+            alloc: _,
+            by_package: _,
+        } = self;
+    }
 }
 
 impl Model for UseClauses {

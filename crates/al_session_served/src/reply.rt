@@ -4,7 +4,6 @@ use crate::subject::ReportKind;
 use al_base::{Name, Refusal, UnitKey};
 
 /// A reply. What the last build gave is written as the library holds it, so that it takes no memory.
-#[derive(Drop)]
 pub enum Reply {
     /// No bytes.
     Nothing,
@@ -19,4 +18,19 @@ pub enum Reply {
     /// The units that are obsolete since the last build.
     Obsolete(Vec<UnitKey>),
     RunReport(RunReport),
+}
+
+impl Drop for Reply {
+    fn drop(self) {
+        match self {
+            Reply::Nothing => {}
+            Reply::Done => {}
+            Reply::Refused(_) => {}
+            Reply::LastBuild => {}
+            Reply::Report(_) => {}
+            Reply::Units(_) => {}
+            Reply::Obsolete(_) => {}
+            Reply::RunReport(_) => {}
+        }
+    }
 }

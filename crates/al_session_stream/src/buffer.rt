@@ -8,12 +8,22 @@ use crate::device::{Device, Source};
 use std::marker::Model;
 
 /// Bytes that were pulled and not yet read, and how many more pulls are allowed.
-#[derive(Drop)]
 pub struct Buffer {
     bytes: [u8; 4096],
     start: usize,
     end: usize,
     left: u64,
+}
+
+impl Drop for Buffer {
+    fn drop(self) {
+        let Buffer {
+            bytes: _,
+            start: _,
+            end: _,
+            left: _,
+        } = self;
+    }
 }
 
 impl Model for Buffer {

@@ -27,13 +27,22 @@ pub enum Chosen {
 }
 
 /// The alternatives of a case statement that are checked so far (ARM 5.4).
-#[derive(Drop)]
 pub struct CheckedAlternatives {
     /// What is wrong inside them.
     pub faults: FaultList,
     pub alternatives: Vec<Alternative>,
     /// What is done for other values.
     pub otherwise: Vec<TypedStatement>,
+}
+
+impl Drop for CheckedAlternatives {
+    fn drop(self) {
+        let CheckedAlternatives {
+            faults: _,
+            alternatives: _,
+            otherwise: _,
+        } = self;
+    }
 }
 
 fn is_others(choice: &Choice) -> bool

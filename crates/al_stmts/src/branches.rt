@@ -14,7 +14,6 @@ use al_view_typed::{Branch, StatementForm, Typed, TypedStatement};
 use std::alloc::{AllocError, Global};
 
 /// The branches of an if statement that are checked so far (ARM 5.3).
-#[derive(Drop)]
 pub struct CheckedBranches {
     /// What is wrong inside them.
     pub faults: FaultList,
@@ -23,6 +22,17 @@ pub struct CheckedBranches {
     pub branches: Vec<Branch>,
     /// What is done where no condition holds.
     pub otherwise: Vec<TypedStatement>,
+}
+
+impl Drop for CheckedBranches {
+    fn drop(self) {
+        let CheckedBranches {
+            faults: _,
+            own: _,
+            branches: _,
+            otherwise: _,
+        } = self;
+    }
 }
 
 /// One more branch, unless its condition is faulty.

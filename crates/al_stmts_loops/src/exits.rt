@@ -10,9 +10,14 @@ use std::alloc::Global;
 use std::marker::Model;
 
 /// The loops round a statement, within the body that it stands in, with their names in lower case.
-#[derive(Drop)]
 pub struct Loops {
     names: Vec<Option<Name>>,
+}
+
+impl Drop for Loops {
+    fn drop(self) {
+        let Loops { names: _ } = self;
+    }
 }
 
 impl Model for Loops {

@@ -14,10 +14,18 @@ use al_view_typed::{Typed, TypedBody};
 use std::alloc::Global;
 
 /// The branches so far, with the bodies inside them.
-#[derive(Drop)]
 pub struct WalkedBranches {
     pub branches: CheckedBranches,
     pub bodies: Vec<TypedBody>,
+}
+
+impl Drop for WalkedBranches {
+    fn drop(self) {
+        let WalkedBranches {
+            branches: _,
+            bodies: _,
+        } = self;
+    }
 }
 
 impl WalkedBranches {

@@ -18,11 +18,20 @@ use std::alloc::Global;
 use std::marker::Model;
 
 /// What stands round statements: the innermost body, and the loops in it.
-#[derive(Drop)]
 pub struct Enclosing {
     alloc: Global,
     returns: ReturnContext,
     loops: Loops,
+}
+
+impl Drop for Enclosing {
+    fn drop(self) {
+        let Enclosing {
+            alloc: _,
+            returns: _,
+            loops: _,
+        } = self;
+    }
 }
 
 impl Model for Enclosing {

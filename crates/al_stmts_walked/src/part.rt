@@ -19,11 +19,20 @@ use al_view_typed::{TypedBody, TypedDeclaration};
 use std::alloc::Global;
 
 /// Declarations that were walked over, in text order, with the bodies inside them.
-#[derive(Drop)]
 pub struct WalkedPart {
     pub faults: FaultList,
     pub declarations: Vec<TypedDeclaration>,
     pub bodies: Vec<TypedBody>,
+}
+
+impl Drop for WalkedPart {
+    fn drop(self) {
+        let WalkedPart {
+            faults: _,
+            declarations: _,
+            bodies: _,
+        } = self;
+    }
 }
 
 /// More of what declarations do, after what there is.

@@ -5,7 +5,6 @@ use std::alloc::Global;
 
 /// A running program: memory; the ready tasks in the order of their dispatch, and the others by number; how many tasks are created,
 /// whether they were made ready, and how many activations go on; the clock, in milliseconds; what was put out; how it ended, if it did.
-#[derive(Drop)]
 pub(crate) struct State {
     pub(crate) memory: Vec<i64>,
     pub(crate) ready: Vec<Task>,
@@ -17,4 +16,21 @@ pub(crate) struct State {
     pub(crate) output: Vec<u8>,
     pub(crate) ended: Option<Ending>,
     pub(crate) alloc: Global,
+}
+
+impl Drop for State {
+    fn drop(self) {
+        let State {
+            memory: _,
+            ready: _,
+            paused: _,
+            created: _,
+            gone: _,
+            activations: _,
+            clock: _,
+            output: _,
+            ended: _,
+            alloc: _,
+        } = self;
+    }
 }

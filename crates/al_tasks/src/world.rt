@@ -17,10 +17,18 @@ use std::alloc::Global;
 use std::marker::Model;
 
 /// A running program.
-#[derive(Drop)]
 pub struct World {
     program: Program,
     state: State,
+}
+
+impl Drop for World {
+    fn drop(self) {
+        let World {
+            program: _,
+            state: _,
+        } = self;
+    }
 }
 
 impl Model for World {

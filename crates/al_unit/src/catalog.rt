@@ -36,11 +36,20 @@ use std::rc::Rc;
 
 /// The files of a library, with what each of them is read as. The texts are shared with the files that it was made of, and what
 /// it holds of a file whose text hasn't changed with the catalog before.
-#[derive(Drop)]
 pub struct Catalog {
     alloc: Global,
     sources: Sources,
     readings: BTreeMap<Vec<u8>, Rc<Reading>>,
+}
+
+impl Drop for Catalog {
+    fn drop(self) {
+        let Catalog {
+            alloc: _,
+            sources: _,
+            readings: _,
+        } = self;
+    }
 }
 
 impl Model for Catalog {

@@ -12,9 +12,14 @@ use std::alloc::Global;
 use std::collections::BTreeMap;
 
 /// A number for each file, by its name.
-#[derive(Drop)]
 pub(crate) struct Numbers {
     places: BTreeMap<Vec<u8>, usize>,
+}
+
+impl Drop for Numbers {
+    fn drop(self) {
+        let Numbers { places: _ } = self;
+    }
 }
 
 impl Numbers {
@@ -104,10 +109,18 @@ pub(crate) fn graph_of(
 }
 
 /// The files whose units depend on themselves.
-#[derive(Drop)]
 pub(crate) struct Cycles {
     numbers: Numbers,
     flags: Vec<bool>,
+}
+
+impl Drop for Cycles {
+    fn drop(self) {
+        let Cycles {
+            numbers: _,
+            flags: _,
+        } = self;
+    }
 }
 
 impl Cycles {

@@ -12,10 +12,18 @@ use al_unit_graph::Sources;
 use std::alloc::Global;
 
 /// The files whose units depend on a unit that isn't sound, or on one whose file is marked.
-#[derive(Drop)]
 pub struct Dependents {
     numbers: Numbers,
     flags: Vec<bool>,
+}
+
+impl Drop for Dependents {
+    fn drop(self) {
+        let Dependents {
+            numbers: _,
+            flags: _,
+        } = self;
+    }
 }
 
 /// Whether a unit isn't in the library, or its file has a flag.

@@ -143,10 +143,15 @@ pub fn faults(
 }
 
 /// What is wrong with a file as a unit, by place and number.
-#[derive(Drop)]
 pub struct FileFaults {
     pub file: Name,
     pub faults: Vec<Diagnostic>,
+}
+
+impl Drop for FileFaults {
+    fn drop(self) {
+        let FileFaults { file: _, faults: _ } = self;
+    }
 }
 
 /// Adds a file's faults.

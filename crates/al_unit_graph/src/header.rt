@@ -12,14 +12,20 @@ pub enum UnitForm {
 }
 
 /// The name of a unit in lower case, and where it stands: its first identifier.
-#[derive(Debug, Drop)]
+#[derive(Debug)]
 pub struct Mention {
     pub name: Name,
     pub place: Place,
 }
 
+impl Drop for Mention {
+    fn drop(self) {
+        let Mention { name: _, place: _ } = self;
+    }
+}
+
 /// What a compilation unit says of itself.
-#[derive(Debug, Drop)]
+#[derive(Debug)]
 pub struct Header {
     /// Of a subunit with that of its parent body in front (ARM 10.1.3(8)).
     pub name: Name,
@@ -46,4 +52,24 @@ pub struct Header {
     pub has_elaborate_body: bool,
     /// A procedure without parameters, which alone can be the main unit (ARM 10.2(7)).
     pub is_parameterless_procedure: bool,
+}
+
+impl Drop for Header {
+    fn drop(self) {
+        let Header {
+            name: _,
+            place: _,
+            form: _,
+            is_private: _,
+            needs_body: _,
+            parent_body: _,
+            designator: _,
+            mentions: _,
+            stubs: _,
+            elaborate: _,
+            elaborate_all: _,
+            has_elaborate_body: _,
+            is_parameterless_procedure: _,
+        } = self;
+    }
 }

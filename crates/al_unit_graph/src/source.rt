@@ -17,7 +17,6 @@ use std::marker::Model;
 use std::rc::Rc;
 
 /// What the text of a file is read as.
-#[derive(Drop)]
 pub enum Contents {
     /// A compilation unit.
     Headed(Header),
@@ -25,18 +24,40 @@ pub enum Contents {
     Unread(Place, u16),
 }
 
+impl Drop for Contents {
+    fn drop(self) {
+        match self {
+            Contents::Headed(_) => {}
+            Contents::Unread(_, _) => {}
+        }
+    }
+}
+
 /// The text of a file, and what it is read as.
-#[derive(Drop)]
 pub struct Source {
     pub text: Rc<Vec<u8>>,
     pub contents: Contents,
 }
 
+impl Drop for Source {
+    fn drop(self) {
+        let Source {
+            text: _,
+            contents: _,
+        } = self;
+    }
+}
+
 /// The files of a library, by name. What a file holds can be shared with another library.
-#[derive(Drop)]
 pub struct Sources {
     pub(crate) alloc: Global,
     files: BTreeMap<Vec<u8>, Rc<Source>>,
+}
+
+impl Drop for Sources {
+    fn drop(self) {
+        let Sources { alloc: _, files: _ } = self;
+    }
 }
 
 impl Model for Sources {

@@ -12,10 +12,18 @@ use std::marker::Model;
 
 /// A finite map from units to values, in the order of the units: by the bytes of the names, and of one name the declaration, the
 /// body, the subunit.
-#[derive(Drop)]
 pub struct UnitMap<T> {
     alloc: Global,
     values: BTreeMap<UnitKey, T>,
+}
+
+impl<T: Drop> Drop for UnitMap<T> {
+    fn drop(self) {
+        let UnitMap {
+            alloc: _,
+            values: _,
+        } = self;
+    }
 }
 
 impl<T> Model for UnitMap<T> {

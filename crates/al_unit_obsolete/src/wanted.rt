@@ -12,12 +12,22 @@ use std::alloc::Global;
 use std::collections::BTreeMap;
 
 /// Names of files, each with its number, its place among them, and steps between the numbers.
-#[derive(Drop)]
 pub(crate) struct WantedFiles {
     alloc: Global,
     names: Vec<Name>,
     numbers: BTreeMap<Vec<u8>, usize>,
     steps: Vec<(usize, usize)>,
+}
+
+impl Drop for WantedFiles {
+    fn drop(self) {
+        let WantedFiles {
+            alloc: _,
+            names: _,
+            numbers: _,
+            steps: _,
+        } = self;
+    }
 }
 
 impl WantedFiles {

@@ -19,8 +19,14 @@ pub enum LinkKind {
 }
 
 /// A symbol for the linker: a subprogram has code and may have a flag beside it, and both go by the one symbol.
-#[derive(Drop, PartialEq, Eq, PartialOrd, Ord, Hash)]
+#[derive(PartialEq, Eq, PartialOrd, Ord, Hash)]
 pub struct LinkSymbol {
     pub symbol: Symbol,
     pub kind: LinkKind,
+}
+
+impl Drop for LinkSymbol {
+    fn drop(self) {
+        let LinkSymbol { symbol: _, kind: _ } = self;
+    }
 }

@@ -8,7 +8,7 @@ use std::alloc::Global;
 
 /// What a declaration of a unit is known by in every unit. A type is the one that has its symbol (ARM 3.2(1)). Symbols are
 /// ordered by unit, name and number.
-#[derive(Drop, PartialEq, Eq, PartialOrd, Ord, Hash)]
+#[derive(PartialEq, Eq, PartialOrd, Ord, Hash)]
 pub struct Symbol {
     /// The unit whose text declares it.
     pub unit: UnitKey,
@@ -16,6 +16,16 @@ pub struct Symbol {
     pub name: Name,
     /// How many declarations of that name stand before it in that unit, in all its parts and in all bodies there.
     pub number: usize,
+}
+
+impl Drop for Symbol {
+    fn drop(self) {
+        let Symbol {
+            unit: _,
+            name: _,
+            number: _,
+        } = self;
+    }
 }
 
 impl Symbol {

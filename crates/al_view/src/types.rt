@@ -31,14 +31,21 @@ pub struct Subtype {
 }
 
 /// A component of a record or of a protected object (ARM 3.8(3), 9.4).
-#[derive(Drop)]
 pub struct Component {
     pub name: Name,
     pub subtype: Subtype,
 }
 
+impl Drop for Component {
+    fn drop(self) {
+        let Component {
+            name: _,
+            subtype: _,
+        } = self;
+    }
+}
+
 /// What a type is defined as.
-#[derive(Drop)]
 pub enum TypeDefinition {
     /// An integer type with these bounds (ARM 3.5.4).
     Integer(Bounds),
@@ -54,8 +61,23 @@ pub enum TypeDefinition {
     Private,
 }
 
+impl Drop for TypeDefinition {
+    fn drop(self) {
+        match self {
+            TypeDefinition::Integer(_) => {}
+            TypeDefinition::Enumeration { literals: _ } => {}
+            TypeDefinition::Array {
+                index: _,
+                component: _,
+            } => {}
+            TypeDefinition::Record(_) => {}
+            TypeDefinition::Time => {}
+            TypeDefinition::Private => {}
+        }
+    }
+}
+
 /// How the values of a type lie in memory, in words.
-#[derive(Drop)]
 pub enum Layout {
     /// One word.
     Scalar,
@@ -67,12 +89,38 @@ pub enum Layout {
     Words(u32),
 }
 
+impl Drop for Layout {
+    fn drop(self) {
+        match self {
+            Layout::Scalar => {}
+            Layout::Array {
+                component: _,
+                words: _,
+            } => {}
+            Layout::Record {
+                offsets: _,
+                words: _,
+            } => {}
+            Layout::Words(_) => {}
+        }
+    }
+}
+
 /// A type with what it is and how its values lie.
-#[derive(Drop)]
 pub struct TypeView {
     pub symbol: Symbol,
     pub definition: TypeDefinition,
     pub layout: Layout,
+}
+
+impl Drop for TypeView {
+    fn drop(self) {
+        let TypeView {
+            symbol: _,
+            definition: _,
+            layout: _,
+        } = self;
+    }
 }
 
 impl Subtype {

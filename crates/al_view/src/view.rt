@@ -13,7 +13,6 @@ use std::rc::Rc;
 /// A declaration as other units see it. It has no name and no place: its name is the one that it was asked for by.
 /// It holds each type that it is of with its definition, through all components, each once and components first; those
 /// of Standard, which every unit has, only where it is one of them.
-#[derive(Drop)]
 pub enum ViewKind {
     /// A type (ARM 3.2.1).
     OfType(DeclaredType),
@@ -39,13 +38,38 @@ pub enum ViewKind {
     OfPackage(Symbol),
 }
 
+impl Drop for ViewKind {
+    fn drop(self) {
+        match self {
+            ViewKind::OfType(_) => {}
+            ViewKind::OfSubtype(_) => {}
+            ViewKind::OfObject(_) => {}
+            ViewKind::OfComponent => {}
+            ViewKind::OfNumber(_) => {}
+            ViewKind::OfLiteral(_) => {}
+            ViewKind::OfSubprogram(_) => {}
+            ViewKind::OfTask(_) => {}
+            ViewKind::OfProtected(_) => {}
+            ViewKind::OfPackage(_) => {}
+        }
+    }
+}
+
 /// A type where it is declared. Other views don't have the names of its literals, so that n of them aren't compared n times.
-#[derive(Drop)]
 pub struct DeclaredType {
     /// The types that it is of, itself last.
     pub types: Types,
     /// The names of its literals by position, in lower case, of an enumeration type.
     pub literals: Names,
+}
+
+impl Drop for DeclaredType {
+    fn drop(self) {
+        let DeclaredType {
+            types: _,
+            literals: _,
+        } = self;
+    }
 }
 
 /// A subtype with the types that it is of.
@@ -58,13 +82,21 @@ pub struct SubtypeView {
 }
 
 /// Where an object or a flag lies.
-#[derive(Drop)]
 pub enum ObjectPlace {
     /// In the frame of the body at this depth of nesting, 1 of the outermost, from this word on.
     Frame { depth: u32, word: u32 },
     /// In the words of a unit that the symbol stands for, from this word of them on. A protected object's symbol stands for
     /// its components, where an object is meant, and for its flag where a flag is.
     Static { symbol: Symbol, word: u32 },
+}
+
+impl Drop for ObjectPlace {
+    fn drop(self) {
+        match self {
+            ObjectPlace::Frame { depth: _, word: _ } => {}
+            ObjectPlace::Static { symbol: _, word: _ } => {}
+        }
+    }
 }
 
 impl ObjectPlace {
@@ -89,7 +121,6 @@ impl ObjectPlace {
 }
 
 /// An object.
-#[derive(Drop)]
 pub struct ObjectView {
     pub subtype: Subtype,
     pub types: Types,
@@ -100,12 +131,33 @@ pub struct ObjectView {
     pub place: ObjectPlace,
 }
 
+impl Drop for ObjectView {
+    fn drop(self) {
+        let ObjectView {
+            subtype: _,
+            types: _,
+            is_constant: _,
+            value: _,
+            place: _,
+        } = self;
+    }
+}
+
 /// An enumeration literal: its type and its position.
-#[derive(Drop)]
 pub struct LiteralView {
     pub base: Symbol,
     pub types: Types,
     pub position: u32,
+}
+
+impl Drop for LiteralView {
+    fn drop(self) {
+        let LiteralView {
+            base: _,
+            types: _,
+            position: _,
+        } = self;
+    }
 }
 
 /// The mode of a formal parameter (ARM 6.1(16)).
@@ -117,23 +169,39 @@ pub enum Mode {
 }
 
 /// A formal parameter (ARM 6.1(15)).
-#[derive(Drop)]
 pub struct Parameter {
     pub name: Name,
     pub mode: Mode,
     pub subtype: Subtype,
 }
 
+impl Drop for Parameter {
+    fn drop(self) {
+        let Parameter {
+            name: _,
+            mode: _,
+            subtype: _,
+        } = self;
+    }
+}
+
 /// A profile (ARM 6.1(20)).
-#[derive(Drop)]
 pub struct Profile {
     pub parameters: Seq<Parameter>,
     /// The result of a function.
     pub result: Option<Subtype>,
 }
 
+impl Drop for Profile {
+    fn drop(self) {
+        let Profile {
+            parameters: _,
+            result: _,
+        } = self;
+    }
+}
+
 /// What is called, and how.
-#[derive(Drop)]
 pub enum CallKind {
     /// A predefined operator (ARM 4.5), with the type that declares it (ARM 3.2.1(9), 3.2.3(6)).
     Operator { of_type: Symbol },
@@ -148,8 +216,19 @@ pub enum CallKind {
     Entry,
 }
 
+impl Drop for CallKind {
+    fn drop(self) {
+        match self {
+            CallKind::Operator { of_type: _ } => {}
+            CallKind::Subprogram { depth: _ } => {}
+            CallKind::Predefined => {}
+            CallKind::Protected => {}
+            CallKind::Entry => {}
+        }
+    }
+}
+
 /// A subprogram, an operator or an entry.
-#[derive(Drop)]
 pub struct SubprogramView {
     pub symbol: Symbol,
     pub profile: Profile,
@@ -159,23 +238,50 @@ pub struct SubprogramView {
     pub flag: Option<ObjectPlace>,
 }
 
+impl Drop for SubprogramView {
+    fn drop(self) {
+        let SubprogramView {
+            symbol: _,
+            profile: _,
+            types: _,
+            call: _,
+            flag: _,
+        } = self;
+    }
+}
+
 /// A single task.
-#[derive(Drop)]
 pub struct TaskView {
     pub symbol: Symbol,
     /// Its priority (ARM D.1).
     pub priority: Priority,
 }
 
+impl Drop for TaskView {
+    fn drop(self) {
+        let TaskView {
+            symbol: _,
+            priority: _,
+        } = self;
+    }
+}
+
 /// An operation of a protected object, by its name.
-#[derive(Drop)]
 pub struct Operation {
     pub name: Name,
     pub subprogram: SubprogramView,
 }
 
+impl Drop for Operation {
+    fn drop(self) {
+        let Operation {
+            name: _,
+            subprogram: _,
+        } = self;
+    }
+}
+
 /// A single protected object.
-#[derive(Drop)]
 pub struct ProtectedView {
     pub symbol: Symbol,
     pub operations: Seq<Operation>,
@@ -184,6 +290,18 @@ pub struct ProtectedView {
     pub types: Types,
     /// Its ceiling (ARM D.3).
     pub ceiling: Priority,
+}
+
+impl Drop for ProtectedView {
+    fn drop(self) {
+        let ProtectedView {
+            symbol: _,
+            operations: _,
+            components: _,
+            types: _,
+            ceiling: _,
+        } = self;
+    }
 }
 
 /// A view that is shared: a copy costs no more than a count.

@@ -21,9 +21,14 @@ pub const ROOT_BOUNDS: Bounds = Bounds {
 
 /// Boolean and Integer of Standard, and the root type of all integer types (ARM A.1, 3.4.1(8)): views don't hold them, as
 /// every unit has them.
-#[derive(Drop)]
 pub struct StandardTypes {
     types: Types,
+}
+
+impl Drop for StandardTypes {
+    fn drop(self) {
+        let StandardTypes { types: _ } = self;
+    }
 }
 
 impl Model for StandardTypes {

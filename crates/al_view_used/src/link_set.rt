@@ -10,7 +10,6 @@ use al_view::{LinkKind, Symbol};
 use std::alloc::Global;
 
 /// What the linker places, each once. It is found without a walk.
-#[derive(Drop)]
 pub struct LinkSet {
     code: SymbolSet,
     gates: SymbolSet,
@@ -18,6 +17,19 @@ pub struct LinkSet {
     flags: SymbolSet,
     words: SymbolSet,
     protected_objects: SymbolSet,
+}
+
+impl Drop for LinkSet {
+    fn drop(self) {
+        let LinkSet {
+            code: _,
+            gates: _,
+            entry_bodies: _,
+            flags: _,
+            words: _,
+            protected_objects: _,
+        } = self;
+    }
 }
 
 impl LinkSet {

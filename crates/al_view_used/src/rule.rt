@@ -5,11 +5,20 @@ use al_base::UnitKey;
 use al_view::{LinkKind, Symbol, is_unit};
 
 /// Which links a unit may use: these of its own, and those of others.
-#[derive(Drop)]
 pub struct LinkRule {
     pub unit: UnitKey,
     pub own: LinkSet,
     pub others: LinkSet,
+}
+
+impl Drop for LinkRule {
+    fn drop(self) {
+        let LinkRule {
+            unit: _,
+            own: _,
+            others: _,
+        } = self;
+    }
 }
 
 impl LinkTest for LinkRule {

@@ -11,10 +11,18 @@ use std::alloc::Global;
 use std::marker::Model;
 
 /// Symbols, each once. A symbol is found without a walk.
-#[derive(Drop)]
 pub(crate) struct SymbolSet {
     alloc: Global,
     symbols: IndexSet<Symbol>,
+}
+
+impl Drop for SymbolSet {
+    fn drop(self) {
+        let SymbolSet {
+            alloc: _,
+            symbols: _,
+        } = self;
+    }
 }
 
 impl Model for SymbolSet {
