@@ -73,32 +73,17 @@ impl Model for Choices {
 }
 
 /// An expression inside another one: the candidates of the name, call or operator at its head, and its operands.
+#[derive(Drop)]
 #[cycle(term)]
 pub enum Term {
     Head(Choices, Terms),
 }
 
-impl Drop for Term {
-    fn drop(self) {
-        match self {
-            Term::Head(_, _) => {}
-        }
-    }
-}
-
+#[derive(Drop)]
 #[cycle(term)]
 pub enum Terms {
     NoTerms,
     MoreTerms(Box<Term>, Box<Terms>),
-}
-
-impl Drop for Terms {
-    fn drop(self) {
-        match self {
-            Terms::NoTerms => {}
-            Terms::MoreTerms(_, _) => {}
-        }
-    }
 }
 
 /// Operands, in the order of the text.
@@ -152,19 +137,11 @@ pub enum Labelled {
     HeadAs(usize, bool, LabelledTerms),
 }
 
+#[derive(Drop)]
 #[cycle(labelled)]
 pub enum LabelledTerms {
     NoLabelled,
     MoreLabelled(Box<Labelled>, Box<LabelledTerms>),
-}
-
-impl Drop for LabelledTerms {
-    fn drop(self) {
-        match self {
-            LabelledTerms::NoLabelled => {}
-            LabelledTerms::MoreLabelled(_, _) => {}
-        }
-    }
 }
 
 impl Choices {
