@@ -26,12 +26,12 @@ at_bound : (edges told : List Edge) (count size : ℕ) (r s : Result (Vec ℕ Gl
 at_bound edges told count size r s same sized is bound = subst (λ (ts : List Edge). Bound ts count s) same (subst (λ (n : ℕ). Bound told n s) sized (subst (λ (q : Result (Vec ℕ Global) (Vec Edge Global)). Bound told size q) is bound))
 
 -- what the ties tell
-edges : (extent : Extent) (lib : Library) (main : List ℕ) (keys : List Key) (edges : List Edge) → ((t : Edge) → Contains edges t ↔ TellsWant lib main keys (WantsTold extent lib keys) t) → (t : Edge) → Contains edges t → TellsEdge lib main keys t
-edges extent lib main keys edges tells t c = tells_edge extent lib main keys t ((tells t).0 c)
+each_tells : (extent : Extent) (lib : Library) (main : List ℕ) (keys : List Key) (edges : List Edge) → ((t : Edge) → Contains edges t ↔ TellsWant lib main keys (WantsTold extent lib keys) t) → (t : Edge) → Contains edges t → TellsEdge lib main keys t
+each_tells extent lib main keys edges tells t c = tells_edge extent lib main keys t ((tells t).0 c)
 
 all_edges : (extent : Extent) (lib : Library) (main : List ℕ) (keys : List Key) (edges : List Edge) → ((t : Edge) → Contains edges t ↔ TellsWant lib main keys (WantsTold extent lib keys) t) → extent ≡ Whole → (t : Edge) → Contains edges t ↔ TellsEdge lib main keys t
 all_edges extent lib main keys edges tells is t =
-    (edges extent lib main keys edges tells t, λ edge. (tells t).1 (subst (λ (e : Extent). TellsWant lib main keys (WantsTold e lib keys) t) (sym is) (whole_tells lib main keys t edge)))
+    (each_tells extent lib main keys edges tells t, λ edge. (tells t).1 (subst (λ (e : Extent). TellsWant lib main keys (WantsTold e lib keys) t) (sym is) (whole_tells lib main keys t edge)))
 
 size_of : (nodes : List UnitKey) (those : List Key) → map key_of nodes ≡ those → length nodes ≡ length those
 size_of nodes those is = sym (length-map nodes key_of) ∙ ap (λ (ks : List Key). length ks) is
@@ -45,7 +45,7 @@ order_of_ties-requires c =
     let size = size_of places.nodes.items (nodes_among lib keys) c.requires.places.nodes in
     let count : length (nodes_among lib keys) ≡ c.len.result = grind (arith, common_steps, c.len.ensures, ok, size) in
     let edges = c.in_ok-edges.edges.items in
-    let within = ties_within lib c.args.main.now keys edges (edges c.args.extent lib c.args.main.now keys edges c.in_ok-edges.ensures) in
+    let within = ties_within lib c.args.main.now keys edges (each_tells c.args.extent lib c.args.main.now keys edges c.in_ok-edges.ensures) in
     let sized = subst (λ (n : ℕ). All (λ t. (t.after < n) × (t.before < n)) edges) count within in
     subst (λ (ts : List Edge). All (λ t. (t.after < c.len.result) × (t.before < c.len.result)) ts) (sym c.deref.ensures.value) sized
 
@@ -82,7 +82,7 @@ returns-in-Ok c =
       keys = keys;
       lists = c.requires.lists;
       order = c.in-Ok.order.items;
-      ordered = ordered_by c.args.extent lib main keys edges c.requires.lists (ties_within lib main keys edges (edges c.args.extent lib main keys edges c.in_ok-edges.ensures)) c.in_ok-edges.ensures c.in-Ok.order.items is.0;
+      ordered = ordered_by c.args.extent lib main keys edges c.requires.lists (ties_within lib main keys edges (each_tells c.args.extent lib main keys edges c.in_ok-edges.ensures)) c.in_ok-edges.ensures c.in-Ok.order.items is.0;
       items_are = items;
     }
 
@@ -93,7 +93,7 @@ lines_of-requires c =
     let edges = c.in_ok-edges.edges.items in
     let shown = c.in-Err.shown.items in
     let is : Bound edges c.len.result (Err c.in-Err.shown) = at_bound edges c.deref.result.now c.len.result c.len.result c.in_ok-order.field-0 (Err c.in-Err.shown) c.deref.ensures.value (λ i. c.len.result) c.in-Err.is c.in_ok-order.ensures in
-    let within = shown_within lib c.args.main.now (map key_of items) edges (edges c.args.extent lib c.args.main.now (map key_of items) edges c.in_ok-edges.ensures) c.len.result shown is in
+    let within = shown_within lib c.args.main.now (map key_of items) edges (each_tells c.args.extent lib c.args.main.now (map key_of items) edges c.in_ok-edges.ensures) c.len.result shown is in
     let sized = subst (λ (n : ℕ). All (λ t. (t.x < n) × (t.y < n)) shown) (length-map items key_of) within in
     let there = subst (λ (ks : List UnitKey). All (λ t. (t.x < length ks) × (t.y < length ks)) shown) (sym c.deref-in-Err.ensures.value) sized in
     subst (λ (ts : List Edge). All (λ t. (t.x < length c.deref-in-Err.result.now) × (t.y < length c.deref-in-Err.result.now)) ts) (sym c.deref-in-Err-2.ensures.value) there
