@@ -1,16 +1,25 @@
 #!/usr/bin/env python3
-"""wrong_bodies.py COMMAND ..: which wrong bodies (crates/NAME/must-fail/*.edit) the prover has refused already on this machine.
+"""wrong_bodies.py COMMAND ..: wrong bodies (*.edit), which the prover must refuse; which it has refused already on this machine.
 
-    stage FOLDER     copies the repository to the new folder FOLDER, without those wrong bodies that were refused before
-    record FOLDER    reads on standard input what `rt ci` printed in that copy, and keeps what it refused
-    try NAME ..      tries the wrong bodies of these crates that weren't refused before (`rt must-fail`), and keeps what is refused
-    beside NAME ..   the same for those beside the gate (crates/NAME/edits/*.edit)
+    apply                   whether each wrong body can be put into its crate's text (seconds)
+    stage FOLDER            copies the repository to the new folder FOLDER, without those of must-fail/ that were refused before
+    record FOLDER           reads on standard input what `rt ci` printed in that copy, and keeps what it refused
+    together FOLDER [NAME ..]
+                            tries those of edits/ that tests/wrong-bodies.txt lists, of these crates or of all, over the libraries that
+                            `rt ci` left in FOLDER, which has the same text
+    beside FOLDER NAME ..   the same for all of edits/ of these crates, listed or not
+
+`rt ci` tries those of must-fail/: there are those of crates that prove in some twenty seconds, as it proves a crate once more before it tries the first of them.
+All others are tried here, those of a crate that stand in different functions in one check of these functions (`rattle check --only`). Each must
+fail in its own function, at a goal or in its answers: that it calls another that isn't proved is no refusal, and has it tried again, in a
+check of its own.
 
 What a wrong body's verdict stands on is its own text, the files of its crate and of all crates that this one stands on but their
 tests, their lines of crates.txt, and the kit's line (`rt version`). These together are hashed: a file named by the hash says that exactly
 this was refused. The files lie in the folder that SOLBREOG_REFUSED names, by default ~/.cache/solbreog/refused; without
-it all wrong bodies are tried. Proofs are rt ci's own to keep.
+it all wrong bodies are tried. RT_JOBS says how many checks run at once.
 """
+import concurrent.futures
 import hashlib
 import json
 import os
@@ -20,7 +29,11 @@ import shutil
 import subprocess
 import sys
 
+import together
+from edits import BadEdit, edits
+
 ROOT = pathlib.Path(__file__).resolve().parent.parent
+LIST = ROOT / "tests" / "wrong-bodies.txt"
 KEPT = pathlib.Path(os.environ.get("SOLBREOG_REFUSED") or pathlib.Path.home() / ".cache" / "solbreog" / "refused")
 REFUSED = re.compile(r"(?:rt: )?must-fail (\w+)/(\S+\.edit): refused, as it must be")
 
@@ -86,7 +99,11 @@ def is_kept(key):
 
 def keep(found, text):
     """Keeps each wrong body that the text says was refused, and gives how many there are."""
-    refused = [it for it in REFUSED.findall(text) if it in found]
+    return keep_all([it for it in REFUSED.findall(text) if it in found], found)
+
+
+def keep_all(refused, found):
+    """Keeps these wrong bodies, which were refused, and gives how many there are."""
     try:
         KEPT.mkdir(parents=True, exist_ok=True)
         for it in refused:
@@ -125,47 +142,68 @@ def record(copy):
     print(f"wrong bodies: {keep(found, text)} refused now, {earlier} earlier on this machine, {len(found)} in all")
 
 
-def tried(names, folder):
-    """Tries the wrong bodies of these folders: each crate's must-fail holds meanwhile those alone that weren't refused before."""
-    found = {it: key for it, key in keys(ROOT, folder).items() if it[0] in names}
-    left = [it for it, key in found.items() if not is_kept(key)]
-    print(f"wrong bodies: {len(left)} to be tried, {len(found) - len(left)} refused earlier on this machine", flush=True)
-    status = 0
-    for name in names:
-        own = [edit for crate, edit in left if crate == name]
-        if own:
-            status |= one_crate(name, folder, own, found)
-    return status
+def apply():
+    """Whether each wrong body can be put into its crate's text."""
+    found, failed = edits(ROOT), 0
+    listed = set(LIST.read_text().split("\n")) - {""}
+    for name in sorted(listed - {f"{it.crate.name}/{it.name}" for it in edits(ROOT, ["edits"])}):
+        print(f"{name}: FAILED: {LIST.name} has it, and edits/ doesn't")
+        failed += 1
+    for it in found:
+        try:
+            it.put_into({})
+        except BadEdit as why:
+            print(f"{it.crate.name}/{it.name}: FAILED: {why}")
+            failed += 1
+    print(f"{len(found) - failed} passed, {failed} failed")
+    return 1 if failed else 0
 
 
-def one_crate(name, folder, edits, found):
-    """`rt must-fail` over these edits of one crate's folder, which stand meanwhile in place of those in must-fail."""
-    crate = ROOT / "crates" / name
-    tried, aside = crate / "must-fail", crate / "out" / "must-fail-aside"
-    shutil.rmtree(aside, ignore_errors=True)
-    tried.mkdir(exist_ok=True)
-    aside.parent.mkdir(exist_ok=True)
-    shutil.move(tried, aside)
-    try:
-        tried.mkdir()
-        for it in edits:
-            shutil.copy((aside if folder == "must-fail" else crate / folder) / it, tried / it)
-        done = subprocess.run(["rt", "must-fail", name], cwd=ROOT, stdout=subprocess.PIPE, stderr=subprocess.STDOUT, text=True)
-    finally:
-        shutil.rmtree(tried, ignore_errors=True)
-        shutil.move(aside, tried)
-    print(done.stdout, end="", flush=True)
-    print(f"{name}: {keep(found, done.stdout)} of {len(edits)} refused", flush=True)
-    return done.returncode
+def tried(folder, names, is_listed):
+    """Tries the wrong bodies of edits/, of these crates or of all, that weren't refused before: all, or those that the list has."""
+    lines = libraries(ROOT)
+    listed = set(LIST.read_text().split("\n"))
+    found = keys(ROOT, "edits")
+    wanted = [it for it in edits(ROOT, ["edits"]) if it.crate.name in (names or lines)]
+    wanted = [it for it in wanted if not is_listed or f"{it.crate.name}/{it.name}" in listed]
+    left = [it for it in wanted if not is_kept(found[it.crate.name, it.path.name])]
+    crates = sorted({it.crate.name for it in left})
+    print(f"wrong bodies: {len(left)} to be tried together, {len(wanted) - len(left)} refused earlier on this machine", flush=True)
+    below = together.Libraries(lines, folder)
+    for name in sorted({it for crate in crates for it in [crate, *below.below(crate)]}):
+        if digest_of_crate(folder / "crates" / name) != digest_of_crate(ROOT / "crates" / name):
+            print(f"{folder} has another text of {name}")
+            return 2
+    jobs = int(os.environ.get("RT_JOBS") or len(os.sched_getaffinity(0)))
+    with concurrent.futures.ThreadPoolExecutor(jobs) as pool:
+        of_crate = {crate: [it for it in left if it.crate.name == crate] for crate in crates}
+        passed = sum(pool.map(lambda crate: one_crate(below, crate, of_crate[crate], found), crates))
+    print(f"{passed} passed, {len(left) - passed} failed")
+    return 0 if passed == len(left) else 1
+
+
+def one_crate(below, crate, own, found):
+    """Tries these wrong bodies of a crate, keeps those that are refused, and gives how many these are."""
+    told, seconds = together.tried(below, crate, own)
+    for edit, (is_refused, why) in told.items():
+        print(f"wrong body {crate}/{edit.name}: {'refused' if is_refused else 'FAILED'}: {why[:300]}", flush=True)
+    refused = [it for it, (is_refused, _) in told.items() if is_refused]
+    print(f"wrong bodies of {crate}: {len(refused)} of {len(own)} refused, {len(seconds)} checks, {sum(seconds):.0f} seconds", flush=True)
+    keep_all([(crate, it.path.name) for it in refused], found)
+    return len(refused)
 
 
 def main(words):
+    if words == ["apply"]:
+        return apply()
     if len(words) == 2 and words[0] == "stage":
         stage(pathlib.Path(words[1]))
     elif len(words) == 2 and words[0] == "record":
         record(pathlib.Path(words[1]))
-    elif len(words) > 1 and words[0] in ("try", "beside"):
-        return tried(words[1:], "must-fail" if words[0] == "try" else "edits")
+    elif len(words) > 1 and words[0] == "together":
+        return tried(pathlib.Path(words[1]), words[2:], True)
+    elif len(words) > 2 and words[0] == "beside":
+        return tried(pathlib.Path(words[1]), words[2:], False)
     else:
         print(__doc__, end="", file=sys.stderr)
         return 2
