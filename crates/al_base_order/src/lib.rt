@@ -10,8 +10,6 @@ mod least;
 mod ordering;
 mod placing;
 mod ready;
-#[cfg(test)]
-mod tests;
 
 pub use cycle::Cycle;
 pub use edge::{Edge, Reason, line, order_of_ties};

@@ -206,7 +206,7 @@ fn rules_by_number(rt: HostRuntime) -> Result<(), Fail> {
         assert_eq!(rt; rule.number(), number);
         assert_eq!(rt; rule.message(), message);
     }
-    for number in [0, 7, 100, 310, 605, 701] {
+    for number in [0, 7, 100, 311, 605, 701] {
         assert_eq!(rt; Rule::of(number).is_none(), true);
     }
     Ok(())

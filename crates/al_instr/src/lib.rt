@@ -5,8 +5,6 @@ mod fault;
 mod instruction;
 mod numbers;
 mod reading;
-#[cfg(test)]
-mod tests;
 mod text;
 
 pub use fault::DecodeFault;

@@ -9,8 +9,6 @@ mod listing;
 mod order;
 mod parts;
 mod private;
-#[cfg(test)]
-mod tests;
 
 pub use dependents::Dependents;
 pub use listing::{FileFaults, faults, faults_by_file};

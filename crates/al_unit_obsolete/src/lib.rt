@@ -4,8 +4,6 @@
 mod by_file;
 mod laws;
 mod listing;
-#[cfg(test)]
-mod tests;
 mod wanted;
 
 pub use by_file::units;

@@ -1,10 +1,12 @@
-//! Tests of the graph of units and of the queries, by public calls, in a crate of their own: a crate that has tests is proved twice.
+//! Tests of graphs and of the graph of units, by public calls, in a crate of their own: a crate that has tests is proved twice.
 #![tactic(auto)]
 
 #[cfg(test)]
 mod graph;
 #[cfg(test)]
-mod query;
+mod library;
+#[cfg(test)]
+mod orders;
 #[cfg(test)]
 mod shortage;
 #[cfg(test)]

@@ -1,11 +1,9 @@
-//! Tests of views, labelled trees and outcomes, which stand here so that the crates are proved once.
+//! Tests of views, predefined units and questions, by public calls, in a crate of their own: a crate that has tests is proved twice.
 #![tactic(auto)]
 
 #[cfg(test)]
-mod outcome;
-#[cfg(test)]
 mod predefined;
 #[cfg(test)]
-mod typed;
+mod query;
 #[cfg(test)]
 mod view;
