@@ -7,7 +7,7 @@ import pathlib
 import re
 
 FUNCTION = re.compile(r"( *)(?:pub(?:\([^)]*\))? )?(?:const )?(?:unsafe )?(?:extern \"C\" )?fn (\w+)")
-TYPE = re.compile(r"impl(?:<.*?>)? (?:(?P<of>.+) for )?(?P<type>.+)")
+IMPL = re.compile(r"impl(?:<.*?>)? (?:(?P<trait>.+) for )?(?P<type>.+)")
 
 
 class BadEdit(Exception):
@@ -40,7 +40,7 @@ class Edit:
             text = made[file] if file in made else read(self.crate / file)
             if text.count(old) != 1:
                 raise BadEdit(f"its old text stands {text.count(old)} times in {file}: {old.strip()[:80]}")
-            functions.add(function_at(file, text, text.index(old)))
+            functions.add(function_at(self.crate, file, text, text.index(old)))
             made[file] = text.replace(old, new)
         if all(made[file] == read(self.crate / file) for file in made):
             raise BadEdit("it changes nothing")
@@ -64,7 +64,7 @@ def modules_of(file):
     return parts[:-1] if parts[-1] in ("lib", "main", "mod") else parts
 
 
-def function_at(file, text, place):
+def function_at(crate, file, text, place):
     """The name, below its crate and as a check prints it, of the function round a place of a text that is laid out by `rt fmt`; or None."""
     lines = text.split("\n")
     at = text.count("\n", 0, place)
@@ -74,20 +74,32 @@ def function_at(file, text, place):
         if found and (number == at or len(found[1]) < depth):
             end = f"{found[1]}}}"
             is_inside = all(line.rstrip() != end for line in lines[number + 1 : at])
-            return "::".join([*modules_of(file), *type_at(lines, number), found[2]]) if is_inside else None
+            return "::".join([*owner(crate, file, lines, number), found[2]]) if is_inside else None
     return None
 
 
-def type_at(lines, number):
-    """The type, with the trait, whose impl holds the line, if one does."""
+def owner(crate, file, lines, number):
+    """The modules in which a function stands; of a method the module and the name of its type, and after this that of the trait."""
     if not lines[number].startswith(" "):
-        return []
+        return modules_of(file)
     heads = (line for line in reversed(lines[:number]) if re.match(r"(?:unsafe )?(?:pub )?(?:impl|trait|mod)\b", line))
     head = next(heads, "").split("{")[0].strip()
-    found = TYPE.match(head)
+    found = IMPL.match(head)
     if not found:
-        return [head.split("<")[0].split(":")[0].split()[-1]]
-    return [plain(found["type"].split("<")[0]) + plain(found["of"] or "")]
+        return [*modules_of(file), head.split("<")[0].split(":")[0].split()[-1]]
+    of = plain(found["type"].split("<")[0])
+    if found["trait"]:
+        return [*modules_of(file), of + plain(found["trait"])]
+    return [*home(crate, file, of), of]
+
+
+def home(crate, file, name):
+    """The modules in which a type of the crate is declared."""
+    declared = re.compile(rf"^(?:pub(?:\([^)]*\))? )?(?:struct|enum) {name}\b", re.MULTILINE)
+    for path in [crate / file, *sorted((crate / "src").rglob("*.rt"))]:
+        if declared.search(path.read_text()):
+            return modules_of(path.relative_to(crate))
+    return modules_of(file)
 
 
 def plain(name):
