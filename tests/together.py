@@ -62,12 +62,17 @@ class Group:
 
     def takes(self, edit):
         """Adds the edit, unless one of its functions is changed already."""
-        texts, functions = edit.put_into(self.texts)
+        _, functions = edit.put_into({})
         if None in functions:
             raise BadEdit("it changes what stands in no function: only must-fail/ can have it")
         if functions & self.functions:
             return False
-        self.edits[edit], self.texts = functions, texts
+        try:
+            self.texts, _ = edit.put_into(self.texts)
+        except BadEdit:
+            # its text was changed in another function of the file, or stands there now too
+            return False
+        self.edits[edit] = functions
         self.functions |= functions
         return True
 
