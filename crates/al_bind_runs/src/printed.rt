@@ -68,10 +68,10 @@ fn push_lines(text: &mut Vec<u8>, lines: &[Line]) -> Result<(), NoMemory> {
 /// The order of a partition's items, a line for each; or the first fault.
 pub(crate) fn printed(alloc: Global, sources: &Sources, main: &str) -> Result<String, NoMemory> {
     let mut text = Vec::new(alloc);
-    match bind(alloc, sources, main.as_bytes())? {
-        Ok(items) => push_items(&mut text, &items)?,
-        Err(BindFault::Lacks(lack)) => push_lack(&mut text, &lack)?,
-        Err(BindFault::Cycle(lines)) => push_lines(&mut text, &lines)?,
+    match &bind(alloc, sources, main.as_bytes())? {
+        Ok(items) => push_items(&mut text, items)?,
+        Err(BindFault::Lacks(lack)) => push_lack(&mut text, lack)?,
+        Err(BindFault::Cycle(lines)) => push_lines(&mut text, lines)?,
     }
     text.push(b'\n')?;
     let printed = String::from_utf8_lossy(alloc, text.as_slice())?;
