@@ -18,21 +18,12 @@ use al_session_stream::{Buffer, Device, KeptLine, Source, Text, read_line, read_
 use std::alloc::Global;
 
 /// The reply to a command, and whether the session ends with it.
+#[derive(Drop)]
 pub struct Acted {
     pub reply: Reply,
     pub ended: Option<Ended>,
     /// Whether the input ended with the command.
     pub is_last: bool,
-}
-
-impl Drop for Acted {
-    fn drop(self) {
-        let Acted {
-            reply: _,
-            ended: _,
-            is_last: _,
-        } = self;
-    }
 }
 
 /// Reads a command and carries it out, if there is one.
