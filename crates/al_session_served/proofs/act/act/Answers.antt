@@ -30,8 +30,8 @@ returns-then-is_last-clause-acted g c =
     ] in
     acts_on_last_put (with_tick g.L.UnitLibrary.meaning c.args.tick) _ _ c.read_line.new.line c.in-Put.name.now c.in-Put.len read (c.in-Put.ensures.says ∙ ap line_of c.as_slice-line.ensures) some _ _ _ _ _ (c.bad_length.ensures.ended, ap (reply_model (g.L.UnitLibrary.state c.args.library.now)) c.bad_length.ensures.reply, refl)
 
-pub returns-in_ok-acted-in-Put-clause-acted : goal.returns-in_ok-acted-in-Put-clause-acted
-returns-in_ok-acted-in-Put-clause-acted g c =
+pub returns-in-Put-clause-acted : goal.returns-in-Put-clause-acted
+returns-in-Put-clause-acted g c =
     let read = rw c.if-is_last.false at c.in_ok-has_end.ensures in
     let acted = c.in_ok-acted-in-Put.ensures in
     acts_on_put (with_tick g.L.UnitLibrary.meaning c.args.tick) _ _ _ c.read_line.new.line (PutLine c.in-Put.name.now c.in-Put.len) read (c.in-Put.ensures.says ∙ ap line_of c.as_slice-line.ensures) _ _ _ _ _ acted.not_last acted.acted
@@ -45,8 +45,8 @@ returns-in-BadPut-clause-acted g c =
     let bad = c.bad_length-in-BadPut.ensures in
     acts_on_line (with_tick g.L.UnitLibrary.meaning c.args.tick) _ _ c.read_line.new.line c.in_ok-has_end.has_end BadPutLine BadLength c.in_ok-has_end.ensures (c.in-BadPut.ensures.says ∙ ap line_of c.as_slice-line.ensures) some (λ at_end more. refl) _ _ _ _ _ (bad.ended, ap (reply_model (g.L.UnitLibrary.state c.args.library.now)) bad.reply, refl) (λ none. let e = bad.ended in cc)
 
-pub returns-in-Whole-clause-acted : goal.returns-in-Whole-clause-acted
-returns-in-Whole-clause-acted g c =
+pub returns-clause-acted : goal.returns-clause-acted
+returns-clause-acted g c =
     let some : c.in_ok-has_end.has_end ≡ false → 0 < length c.read_line.new.line = λ e. elim c.else-not-has_end.branch [
       | else-not-has_end-via-then-not-has_end+else-is_empty w ↦ grind (arith, w.if-is_empty.false, c.as_slice-line.ensures)
       | else-not-has_end-via-else-not-has_end w ↦ let t = w.if-not-has_end.false in cc
