@@ -4,12 +4,13 @@ ghost use Rattle.std.specs.Prelude.{◌<◌, length};
 
 use crate::places::unit_part;
 use al_base::{Name, NoMemory};
-use al_query::{ContextView, Recorder};
+use al_query::Recorder;
 use al_scope::{Scope, UnitPart};
 use al_scope_scenes::{Library, context_of, first_word, push_line, symbol_of, unit_of};
 use al_scope_unit::{OwnText, enter_private_part, enter_unit, mentioned};
 use al_view::{Seq, View, ViewKind};
 use std::alloc::Global;
+use std::mem;
 
 fn add_stub(alloc: Global, word: &str, stubs: &mut Seq<UnitPart>) -> Result<(), NoMemory> {
     match word.strip_prefix("stub:") {
@@ -45,7 +46,9 @@ fn text_of(alloc: Global, words: &str) -> Result<OwnText, NoMemory> {
     let unit = unit_of(alloc, unit)?;
     let symbol = symbol_of(alloc, symbol)?;
     let stubs = stubs_of(alloc, words)?;
-    let ContextView { withs, uses, .. } = context_of(alloc, words)?;
+    let mut context = context_of(alloc, words)?;
+    let withs = mem::replace(&mut context.withs, Seq::empty(alloc));
+    let uses = mem::replace(&mut context.uses, Seq::empty(alloc));
     Ok(OwnText {
         unit,
         symbol,
