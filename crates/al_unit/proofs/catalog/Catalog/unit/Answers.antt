@@ -10,8 +10,8 @@ returns-in-None c =
     let readings = c.self.invariant.are_readings ∙ ap readings_of c.self.view_is in
     grind (arith, library, readings, tree_of_reading c.args.self.now (key_of c.args.key.now))
 
-pub returns-in-Some : goal.returns-in-Some
-returns-in-Some c =
+pub returns : goal.returns
+returns c =
     let library : c.self.inside.sources ≡ library_of c.args.self.now = c.self.invariant.is_library ∙ ap library_of c.self.view_is in
     let readings = c.self.invariant.are_readings ∙ ap readings_of c.self.view_is in
     grind (arith, library, readings, tree_of_reading c.args.self.now (key_of c.args.key.now))
