@@ -1,5 +1,5 @@
 -- Which line of its unit's text code is of.
-use Rattle.std.specs.Prelude.{ℕ, ◌+◌, ◌<◌, ◌×◌, nat_le, nat_lt, Bool, true, ◌&&◌, IsTrue, List, [], ◌∷◌, map, All, Option, Some, if◌then◌else◌}
+use Rattle.std.specs.Prelude.{ℕ, ◌+◌, ◌<◌, nat_le, nat_lt, Bool, true, ◌&&◌, IsTrue, List, [], ◌∷◌, map, All, Option, Some, if◌then◌else◌}
 use Rattle.al_instr.specs.declared.lines.LineEntry.{LineEntry}
 
 -- places rise from the lowest on and are below the end of the code, and lines are at least 1
