@@ -16,6 +16,7 @@ use Rattle.al_code_object.specs.declared.object.Address.{Address}
 use Rattle.al_code_object.specs.declared.object.Object.TheVariants.{Large, Compiled}
 use Rattle.al_code_object.specs.declared.object.Relocation.{Relocation}
 use Rattle.al_code_object.specs.Objects.{CompiledCode, IsCode, Keeps, LiesIn, StandsAt, StandsIn}
+use Rattle.al_code_output.specs.declared.piece.LineMark.{LineMark}
 use Rattle.al_code_output.specs.Kept.{IsCodeKind, StandsWithin}
 use Rattle.al_code_output.specs.Pieces.{size}
 use Rattle.al_code_output.specs.Written.{Buffer, empty, grown, written}
@@ -73,18 +74,18 @@ object_large u w is none =
           absurd cc
     ]
 
-pub object_small : (u : UnitTree) (w : Option Buffer) (code : List ℕ) (uses : List Relocation) (defines : List Address) → w ≡ written (Some empty) (unit_code u) → IsSomeAnd w (λ b. (code ≡ b.code) × (uses ≡ b.uses) × (defines ≡ b.defines))
+pub object_small : (u : UnitTree) (w : Option Buffer) (code : List ℕ) (uses : List Relocation) (defines : List Address) (lines : List LineMark) → w ≡ written (Some empty) (unit_code u) → IsSomeAnd w (λ b. (code ≡ b.code) × (uses ≡ b.uses) × (defines ≡ b.defines) × (lines ≡ b.lines))
     → Compiled (record { code = code; uses = uses; defines = defines ++ data_addresses u; data_words = u.words; tasks = word_of (tasks_of u.elaboration); protected = map region_of u.protected_objects }) ≡ object_of u
 unfolding object_of
-object_small u w code uses defines is parts =
+object_small u w code uses defines lines is parts =
     elim (cases_lt 16777216 (size (unit_code u))) [
       | inl lt ↦
           let t : leb (size (unit_code u)) 16777216 ≡ false = grind (arith, nat_tests) in
           let none : w ≡ None = is ∙ writes_all (unit_code u) ∙ rw t refl in
-          absurd (subst (λ (v : Option Buffer). IsSomeAnd v (λ b. (code ≡ b.code) × (uses ≡ b.uses) × (defines ≡ b.defines))) none parts)
+          absurd (subst (λ (v : Option Buffer). IsSomeAnd v (λ b. (code ≡ b.code) × (uses ≡ b.uses) × (defines ≡ b.defines) × (lines ≡ b.lines))) none parts)
       | inr le ↦
           let t : leb (size (unit_code u)) 16777216 ≡ true = grind (arith, nat_tests) in
           let whole : w ≡ Some (grown empty (unit_code u)) = is ∙ writes_all (unit_code u) ∙ rw t refl in
-          let same = subst (λ (v : Option Buffer). IsSomeAnd v (λ b. (code ≡ b.code) × (uses ≡ b.uses) × (defines ≡ b.defines))) whole parts in
+          let same = subst (λ (v : Option Buffer). IsSomeAnd v (λ b. (code ≡ b.code) × (uses ≡ b.uses) × (defines ≡ b.defines) × (lines ≡ b.lines))) whole parts in
           rw (t, same.0, same.1, same.2) refl
     ]

@@ -4,10 +4,10 @@ use Rattle.std.specs.List.{All}
 use Rattle.std.proofs.lemmas.Bool.{leb-true, le-leb, ltb-true, lt-ltb, cases_lt}
 use Rattle.std.proofs.lemmas.Bool.Decides.{nat_tests}
 use Rattle.std.proofs.lemmas.List.{take-append-drop, take_more, drop_all}
-use Rattle.std.proofs.lemmas.List.Elements.{All-head, All-tail}
+use Rattle.std.proofs.lemmas.List.Elements.{All-nil, All-cons, All-head, All-tail}
 use Rattle.std.proofs.Math.Seq.{drop-cons}
 use Rattle.al_instr.specs.declared.lines.LineEntry.{LineEntry}
-use Rattle.al_instr.specs.Lines.{first_place, line_at, line_table, rise, shifted, with_mark}
+use Rattle.al_instr.specs.Lines.{AreLines, IsLineEntry, first_place, line_at, line_table, rise, shifted, with_mark}
 
 pub both_true : (a b : Bool) → (a && b) ≡ true → (a ≡ true) × (b ≡ true)
 both_true true true e = (refl, refl)
@@ -101,6 +101,22 @@ pub line_table_rises : (end : ℕ) (ms : List LineEntry) → All (λ m. 1 ≤ m.
 line_table_rises end [] all = refl
 line_table_rises end (m ∷ ms) all =
     with_mark_rises end m (line_table end ms) (All-head (λ x. 1 ≤ x.line) m ms all) (line_table_rises end ms (All-tail (λ x. 1 ≤ x.line) m ms all)) (ltb m.place (first_place end (line_table end ms))) refl
+
+-- so they are lines of a code of this length, where lines are words
+pub line_table_keeps : (end : ℕ) (ms : List LineEntry) → end ≤ 0x1_0000_0000 → All (λ m. 1 ≤ m.line) ms → All (λ m. m.line < 0x1_0000_0000) ms → AreLines end (line_table end ms)
+line_table_keeps end ms few some fit = record { rise_in = line_table_rises end ms some; fit = fits ms some fit } where
+  one : (m : LineEntry) (es : List LineEntry) → rise 0 end es ≡ true → m.line < 0x1_0000_0000 → All IsLineEntry es → (b : Bool) → ltb m.place (first_place end es) ≡ b → All IsLineEntry (cond b (m ∷ es) es)
+  one m es h word all false e = all
+  one m es h word all true e =
+      let before : m.place < first_place end es = ltb-true _ _ e in
+      let low : m.place < 0x1_0000_0000 = omega (arith, first_within es end h) in
+      All-cons IsLineEntry m es (low, word) all
+
+  fits : (ms : List LineEntry) → All (λ m. 1 ≤ m.line) ms → All (λ m. m.line < 0x1_0000_0000) ms → All IsLineEntry (line_table end ms)
+  fits [] some fit = All-nil IsLineEntry
+  fits (m ∷ ms) some fit =
+      one m (line_table end ms) (line_table_rises end ms (All-tail (λ x. 1 ≤ x.line) m ms some)) (All-head (λ x. x.line < 0x1_0000_0000) m ms fit)
+      (fits ms (All-tail (λ x. 1 ≤ x.line) m ms some) (All-tail (λ x. x.line < 0x1_0000_0000) m ms fit)) (ltb m.place (first_place end (line_table end ms))) refl
 
 pub line_table_drop : (end : ℕ) (ms : List LineEntry) (i : ℕ) (m : LineEntry) → i < length ms → m ≡ get_or ms i m → line_table end (drop i ms) ≡ with_mark end m (line_table end (drop (i + 1) ms))
 line_table_drop end ms i m lt at =

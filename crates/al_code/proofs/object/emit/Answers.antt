@@ -20,5 +20,5 @@ pub returns : goal.returns
 unfolding unit_model
 returns c =
     rw (c.new.ensures, c.in_ok-add_data.ensures, c.in_ok-regions.ensures, c.as_slice.ensures, c.word_of-tasks.ensures, c.task_count.ensures)
-    (object_small (unit_model c.args.unit.now) c.emit_unit.new.out c.in-Some.written.code.items c.in-Some.written.uses.items c.in-Some.written.defines.items
+    (object_small (unit_model c.args.unit.now) c.emit_unit.new.out c.in-Some.written.code.items c.in-Some.written.uses.items c.in-Some.written.defines.items c.in-Some.written.lines.items
     (c.in_ok-emit_unit.ensures ∙ ap (λ (w : Option Buffer). written w (unit_code (unit_model c.args.unit.now))) c.new-out.ensures) c.in-Some.ensures.value)
