@@ -7,15 +7,15 @@ use Rattle.al_view_typed.specs.declared.statement.TypedStatement.{TypedStatement
 use Rattle.al_code.specs.Marks.{has_code, is_some_of, statement_has_code, statements_have_code}
 use Rattle.al_code.proofs.Layers.{statement_layers}
 
-pub none_model : {A B : Type 0} (b : Bool) (f : A → B) (xs : List A) → length xs ≡ 0 → (b || is_some_of (map f xs)) ≡ b
-none_model true f [] e = refl
-none_model false f [] e = refl
-none_model b f (x ∷ xs) e = absurd (omega arith)
+pub no_pieces : {A B : Type 0} (b : Bool) (f : A → B) (xs : List A) → length xs ≡ 0 → (b || is_some_of (map f xs)) ≡ b
+no_pieces true f [] e = refl
+no_pieces false f [] e = refl
+no_pieces b f (x ∷ xs) e = absurd (omega arith)
 
-pub some_model : {A B : Type 0} (b : Bool) (f : A → B) (xs : List A) → 0 < length xs → (b || is_some_of (map f xs)) ≡ true
-some_model b f [] lt = absurd (omega arith)
-some_model true f (x ∷ xs) lt = refl
-some_model false f (x ∷ xs) lt = refl
+pub some_pieces : {A B : Type 0} (b : Bool) (f : A → B) (xs : List A) → 0 < length xs → (b || is_some_of (map f xs)) ≡ true
+some_pieces b f [] lt = absurd (omega arith)
+some_pieces true f (x ∷ xs) lt = refl
+some_pieces false f (x ∷ xs) lt = refl
 
 abbrev rest : List TypedStatement → ℕ → Bool
 rest xs i = statements_have_code (statements_of (map statement_model (drop i xs)))

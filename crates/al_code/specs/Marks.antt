@@ -1,5 +1,5 @@
 -- Where code begins that is of a line.
-use Rattle.std.specs.Prelude.{ℕ, min, max, Bool, true, false, ◌||◌, List, [], ◌∷◌}
+use Rattle.std.specs.Prelude.{ℕ, Bool, true, false, ◌||◌, List, [], ◌∷◌}
 use Rattle.std.specs.List.{list_any}
 use Rattle.al_view.specs.declared.view.ObjectPlace.{ObjectPlace}
 use Rattle.al_view.specs.declared.view.ObjectPlace.TheVariants as places
@@ -11,13 +11,9 @@ use Rattle.al_view_typed.specs.StatementTrees.StatementFormTree.{NullStatement, 
 use Rattle.al_code_output.specs.Pieces.{Piece}
 use Rattle.al_code_output.specs.Pieces.Piece.{Line}
 
--- a line as a word: no text has so many lines that it wouldn't fit
-abbrev pub line_word : ℕ → ℕ
-line_word n = max (min n 4294967295) 1
-
 -- the code of a line begins here
 unfoldable pub mark_of : Bool → ℕ → List Piece
-mark_of true line = Line (line_word line) ∷ []
+mark_of true line = Line line ∷ []
 mark_of false line = []
 
 -- whether there is one at all

@@ -2,18 +2,12 @@
 ghost use Rattle.std.specs.Prelude.{◌≡◌, ◌||◌, map, OnOk};
 ghost use Rattle.al_view_typed.specs.StatementViews.{piece_model, statement_form_model, statement_model, statements_of};
 ghost use Rattle.al_code_output.specs.Written.{written};
-ghost use Rattle.al_code.specs.Marks.{has_code, is_some_of, line_word, mark_of, statements_have_code};
+ghost use Rattle.al_code.specs.Marks.{has_code, is_some_of, mark_of, statements_have_code};
 
 use crate::declarations::declarations_have_code;
 use al_base::NoMemory;
 use al_code_output::Output;
 use al_view_typed::{Piece, StatementForm, TypedStatement};
-
-fn line_word(line: usize) -> u32
-    ensures { result ≡ line_word line }
-{
-    line.min(4_294_967_295).max(1) as u32
-}
 
 /// The code of a line begins here, where there is any.
 #[tactic(auto, using(al_code_output::proofs::Writing::written_nothing), unfolding(crate::specs::Marks::mark_of))]
@@ -21,13 +15,13 @@ pub(crate) fn emit_mark(out: &mut Output, has_code: bool, line: usize) -> Result
     ensures { OnOk result (out.new ≡ written out.old (mark_of has_code line)) }
 {
     if has_code {
-        return out.mark(line_word(line));
+        return out.mark(line);
     }
     Ok(())
 }
 
-// Whether something is put out.
-#[tactic(auto, using(crate::proofs::MarkLemmas::none_model, crate::proofs::MarkLemmas::some_model))]
+/// Whether something is put out.
+#[tactic(auto, using(crate::proofs::MarkLemmas::no_pieces, crate::proofs::MarkLemmas::some_pieces))]
 fn puts(pieces: &[Piece], ends_line: bool) -> bool
     ensures { result ≡ (ends_line || is_some_of (map piece_model pieces.now)) }
 {
