@@ -43,6 +43,26 @@ impl Image {
         Image { parts }
     }
 
+    /// The image without tasks, words, objects and code. It takes no memory.
+    pub fn empty(alloc: Global) -> Image {
+        Image::new(ImageParts {
+            tasks: 0,
+            data_words: 0,
+            protected: Vec::new(alloc),
+            objects: Vec::new(alloc),
+            code: Vec::new(alloc),
+        })
+    }
+
+    /// What the image is made of. It takes no memory.
+    pub fn into_parts(self) -> ImageParts
+        ensures value { self ≡ image_of result }
+        ensures whole { IsWhole result }
+    {
+        let Image { parts } = self;
+        parts
+    }
+
     /// Each image is within the limits.
     pub fn limits(&self)
         ensures { IsImage self.now }

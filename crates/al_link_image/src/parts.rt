@@ -1,4 +1,6 @@
 // What an image is made of.
+ghost use Rattle.std.specs.Prelude.{◌≡◌};
+
 use al_base::{Name, UnitKind};
 
 /// The words of a protected object among the data words, and its ceiling.
@@ -44,5 +46,21 @@ impl Drop for ImageParts {
             objects: _,
             code: _,
         } = self;
+    }
+}
+
+impl ImageParts {
+    /// The bytes of the code. It takes no memory.
+    pub fn into_code(self) -> Vec<u8>
+        ensures { result ≡ self.code }
+    {
+        let ImageParts {
+            tasks: _,
+            data_words: _,
+            protected: _,
+            objects: _,
+            code,
+        } = self;
+        code
     }
 }
