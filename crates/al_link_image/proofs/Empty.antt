@@ -15,8 +15,8 @@ unfolding instructions_in
 none_in = refl
 
 -- parts without anything are those of an image
-pub empty_whole : (p : ImageParts) → p.tasks ≡ 0 → p.data_words ≡ 0 → p.protected.items ≡ [] → p.objects.items ≡ [] → p.code.items ≡ [] → IsWhole p
-empty_whole p t w r o c =
+pub empty_whole : (p : ImageParts) → p.tasks ≡ 0 → p.data_words ≡ 0 → p.protected.items ≡ [] → p.objects.items ≡ [] → p.code.items ≡ [] → is_none p.lines ≡ true → IsWhole p
+empty_whole p t w r o c none_there =
     let none : code_of p.code.items ≡ [] = ap (λ (xs : List ℕ). code_of xs) c ∙ none_in in
     let no_bytes : code_bytes (code_of p.code.items) ≡ [] = ap (λ (is : List Instr). code_bytes is) none in
     let size : length (code_bytes (code_of p.code.items)) ≡ 0 = ap (λ (xs : List ℕ). length xs) no_bytes in

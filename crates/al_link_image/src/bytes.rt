@@ -1,8 +1,9 @@
 // The bytes of the parts of images.
-ghost use Rattle.std.specs.Prelude.{◌≡◌, ◌<◌, ◌≤◌, ◌++◌, ◌∷◌, [], length, IfOk, OnOk, All};
+ghost use Rattle.std.specs.Prelude.{◌≡◌, ◌<◌, ◌≤◌, ◌++◌, ◌∷◌, [], length, option_map, Some, IfSome, OnOk, All};
 ghost use Rattle.std.specs.List.{flat_map};
 ghost use Rattle.al_instr.specs.Codes.{word_bytes};
-ghost use Rattle.al_link_image.specs.Images.{kind_number, mark, region_bytes, regions_bytes, object_bytes, objects_bytes};
+ghost use Rattle.al_link_image.specs.Lines.{entry_bytes, lines_bytes, mark_of};
+ghost use Rattle.al_link_image.specs.Images.{kind_number, region_bytes, regions_bytes, object_bytes, objects_bytes};
 
 use crate::parts::{ImageObject, Region};
 use al_base::{NoMemory, UnitKind};
@@ -33,10 +34,13 @@ pub(crate) fn push_word(out: &mut Vec<u8>, number: u32) -> Result<(), NoMemory>
 }
 
 /// Appends the mark and the version that each image begins with.
-pub(crate) fn push_mark(out: &mut Vec<u8>) -> Result<(), NoMemory>
-    ensures { OnOk result (out.new.items ≡ out.old.items ++ mark) }
+pub(crate) fn push_mark(out: &mut Vec<u8>, lines: &Option<Vec<LineEntry>>) -> Result<(), NoMemory>
+    ensures { OnOk result (out.new.items ≡ out.old.items ++ mark_of (option_map (λ v. v.items) lines.now)) }
 {
-    push_bytes(out, b"ADLI\x00\x01")
+    match lines {
+        None => push_bytes(out, b"ADLI\x00\x01"),
+        Some(_) => push_bytes(out, b"ADLI\x00\x02"),
+    }
 }
 
 fn push_region(out: &mut Vec<u8>, region: &Region) -> Result<(), NoMemory>
@@ -103,4 +107,39 @@ pub(crate) fn push_objects(out: &mut Vec<u8>, objects: &[ImageObject]) -> Result
 {
     push_word(out, objects.len() as u32)?;
     push_all_objects(out, objects)
+}
+
+fn push_entry(out: &mut Vec<u8>, entry: &LineEntry) -> Result<(), NoMemory>
+    ensures { OnOk result (out.new.items ≡ out.old.items ++ entry_bytes entry.now) }
+{
+    push_word(out, entry.place)?;
+    push_word(out, entry.line)
+}
+
+fn push_all_entries(out: &mut Vec<u8>, entries: &[LineEntry]) -> Result<(), NoMemory>
+    ensures { OnOk result (out.new.items ≡ out.old.items ++ flat_map entry_bytes entries.now) }
+{
+    for entry in entries {
+        push_entry(out, entry)?;
+    }
+    Ok(())
+}
+
+fn push_entries(out: &mut Vec<u8>, entries: &[LineEntry]) -> Result<(), NoMemory>
+    requires { length entries.now ≤ 16777216 }
+    ensures { OnOk result (out.new.items ≡ out.old.items ++ lines_bytes (Some entries.now)) }
+{
+    push_word(out, entries.len() as u32)?;
+    push_all_entries(out, entries)
+}
+
+/// Appends the lines after their number, where there are any.
+pub(crate) fn push_lines(out: &mut Vec<u8>, lines: &Option<Vec<LineEntry>>) -> Result<(), NoMemory>
+    requires { IfSome lines.now (λ v. length v.items ≤ 16777216) }
+    ensures { OnOk result (out.new.items ≡ out.old.items ++ lines_bytes (option_map (λ v. v.items) lines.now)) }
+{
+    match lines {
+        None => Ok(()),
+        Some(entries) => push_entries(out, entries.as_slice()),
+    }
 }

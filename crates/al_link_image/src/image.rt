@@ -1,14 +1,14 @@
 // The image of a partition.
-ghost use Rattle.std.specs.Prelude.{◌≡◌, ◌≤◌, ◌∷◌, ◌++◌, [], length, IfOk};
+ghost use Rattle.std.specs.Prelude.{◌≡◌, ◌≤◌, ◌∷◌, ◌++◌, [], length, option_map, IfOk};
 ghost use Rattle.al_instr.specs.Codes.{code_bytes};
 ghost use Rattle.al_link_image.specs.Images.{IsImage, image_bytes};
 ghost use Rattle.al_link_image.specs.Parts.{IsWhole, image_of};
 
-use crate::bytes::{push_bytes, push_mark, push_objects, push_regions, push_word};
+use crate::bytes::{push_bytes, push_lines, push_mark, push_objects, push_regions, push_word};
 use crate::code::instructions_of;
 use crate::parts::{ImageObject, ImageParts, Region};
 use al_base::NoMemory;
-use al_instr::Instr;
+use al_instr::{Instr, LineEntry};
 use std::alloc::Global;
 use std::marker::Model;
 
@@ -51,6 +51,7 @@ impl Image {
             protected: Vec::new(alloc),
             objects: Vec::new(alloc),
             code: Vec::new(alloc),
+            lines: None,
         })
     }
 
@@ -109,6 +110,16 @@ impl Image {
         self.parts.code.as_slice()
     }
 
+    /// From which places on the code is of which lines, in their order; none in an image of version 1.
+    pub fn lines(&self) -> Option<&[LineEntry]>
+        ensures { option_map (λ x. x.now) result ≡ self.now.lines }
+    {
+        match &self.parts.lines {
+            None => None,
+            Some(lines) => Some(lines.as_slice()),
+        }
+    }
+
     /// The code's instructions.
     pub fn instructions(&self, alloc: Global) -> Result<Vec<Instr>, NoMemory>
         ensures { IfOk result (λ instructions. instructions.items ≡ self.now.code) }
@@ -123,13 +134,14 @@ impl Image {
     {
         let parts = &self.parts;
         let mut out = Vec::new(alloc);
-        push_mark(&mut out)?;
+        push_mark(&mut out, &parts.lines)?;
         push_word(&mut out, parts.tasks)?;
         push_word(&mut out, parts.data_words)?;
         push_regions(&mut out, &parts.protected)?;
         push_objects(&mut out, &parts.objects)?;
         push_word(&mut out, parts.code.len() as u32)?;
         push_bytes(&mut out, &parts.code)?;
+        push_lines(&mut out, &parts.lines)?;
         Ok(out)
     }
 }
