@@ -7,6 +7,7 @@ ghost use Rattle.al_link_image.specs.Images.{kind_number, region_bytes, regions_
 
 use crate::parts::{ImageObject, Region};
 use al_base::{NoMemory, UnitKind};
+use al_instr::LineEntry;
 use byteorder::{BigEndian, ByteOrder};
 
 pub(crate) fn push_byte(out: &mut Vec<u8>, byte: u8) -> Result<(), NoMemory>

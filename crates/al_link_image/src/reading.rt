@@ -14,6 +14,7 @@ use crate::lines::entries_at;
 use crate::parts::ImageParts;
 use crate::regions::regions_at;
 use crate::units::objects_at;
+use al_instr::LineEntry;
 use std::alloc::Global;
 
 impl Image {
