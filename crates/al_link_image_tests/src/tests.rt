@@ -107,3 +107,32 @@ fn each_byte_is_changed(rt: HostRuntime) -> Result<(), Fail> {
     assert_eq!(rt; places.as_slice(), PLACES.as_slice());
     Ok(())
 }
+
+// The same image with its lines.
+const LINES: [u8; 95] = [
+    65, 68, 76, 73, 0, 2, 0, 0, 0, 0, 0, 0, 0, 0, 0, 0, 0, 0, 0, 0, 0, 1, 1, 1, 110, 0, 0, 0, 22,
+    0, 0, 0, 42, 49, 50, 0, 0, 0, 22, 0, 0, 0, 0, 81, 49, 50, 0, 0, 0, 32, 0, 0, 0, 0, 83, 51, 0,
+    0, 0, 0, 52, 0, 0, 0, 0, 51, 0, 0, 0, 0, 52, 0, 0, 0, 0, 0, 0, 0, 2, 0, 0, 0, 22, 0, 0, 0, 1,
+    0, 0, 0, 32, 0, 0, 0, 1,
+];
+
+#[test]
+fn lines(rt: HostRuntime) -> Result<(), Fail> {
+    let image = Image::read(rt.alloc(), &LINES)?;
+    assert_eq!(rt; image.bytes(rt.alloc())?.as_slice(), LINES.as_slice());
+    let found = image.lines().unwrap_or(&[]);
+    assert_eq!(rt; (found.len(), found[0].place, found[1].place), (2, 22, 32));
+    for len in 0..LINES.len() {
+        assert_eq!(rt; is_image(rt.alloc(), &LINES[..len])?, false);
+    }
+    let mut places = 0;
+    for place in 0..LINES.len() {
+        let mut bytes = Vec::from_slice(rt.alloc(), &LINES)?;
+        bytes[place] = bytes[place].wrapping_add(1);
+        if is_image(rt.alloc(), &bytes)? {
+            places += 1;
+        }
+    }
+    assert_eq!(rt; places, 59);
+    Ok(())
+}
