@@ -32,7 +32,7 @@ fn object_of(alloc: Global, unit: &Located<'_>) -> Result<ImageObject, NoMemory>
 }
 
 // Where the code of each unit begins.
-fn objects_of(alloc: Global, units: &[Located<'_>]) -> Result<Vec<ImageObject>, NoMemory>
+pub(crate) fn objects_of(alloc: Global, units: &[Located<'_>]) -> Result<Vec<ImageObject>, NoMemory>
     requires names { All (λ l. IsUnitName l.key.now.name) units.now }
     requires places { All (λ l. AreSmall (next_bases l.before l.object.now)) units.now }
     ensures value { IfOk result (λ objects. objects.items ≡ map object_of (map located_model units.now)) }
@@ -47,7 +47,7 @@ fn objects_of(alloc: Global, units: &[Located<'_>]) -> Result<Vec<ImageObject>, 
 }
 
 // The words of a protected object, which are among so many.
-fn region_at(base: u32, region: CompiledRegion, total: u32) -> Region
+pub(crate) fn region_at(base: u32, region: CompiledRegion, total: u32) -> Region
     requires { base + region.word + region.words ≤ total }
     ensures value { result ≡ region_at base region }
     ensures fit { IsRegion total result }
@@ -75,7 +75,11 @@ fn push_regions(regions: &mut Vec<Region>, unit: &Located<'_>, total: u32) -> Re
 }
 
 // The words of all protected objects, which are among so many.
-fn regions_of(alloc: Global, units: &[Located<'_>], total: u32) -> Result<Vec<Region>, NoMemory>
+pub(crate) fn regions_of(
+    alloc: Global,
+    units: &[Located<'_>],
+    total: u32,
+) -> Result<Vec<Region>, NoMemory>
     requires { All (λ l. l.before.words + l.object.now.data_words ≤ total) units.now }
     ensures value { IfOk result (λ regions. regions.items ≡ flat_map regions_of (map located_model units.now)) }
     ensures fit { IfOk result (λ regions. All (IsRegion total) regions.items) }

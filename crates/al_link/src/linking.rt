@@ -22,7 +22,10 @@ pub struct CompiledUnit<'a> {
 }
 
 // The units with their objects, where each of them has one.
-fn compiled<'a>(alloc: Global, units: &[CompiledUnit<'a>]) -> Result<Vec<LinkUnit<'a>>, LinkFault>
+pub(crate) fn compiled<'a>(
+    alloc: Global,
+    units: &[CompiledUnit<'a>],
+) -> Result<Vec<LinkUnit<'a>>, LinkFault>
     requires { All (λ u. IsUnitName u.key.now.name) units.now }
     ensures value { IfOk result (λ found. map unit_model found.items ≡ compiled_units units.now) }
     ensures names { IfOk result (λ found. All (λ u. IsUnitName u.key.now.name) found.items) }

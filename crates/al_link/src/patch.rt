@@ -32,7 +32,7 @@ fn write_word(code: &mut [u8], place: usize, number: u32)
 }
 
 // Fills in the operands of an object whose code begins at the base.
-fn patch(code: &mut [u8], base: usize, from: &[u8], uses: &[Relocation], places: &Places)
+pub(crate) fn patch(code: &mut [u8], base: usize, from: &[u8], uses: &[Relocation], places: &Places)
     requires { base ≤ 4294967296 }
     ensures { code.new ≡ patched places.now from.now base code.old uses.now }
 {

@@ -37,7 +37,7 @@ fn is_named(name: &[u8]) -> bool
     !name.is_empty() && name.len() <= 255 && is_of_name_bytes(name)
 }
 
-fn are_named(units: &[CompiledUnit<'_>]) -> bool
+pub(crate) fn are_named(units: &[CompiledUnit<'_>]) -> bool
     ensures { result ≡ true → All (λ u. IsUnitName u.key.now.name) units.now }
 {
     for unit in units {
@@ -49,7 +49,7 @@ fn are_named(units: &[CompiledUnit<'_>]) -> bool
 }
 
 /// The bytes of the image of units, where they are named as units are and no limit is passed.
-fn image_bytes(
+pub(crate) fn image_bytes(
     alloc: Global,
     main: &LinkSymbol,
     units: &[CompiledUnit<'_>],
@@ -67,7 +67,7 @@ fn image_bytes(
     }
 }
 
-fn main_of(alloc: Global, name: &[u8]) -> Result<Symbol, LinkFault> {
+pub(crate) fn main_of(alloc: Global, name: &[u8]) -> Result<Symbol, LinkFault> {
     let main = symbol(alloc, name, UnitKind::Body, name)?;
     Ok(main)
 }
@@ -100,7 +100,7 @@ fn a_procedure_alone(rt: HostRuntime) -> Result<(), Fail> {
     Ok(())
 }
 
-fn code_of(symbol: Symbol) -> LinkSymbol {
+pub(crate) fn code_of(symbol: Symbol) -> LinkSymbol {
     let kind = LinkKind::Code;
     LinkSymbol { symbol, kind }
 }
@@ -147,7 +147,7 @@ fn packages_without_declarations(rt: HostRuntime) -> Result<(), Fail> {
 }
 
 /// The object of Q, which may declare an object.
-fn q_of(alloc: Global, has_one: bool) -> Result<Object, LinkFault> {
+pub(crate) fn q_of(alloc: Global, has_one: bool) -> Result<Object, LinkFault> {
     if has_one {
         let data = symbol(alloc, b"q", UnitKind::Decl, b"y")?;
         let object = package_without_value(alloc, data)?;
@@ -159,7 +159,7 @@ fn q_of(alloc: Global, has_one: bool) -> Result<Object, LinkFault> {
 }
 
 /// The object that the client sets, of P or of Q.
-fn set_by(alloc: Global, sets_q: bool) -> Result<Symbol, LinkFault> {
+pub(crate) fn set_by(alloc: Global, sets_q: bool) -> Result<Symbol, LinkFault> {
     let (unit, name) = if sets_q { (b"q", b"y") } else { (b"p", b"x") };
     let data = symbol(alloc, unit, UnitKind::Decl, name)?;
     Ok(data)

@@ -120,17 +120,27 @@ pub(crate) fn procedure(alloc: Global, main: &Symbol) -> Result<Object, NoMemory
     Ok(object_of(alloc, out))
 }
 
-/// The object of a library procedure that sets an object.
+/// The object of a library procedure that sets an object to 2.
 pub(crate) fn procedure_that_sets(
     alloc: Global,
     main: &Symbol,
     data: &Symbol,
 ) -> Result<Object, NoMemory> {
+    procedure_that_sets_to(alloc, main, data, 2)
+}
+
+/// The object of a library procedure that sets an object.
+pub(crate) fn procedure_that_sets_to(
+    alloc: Global,
+    main: &Symbol,
+    data: &Symbol,
+    word: i64,
+) -> Result<Object, NoMemory> {
     let mut out = Output::new(alloc);
     emit_nothing(&mut out)?;
     out.begin(LinkKind::Code, main)?;
     emit_sized(&mut out, Sized::Enter, 0)?;
-    emit_assignment(&mut out, 2, data)?;
+    emit_assignment(&mut out, word, data)?;
     emit_sized(&mut out, Sized::Return, 0)?;
     Ok(object_of(alloc, out))
 }
