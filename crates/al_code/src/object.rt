@@ -15,14 +15,15 @@ use crate::images::word_of;
 use al_base::NoMemory;
 use al_code_object::{Address, Compiled, Object, Region};
 use al_code_output::Output;
+use al_instr::line_table;
 use al_view::{LinkKind, LinkSymbol, Symbol};
 use al_view_typed::{
     DataPlace, DeclarationForm, Elaboration, ProtectedWords, TypedBody, TypedDeclaration, TypedUnit,
 };
 use std::alloc::Global;
 
-/// The object of a unit that is free of faults: its code, where symbols are used and stand in it, its words, its tasks and its
-/// protected objects; large where its code is longer than that of any image.
+/// The object of a unit that is free of faults: its code, where symbols are used and stand in it, its words, its tasks, its
+/// protected objects and its lines; large where its code is longer than that of any image.
 pub fn emit(alloc: Global, unit: &TypedUnit) -> Result<Object, NoMemory>
     requires { IsWellFormed (unit_model unit.now) }
     ensures { IfOk result (λ object. object ≡ object_of (unit_model unit.now)) }
@@ -36,6 +37,7 @@ pub fn emit(alloc: Global, unit: &TypedUnit) -> Result<Object, NoMemory>
     add_data(alloc, &mut defines, unit)?;
     let regions = regions_of(alloc, unit.protected_objects.as_slice())?;
     let tasks = word_of(task_count(&unit.elaboration));
+    let lines = line_table(alloc, written.lines.as_slice(), written.code.len())?;
     Ok(Object::Compiled(Compiled::new(
         written.code,
         written.uses,
@@ -43,6 +45,7 @@ pub fn emit(alloc: Global, unit: &TypedUnit) -> Result<Object, NoMemory>
         unit.words,
         tasks,
         regions,
+        lines,
     )))
 }
 
