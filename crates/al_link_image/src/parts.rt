@@ -2,6 +2,7 @@
 ghost use Rattle.std.specs.Prelude.{◌≡◌};
 
 use al_base::{Name, UnitKind};
+use al_instr::LineEntry;
 
 /// The words of a protected object among the data words, and its ceiling.
 #[derive(Clone, Copy)]
@@ -35,6 +36,8 @@ pub struct ImageParts {
     pub protected: Vec<Region>,
     pub objects: Vec<ImageObject>,
     pub code: Vec<u8>,
+    /// From which places on the code is of which lines; none in an image of version 1.
+    pub lines: Option<Vec<LineEntry>>,
 }
 
 impl Drop for ImageParts {
@@ -45,6 +48,7 @@ impl Drop for ImageParts {
             protected: _,
             objects: _,
             code: _,
+            lines: _,
         } = self;
     }
 }
@@ -60,6 +64,7 @@ impl ImageParts {
             protected: _,
             objects: _,
             code,
+            lines: _,
         } = self;
         code
     }
