@@ -11,7 +11,8 @@ use Rattle.al_link.specs.declared.bases.Bases.{Bases}
 use Rattle.al_link.specs.declared.kept.KeptUnit.{KeptUnit}
 use Rattle.al_link.specs.declared.linking.CompiledUnit.{CompiledUnit}
 use Rattle.al_link.specs.Bases.{AreSmall, next_bases}
-use Rattle.al_link.specs.Images.{called, calls_of, object_of}
+use Rattle.al_instr.specs.Lines.{shifted}
+use Rattle.al_link.specs.Images.{called, calls_of, lines_of, object_of}
 use Rattle.al_link.specs.Kept.{kept_model}
 use Rattle.al_link.specs.Linking.{with_address, with_defines}
 use Rattle.al_link.specs.Partitions.{AreLinkable, compiled_units, is_large, some_large, with_object}
@@ -132,6 +133,11 @@ pub objects_same : (us vs : List UnitObject) → AreAlike us vs → map object_o
 objects_same us vs e =
     same_along [] (λ b s os. record { kind = s.key.kind; name = s.key.name; place = b.code } ∷ os) (λ b xs. map object_of (located b xs)) (λ b. refl) (λ b x xs. refl) (first_bases us) us vs e
     ∙ ap (λ (b : Bases). map object_of (located b vs)) (first_same us vs e)
+
+pub lines_same : (us vs : List UnitObject) → AreAlike us vs → flat_map lines_of (located (first_bases us) us) ≡ flat_map lines_of (located (first_bases vs) vs)
+lines_same us vs e =
+    same_along [] (λ b s es. shifted b.code s.lines ++ es) (λ b xs. flat_map lines_of (located b xs)) (λ b. refl) (λ b x xs. refl) (first_bases us) us vs e
+    ∙ ap (λ (b : Bases). flat_map lines_of (located b vs)) (first_same us vs e)
 
 pub counts_same : (us vs : List UnitObject) → AreAlike us vs → regions_count us ≡ regions_count vs
 counts_same us vs e =

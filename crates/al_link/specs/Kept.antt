@@ -3,9 +3,10 @@ use Rattle.std.specs.Prelude.{ℕ, ◌≡◌, ◌≤◌, ◌+◌, List, length, 
 use Rattle.std.specs.List.{flat_map}
 use Rattle.al_view.specs.declared.link.LinkSymbol.{LinkSymbol}
 use Rattle.al_instr.specs.Codes.{code_bytes}
+use Rattle.al_instr.specs.Lines.{AreLines}
 use Rattle.al_link_image.specs.Images.{Image, IsObject, IsRegion}
 use Rattle.al_link_image.specs.Parts.{IsCode}
-use Rattle.al_link.specs.Images.{image_of, object_of, regions_of, starting}
+use Rattle.al_link.specs.Images.{image_of, lines_of, object_of, regions_of, starting}
 use Rattle.al_link.specs.Linking.{places_of}
 use Rattle.al_link.specs.Symbols.{Places}
 use Rattle.al_link.specs.Units.{AreWithin, Located, UnitObject, first_bases, located, totals}
@@ -23,6 +24,7 @@ kept_model k = record {
     data_words = k.data_words;
     tasks = k.tasks;
     protected = k.protected.items;
+    lines = k.lines.items;
   };
 }
 
@@ -46,6 +48,8 @@ pub record IsPrepared (main : LinkSymbol) (us : List UnitObject) (p : Prepared) 
   pub objects_are : p.objects.items ≡ map object_of (all_located us)
   pub objects_fit : All IsObject p.objects.items
   pub objects_count : length p.objects.items ≤ 65535
+  pub lines_are : p.lines.items ≡ flat_map lines_of (all_located us)
+  pub lines_fit : AreLines p.totals.code p.lines.items
   pub size : length p.start.items + code_size us ≡ p.totals.code
 
 -- what a linked image keeps

@@ -2,6 +2,7 @@
 use Rattle.std.specs.Prelude.{ℕ, ◌≡◌, ◌+◌, if◌then◌else◌, List, [], ◌∷◌, ◌++◌, length, map, sum_by, fold, Option, Some, None}
 use Rattle.std.specs.Str.{bytes_eq}
 use Rattle.al_base.specs.declared.unit_key.UnitKey.{UnitKey}
+use Rattle.al_instr.specs.declared.lines.LineEntry.{LineEntry}
 use Rattle.al_view.specs.declared.link.LinkSymbol.{LinkSymbol}
 use Rattle.al_code_object.specs.declared.object.Address.{Address}
 use Rattle.al_code_object.specs.declared.object.Object.{Object}
@@ -20,7 +21,7 @@ pub record LinkedImage : Type 0 where
   pub units : List UnitObject
   pub patched : ℕ
 
--- a unit by its lengths, counts and symbols
+-- a unit by its lengths, counts, symbols and lines
 pub record Shape : Type 0 where
   pub key : UnitKey
   pub size : ℕ
@@ -29,6 +30,7 @@ pub record Shape : Type 0 where
   pub data_words : ℕ
   pub tasks : ℕ
   pub regions : ℕ
+  pub lines : List LineEntry
 
 abbrev pub shape_of : UnitObject → Shape
 shape_of u = record {
@@ -39,6 +41,7 @@ shape_of u = record {
   data_words = u.object.data_words;
   tasks = u.object.tasks;
   regions = length u.object.protected;
+  lines = u.object.lines;
 }
 
 abbrev pub left_shape : UnitKey → Object → Option Shape
@@ -51,7 +54,7 @@ shapes_left us = map (λ u. left_shape u.key.now u.object.now) us
 abbrev pub shapes_kept : List UnitObject → List (Option Shape)
 shapes_kept us = map (λ u. Some (shape_of u)) us
 
--- the main subprogram and the units are as before by their lengths, counts and symbols: bytes of code and ceilings may differ
+-- the main subprogram and the units are as before by their lengths, counts, symbols and lines: bytes of code and ceilings may differ
 pub record AreAsBefore (l : LinkedImage) (main : LinkSymbol) (us : List CompiledUnit) : Type 0 where
   pub main_is : main ≡ l.main
   pub shapes_are : shapes_left us ≡ shapes_kept l.units

@@ -6,7 +6,8 @@ ghost use Rattle.al_link.specs.Relinking.{differing, differs, left_shape, shape_
 
 use crate::linking::CompiledUnit;
 use al_base::{NoMemory, UnitKey};
-use al_code_object::{Address, Compiled, Object, Region, Relocation};
+use al_code_object::{Address, Compiled, Object, Region, Relocation, are_same_lines};
+use al_instr::LineEntry;
 use al_view::{LinkSymbol, Same, are_same, copied_unit};
 use std::alloc::Global;
 
@@ -19,6 +20,7 @@ pub(crate) struct KeptUnit {
     pub(crate) data_words: u32,
     pub(crate) tasks: u32,
     pub(crate) protected: Vec<Region>,
+    pub(crate) lines: Vec<LineEntry>,
 }
 
 impl Drop for KeptUnit {
@@ -31,6 +33,7 @@ impl Drop for KeptUnit {
             data_words: _,
             tasks: _,
             protected: _,
+            lines: _,
         } = self;
     }
 }
@@ -72,19 +75,37 @@ fn copied_defines(alloc: Global, defines: &[Address]) -> Result<Vec<Address>, No
     Ok(copy)
 }
 
-// What is kept of a unit.
-fn kept_of(alloc: Global, key: &UnitKey, object: &Compiled) -> Result<KeptUnit, NoMemory>
+// What is kept of a unit, whose symbols were copied.
+fn kept_with(
+    alloc: Global,
+    key: &UnitKey,
+    object: &Compiled,
+    uses: Vec<Relocation>,
+    defines: Vec<Address>,
+) -> Result<KeptUnit, NoMemory>
+    requires uses { uses.items ≡ object.now.uses }
+    requires defines { defines.items ≡ object.now.defines }
     ensures { IfOk result (λ kept. kept_model kept ≡ record { key = key.now; object = object.now }) }
 {
     Ok(KeptUnit {
         key: copied_unit(alloc, key)?,
         code: Vec::from_slice(alloc, object.code())?,
-        uses: copied_uses(alloc, object.uses())?,
-        defines: copied_defines(alloc, object.defines())?,
+        uses,
+        defines,
         data_words: object.data_words(),
         tasks: object.tasks(),
         protected: Vec::from_slice(alloc, object.protected())?,
+        lines: Vec::from_slice(alloc, object.lines())?,
     })
+}
+
+// What is kept of a unit.
+fn kept_of(alloc: Global, key: &UnitKey, object: &Compiled) -> Result<KeptUnit, NoMemory>
+    ensures { IfOk result (λ kept. kept_model kept ≡ record { key = key.now; object = object.now }) }
+{
+    let uses = copied_uses(alloc, object.uses())?;
+    let defines = copied_defines(alloc, object.defines())?;
+    kept_with(alloc, key, object, uses, defines)
 }
 
 // What is kept of units that have objects.
@@ -100,7 +121,7 @@ pub(crate) fn all_kept(alloc: Global, units: &[CompiledUnit<'_>]) -> Result<Vec<
     Ok(kept)
 }
 
-// Whether an object is as before by its lengths, counts and symbols.
+// Whether an object is as before by its lengths, counts, symbols and lines.
 fn is_same_object(kept: &KeptUnit, object: &Compiled) -> bool
     ensures { IsTrue result ↔ (shape_of (record { key = kept.now.key; object = object.now }) ≡ shape_of (kept_model kept.now)) }
 {
@@ -110,6 +131,7 @@ fn is_same_object(kept: &KeptUnit, object: &Compiled) -> bool
         && are_same(kept.uses.as_slice(), object.uses())
         && are_same(kept.defines.as_slice(), object.defines())
         && kept.protected.len() == object.protected().len()
+        && are_same_lines(kept.lines.as_slice(), object.lines())
 }
 
 // Whether a unit is.

@@ -17,8 +17,6 @@ mod units;
 mod writing;
 
 pub use al_link_image::{Image, LinkFault};
-pub use image::image_of;
 pub use laws::links_parts;
-pub use linked::Linked;
-pub use linking::{CompiledUnit, link};
-pub use units::LinkUnit;
+pub use linked::{Linked, link};
+pub use linking::CompiledUnit;

@@ -110,6 +110,7 @@ fn make(
         start,
         protected,
         objects,
+        lines,
     } = prepared;
     let mut code = code;
     write_all(&mut code, &start, units, &places);
@@ -119,6 +120,7 @@ fn make(
         protected,
         objects,
         code,
+        lines: Some(lines),
     });
     Linked {
         alloc,
@@ -167,6 +169,22 @@ impl Linked {
         ensures { result.now ≡ image_of self.now.main self.now.units }
     {
         &self.image
+    }
+
+    /// The image alone.
+    pub fn into_image(self) -> Image
+        ensures { result ≡ image_of self.main self.units }
+    {
+        let Linked {
+            alloc: _,
+            main: _,
+            kept: _,
+            places: _,
+            start: _,
+            image,
+            count: _,
+        } = self;
+        image
     }
 
     /// Of how many units the last call of `relink` wrote other code: where lengths, counts and symbols were as before, the number
@@ -238,4 +256,24 @@ impl Linked {
         }
         self.write_anew(main, units)
     }
+}
+
+/// The image of a partition's units in the order in which they stand in it: the items in the order of their elaboration, a body's
+/// subunits after it. `main` is the symbol of the main subprogram's code.
+///
+/// # Errors
+///
+/// `TooLarge` where the code of a unit is longer than that of any image or a limit of images is passed, and only there.
+pub fn link(
+    alloc: Global,
+    main: &LinkSymbol,
+    units: &[CompiledUnit<'_>],
+) -> Result<Image, LinkFault>
+    requires { All (λ u. IsUnitName u.key.now.name) units.now }
+    ensures image { IfOk result (λ image. image ≡ image_of main.now (compiled_units units.now)) }
+    ensures within { OnOk result (AreLinkable units.now) }
+    ensures fault { IfErr result (IsFaultOf units.now) }
+{
+    let linked = Linked::new(alloc, main, units)?;
+    Ok(linked.into_image())
 }

@@ -7,10 +7,11 @@ ghost use Rattle.al_link.specs.Kept.{IsPrepared};
 ghost use Rattle.al_link.specs.Units.{AreWithin, unit_model};
 
 use crate::bases::Bases;
-use crate::image::{objects_of, regions_of};
+use crate::image::{lines_of, objects_of, regions_of};
 use crate::places::Places;
 use crate::start::start_bytes;
 use crate::units::{LinkUnit, first_bases, locate};
+use al_instr::LineEntry;
 use al_link_image::{ImageObject, LinkFault, MAX_OBJECTS, Region};
 use al_view::LinkSymbol;
 use std::alloc::Global;
@@ -23,6 +24,7 @@ pub(crate) struct Prepared {
     pub(crate) start: Vec<u8>,
     pub(crate) protected: Vec<Region>,
     pub(crate) objects: Vec<ImageObject>,
+    pub(crate) lines: Vec<LineEntry>,
 }
 
 /// What an image of units is made of, but for the units' code.
@@ -45,11 +47,13 @@ pub(crate) fn prepare(
     let start = start_bytes(alloc, &located, places.place_of(main))?;
     let protected = regions_of(alloc, &located, totals.words)?;
     let objects = objects_of(alloc, &located)?;
+    let lines = lines_of(alloc, &located)?;
     Ok(Prepared {
         totals,
         places,
         start,
         protected,
         objects,
+        lines,
     })
 }

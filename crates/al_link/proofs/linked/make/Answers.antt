@@ -1,4 +1,4 @@
-use Rattle.std.proofs.Common.{◌≡◌, ◌∙◌, ℕ, List, length, refl, sym, ap, subst}
+use Rattle.std.proofs.Common.{◌≡◌, ◌∙◌, ℕ, List, Some, length, refl, sym, ap, subst}
 use Rattle.std.specs.Vec.{with_items}
 use Rattle.std.proofs.lemmas.List.{with_items_is}
 use Rattle.al_link_image.specs.declared.parts.ImageParts.{ImageParts}
@@ -14,20 +14,20 @@ pub new-image-requires : goal.new-image-requires
 new-image-requires c =
     let q = c.args.fresh.prepared in
     let code : List ℕ = c.write_all.new.code in
-    let p : ImageParts = record { tasks = q.totals.tasks; data_words = q.totals.words; protected = q.protected; objects = q.objects; code = with_items c.args.code code } in
+    let p : ImageParts = record { tasks = q.totals.tasks; data_words = q.totals.words; protected = q.protected; objects = q.objects; code = with_items c.args.code code; lines = Some q.lines } in
     let is : p.code.items ≡ code = with_items_is c.args.code code (c.write_all.auto.code ∙ c.deref_mut.ensures.len) in
     let n : length code ≡ (totals (compiled_units c.args.units.now)).code = c.write_all.auto.code ∙ ap (λ (xs : List ℕ). length xs) c.deref_mut.ensures.value ∙ c.requires.room in
-    made_whole c.args.fresh.main (compiled_units c.args.units.now) q p c.requires.prepared refl refl refl refl (subst (λ (xs : List ℕ). IsCode xs) (sym is) c.write_all.ensures.is_code) (ap (λ (xs : List ℕ). length xs) is ∙ n)
+    made_whole c.args.fresh.main (compiled_units c.args.units.now) q p c.requires.prepared refl refl refl refl (subst (λ (xs : List ℕ). IsCode xs) (sym is) c.write_all.ensures.is_code) (ap (λ (xs : List ℕ). length xs) is ∙ n) refl
 
 pub invariant_of-result : goal.invariant_of-result
 invariant_of-result c =
     let q = c.args.fresh.prepared in
     let us : List UnitObject = compiled_units c.args.units.now in
     let code : List ℕ = c.write_all.new.code in
-    let p : ImageParts = record { tasks = q.totals.tasks; data_words = q.totals.words; protected = q.protected; objects = q.objects; code = with_items c.args.code code } in
+    let p : ImageParts = record { tasks = q.totals.tasks; data_words = q.totals.words; protected = q.protected; objects = q.objects; code = with_items c.args.code code; lines = Some q.lines } in
     let is : p.code.items ≡ code = with_items_is c.args.code code (c.write_all.auto.code ∙ c.deref_mut.ensures.len) in
     let n : length code ≡ (totals us).code = c.write_all.auto.code ∙ ap (λ (xs : List ℕ). length xs) c.deref_mut.ensures.value ∙ c.requires.room in
     let w : code ≡ linked_units q.places q.start.items us = c.write_all.ensures.written ∙ ap (λ (xs : List ℕ). linked_units q.places xs us) c.deref.ensures.value in
     let all : IsLinked c.args.fresh.main us c.new-image.result q.places q.start.items =
-    made_linked c.args.fresh.main us q p c.new-image.result c.requires.prepared refl refl refl refl (is ∙ w) (subst (λ (xs : List ℕ). IsCode xs) (sym is) c.write_all.ensures.is_code) (ap (λ (xs : List ℕ). length xs) is ∙ n) c.new-image.ensures in
+    made_linked c.args.fresh.main us q p c.new-image.result c.requires.prepared refl refl refl refl (is ∙ w) (subst (λ (xs : List ℕ). IsCode xs) (sym is) c.write_all.ensures.is_code) (ap (λ (xs : List ℕ). length xs) is ∙ n) refl c.new-image.ensures in
     subst (λ (vs : List UnitObject). IsLinked c.args.fresh.main vs c.new-image.result q.places q.start.items) (sym c.requires.kept) all

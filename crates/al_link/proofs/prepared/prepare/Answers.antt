@@ -1,9 +1,13 @@
-use Rattle.std.proofs.Common.{◌≡◌, ℕ, List, length, map, sum_by, ap, ◌∙◌, arith}
+use Rattle.std.proofs.Common.{◌≡◌, ℕ, List, length, map, sum_by, ap, subst, ◌∙◌, arith}
+use Rattle.std.specs.List.{All}
+use Rattle.std.proofs.lemmas.List.Elements.{All-map}
 use Rattle.std.proofs.lemmas.List.{length-map}
 use Rattle.al_instr.specs.Codes.{code_bytes}
+use Rattle.al_instr.specs.Lines.{AreLines}
 use Rattle.al_link.specs.declared.units.Located.{Located}
 use Rattle.al_link.specs.Images.{object_of, start_code}
 use Rattle.al_link.specs.Units.{located_model, unit_model}
+use Rattle.al_link.proofs.LineLemmas.{HasLines}
 use Rattle.al_link.proofs.PreparedLemmas.{prepared_is}
 use Rattle.al_link.proofs.prepared.prepare.Goals as goal
 
@@ -23,3 +27,5 @@ returns-clause-made c =
     (c.in_ok-start.ensures.code ∙ ap (λ (ys : List Located). code_bytes (start_code (map located_model ys) c.place_of.result)) c.deref-2.ensures.value) c.in_ok-start.ensures.is_code
     (rw (← c.deref-3.ensures.value) c.in_ok-protected.ensures.value) c.in_ok-protected.ensures.fit (omega (arith, regions, at.objects, at.small.objects))
     (rw (← c.deref-4.ensures.value) c.in_ok-objects.ensures.value) c.in_ok-objects.ensures.fit (omega (arith, units, c.if-units.false))
+    (rw (← c.deref-5.ensures.value) c.in_ok-lines.ensures.value)
+    (All-map HasLines located_model xs (subst (λ (ys : List Located). All (λ l. AreLines (length l.object.now.code) l.object.now.lines) ys) c.deref-5.ensures.value c.in_ok-lines.ensures.each))

@@ -48,11 +48,11 @@ new-requires c =
     let room : regions_count vs ≡ length p0.protected.items = count_again s.main us vs s.image s.places s.start.items p0 c.self.invariant alike c.taken-parts.ensures.value c.taken-parts.ensures.whole in
     let done : IsOk c.refill-filled.result = c.refill-filled.ensures.succeeds (let ok = p0.protected.ok in omega (arith, room, ok.0, ok.1)) in
     let code : List ℕ = c.write_all.new.code in
-    let p : ImageParts = record { tasks = p0.tasks; data_words = p0.data_words; protected = c.refill-filled.new.regions; objects = p0.objects; code = with_items p0.code code } in
+    let p : ImageParts = record { tasks = p0.tasks; data_words = p0.data_words; protected = c.refill-filled.new.regions; objects = p0.objects; code = with_items p0.code code; lines = p0.lines } in
     let is : p.code.items ≡ code = with_items_is p0.code code (c.write_all.auto.code ∙ c.deref_mut.ensures.len) in
     let n : length code ≡ length p0.code.items = c.write_all.auto.code ∙ ap (λ (xs : List ℕ). length xs) c.deref_mut.ensures.value in
     let regions : p.protected.items ≡ regions_from 0 vs = on_ok c.refill-filled.result _ done c.refill-filled.ensures.value in
-    whole_again s.main us vs s.image s.places s.start.items p0 c.self.invariant alike c.taken-parts.ensures.value c.taken-parts.ensures.whole p refl refl regions (on_ok c.refill-filled.result _ done c.refill-filled.ensures.fit) refl (subst (λ (xs : List ℕ). IsCode xs) (sym is) c.write_all.ensures.is_code) (ap (λ (xs : List ℕ). length xs) is ∙ n)
+    whole_again s.main us vs s.image s.places s.start.items p0 c.self.invariant alike c.taken-parts.ensures.value c.taken-parts.ensures.whole p refl refl regions (on_ok c.refill-filled.result _ done c.refill-filled.ensures.fit) refl (subst (λ (xs : List ℕ). IsCode xs) (sym is) c.write_all.ensures.is_code) (ap (λ (xs : List ℕ). length xs) is ∙ n) refl
 
 pub invariant_of-self : goal.invariant_of-self
 invariant_of-self c =
@@ -65,13 +65,13 @@ invariant_of-self c =
     let room : regions_count vs ≡ length p0.protected.items = count_again s.main us vs s.image s.places s.start.items p0 c.self.invariant alike c.taken-parts.ensures.value c.taken-parts.ensures.whole in
     let done : IsOk c.refill-filled.result = c.refill-filled.ensures.succeeds (let ok = p0.protected.ok in omega (arith, room, ok.0, ok.1)) in
     let code : List ℕ = c.write_all.new.code in
-    let p : ImageParts = record { tasks = p0.tasks; data_words = p0.data_words; protected = c.refill-filled.new.regions; objects = p0.objects; code = with_items p0.code code } in
+    let p : ImageParts = record { tasks = p0.tasks; data_words = p0.data_words; protected = c.refill-filled.new.regions; objects = p0.objects; code = with_items p0.code code; lines = p0.lines } in
     let is : p.code.items ≡ code = with_items_is p0.code code (c.write_all.auto.code ∙ c.deref_mut.ensures.len) in
     let n : length code ≡ length p0.code.items = c.write_all.auto.code ∙ ap (λ (xs : List ℕ). length xs) c.deref_mut.ensures.value in
     let regions : p.protected.items ≡ regions_from 0 vs = on_ok c.refill-filled.result _ done c.refill-filled.ensures.value in
     let w : code ≡ linked_units s.places s.start.items vs = c.write_all.ensures.written ∙ ap (λ (xs : List ℕ). linked_units s.places xs vs) c.deref.ensures.value in
     let all : IsLinked s.main vs c.new.result s.places s.start.items =
-    linked_again s.main us vs s.image s.places s.start.items p0 c.self.invariant alike c.taken-parts.ensures.value c.taken-parts.ensures.whole p c.new.result refl refl regions refl (is ∙ w) (subst (λ (xs : List ℕ). IsCode xs) (sym is) c.write_all.ensures.is_code) (ap (λ (xs : List ℕ). length xs) is ∙ n) c.new.ensures in
+    linked_again s.main us vs s.image s.places s.start.items p0 c.self.invariant alike c.taken-parts.ensures.value c.taken-parts.ensures.whole p c.new.result refl refl regions refl (is ∙ w) (subst (λ (xs : List ℕ). IsCode xs) (sym is) c.write_all.ensures.is_code) (ap (λ (xs : List ℕ). length xs) is ∙ n) refl c.new.ensures in
     let kept : (with_items s.kept c.keep_all-self-inside.new.kept).items ≡ c.keep_all-self-inside.new.kept = with_items_is s.kept c.keep_all-self-inside.new.kept (c.keep_all-self-inside.auto.kept ∙ c.deref_mut-2.ensures.len) in
     let seen : map kept_model (with_items s.kept c.keep_all-self-inside.new.kept).items ≡ vs = ap (λ (ks : List KeptUnit). map kept_model ks) kept ∙ c.keep_all-self-inside.ensures.kept in
     subst (λ (ws : List UnitObject). IsLinked s.main ws c.new.result s.places s.start.items) (sym seen) all
