@@ -102,11 +102,11 @@ fn images_are_linked_again(rt: HostRuntime) -> Result<(), Fail> {
         return Ok(());
     };
     assert_eq!(rt; linked.patched(), 0);
-    assert_eq!(rt; again(alloc, &mut linked, &two)?, (206, 1, true, 1));
-    assert_eq!(rt; again(alloc, &mut linked, &two)?, (206, 0, true, 0));
+    assert_eq!(rt; again(alloc, &mut linked, &two)?, (234, 1, true, 1));
+    assert_eq!(rt; again(alloc, &mut linked, &two)?, (234, 0, true, 0));
     let (len, _, is_same, patched) = again(alloc, &mut linked, &three)?;
-    assert_eq!(rt; (len, is_same, patched), (216, true, 3));
+    assert_eq!(rt; (len, is_same, patched), (244, true, 3));
     let (len, _, is_same, patched) = again(alloc, &mut linked, &one)?;
-    assert_eq!(rt; (len, is_same, patched), (206, true, 3));
+    assert_eq!(rt; (len, is_same, patched), (234, true, 3));
     Ok(())
 }
