@@ -5,4 +5,4 @@ mod object;
 mod same;
 
 pub use object::{Address, Compiled, Object, Region, Relocation};
-pub use same::is_same_symbol;
+pub use same::{are_same_lines, is_same_symbol};

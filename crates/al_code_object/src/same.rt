@@ -2,6 +2,7 @@
 ghost use Rattle.std.specs.Prelude.{◌≡◌, ◌↔◌, IsTrue};
 
 use crate::object::{Address, Region, Relocation};
+use al_instr::LineEntry;
 use al_view::{LinkSymbol, Same};
 
 /// Whether two symbols are one for the linker.
@@ -29,4 +30,25 @@ impl Same for Region {
             && self.words == other.words
             && self.ceiling.level() == other.ceiling.level()
     }
+}
+
+fn is_same_entry(entry: &LineEntry, other: &LineEntry) -> bool
+    ensures { IsTrue result ↔ (entry.now ≡ other.now) }
+{
+    entry.place == other.place && entry.line == other.line
+}
+
+/// Whether the lines of two codes are the same.
+pub fn are_same_lines(lines: &[LineEntry], others: &[LineEntry]) -> bool
+    ensures { IsTrue result ↔ (lines.now ≡ others.now) }
+{
+    if lines.len() != others.len() {
+        return false;
+    }
+    for i in 0..lines.len() {
+        if !is_same_entry(&lines[i], &others[i]) {
+            return false;
+        }
+    }
+    true
 }

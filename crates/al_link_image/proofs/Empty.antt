@@ -1,5 +1,5 @@
 -- The image without anything.
-use Rattle.std.proofs.Common.{◌≡◌, ℕ, List, [], length, None, refl, sym, ap, subst, ◌∙◌, arith}
+use Rattle.std.proofs.Common.{◌≡◌, ℕ, List, [], length, Option, None, option_map, refl, sym, ap, subst, ◌∙◌, arith}
 use Rattle.std.specs.List.{All}
 use Rattle.std.proofs.lemmas.List.Elements.{All-nil}
 use Rattle.al_instr.specs.declared.instruction.Instr.{Instr}
@@ -7,6 +7,8 @@ use Rattle.al_instr.specs.Codes.{code_bytes, IsInstr}
 use Rattle.al_link_image.specs.declared.parts.ImageObject.{ImageObject}
 use Rattle.al_link_image.specs.declared.parts.ImageParts.{ImageParts}
 use Rattle.al_link_image.specs.declared.parts.Region.{Region}
+use Rattle.al_instr.specs.declared.lines.LineEntry.{LineEntry}
+use Rattle.al_link_image.specs.Lines.{LinesFit}
 use Rattle.al_link_image.specs.Images.{IsRegion, IsObject}
 use Rattle.al_link_image.specs.Parts.{IsWhole, code_of, instructions_in}
 
@@ -15,8 +17,8 @@ unfolding instructions_in
 none_in = refl
 
 -- parts without anything are those of an image
-pub empty_whole : (p : ImageParts) → p.tasks ≡ 0 → p.data_words ≡ 0 → p.protected.items ≡ [] → p.objects.items ≡ [] → p.code.items ≡ [] → p.lines ≡ None → IsWhole p
-empty_whole p t w r o c first =
+pub empty_whole : (p : ImageParts) → p.tasks ≡ 0 → p.data_words ≡ 0 → p.protected.items ≡ [] → p.objects.items ≡ [] → p.code.items ≡ [] → option_map (λ v. v.items) p.lines ≡ None → IsWhole p
+empty_whole p t w r o c l =
     let none : code_of p.code.items ≡ [] = ap (λ (xs : List ℕ). code_of xs) c ∙ none_in in
     let no_bytes : code_bytes (code_of p.code.items) ≡ [] = ap (λ (is : List Instr). code_bytes is) none in
     let size : length (code_bytes (code_of p.code.items)) ≡ 0 = ap (λ (xs : List ℕ). length xs) no_bytes in
@@ -32,7 +34,7 @@ empty_whole p t w r o c first =
         objects = subst (λ (xs : List ImageObject). All IsObject xs) (sym o) (All-nil IsObject);
         code = subst (λ (xs : List Instr). All IsInstr xs) (sym none) (All-nil IsInstr);
         code_size = omega arith;
-        lines = rw first tt;
+        lines = subst (λ (x : Option (List LineEntry)). LinesFit (length (code_bytes (code_of p.code.items))) x) (sym l) tt;
       };
       bytes_are = no_bytes ∙ sym c;
     }

@@ -73,8 +73,8 @@ code_takes bytes x fits e =
     let t = r.takes bytes n.0.0 n.0.1 fits n.1 in
     let long : n.0.0 ≤ length n.0.1 = ltb-false _ _ g.0 in
     let len : length (take n.0.0 n.0.1) ≡ n.0.0 = length-take-le n.0.0 n.0.1 long in
-    let behind : Takes n.0.1 (take n.0.0 n.0.1) (drop n.0.0 n.0.1) = record { parts = sym (take-append-drop n.0.0 n.0.1); rest_fits = IsBytes-drop n.0.0 n.0.1 t.0.rest_fits } in
-    let two = Takes-then bytes (word_bytes n.0.0) n.0.1 (take n.0.0 n.0.1) (drop n.0.0 n.0.1) t.0 behind in
+    let after : Takes n.0.1 (take n.0.0 n.0.1) (drop n.0.0 n.0.1) = record { parts = sym (take-append-drop n.0.0 n.0.1); rest_fits = IsBytes-drop n.0.0 n.0.1 t.0.rest_fits } in
+    let two = Takes-then bytes (word_bytes n.0.0) n.0.1 (take n.0.0 n.0.1) (drop n.0.0 n.0.1) t.0 after in
     let named : Takes bytes (word_bytes (length (take n.0.0 n.0.1)) ++ take n.0.0 n.0.1) (drop n.0.0 n.0.1) =
     subst (λ (m : ℕ). Takes bytes (word_bytes m ++ take n.0.0 n.0.1) (drop n.0.0 n.0.1)) (sym len) two in
     subst (λ (y : List ℕ × List ℕ). Takes bytes (word_bytes (length y.0) ++ y.0) y.1 × (length y.0 ≤ 16777216)) same (named, omega (arith, len, t.1))

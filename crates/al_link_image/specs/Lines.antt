@@ -1,4 +1,4 @@
--- The bytes of the lines of an image, and the versions of images.
+-- The lines of an image's code, and which version of images has them.
 use Rattle.std.specs.Prelude.{ℕ, List, [], ◌∷◌, ◌++◌, length, Option, Some, None}
 use Rattle.std.specs.List.{flat_map}
 use Rattle.al_instr.specs.Codes.{word_bytes}

@@ -1,5 +1,5 @@
-// The lines of code, read.
-ghost use Rattle.std.specs.Prelude.{[]};
+// Reading the lines of images.
+ghost use Rattle.std.specs.Prelude.{◌≡◌, [], IfOk};
 ghost use Rattle.al_link_image.specs.Reading.{Finds, counted_at, entries_at, entry_at, more_at};
 
 use crate::fault::LinkFault;

@@ -36,7 +36,7 @@ pub struct ImageParts {
     pub protected: Vec<Region>,
     pub objects: Vec<ImageObject>,
     pub code: Vec<u8>,
-    /// None in an image of version 1.
+    /// From which places on the code is of which lines; none in an image of version 1.
     pub lines: Option<Vec<LineEntry>>,
 }
 
