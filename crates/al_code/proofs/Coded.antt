@@ -3,6 +3,8 @@ use Rattle.std.proofs.Common.{◌≡◌, ℕ, ◌+◌, ◌<◌, Bool, true, fals
 use Rattle.std.specs.Prelude.{pos}
 use Rattle.std.specs.List.{flat_map, list_any}
 use Rattle.std.proofs.lemmas.Bool.{lt-ltb}
+use Rattle.al_view.specs.ViewUses.{link}
+use Rattle.al_view.specs.declared.link.LinkKind.TheVariants.{Data}
 use Rattle.al_view.specs.declared.symbol.Symbol.{Symbol}
 use Rattle.al_view.specs.declared.view.ObjectPlace.{ObjectPlace}
 use Rattle.al_view.specs.declared.view.ObjectPlace.TheVariants as places
@@ -30,7 +32,7 @@ use Rattle.al_code_output.specs.Pieces.{Piece, Whole, Using, Leaving, Begins, Li
 use Rattle.al_code_output.specs.Targets.{outside}
 use Rattle.al_code_output.proofs.Writing.{size_cons}
 use Rattle.al_code_expr.specs.Pieces.{guarded, unless_zero}
-use Rattle.al_code_expr.specs.Templates.{call_code, routine_code}
+use Rattle.al_code_expr.specs.Templates.{call_code, checked_code, routine_code}
 use Rattle.al_code.specs.declared.routine.Routine.{Routine}
 use Rattle.al_code.specs.Declarations.{component_code, declaration_code, declaration_form_code, declarations_code, elaborated_code, object_code, subprogram_code}
 use Rattle.al_code.specs.Images.{emit_code, piece_code}
@@ -156,10 +158,12 @@ subprogram_solid depth (places.Static symbol word) = refl
 
 elaborated_coded : (depth : ℕ) (flag : ObjectPlace) → Coded (elaborated_code depth flag)
 unfolding elaborated_code
-elaborated_coded depth flag = last _ whole
+elaborated_coded depth flag = record { is = refl }
 
 component_coded : (depth : ℕ) (symbol : Symbol) (c : ComponentValueTree) → Coded (component_code depth symbol c)
-component_coded depth symbol c = last _ (record { is = refl })
+component_coded depth symbol c =
+    let h : Coded (Using (instr.Seed c.word c.words) (link Data symbol) ∷ []) = record { is = refl } in
+    last (checked_code depth c.value) h
 
 each_solid : {A : Type 0} (f : A → List Piece) → ((x : A) → Coded (f x)) → (xs : List A) → is_some_of xs ≡ solid (flat_map f xs)
 each_solid f h [] = refl
