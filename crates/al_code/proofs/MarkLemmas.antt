@@ -1,10 +1,10 @@
 -- Whether there is something.
 use Rattle.std.proofs.Common.{◌≡◌, ℕ, ◌+◌, ◌<◌, get_or, drop, add-one, sym, ap, ◌∙◌, Bool, true, false, ◌||◌, List, [], ◌∷◌, length, map, refl, arith}
 use Rattle.std.proofs.Math.Seq.{drop-cons}
-use Rattle.al_view_typed.specs.StatementTrees.{StatementTree}
-use Rattle.al_view_typed.specs.StatementViews.{statement_form_model, statement_model, statements_of}
+use Rattle.al_view_typed.specs.StatementTrees.{BranchTree, StatementTree}
+use Rattle.al_view_typed.specs.StatementViews.{branches_of, statement_form_model, statement_model, statements_of}
 use Rattle.al_view_typed.specs.declared.statement.TypedStatement.{TypedStatement, out-TypedStatement}
-use Rattle.al_code.specs.Marks.{has_code, is_some_of, statement_has_code, statements_have_code}
+use Rattle.al_code.specs.Marks.{has_branch, has_code, is_some_of, statement_has_code, statements_have_code}
 use Rattle.al_code.proofs.Layers.{statement_layers}
 
 pub no_pieces : {A B : Type 0} (b : Bool) (f : A → B) (xs : List A) → length xs ≡ 0 → (b || is_some_of (map f xs)) ≡ b
@@ -16,6 +16,10 @@ pub some_pieces : {A B : Type 0} (b : Bool) (f : A → B) (xs : List A) → 0 < 
 some_pieces b f [] lt = absurd (omega arith)
 some_pieces true f (x ∷ xs) lt = refl
 some_pieces false f (x ∷ xs) lt = refl
+
+pub branch_there : {A : Type 0} (f : A → BranchTree) (xs : List A) → has_branch (branches_of (map f xs)) ≡ is_some_of xs
+branch_there f [] = refl
+branch_there f (x ∷ xs) = refl
 
 abbrev rest : List TypedStatement → ℕ → Bool
 rest xs i = statements_have_code (statements_of (map statement_model (drop i xs)))

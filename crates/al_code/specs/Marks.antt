@@ -4,7 +4,8 @@ use Rattle.std.specs.List.{list_any}
 use Rattle.al_view.specs.declared.view.ObjectPlace.{ObjectPlace}
 use Rattle.al_view.specs.declared.view.ObjectPlace.TheVariants as places
 use Rattle.al_view_typed.specs.DeclarationTrees.{DeclarationFormTree, Objects, Subprogram, Elaborated, SingleTask, SingleProtected}
-use Rattle.al_view_typed.specs.StatementTrees.{StatementTree, StatementsTree, StatementFormTree}
+use Rattle.al_view_typed.specs.StatementTrees.{StatementTree, StatementsTree, StatementFormTree, BranchesTree}
+use Rattle.al_view_typed.specs.StatementTrees.BranchesTree.{NoBranch, MoreBranches}
 use Rattle.al_view_typed.specs.StatementTrees.StatementTree.{Numbered}
 use Rattle.al_view_typed.specs.StatementTrees.StatementsTree.{NoStatement, MoreStatements}
 use Rattle.al_view_typed.specs.StatementTrees.StatementFormTree.{NullStatement, AssignmentStatement, CallStatement, PutStatement, ReturnStatement, ExitStatement, DelayStatement, IfStatement, CaseStatement, LoopStatement, BlockStatement}
@@ -33,18 +34,22 @@ declaration_has_code (Elaborated flag) = true
 declaration_has_code (SingleTask symbol priority) = true
 declaration_has_code (SingleProtected symbol values) = is_some_of values
 
+abbrev pub has_branch : BranchesTree → Bool
+has_branch NoBranch = false
+has_branch (MoreBranches b bs) = true
+
 -- whether there is code where a statement stands, or some statements
 abbrev mutual
   pub has_code : StatementFormTree → Bool
   has_code NullStatement = false
   has_code (PutStatement pieces ends_line) = ends_line || is_some_of pieces
+  has_code (IfStatement branches otherwise) = has_branch branches || statements_have_code otherwise
   has_code (BlockStatement declarations statements) = list_any (λ d. declaration_has_code d.form) declarations || statements_have_code statements
   has_code (AssignmentStatement target words value) = true
   has_code (CallStatement call) = true
   has_code (ReturnStatement value words) = true
   has_code (ExitStatement loops condition) = true
   has_code (DelayStatement moment) = true
-  has_code (IfStatement branches otherwise) = true
   has_code (CaseStatement selector word alternatives otherwise) = true
   has_code (LoopStatement scheme statements) = true
 

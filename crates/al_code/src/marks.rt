@@ -1,13 +1,13 @@
 // Where code begins that is of a line.
 ghost use Rattle.std.specs.Prelude.{◌≡◌, ◌||◌, map, OnOk};
-ghost use Rattle.al_view_typed.specs.StatementViews.{piece_model, statement_form_model, statement_model, statements_of};
+ghost use Rattle.al_view_typed.specs.StatementViews.{branch_model, branches_of, piece_model, statement_form_model, statement_model, statements_of};
 ghost use Rattle.al_code_output.specs.Written.{written};
-ghost use Rattle.al_code.specs.Marks.{has_code, is_some_of, mark_of, statements_have_code};
+ghost use Rattle.al_code.specs.Marks.{has_branch, has_code, is_some_of, mark_of, statements_have_code};
 
 use crate::declarations::declarations_have_code;
 use al_base::NoMemory;
 use al_code_output::Output;
-use al_view_typed::{Piece, StatementForm, TypedStatement};
+use al_view_typed::{Branch, Piece, StatementForm, TypedStatement};
 
 /// The code of a line begins here, where there is any.
 #[tactic(auto, using(al_code_output::proofs::Writing::written_nothing), unfolding(crate::specs::Marks::mark_of))]
@@ -31,6 +31,14 @@ fn puts(pieces: &[Piece], ends_line: bool) -> bool
     true
 }
 
+/// Whether there is a branch at all.
+#[tactic(auto, using(crate::proofs::MarkLemmas::branch_there))]
+fn has_branch(branches: &[Branch]) -> bool
+    ensures { result ≡ has_branch (branches_of (map branch_model branches.now)) }
+{
+    !branches.is_empty()
+}
+
 /// Whether there is code where a statement stands.
 #[cycle(coded)]
 #[tactic(auto, using(al_view_typed::proofs::StatementsMade::null_made, al_view_typed::proofs::StatementsMade::assignment_made, al_view_typed::proofs::StatementsMade::call_made, al_view_typed::proofs::StatementsMade::put_made, al_view_typed::proofs::StatementsMade::return_made, al_view_typed::proofs::StatementsMade::exit_made, al_view_typed::proofs::StatementsMade::delay_made, al_view_typed::proofs::StatementsMade::if_made, al_view_typed::proofs::StatementsMade::case_made, al_view_typed::proofs::StatementsMade::loop_made, al_view_typed::proofs::StatementsMade::block_made))]
@@ -45,7 +53,10 @@ pub(crate) fn has_code(form: &StatementForm) -> bool
         StatementForm::Return { .. } => true,
         StatementForm::Exit { .. } => true,
         StatementForm::Delay(_) => true,
-        StatementForm::If { .. } => true,
+        StatementForm::If {
+            branches,
+            otherwise,
+        } => has_branch(branches) || have_code(otherwise),
         StatementForm::Case { .. } => true,
         StatementForm::Loop { .. } => true,
         StatementForm::Block {
