@@ -22,6 +22,7 @@ use std::alloc::Global;
 use std::marker::Model;
 
 /// An image with all that was linked, which is linked again in its place.
+#[derive(Drop)]
 pub struct Linked {
     alloc: Global,
     main: LinkSymbol,
@@ -30,20 +31,6 @@ pub struct Linked {
     start: Vec<u8>,
     image: Image,
     count: usize,
-}
-
-impl Drop for Linked {
-    fn drop(self) {
-        let Linked {
-            alloc: _,
-            main: _,
-            kept: _,
-            places: _,
-            start: _,
-            image: _,
-            count: _,
-        } = self;
-    }
 }
 
 impl Model for Linked {
