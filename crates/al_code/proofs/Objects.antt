@@ -90,7 +90,7 @@ object_small u w code uses defines lines is parts =
           let t : leb (size (unit_code u)) 16777216 ≡ true = grind (arith, nat_tests) in
           let whole : w ≡ Some (grown empty (unit_code u)) = is ∙ writes_all (unit_code u) ∙ rw t refl in
           let same = subst (λ (v : Option Buffer). IsSomeAnd v (λ b. (code ≡ b.code) × (uses ≡ b.uses) × (defines ≡ b.defines) × (lines ≡ b.lines))) whole parts in
-          rw (t, same.0, same.1, same.2) refl
+          rw (t, same.0, same.1, same.2, same.3) refl
     ]
 
 -- the table of lines of what was written
@@ -106,5 +106,5 @@ unit_lines u w code uses defines lines is parts =
           let t : leb (size (unit_code u)) 16777216 ≡ true = grind (arith, nat_tests) in
           let whole : w ≡ Some (grown empty (unit_code u)) = is ∙ writes_all (unit_code u) ∙ rw t refl in
           let same = subst (λ (v : Option Buffer). IsSomeAnd v (λ b. (code ≡ b.code) × (uses ≡ b.uses) × (defines ≡ b.defines) × (lines ≡ b.lines))) whole parts in
-          rw (same.0, same.2.2) (table_keeps (unit_code u) le)
+          rw (same.0, same.3) (table_keeps (unit_code u) le)
     ]

@@ -145,6 +145,17 @@ lower (e ∷ es) lowest less end le h =
     let low : leb less e.place ≡ true = le-leb _ _ (omega (arith, leb-true _ _ m.0)) in
     rw (low, m.1, k.1, r.1) refl
 
+-- a longer code has them too
+pub rise_within : (es : List LineEntry) (lowest end more : ℕ) → end ≤ more → rise lowest end es ≡ true → rise lowest more es ≡ true
+rise_within [] lowest end more le h = refl
+rise_within (e ∷ es) lowest end more le h =
+    let r = both_true ((leb lowest e.place && ltb e.place end) && leb 1 e.line) (rise (e.place + 1) end es) h in
+    let k = both_true (leb lowest e.place && ltb e.place end) (leb 1 e.line) r.0 in
+    let m = both_true (leb lowest e.place) (ltb e.place end) k.0 in
+    let before : e.place < end = ltb-true _ _ m.1 in
+    let high : ltb e.place more ≡ true = lt-ltb _ _ (omega arith) in
+    rw (m.0, high, k.1, rise_within es (e.place + 1) end more le r.1) refl
+
 pub rise_append : (xs ys : List LineEntry) (lowest middle end : ℕ) → lowest ≤ middle → middle ≤ end → rise lowest middle xs ≡ true → rise middle end ys ≡ true → rise lowest end (xs ++ ys) ≡ true
 rise_append [] ys lowest middle end le more h k = lower ys middle lowest end le k
 rise_append (x ∷ xs) ys lowest middle end le more h k =

@@ -53,8 +53,8 @@ pub fn line_table(
 }
 
 /// The line of the code at a place: that of the last entry whose place isn't after it.
-pub fn line_at(lines: &[LineEntry], end: usize, place: usize) -> Option<u32>
-    requires { rise 0 end lines.now ≡ true }
+pub fn line_at(lines: &[LineEntry], place: usize) -> Option<u32>
+    requires { rise 0 0x1_0000_0000 lines.now ≡ true }
     ensures { result ≡ line_at lines.now place None }
 {
     let mut low = 0;

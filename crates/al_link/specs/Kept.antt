@@ -1,10 +1,10 @@
 -- What a linked image keeps of its units, and of what it is made.
-use Rattle.std.specs.Prelude.{ℕ, ◌≡◌, ◌≤◌, ◌+◌, List, length, map, All}
+use Rattle.std.specs.Prelude.{ℕ, ◌≡◌, ◌≤◌, ◌+◌, ◌*◌, List, length, map, All}
 use Rattle.std.specs.List.{flat_map}
 use Rattle.al_view.specs.declared.link.LinkSymbol.{LinkSymbol}
 use Rattle.al_instr.specs.Codes.{code_bytes}
 use Rattle.al_instr.specs.Lines.{AreLines}
-use Rattle.al_link_image.specs.Images.{Image, IsObject, IsRegion}
+use Rattle.al_link_image.specs.Images.{Image, IsObject, IsRegion, object_bytes}
 use Rattle.al_link_image.specs.Parts.{IsCode}
 use Rattle.al_link.specs.Images.{image_of, lines_of, object_of, regions_of, starting}
 use Rattle.al_link.specs.Linking.{places_of}
@@ -51,6 +51,10 @@ pub record IsPrepared (main : LinkSymbol) (us : List UnitObject) (p : Prepared) 
   pub lines_are : p.lines.items ≡ flat_map lines_of (all_located us)
   pub lines_fit : AreLines p.totals.code p.lines.items
   pub size : length p.start.items + code_size us ≡ p.totals.code
+
+-- how many bytes an image has that is made of it
+abbrev pub prepared_size : Prepared → ℕ
+prepared_size p = 30 + 12 * length p.protected.items + length (flat_map object_bytes p.objects.items) + p.totals.code + 8 * length p.lines.items
 
 -- what a linked image keeps
 pub record IsLinked (main : LinkSymbol) (us : List UnitObject) (image : Image) (places : Places) (start : List ℕ) : Type 0 where

@@ -12,6 +12,7 @@ mod patch;
 mod places;
 mod prepared;
 mod refilling;
+mod sizes;
 mod start;
 mod units;
 mod writing;

@@ -1,10 +1,10 @@
 // An image that may be linked again in its place.
-ghost use Rattle.std.specs.Prelude.{◌≡◌, ◌↔◌, IsTrue, IsOk, length, map, IfOk, IfErr, OnOk, OnErr};
+ghost use Rattle.std.specs.Prelude.{◌≡◌, ◌≤◌, ◌↔◌, IsTrue, IsOk, length, map, vec_capacity, IfOk, IfErr, OnOk, OnErr};
 ghost use Rattle.std.specs.List.{All};
-ghost use Rattle.al_link_image.specs.Images.{IsUnitName};
+ghost use Rattle.al_link_image.specs.Images.{IsUnitName, image_bytes};
 ghost use Rattle.al_link_image.specs.Parts.{IsWhole, image_of as image_of_parts};
 ghost use Rattle.al_link.specs.Images.{image_of};
-ghost use Rattle.al_link.specs.Kept.{IsPrepared, kept_model};
+ghost use Rattle.al_link.specs.Kept.{IsPrepared, kept_model, prepared_size};
 ghost use Rattle.al_link.specs.Partitions.{AreLinkable, IsFaultOf, compiled_units};
 ghost use Rattle.al_link.specs.Relinking.{AreAsBefore, differing, shapes_kept, shapes_left};
 ghost use Rattle.al_link.specs.Units.{totals};
@@ -14,6 +14,7 @@ use crate::linking::{CompiledUnit, compiled};
 use crate::places::Places;
 use crate::prepared::{Prepared, prepare};
 use crate::refilling::refill;
+use crate::sizes::image_size;
 use crate::writing::write_all;
 use al_code_object::is_same_symbol;
 use al_link_image::{Image, ImageParts, LinkFault};
@@ -30,11 +31,13 @@ pub struct Linked {
     places: Places,
     start: Vec<u8>,
     image: Image,
+    bytes: Vec<u8>,
     count: usize,
 }
 
 impl Model for Linked {
-    ghost use Rattle.std.specs.Prelude.{map};
+    ghost use Rattle.std.specs.Prelude.{◌≡◌, map};
+    ghost use Rattle.al_link_image.specs.Images.{image_bytes};
     ghost use Rattle.al_link.specs.Kept.{IsLinked, kept_model};
     ghost use Rattle.al_link.specs.Relinking.{LinkedImage};
 
@@ -42,7 +45,7 @@ impl Model for Linked {
 
     ghost view = { λ l. record { main = l.main; units = map kept_model l.kept.items; patched = l.count } };
 
-    ghost invariant = { λ l. IsLinked l.main (map kept_model l.kept.items) l.image l.places l.start.items };
+    ghost invariant = { λ l. IsLinked l.main (map kept_model l.kept.items) l.image l.places l.start.items × (l.bytes.items ≡ image_bytes l.image) };
 }
 
 // What is linked.
@@ -73,17 +76,20 @@ fn collect(alloc: Global, main: &LinkSymbol, units: &[CompiledUnit<'_>]) -> Resu
     })
 }
 
-// The image of units whose code is written over this code, which is as long as theirs.
+// The image of units whose code is written over this code, which is as long as theirs, and its bytes in the place of these, where
+// there is room for them.
 fn make(
     alloc: Global,
     fresh: Fresh,
     code: Vec<u8>,
+    bytes: Vec<u8>,
     units: &[CompiledUnit<'_>],
     count: usize,
 ) -> Linked
     requires kept { map kept_model fresh.kept.items ≡ compiled_units units.now }
     requires prepared { IsPrepared fresh.main (compiled_units units.now) fresh.prepared }
     requires room { length code.items ≡ (totals (compiled_units units.now)).code }
+    requires bytes_room { prepared_size fresh.prepared ≤ vec_capacity bytes }
     ensures { result ≡ record { main = fresh.main; units = compiled_units units.now; patched = count } }
 {
     let Fresh {
@@ -109,6 +115,8 @@ fn make(
         code,
         lines: Some(lines),
     });
+    let mut bytes = bytes;
+    let _written = image.bytes_into(&mut bytes);
     Linked {
         alloc,
         main,
@@ -116,6 +124,7 @@ fn make(
         places,
         start,
         image,
+        bytes,
         count,
     }
 }
@@ -146,9 +155,10 @@ impl Linked {
         ensures fault { IfErr result (IsFaultOf units.now) }
     {
         let fresh = collect(alloc, main, units)?;
+        let bytes = Vec::with_capacity(alloc, image_size(&fresh.prepared))?;
         let mut code = Vec::new(alloc);
         code.resize(fresh.prepared.totals.code as usize, 0)?;
-        Ok(make(alloc, fresh, code, units, 0))
+        Ok(make(alloc, fresh, code, bytes, units, 0))
     }
 
     /// The image. It takes no memory.
@@ -156,6 +166,13 @@ impl Linked {
         ensures { result.now ≡ image_of self.now.main self.now.units }
     {
         &self.image
+    }
+
+    /// The image's bytes. It takes no memory.
+    pub fn bytes(&self) -> &[u8]
+        ensures { result.now ≡ image_bytes (image_of self.now.main self.now.units) }
+    {
+        self.bytes.as_slice()
     }
 
     /// The image alone.
@@ -169,6 +186,7 @@ impl Linked {
             places: _,
             start: _,
             image,
+            bytes: _,
             count: _,
         } = self;
         image
@@ -199,6 +217,7 @@ impl Linked {
         let _filled = refill(&mut parts.protected, units, parts.data_words);
         write_all(&mut parts.code, &self.start, units, &self.places);
         self.image = Image::new(parts);
+        let _written = self.image.bytes_into(&mut self.bytes);
         self.count = keep_all(&mut self.kept, units);
     }
 
@@ -211,12 +230,21 @@ impl Linked {
         ensures fault { IfErr result (IsFaultOf units.now) }
     {
         let fresh = collect(self.alloc, main, units)?;
+        self.bytes.reserve(image_size(&fresh.prepared))?;
         let mut parts = taken(self.alloc, &mut self.image);
         if let Err(error) = parts.code.resize(fresh.prepared.totals.code as usize, 0) {
             self.image = Image::new(parts);
             return Err(LinkFault::from(error));
         }
-        *self = make(self.alloc, fresh, parts.into_code(), units, units.len());
+        let bytes = std::mem::replace(&mut self.bytes, Vec::new(self.alloc));
+        *self = make(
+            self.alloc,
+            fresh,
+            parts.into_code(),
+            bytes,
+            units,
+            units.len(),
+        );
         Ok(())
     }
 
