@@ -1,8 +1,10 @@
 -- The lines of units whose code stands one after the other.
-use Rattle.std.proofs.Common.{◌≡◌, ℕ, ◌+◌, ◌<◌, ◌≤◌, ◌^◌, leb, ltb, ◌&&◌, true, List, [], ◌∷◌, ◌++◌, length, refl, subst, arith}
+use Rattle.std.proofs.Common.{◌≡◌, ℕ, ◌+◌, ◌<◌, ◌≤◌, ◌^◌, leb, ltb, ◌&&◌, true, List, [], ◌∷◌, ◌++◌, length, take, map, get_or, refl, sym, ap, subst, ◌∙◌, append-nil, arith}
 use Rattle.std.specs.List.{All, flat_map}
 use Rattle.std.proofs.lemmas.Bool.{ltb-true}
-use Rattle.std.proofs.lemmas.List.Elements.{All-append, All-cons, All-head, All-map, All-nil, All-tail, All-weaker}
+use Rattle.std.proofs.lemmas.Grind.{flat_map-append}
+use Rattle.std.proofs.lemmas.List.{map-append, take_more}
+use Rattle.std.proofs.lemmas.List.Elements.{All-append, All-cons, All-head, All-map, All-nil, All-push, All-tail, All-weaker}
 use Rattle.std.proofs.lemmas.List.Sums.{sum_by-cons}
 use Rattle.al_instr.specs.declared.lines.LineEntry.{LineEntry}
 use Rattle.al_instr.specs.Lines.{AreLines, IsLineEntry, rise, shifted}
@@ -11,7 +13,8 @@ use Rattle.al_link.specs.declared.bases.Bases.{Bases}
 use Rattle.al_link.specs.Bases.{next_bases}
 use Rattle.al_link.specs.Images.{lines_of}
 use Rattle.al_link.specs.Relinking.{code_size}
-use Rattle.al_link.specs.Units.{UnitObject, Located, located, bases_after}
+use Rattle.al_link.specs.Units.{UnitObject, Located, located, located_model, bases_after}
+use Rattle.al_link.specs.declared.units.Located.{Located as LocatedUnit}
 
 -- ---- one unit
 
@@ -82,3 +85,21 @@ lines_located b us small all =
       rise_in = rise_append [] es 0 b.code end (omega arith) (omega (arith, code_after b us)) refl h;
       fit = entries end es small (places_below es b.code end h) (lines_in_words b us all);
     }
+
+-- ---- the lines of one unit more
+
+module _ (xs : List LocatedUnit) (i : ℕ) (x : LocatedUnit) (lt : i < length xs) (at : x ≡ get_or xs i x) where
+  one_more : take (i + 1) xs ≡ take i xs ++ x ∷ []
+  one_more = take_more xs i x lt ∙ ap (λ (y : LocatedUnit). take i xs ++ y ∷ []) (sym at)
+
+  pub lines_more : (before after : List LineEntry) → before ≡ flat_map lines_of (map located_model (take i xs)) → after ≡ before ++ lines_of (located_model x) → after ≡ flat_map lines_of (map located_model (take (i + 1) xs))
+  lines_more before after b a =
+      let front : List Located = map located_model (take i xs) in
+      let here : List LineEntry = lines_of (located_model x) in
+      let seen : map located_model (take (i + 1) xs) ≡ front ++ located_model x ∷ [] = ap (λ (ys : List LocatedUnit). map located_model ys) one_more ∙ map-append located_model (take i xs) (x ∷ []) in
+      let all : flat_map lines_of (map located_model (take (i + 1) xs)) ≡ flat_map lines_of front ++ here =
+      ap (λ (ls : List Located). flat_map lines_of ls) seen ∙ flat_map-append lines_of front (located_model x ∷ []) ∙ ap (λ (es : List LineEntry). flat_map lines_of front ++ es) (append-nil here) in
+      a ∙ ap (λ (es : List LineEntry). es ++ here) b ∙ sym all
+
+  pub each_more : (P : LocatedUnit → Type 0) → All P (take i xs) → P x → All P (take (i + 1) xs)
+  each_more P all one = subst (λ (ys : List LocatedUnit). All P ys) (sym one_more) (All-push P (take i xs) x all one)

@@ -16,7 +16,7 @@ struct Scene {
     objects: [Object; 3],
 }
 
-fn scene(alloc: Global, q_has_one: bool, word: i64) -> Result<Scene, LinkFault> {
+fn scene_with(alloc: Global, q_has_one: bool, word: i64) -> Result<Scene, LinkFault> {
     let symbol = main_of(alloc, b"client")?;
     let p = package_with_value(alloc, set_by(alloc, false)?)?;
     let q = q_of(alloc, q_has_one)?;
@@ -69,14 +69,14 @@ fn again(
     if !are_named(&units) {
         return Ok((0, 0, false, 0));
     }
-    let before = linked.image().bytes(alloc)?;
+    let before = Vec::from_slice(alloc, linked.bytes())?;
     linked.relink(&scene.main, &units)?;
-    let after = linked.image().bytes(alloc)?;
+    let after = linked.bytes();
     let whole = image_bytes(alloc, &scene.main, &units)?;
-    let is_same = whole.as_deref() == Some(after.as_slice());
+    let is_same = whole.as_deref() == Some(after);
     Ok((
         after.len(),
-        differing(&before, &after),
+        differing(&before, after),
         is_same,
         linked.patched(),
     ))
@@ -94,9 +94,9 @@ fn first(alloc: Global, scene: &Scene) -> Result<Option<Linked>, LinkFault> {
 #[test]
 fn images_are_linked_again(rt: HostRuntime) -> Result<(), Fail> {
     let alloc = rt.alloc();
-    let one = scene(alloc, false, 2)?;
-    let two = scene(alloc, false, 3)?;
-    let three = scene(alloc, true, 3)?;
+    let one = scene_with(alloc, false, 2)?;
+    let two = scene_with(alloc, false, 3)?;
+    let three = scene_with(alloc, true, 3)?;
     let Some(mut linked) = first(alloc, &one)? else {
         assert!(rt; false);
         return Ok(());
