@@ -28,18 +28,24 @@ use Rattle.al_view_typed.specs.declared.unit.FormalWords.{FormalWords}
 use Rattle.al_code_output.specs.declared.piece.Construct.TheVariants as construct
 use Rattle.al_code_output.specs.Pieces.{Piece}
 use Rattle.al_code.specs.declared.routine.Routine.{Routine}
-use Rattle.al_code.specs.Declarations.{object_code, subprogram_code, elaborated_code, component_code, declaration_form_code, declarations_code}
+use Rattle.al_code.specs.Declarations.{object_code, subprogram_code, elaborated_code, component_code, declaration_code, declaration_form_code, declarations_code}
 use Rattle.al_code.specs.Images.{dropped_code, image_code, images, line_code, piece_code, pieces_code, emit_code}
 use Rattle.al_code.specs.Loops.{bounds_code, compare_code, high_word, leave_code, low_word, mark_check, marked_code, round_code, step_operator, turn_code}
 use Rattle.al_code.specs.Routines.{barrier_code, begun_code, copied_code, ending_code, entry_call_code, formal_code, gate_code, inside_code, mode_code, served_code}
 use Rattle.al_code.specs.Statements.{alternative_code, alternatives_code, branch_code, branches_code, choice_code, choices_code, other_choice_code, others_code, return_code, statement_code, statement_form_code, statements_code, unlocked_code}
-use Rattle.al_code.proofs.Bounds.{Bounded, Inner, nothing, whole, using_one, waiting, then, last, ending, end_of, around}
+use Rattle.al_code.specs.Marks.{declaration_has_code, has_code, mark_of}
+use Rattle.al_code.proofs.Bounds.{Bounded, Inner, line_here, nothing, whole, using_one, waiting, then, last, ending, end_of, around}
 use Rattle.al_code.proofs.BoundedExpressions.{address_bounded, call_bounded, check_bounded, checked_bounded, guarded_bounded, join_bounded, load_bounded, number_bounded, one_bounded, place_bounded, slot_bounded, store_bounded, value_bounded}
 
 -- a list of codes one after the other
 each_bounded : {A : Type 0} (f : A → List Piece) → ((x : A) → Bounded (f x)) → (xs : List A) → Bounded (flat_map f xs)
 each_bounded f h [] = nothing
 each_bounded f h (x ∷ xs) = then (h x) (each_bounded f h xs)
+
+pub mark_bounded : (b : Bool) (line : ℕ) → Bounded (mark_of b line)
+unfolding mark_of
+mark_bounded true line = line_here
+mark_bounded false line = nothing
 
 -- ---- declarations
 
@@ -67,7 +73,7 @@ declaration_bounded depth (SingleTask symbol priority) = using_one refl
 declaration_bounded depth (SingleProtected symbol values) = each_bounded (component_code depth symbol) (λ c. component_bounded depth symbol c) values
 
 declarations_bounded : (depth : ℕ) (ds : List DeclarationTree) → Bounded (declarations_code depth ds)
-declarations_bounded depth ds = each_bounded (λ d. declaration_form_code depth d.form) (λ d. declaration_bounded depth d.form) ds
+declarations_bounded depth ds = each_bounded (declaration_code depth) (λ d. then (mark_bounded (declaration_has_code d.form) d.line) (declaration_bounded depth d.form)) ds
 
 -- ---- what is put out
 
@@ -160,28 +166,28 @@ others_bounded (MoreStatements s ss) h = then h join_bounded
 
 mutual
   statement_bounded : (r : Routine) (s : StatementTree) → Bounded (statement_code r s)
-  statement_bounded r (Numbered line form) = statement_form_bounded r form
+  statement_bounded r (Numbered line form) = then (mark_bounded (has_code form) line) (statement_form_bounded r line form)
 
   pub statements_bounded : (r : Routine) (ss : StatementsTree) → Bounded (statements_code r ss)
   statements_bounded r NoStatement = nothing
   statements_bounded r (MoreStatements s ss) = then (statement_bounded r s) (statements_bounded r ss)
 
-  statement_form_bounded : (r : Routine) (f : StatementFormTree) → Bounded (statement_form_code r f)
-  statement_form_bounded r NullStatement = nothing
-  statement_form_bounded r (AssignmentStatement target words value) = then (then (checked_bounded r.depth value) (address_bounded r.depth target)) (whole refl)
-  statement_form_bounded r (CallStatement call) = call_bounded r.depth call
-  statement_form_bounded r (PutStatement pieces ends_line) = emit_bounded r.depth pieces ends_line
-  statement_form_bounded r (ReturnStatement value words) = return_bounded r value words
-  statement_form_bounded r (ExitStatement loops condition) = leave_bounded r.depth loops condition
-  statement_form_bounded r (DelayStatement moment) = then (value_bounded r.depth moment) (whole refl)
-  statement_form_bounded r (IfStatement branches otherwise) = end_of construct.Choice (then (branches_bounded r branches) (statements_bounded r otherwise))
-  statement_form_bounded r (CaseStatement selector word alternatives otherwise) =
-      then (then (value_bounded r.depth selector) (store_bounded word)) (end_of construct.Choice (then (then (alternatives_bounded r word alternatives) (others_bounded otherwise (statements_bounded r otherwise))) (whole refl)))
-  statement_form_bounded r (LoopStatement scheme statements) = end_of construct.Loop (round_bounded r.depth scheme (statements_bounded r statements))
-  statement_form_bounded r (BlockStatement declarations statements) = then (declarations_bounded r.depth declarations) (statements_bounded r statements)
+  statement_form_bounded : (r : Routine) (line : ℕ) (f : StatementFormTree) → Bounded (statement_form_code r line f)
+  statement_form_bounded r line NullStatement = nothing
+  statement_form_bounded r line (AssignmentStatement target words value) = then (then (checked_bounded r.depth value) (address_bounded r.depth target)) (whole refl)
+  statement_form_bounded r line (CallStatement call) = call_bounded r.depth call
+  statement_form_bounded r line (PutStatement pieces ends_line) = emit_bounded r.depth pieces ends_line
+  statement_form_bounded r line (ReturnStatement value words) = return_bounded r value words
+  statement_form_bounded r line (ExitStatement loops condition) = leave_bounded r.depth loops condition
+  statement_form_bounded r line (DelayStatement moment) = then (value_bounded r.depth moment) (whole refl)
+  statement_form_bounded r line (IfStatement branches otherwise) = end_of construct.Choice (then (branches_bounded r branches) (statements_bounded r otherwise))
+  statement_form_bounded r line (CaseStatement selector word alternatives otherwise) =
+      then (then (value_bounded r.depth selector) (store_bounded word)) (end_of construct.Choice (then (then (then (alternatives_bounded r word alternatives) (others_bounded otherwise (statements_bounded r otherwise))) (mark_bounded true line)) (whole refl)))
+  statement_form_bounded r line (LoopStatement scheme statements) = end_of construct.Loop (round_bounded r.depth scheme (statements_bounded r statements))
+  statement_form_bounded r line (BlockStatement declarations statements) = then (declarations_bounded r.depth declarations) (statements_bounded r statements)
 
   branch_bounded : (r : Routine) (b : BranchTree) → Bounded (branch_code r b)
-  branch_bounded r (Branch line condition statements) = then (value_bounded r.depth condition) (guarded_bounded (then (statements_bounded r statements) join_bounded))
+  branch_bounded r (Branch line condition statements) = then (then (mark_bounded true line) (value_bounded r.depth condition)) (guarded_bounded (then (statements_bounded r statements) join_bounded))
 
   branches_bounded : (r : Routine) (bs : BranchesTree) → Bounded (branches_code r bs)
   branches_bounded r NoBranch = nothing

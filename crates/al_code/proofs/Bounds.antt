@@ -10,7 +10,7 @@ use Rattle.al_code_output.specs.declared.piece.Target.{Target}
 use Rattle.al_code_output.specs.declared.piece.JumpCondition.{JumpCondition}
 use Rattle.al_code_output.specs.declared.piece.JumpCondition.TheVariants as when
 use Rattle.al_code_object.specs.declared.object.Address.{Address}
-use Rattle.al_code_output.specs.Pieces.{Piece, Whole, Using, Leaving, Begins, back, bytes_of, closed, defines_from, definition_at, jump_of, over_or, repeated, size}
+use Rattle.al_code_output.specs.Pieces.{Piece, Whole, Using, Leaving, Begins, Line, back, bytes_of, closed, defines_from, definition_at, jump_of, over_or, repeated, size}
 use Rattle.al_code_output.specs.Targets.{outside}
 use Rattle.al_code_output.proofs.Jumps.{jump_size}
 use Rattle.al_code_output.proofs.Closing.{noted_closed}
@@ -24,6 +24,7 @@ instrs (Whole i ∷ ps) = i ∷ instrs ps
 instrs (Using i symbol ∷ ps) = i ∷ instrs ps
 instrs (Leaving w t ∷ ps) = jump_of w (pos 0) ∷ instrs ps
 instrs (Begins symbol ∷ ps) = instrs ps
+instrs (Line n ∷ ps) = instrs ps
 
 pub instrs_append : (p q : List Piece) → instrs (p ++ q) ≡ instrs p ++ instrs q
 instrs_append [] q = refl
@@ -31,6 +32,7 @@ instrs_append (Whole i ∷ p) q = ap (λ (is : List Instr). i ∷ is) (instrs_ap
 instrs_append (Using i symbol ∷ p) q = ap (λ (is : List Instr). i ∷ is) (instrs_append p q)
 instrs_append (Leaving w t ∷ p) q = ap (λ (is : List Instr). jump_of w (pos 0) ∷ is) (instrs_append p q)
 instrs_append (Begins symbol ∷ p) q = instrs_append p q
+instrs_append (Line n ∷ p) q = instrs_append p q
 
 pub instrs_bytes : (ps : List Piece) → bytes_of ps ≡ code_bytes (instrs ps)
 instrs_bytes [] = refl
@@ -38,6 +40,7 @@ instrs_bytes (Whole i ∷ ps) = ap (λ (xs : List ℕ). encoded i ++ xs) (instrs
 instrs_bytes (Using i symbol ∷ ps) = ap (λ (xs : List ℕ). encoded i ++ xs) (instrs_bytes ps)
 instrs_bytes (Leaving w t ∷ ps) = ap (λ (xs : List ℕ). encoded (jump_of w (pos 0)) ++ xs) (instrs_bytes ps)
 instrs_bytes (Begins symbol ∷ ps) = instrs_bytes ps
+instrs_bytes (Line n ∷ ps) = instrs_bytes ps
 
 -- ---- places
 
@@ -126,6 +129,10 @@ both_quiet p q hp hq from =
 pub nothing : Bounded []
 nothing = record { lead = λ from. tt; quiet = λ from. refl }
 
+-- where the code of a line begins
+pub line_here : {n : ℕ} → Bounded (Line n ∷ [])
+line_here = record { lead = λ from. tt; quiet = λ from. refl }
+
 -- one instruction that is no jump
 pub whole : {i : Instr} → jump_in i ≡ None → Bounded (Whole i ∷ [])
 whole {i = i} plain = record { lead = λ from. (subst (λ (d : Option ℤ). IfSome d (λ d. BoundAt from (i ∷ []) (pos (from + size_of i) +ℤ d))) (sym plain) tt, tt); quiet = λ from. refl }
@@ -194,6 +201,7 @@ closed_leads P c from (Using i symbol ∷ ps) end h =
     let e : from + size (Using i symbol ∷ ps) ≡ (from + size_of i) + size ps = omega (arith, size_cons (Using i symbol) ps) in
     (h.0, closed_leads P c (from + size_of i) ps (subst (λ (n : ℕ). P (pos n)) e end) h.1)
 closed_leads P c from (Begins symbol ∷ ps) end h = closed_leads P c from ps end h
+closed_leads P c from (Line n ∷ ps) end h = closed_leads P c from ps end h
 closed_leads P c from (Leaving w t ∷ ps) end h =
     let e : from + size (Leaving w t ∷ ps) ≡ (from + 5) + size ps = omega (arith, size_cons (Leaving w t) ps, jump_size w (pos 0)) in
     let last : P (pos ((from + 5) + size ps)) = subst (λ (n : ℕ). P (pos n)) e end in
@@ -209,6 +217,7 @@ closed_bounds c from [] place h = h
 closed_bounds c from (Whole i ∷ ps) place h = elim h [ inl e ↦ inl e | inr r ↦ inr (closed_bounds c (from + size_of i) ps place r) ]
 closed_bounds c from (Using i symbol ∷ ps) place h = elim h [ inl e ↦ inl e | inr r ↦ inr (closed_bounds c (from + size_of i) ps place r) ]
 closed_bounds c from (Begins symbol ∷ ps) place h = closed_bounds c from ps place h
+closed_bounds c from (Line n ∷ ps) place h = closed_bounds c from ps place h
 closed_bounds c from (Leaving w t ∷ ps) place h =
     bound_closed from (size ps) w (outside c t) (closed c ps) place
     (elim h [ inl e ↦ inl e | inr r ↦ inr (closed_bounds c (from + 5) ps place (subst (λ (k : ℕ). BoundAt k (instrs ps) place) (jump_ends from w (pos 0)) r)) ])

@@ -27,7 +27,8 @@ use Rattle.al_code.specs.Division.{EachFallsIntoRoutines, FallsIntoRoutines, Rou
 use Rattle.al_code.specs.ObjectOf.{compiled_of, data_addresses, object_of}
 use Rattle.al_code.specs.Routines.{body_code, elaboration_code, entry_code, function_code, gate_code, inside_code, kind_code, procedure_code, protected_function_code, protected_procedure_code, task_code, unit_code, unlocking, within}
 use Rattle.al_code.proofs.Bounds.{Inner, ending, instrs, instrs_bytes, last, then, using_one, whole}
-use Rattle.al_code.proofs.BoundedStatements.{copied_inner, gate_inner, inside_bounded, served_bounded}
+use Rattle.al_code.specs.Marks.{mark_of}
+use Rattle.al_code.proofs.BoundedStatements.{mark_bounded, copied_inner, gate_inner, inside_bounded, served_bounded}
 
 -- pieces that fall into routines of these symbols
 record Cut (ps : List Piece) (symbols : List (Option LinkSymbol)) : Type 0 where
@@ -90,41 +91,43 @@ cut_then {p = p} {q = q} {a = a} {b = b} x y = record {
 
 procedure_cut : (b : BodyTree) (copied : ℕ) → Cut (procedure_code b copied) (Some (link Code b.symbol) ∷ [])
 unfolding procedure_code
-procedure_cut b copied = named (link Code b.symbol) (ending (inside_bounded (within b.depth) false b.inside) (copied_inner b.formals copied))
+procedure_cut b copied = named (link Code b.symbol) (ending (then (mark_bounded true b.inside.line) (inside_bounded (within b.depth) false b.inside)) (copied_inner b.formals copied))
 
-function_cut : (b : BodyTree) → Cut (function_code b) (Some (link Code b.symbol) ∷ [])
+function_cut : (b : BodyTree) (end : ℕ) → Cut (function_code b end) (Some (link Code b.symbol) ∷ [])
 unfolding function_code
-function_cut b = named (link Code b.symbol) (ending (inside_bounded (within b.depth) false b.inside) (last refl))
+function_cut b end = named (link Code b.symbol) (ending (then (then (mark_bounded true b.inside.line) (inside_bounded (within b.depth) false b.inside)) (mark_bounded true end)) (last refl))
 
 task_cut : (b : BodyTree) → Cut (task_code b) (Some (link Code b.symbol) ∷ [])
 unfolding task_code
-task_cut b = named (link Code b.symbol) (ending (inside_bounded (within b.depth) true b.inside) (last refl))
+task_cut b = named (link Code b.symbol) (ending (then (mark_bounded true b.inside.line) (inside_bounded (within b.depth) true b.inside)) (last refl))
 
 protected_procedure_cut : (b : BodyTree) (object : Symbol) (entry : Option EntryOf) (copied : ℕ) → Cut (protected_procedure_code b object entry copied) (Some (link Code b.symbol) ∷ [])
 unfolding protected_procedure_code
 protected_procedure_cut b object entry copied =
-    named (link Code b.symbol) (ending (then (then (then (using_one refl) (inside_bounded (within b.depth) false b.inside)) (served_bounded b.depth object entry)) (whole refl)) (copied_inner b.formals copied))
+    named (link Code b.symbol) (ending (then (then (then (then (mark_bounded true b.inside.line) (using_one refl)) (inside_bounded (within b.depth) false b.inside)) (served_bounded b.depth object entry)) (whole refl)) (copied_inner b.formals copied))
 
-protected_function_cut : (b : BodyTree) (object : Symbol) → Cut (protected_function_code b object) (Some (link Code b.symbol) ∷ [])
+protected_function_cut : (b : BodyTree) (object : Symbol) (end : ℕ) → Cut (protected_function_code b object end) (Some (link Code b.symbol) ∷ [])
 unfolding protected_function_code
-protected_function_cut b object = named (link Code b.symbol) (ending (then (using_one refl) (inside_bounded (unlocking b.depth) false b.inside)) (last refl))
+protected_function_cut b object end = named (link Code b.symbol) (ending (then (then (then (mark_bounded true b.inside.line) (using_one refl)) (inside_bounded (unlocking b.depth) false b.inside)) (mark_bounded true end)) (last refl))
+
+five : (g be m i r : List Piece) → (((g ++ be) ++ m) ++ i) ++ r ≡ g ++ (be ++ ((m ++ i) ++ r))
+five g be m i r = simp append_assoc
 
 entry_cut : (b : BodyTree) (object : Symbol) (barrier : ObjectPlace) → Cut (entry_code b object barrier) (Some (link Gate b.symbol) ∷ Some (link EntryBody b.symbol) ∷ [])
 unfolding entry_code
 entry_cut b object barrier =
-    let gate : List Piece = Begins (link Gate b.symbol) ∷ gate_code b.depth b.symbol object barrier in
+    let mark : List Piece = mark_of true b.inside.line in
+    let gate : List Piece = Begins (link Gate b.symbol) ∷ (mark ++ gate_code b.depth b.symbol object barrier) in
     let inside : List Piece = inside_code (within b.depth) false b.inside in
-    let e : gate ++ (Begins (link EntryBody b.symbol) ∷ (inside ++ of_size sized.Return 0)) ≡ ((gate ++ Begins (link EntryBody b.symbol) ∷ []) ++ inside) ++ of_size sized.Return 0 =
-    sym (append_assoc (gate ++ Begins (link EntryBody b.symbol) ∷ []) inside (of_size sized.Return 0) ∙ append_assoc gate (Begins (link EntryBody b.symbol) ∷ []) (inside ++ of_size sized.Return 0)) in
-    subst (λ (ps : List Piece). Cut ps (Some (link Gate b.symbol) ∷ Some (link EntryBody b.symbol) ∷ [])) e
-    (cut_then (named (link Gate b.symbol) (gate_inner b.depth b.symbol object barrier)) (named (link EntryBody b.symbol) (ending (inside_bounded (within b.depth) false b.inside) (last refl))))
+    subst (λ (ps : List Piece). Cut ps (Some (link Gate b.symbol) ∷ Some (link EntryBody b.symbol) ∷ [])) (sym (five gate (Begins (link EntryBody b.symbol) ∷ []) mark inside (of_size sized.Return 0)))
+    (cut_then (named (link Gate b.symbol) (ending (mark_bounded true b.inside.line) (gate_inner b.depth b.symbol object barrier))) (named (link EntryBody b.symbol) (ending (then (mark_bounded true b.inside.line) (inside_bounded (within b.depth) false b.inside)) (last refl))))
 
 kind_cut : (b : BodyTree) (k : BodyKind) → Cut (kind_code b k) (kind_symbols b.symbol k)
 kind_cut b (kinds.Procedure copied) = procedure_cut b copied
-kind_cut b (kinds.Function words end) = function_cut b
+kind_cut b (kinds.Function words end) = function_cut b end
 kind_cut b kinds.Task = task_cut b
 kind_cut b (kinds.ProtectedProcedure object entry copied) = protected_procedure_cut b object entry copied
-kind_cut b (kinds.ProtectedFunction object words end) = protected_function_cut b object
+kind_cut b (kinds.ProtectedFunction object words end) = protected_function_cut b object end
 kind_cut b (kinds.Entry object barrier) = entry_cut b object barrier
 
 bodies_cut : (bs : List BodyTree) → Cut (flat_map body_code bs) (flat_map (λ b. kind_symbols b.symbol b.kind) bs)
@@ -134,7 +137,7 @@ bodies_cut (b ∷ bs) = cut_then (kind_cut b b.kind) (bodies_cut bs)
 elaboration_cut : (e : Option ElaborationTree) → Cut (option_map_or elaboration_code e []) (option_map_or (λ x. None ∷ []) e [])
 unfolding elaboration_code
 elaboration_cut None = no_routine
-elaboration_cut (Some e) = unnamed (ending (inside_bounded (within 1) false e) (last refl))
+elaboration_cut (Some e) = unnamed (ending (then (mark_bounded true e.line) (inside_bounded (within 1) false e)) (last refl))
 
 unit_cut : (u : UnitTree) → Cut (unit_code u) (routine_symbols u)
 unfolding unit_code

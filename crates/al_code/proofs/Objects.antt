@@ -16,9 +16,12 @@ use Rattle.al_code_object.specs.declared.object.Address.{Address}
 use Rattle.al_code_object.specs.declared.object.Object.TheVariants.{Large, Compiled}
 use Rattle.al_code_object.specs.declared.object.Relocation.{Relocation}
 use Rattle.al_code_object.specs.Objects.{CompiledCode, IsCode, Keeps, LiesIn, StandsAt, StandsIn}
+use Rattle.al_instr.specs.declared.lines.LineEntry.{LineEntry}
+use Rattle.al_instr.specs.Lines.{AreLines, line_table}
 use Rattle.al_code_output.specs.Kept.{IsCodeKind, StandsWithin}
 use Rattle.al_code_output.specs.Pieces.{size}
 use Rattle.al_code_output.specs.Written.{Buffer, empty, grown, written}
+use Rattle.al_code_output.proofs.Lines.{table_keeps}
 use Rattle.al_code_output.proofs.Writing.{writes_all}
 use Rattle.al_code.specs.Images.{word_of}
 use Rattle.al_code.specs.ObjectOf.{data_addresses, object_of, place_address, protected_addresses, region_of, tasks_of}
@@ -43,10 +46,10 @@ stands_numbered o n (p ∷ ps) few all =
     (stands_numbered o (n + 1) ps (omega arith) (All-tail (λ (q : ProtectedWords). q.word + q.words ≤ o.data_words) p ps all)))
 
 -- what is made of a well-formed unit and of code that was written keeps what each object keeps
-pub unit_keeps : (u : UnitTree) (code : List ℕ) (uses : List Relocation) (defines : List Address) (tasks : ℕ) → IsWellFormed u → IsCode code uses → length code ≤ 16777216 → All (StandsWithin (length code)) defines
-    → Keeps (record { code = code; uses = uses; defines = defines ++ data_addresses u; data_words = u.words; tasks = tasks; protected = map region_of u.protected_objects })
-unit_keeps u code uses defines tasks fine is within standing =
-    let o : CompiledCode = record { code = code; uses = uses; defines = defines ++ data_addresses u; data_words = u.words; tasks = tasks; protected = map region_of u.protected_objects } in
+pub unit_keeps : (u : UnitTree) (code : List ℕ) (uses : List Relocation) (defines : List Address) (tasks : ℕ) (lines : List LineEntry) → IsWellFormed u → IsCode code uses → length code ≤ 16777216 → All (StandsWithin (length code)) defines → AreLines (length code) lines
+    → Keeps (record { code = code; uses = uses; defines = defines ++ data_addresses u; data_words = u.words; tasks = tasks; protected = map region_of u.protected_objects; lines = lines })
+unit_keeps u code uses defines tasks lines fine is within standing are =
+    let o : CompiledCode = record { code = code; uses = uses; defines = defines ++ data_addresses u; data_words = u.words; tasks = tasks; protected = map region_of u.protected_objects; lines = lines } in
     record {
       code = is;
       within = within;
@@ -58,6 +61,7 @@ unit_keeps u code uses defines tasks fine is within standing =
           (All-map (StandsIn o) (place_address links.Flag) u.flags (All-weaker (λ (p : DataPlace). p.word + 1 ≤ u.words) (λ (p : DataPlace). p.word ≤ u.words) (λ p h. omega (arith, h)) u.flags fine.flags)))
           (stands_numbered o 0 u.protected_objects (omega (arith, length-map u.protected_objects region_of)) fine.regions));
       regions = All-map (LiesIn u.words) region_of u.protected_objects fine.regions;
+      lines = are;
     }
 
 -- ---- the object by what was written
@@ -73,18 +77,34 @@ object_large u w is none =
           absurd cc
     ]
 
-pub object_small : (u : UnitTree) (w : Option Buffer) (code : List ℕ) (uses : List Relocation) (defines : List Address) → w ≡ written (Some empty) (unit_code u) → IsSomeAnd w (λ b. (code ≡ b.code) × (uses ≡ b.uses) × (defines ≡ b.defines))
-    → Compiled (record { code = code; uses = uses; defines = defines ++ data_addresses u; data_words = u.words; tasks = word_of (tasks_of u.elaboration); protected = map region_of u.protected_objects }) ≡ object_of u
+pub object_small : (u : UnitTree) (w : Option Buffer) (code : List ℕ) (uses : List Relocation) (defines : List Address) (lines : List LineEntry) → w ≡ written (Some empty) (unit_code u) → IsSomeAnd w (λ b. (code ≡ b.code) × (uses ≡ b.uses) × (defines ≡ b.defines) × (lines ≡ b.lines))
+    → Compiled (record { code = code; uses = uses; defines = defines ++ data_addresses u; data_words = u.words; tasks = word_of (tasks_of u.elaboration); protected = map region_of u.protected_objects; lines = line_table (length code) lines }) ≡ object_of u
 unfolding object_of
-object_small u w code uses defines is parts =
+object_small u w code uses defines lines is parts =
     elim (cases_lt 16777216 (size (unit_code u))) [
       | inl lt ↦
           let t : leb (size (unit_code u)) 16777216 ≡ false = grind (arith, nat_tests) in
           let none : w ≡ None = is ∙ writes_all (unit_code u) ∙ rw t refl in
-          absurd (subst (λ (v : Option Buffer). IsSomeAnd v (λ b. (code ≡ b.code) × (uses ≡ b.uses) × (defines ≡ b.defines))) none parts)
+          absurd (subst (λ (v : Option Buffer). IsSomeAnd v (λ b. (code ≡ b.code) × (uses ≡ b.uses) × (defines ≡ b.defines) × (lines ≡ b.lines))) none parts)
       | inr le ↦
           let t : leb (size (unit_code u)) 16777216 ≡ true = grind (arith, nat_tests) in
           let whole : w ≡ Some (grown empty (unit_code u)) = is ∙ writes_all (unit_code u) ∙ rw t refl in
-          let same = subst (λ (v : Option Buffer). IsSomeAnd v (λ b. (code ≡ b.code) × (uses ≡ b.uses) × (defines ≡ b.defines))) whole parts in
-          rw (t, same.0, same.1, same.2) refl
+          let same = subst (λ (v : Option Buffer). IsSomeAnd v (λ b. (code ≡ b.code) × (uses ≡ b.uses) × (defines ≡ b.defines) × (lines ≡ b.lines))) whole parts in
+          rw (t, same.0, same.1, same.2, same.3) refl
+    ]
+
+-- the table of lines of what was written
+pub unit_lines : (u : UnitTree) (w : Option Buffer) (code : List ℕ) (uses : List Relocation) (defines : List Address) (lines : List LineEntry) → w ≡ written (Some empty) (unit_code u) → IsSomeAnd w (λ b. (code ≡ b.code) × (uses ≡ b.uses) × (defines ≡ b.defines) × (lines ≡ b.lines))
+    → AreLines (length code) (line_table (length code) lines)
+unit_lines u w code uses defines lines is parts =
+    elim (cases_lt 16777216 (size (unit_code u))) [
+      | inl lt ↦
+          let t : leb (size (unit_code u)) 16777216 ≡ false = grind (arith, nat_tests) in
+          let none : w ≡ None = is ∙ writes_all (unit_code u) ∙ rw t refl in
+          absurd (subst (λ (v : Option Buffer). IsSomeAnd v (λ b. (code ≡ b.code) × (uses ≡ b.uses) × (defines ≡ b.defines) × (lines ≡ b.lines))) none parts)
+      | inr le ↦
+          let t : leb (size (unit_code u)) 16777216 ≡ true = grind (arith, nat_tests) in
+          let whole : w ≡ Some (grown empty (unit_code u)) = is ∙ writes_all (unit_code u) ∙ rw t refl in
+          let same = subst (λ (v : Option Buffer). IsSomeAnd v (λ b. (code ≡ b.code) × (uses ≡ b.uses) × (defines ≡ b.defines) × (lines ≡ b.lines))) whole parts in
+          rw (same.0, same.3) (table_keeps (unit_code u) le)
     ]

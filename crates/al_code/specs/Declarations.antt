@@ -14,6 +14,7 @@ use Rattle.al_code_output.specs.Pieces.{Piece}
 use Rattle.al_code_output.specs.Pieces.Piece.{Using}
 use Rattle.al_code_expr.specs.Pieces.{number, of_size, place_code}
 use Rattle.al_code_expr.specs.Templates.{checked_code}
+use Rattle.al_code.specs.Marks.{declaration_has_code, mark_of}
 
 -- an object begins with its value, or with zeros (ARM 3.3.1)
 abbrev pub object_code : ℕ → ℕ → Option ValueTree → ObjectPlace → List Piece
@@ -40,5 +41,8 @@ declaration_form_code depth (Elaborated flag) = elaborated_code depth flag
 declaration_form_code depth (SingleTask symbol priority) = Using (instr.Task 0 priority) (link Code symbol) ∷ []
 declaration_form_code depth (SingleProtected symbol values) = flat_map (component_code depth symbol) values
 
+abbrev pub declaration_code : ℕ → DeclarationTree → List Piece
+declaration_code depth d = mark_of (declaration_has_code d.form) d.line ++ declaration_form_code depth d.form
+
 abbrev pub declarations_code : ℕ → List DeclarationTree → List Piece
-declarations_code depth declarations = flat_map (λ d. declaration_form_code depth d.form) declarations
+declarations_code depth declarations = flat_map (declaration_code depth) declarations

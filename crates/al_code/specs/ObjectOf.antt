@@ -7,12 +7,13 @@ use Rattle.al_view_typed.specs.DeclarationTrees.{DeclarationTree, DeclarationFor
 use Rattle.al_view_typed.specs.UnitTrees.{ElaborationTree, UnitTree}
 use Rattle.al_view_typed.specs.declared.unit.DataPlace.{DataPlace}
 use Rattle.al_view_typed.specs.declared.unit.ProtectedWords.{ProtectedWords}
+use Rattle.al_instr.specs.Lines.{line_table}
 use Rattle.al_code_object.specs.declared.object.Address.{Address}
 use Rattle.al_code_object.specs.declared.object.Object.{Object}
 use Rattle.al_code_object.specs.declared.object.Object.TheVariants.{Large, Compiled}
 use Rattle.al_code_object.specs.declared.object.Region.{Region}
 use Rattle.al_code_object.specs.Objects.{CompiledCode}
-use Rattle.al_code_output.specs.Pieces.{Piece, bytes_of, defines_from, size, uses_from}
+use Rattle.al_code_output.specs.Pieces.{Piece, bytes_of, defines_from, lines_from, size, uses_from}
 use Rattle.al_code.specs.Images.{word_of}
 use Rattle.al_code.specs.Routines.{unit_code}
 
@@ -53,6 +54,7 @@ compiled_of u ps = record {
   data_words = u.words;
   tasks = word_of (tasks_of u.elaboration);
   protected = map region_of u.protected_objects;
+  lines = line_table (size ps) (lines_from 0 ps);
 }
 
 -- the object of a unit: its code, where that is no longer than that of any image

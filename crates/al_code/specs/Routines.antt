@@ -26,6 +26,7 @@ use Rattle.al_code_output.specs.Pieces.Piece.{Using, Begins}
 use Rattle.al_code_expr.specs.Pieces.{guarded, of_size, one, place_code, slot}
 use Rattle.al_code.specs.declared.routine.Routine.{Routine}
 use Rattle.al_code.specs.Declarations.{declarations_code}
+use Rattle.al_code.specs.Marks.{mark_of}
 use Rattle.al_code.specs.Statements.{statements_code}
 
 -- what is done to a protected object
@@ -89,35 +90,35 @@ copied_code formals copied = flat_map formal_code formals ++ of_size sized.Retur
 -- ---- bodies by what they are bodies of
 
 unfoldable pub procedure_code : BodyTree → ℕ → List Piece
-procedure_code b copied = Begins (link Code b.symbol) ∷ [] ++ inside_code (within b.depth) false b.inside ++ copied_code b.formals copied
+procedure_code b copied = Begins (link Code b.symbol) ∷ [] ++ mark_of true b.inside.line ++ inside_code (within b.depth) false b.inside ++ copied_code b.formals copied
 
 -- a function that runs past its end raises Program_Error (ARM 6.5(20))
-unfoldable pub function_code : BodyTree → List Piece
-function_code b = Begins (link Code b.symbol) ∷ [] ++ inside_code (within b.depth) false b.inside ++ of_size sized.Raise 2
+unfoldable pub function_code : BodyTree → ℕ → List Piece
+function_code b end = Begins (link Code b.symbol) ∷ [] ++ mark_of true b.inside.line ++ inside_code (within b.depth) false b.inside ++ mark_of true end ++ of_size sized.Raise 2
 
 unfoldable pub task_code : BodyTree → List Piece
-task_code b = Begins (link Code b.symbol) ∷ [] ++ inside_code (within b.depth) true b.inside ++ one plain.Done
+task_code b = Begins (link Code b.symbol) ∷ [] ++ mark_of true b.inside.line ++ inside_code (within b.depth) true b.inside ++ one plain.Done
 
 unfoldable pub protected_procedure_code : BodyTree → Symbol → Option EntryOf → ℕ → List Piece
 protected_procedure_code b object entry copied =
-    Begins (link Code b.symbol) ∷ [] ++ act_code action.Enter object ++ inside_code (within b.depth) false b.inside
+    Begins (link Code b.symbol) ∷ [] ++ mark_of true b.inside.line ++ act_code action.Enter object ++ inside_code (within b.depth) false b.inside
     ++ served_code b.depth object entry ++ one plain.Leave ++ copied_code b.formals copied
 
-unfoldable pub protected_function_code : BodyTree → Symbol → List Piece
-protected_function_code b object =
-    Begins (link Code b.symbol) ∷ [] ++ act_code action.Enter object ++ inside_code (unlocking b.depth) false b.inside ++ of_size sized.Raise 2
+unfoldable pub protected_function_code : BodyTree → Symbol → ℕ → List Piece
+protected_function_code b object end =
+    Begins (link Code b.symbol) ∷ [] ++ mark_of true b.inside.line ++ act_code action.Enter object ++ inside_code (unlocking b.depth) false b.inside ++ mark_of true end ++ of_size sized.Raise 2
 
 unfoldable pub entry_code : BodyTree → Symbol → ObjectPlace → List Piece
 entry_code b object barrier =
-    Begins (link Gate b.symbol) ∷ [] ++ gate_code b.depth b.symbol object barrier
-    ++ Begins (link EntryBody b.symbol) ∷ [] ++ inside_code (within b.depth) false b.inside ++ of_size sized.Return 0
+    Begins (link Gate b.symbol) ∷ [] ++ mark_of true b.inside.line ++ gate_code b.depth b.symbol object barrier
+    ++ Begins (link EntryBody b.symbol) ∷ [] ++ mark_of true b.inside.line ++ inside_code (within b.depth) false b.inside ++ of_size sized.Return 0
 
 abbrev pub kind_code : BodyTree → BodyKind → List Piece
 kind_code b (kinds.Procedure copied) = procedure_code b copied
-kind_code b (kinds.Function words end) = function_code b
+kind_code b (kinds.Function words end) = function_code b end
 kind_code b kinds.Task = task_code b
 kind_code b (kinds.ProtectedProcedure object entry copied) = protected_procedure_code b object entry copied
-kind_code b (kinds.ProtectedFunction object words end) = protected_function_code b object
+kind_code b (kinds.ProtectedFunction object words end) = protected_function_code b object end
 kind_code b (kinds.Entry object barrier) = entry_code b object barrier
 
 abbrev pub body_code : BodyTree → List Piece
@@ -125,7 +126,7 @@ body_code b = kind_code b b.kind
 
 -- what is done when a unit is elaborated
 unfoldable pub elaboration_code : ElaborationTree → List Piece
-elaboration_code e = inside_code (within 1) false e ++ of_size sized.Return 0
+elaboration_code e = mark_of true e.line ++ inside_code (within 1) false e ++ of_size sized.Return 0
 
 -- a unit: its elaboration, where it has one, and its bodies in text order
 unfoldable pub unit_code : UnitTree → List Piece

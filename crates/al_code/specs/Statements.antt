@@ -24,6 +24,7 @@ use Rattle.al_code.specs.declared.routine.Routine.{Routine}
 use Rattle.al_code.specs.Declarations.{declarations_code}
 use Rattle.al_code.specs.Images.{emit_code}
 use Rattle.al_code.specs.Loops.{leave_code, round_code}
+use Rattle.al_code.specs.Marks.{has_code, mark_of}
 
 abbrev pub assignment_code : ℕ → NameTree → ℕ → ValueTree → List Piece
 assignment_code depth target words value = checked_code depth value ++ address_of depth target ++ of_size sized.Store words
@@ -57,30 +58,30 @@ others_code (MoreStatements s ss) p = p ++ join
 
 abbrev mutual
   pub statement_code : Routine → StatementTree → List Piece
-  statement_code r (Numbered line form) = statement_form_code r form
+  statement_code r (Numbered line form) = mark_of (has_code form) line ++ statement_form_code r line form
 
   pub statements_code : Routine → StatementsTree → List Piece
   statements_code r NoStatement = []
   statements_code r (MoreStatements s ss) = statement_code r s ++ statements_code r ss
 
-  pub statement_form_code : Routine → StatementFormTree → List Piece
-  statement_form_code r NullStatement = []
-  statement_form_code r (AssignmentStatement target words value) = assignment_code r.depth target words value
-  statement_form_code r (CallStatement call) = call_code r.depth call
-  statement_form_code r (PutStatement pieces ends_line) = emit_code r.depth pieces ends_line
-  statement_form_code r (ReturnStatement value words) = return_code r value words
-  statement_form_code r (ExitStatement loops condition) = leave_code r.depth loops condition
-  statement_form_code r (DelayStatement moment) = value_of r.depth moment ++ one plain.Sleep
-  statement_form_code r (IfStatement branches otherwise) = closed construct.Choice (branches_code r branches ++ statements_code r otherwise)
-  statement_form_code r (CaseStatement selector word alternatives otherwise) =
+  pub statement_form_code : Routine → ℕ → StatementFormTree → List Piece
+  statement_form_code r line NullStatement = []
+  statement_form_code r line (AssignmentStatement target words value) = assignment_code r.depth target words value
+  statement_form_code r line (CallStatement call) = call_code r.depth call
+  statement_form_code r line (PutStatement pieces ends_line) = emit_code r.depth pieces ends_line
+  statement_form_code r line (ReturnStatement value words) = return_code r value words
+  statement_form_code r line (ExitStatement loops condition) = leave_code r.depth loops condition
+  statement_form_code r line (DelayStatement moment) = value_of r.depth moment ++ one plain.Sleep
+  statement_form_code r line (IfStatement branches otherwise) = closed construct.Choice (branches_code r branches ++ statements_code r otherwise)
+  statement_form_code r line (CaseStatement selector word alternatives otherwise) =
       value_of r.depth selector ++ store_slot word
-      ++ closed construct.Choice (alternatives_code r word alternatives ++ others_code otherwise (statements_code r otherwise) ++ of_size sized.Raise 1)
-  statement_form_code r (LoopStatement scheme statements) = closed construct.Loop (round_code r.depth scheme (statements_code r statements))
-  statement_form_code r (BlockStatement declarations statements) = declarations_code r.depth declarations ++ statements_code r statements
+      ++ closed construct.Choice (alternatives_code r word alternatives ++ others_code otherwise (statements_code r otherwise) ++ mark_of true line ++ of_size sized.Raise 1)
+  statement_form_code r line (LoopStatement scheme statements) = closed construct.Loop (round_code r.depth scheme (statements_code r statements))
+  statement_form_code r line (BlockStatement declarations statements) = declarations_code r.depth declarations ++ statements_code r statements
 
   -- V JumpZ N S Jump E N:
   pub branch_code : Routine → BranchTree → List Piece
-  branch_code r (Branch line condition statements) = value_of r.depth condition ++ guarded (statements_code r statements ++ join)
+  branch_code r (Branch line condition statements) = mark_of true line ++ value_of r.depth condition ++ guarded (statements_code r statements ++ join)
 
   pub branches_code : Routine → BranchesTree → List Piece
   branches_code r NoBranch = []

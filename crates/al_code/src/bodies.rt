@@ -8,6 +8,7 @@ ghost use Rattle.al_code_expr.specs.Pieces.{of_size, slot};
 ghost use Rattle.al_code.specs.Routines.{begun_code, body_code, copied_code, elaboration_code, ending_code, entry_code, formal_code, function_code, inside_code, procedure_code, protected_function_code, protected_procedure_code, task_code};
 
 use crate::declarations::emit_declarations;
+use crate::marks::emit_mark;
 use crate::protected::{emit_act, emit_gate, emit_served};
 use crate::routine::Routine;
 use crate::statements::emit_statements;
@@ -19,10 +20,11 @@ use al_view::{LinkKind, Mode, ObjectPlace, Symbol};
 use al_view_typed::{BodyKind, Elaboration, EntryOf, FormalWords, TypedBody};
 
 /// What is done when a unit is elaborated (ARM 10.2(9)).
-#[tactic(auto, using(al_code_output::proofs::Writing::written_append), unfolding(crate::specs::Routines::elaboration_code))]
+#[tactic(auto, using(al_code_output::proofs::Writing::written_append), unfolding(al_view_typed::specs::UnitTrees::elaboration_model, crate::specs::Routines::elaboration_code))]
 pub(crate) fn emit_elaboration(out: &mut Output, elaboration: &Elaboration) -> Result<(), NoMemory>
     ensures { OnOk result (out.new ≡ written out.old (elaboration_code (elaboration_model elaboration.now))) }
 {
+    emit_mark(out, true, elaboration.line)?;
     emit_inside(out, Routine::within(1), false, elaboration)?;
     emit_sized(out, Sized::Return, 0)
 }
@@ -34,47 +36,53 @@ pub(crate) fn emit_body(out: &mut Output, body: &TypedBody) -> Result<(), NoMemo
 {
     match &body.kind {
         BodyKind::Procedure { copied } => emit_procedure(out, body, *copied),
-        BodyKind::Function { .. } => emit_function(out, body),
+        BodyKind::Function { end, .. } => emit_function(out, body, *end),
         BodyKind::Task => emit_task(out, body),
         BodyKind::ProtectedProcedure {
             object,
             entry,
             copied,
         } => emit_protected_procedure(out, body, object, entry, *copied),
-        BodyKind::ProtectedFunction { object, .. } => emit_protected_function(out, body, object),
+        BodyKind::ProtectedFunction { object, end, .. } => {
+            emit_protected_function(out, body, object, *end)
+        },
         BodyKind::Entry { object, barrier } => emit_entry(out, body, object, barrier),
     }
 }
 
-#[tactic(auto, using(al_code_output::proofs::Writing::written_append), unfolding(al_view_typed::specs::UnitTrees::body_model, crate::specs::Routines::procedure_code))]
+#[tactic(auto, using(al_code_output::proofs::Writing::written_append), unfolding(al_view_typed::specs::UnitTrees::body_model, al_view_typed::specs::UnitTrees::elaboration_model, crate::specs::Routines::procedure_code))]
 fn emit_procedure(out: &mut Output, body: &TypedBody, copied: u32) -> Result<(), NoMemory>
     ensures { OnOk result (out.new ≡ written out.old (procedure_code (body_model body.now) copied)) }
 {
     out.begin(LinkKind::Code, &body.symbol)?;
+    emit_mark(out, true, body.inside.line)?;
     emit_inside(out, Routine::within(body.depth), false, &body.inside)?;
     emit_copied(out, body.formals.as_slice(), copied)
 }
 
 /// A function that runs past its end raises Program_Error (ARM 6.5(20)).
-#[tactic(auto, using(al_code_output::proofs::Writing::written_append), unfolding(al_view_typed::specs::UnitTrees::body_model, crate::specs::Routines::function_code))]
-fn emit_function(out: &mut Output, body: &TypedBody) -> Result<(), NoMemory>
-    ensures { OnOk result (out.new ≡ written out.old (function_code (body_model body.now))) }
+#[tactic(auto, using(al_code_output::proofs::Writing::written_append), unfolding(al_view_typed::specs::UnitTrees::body_model, al_view_typed::specs::UnitTrees::elaboration_model, crate::specs::Routines::function_code))]
+fn emit_function(out: &mut Output, body: &TypedBody, end: usize) -> Result<(), NoMemory>
+    ensures { OnOk result (out.new ≡ written out.old (function_code (body_model body.now) end)) }
 {
     out.begin(LinkKind::Code, &body.symbol)?;
+    emit_mark(out, true, body.inside.line)?;
     emit_inside(out, Routine::within(body.depth), false, &body.inside)?;
+    emit_mark(out, true, end)?;
     emit_sized(out, Sized::Raise, 2)
 }
 
-#[tactic(auto, using(al_code_output::proofs::Writing::written_append), unfolding(al_view_typed::specs::UnitTrees::body_model, crate::specs::Routines::task_code))]
+#[tactic(auto, using(al_code_output::proofs::Writing::written_append), unfolding(al_view_typed::specs::UnitTrees::body_model, al_view_typed::specs::UnitTrees::elaboration_model, crate::specs::Routines::task_code))]
 fn emit_task(out: &mut Output, body: &TypedBody) -> Result<(), NoMemory>
     ensures { OnOk result (out.new ≡ written out.old (task_code (body_model body.now))) }
 {
     out.begin(LinkKind::Code, &body.symbol)?;
+    emit_mark(out, true, body.inside.line)?;
     emit_inside(out, Routine::within(body.depth), true, &body.inside)?;
     emit_plain(out, Plain::Done)
 }
 
-#[tactic(auto, using(al_code_output::proofs::Writing::written_append), unfolding(al_view_typed::specs::UnitTrees::body_model, crate::specs::Routines::protected_procedure_code))]
+#[tactic(auto, using(al_code_output::proofs::Writing::written_append), unfolding(al_view_typed::specs::UnitTrees::body_model, al_view_typed::specs::UnitTrees::elaboration_model, crate::specs::Routines::protected_procedure_code))]
 fn emit_protected_procedure(
     out: &mut Output,
     body: &TypedBody,
@@ -85,6 +93,7 @@ fn emit_protected_procedure(
     ensures { OnOk result (out.new ≡ written out.old (protected_procedure_code (body_model body.now) object.now entry.now copied)) }
 {
     out.begin(LinkKind::Code, &body.symbol)?;
+    emit_mark(out, true, body.inside.line)?;
     emit_act(out, Protected::Enter, object)?;
     emit_inside(out, Routine::within(body.depth), false, &body.inside)?;
     emit_served(out, body.depth, object, entry)?;
@@ -92,21 +101,24 @@ fn emit_protected_procedure(
     emit_copied(out, body.formals.as_slice(), copied)
 }
 
-#[tactic(auto, using(al_code_output::proofs::Writing::written_append), unfolding(al_view_typed::specs::UnitTrees::body_model, crate::specs::Routines::protected_function_code))]
+#[tactic(auto, using(al_code_output::proofs::Writing::written_append), unfolding(al_view_typed::specs::UnitTrees::body_model, al_view_typed::specs::UnitTrees::elaboration_model, crate::specs::Routines::protected_function_code))]
 fn emit_protected_function(
     out: &mut Output,
     body: &TypedBody,
     object: &Symbol,
+    end: usize,
 ) -> Result<(), NoMemory>
-    ensures { OnOk result (out.new ≡ written out.old (protected_function_code (body_model body.now) object.now)) }
+    ensures { OnOk result (out.new ≡ written out.old (protected_function_code (body_model body.now) object.now end)) }
 {
     out.begin(LinkKind::Code, &body.symbol)?;
+    emit_mark(out, true, body.inside.line)?;
     emit_act(out, Protected::Enter, object)?;
     emit_inside(out, Routine::unlocking(body.depth), false, &body.inside)?;
+    emit_mark(out, true, end)?;
     emit_sized(out, Sized::Raise, 2)
 }
 
-#[tactic(auto, using(al_code_output::proofs::Writing::written_append), unfolding(al_view_typed::specs::UnitTrees::body_model, crate::specs::Routines::entry_code))]
+#[tactic(auto, using(al_code_output::proofs::Writing::written_append), unfolding(al_view_typed::specs::UnitTrees::body_model, al_view_typed::specs::UnitTrees::elaboration_model, crate::specs::Routines::entry_code))]
 fn emit_entry(
     out: &mut Output,
     body: &TypedBody,
@@ -116,8 +128,10 @@ fn emit_entry(
     ensures { OnOk result (out.new ≡ written out.old (entry_code (body_model body.now) object.now barrier.now)) }
 {
     out.begin(LinkKind::Gate, &body.symbol)?;
+    emit_mark(out, true, body.inside.line)?;
     emit_gate(out, body.depth, &body.symbol, object, barrier)?;
     out.begin(LinkKind::EntryBody, &body.symbol)?;
+    emit_mark(out, true, body.inside.line)?;
     emit_inside(out, Routine::within(body.depth), false, &body.inside)?;
     emit_sized(out, Sized::Return, 0)
 }

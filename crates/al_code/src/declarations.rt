@@ -1,6 +1,6 @@
 // Declarations where they stand (ARM 3.11).
 ghost use Rattle.std.specs.Prelude.{◌≡◌, [], ◌∷◌, OnOk, map, option_map};
-ghost use Rattle.std.specs.List.{flat_map};
+ghost use Rattle.std.specs.List.{flat_map, list_any};
 ghost use Rattle.al_view.specs.ViewUses.{link};
 ghost use Rattle.al_view.specs.declared.link.LinkKind.TheVariants.{Code, Data};
 ghost use Rattle.al_instr.specs.declared.instruction.Instr.TheVariants.{Seed, Task};
@@ -8,14 +8,59 @@ ghost use Rattle.al_view_typed.specs.DeclarationTrees.{component_value_model, de
 ghost use Rattle.al_view_typed.specs.ExpressionViews.{value_model};
 ghost use Rattle.al_code_output.specs.Pieces.Piece.{Using};
 ghost use Rattle.al_code_output.specs.Written.{written};
-ghost use Rattle.al_code.specs.Declarations.{component_code, declaration_form_code, declarations_code, elaborated_code, object_code, subprogram_code};
+ghost use Rattle.al_code.specs.Marks.{declaration_has_code, flag_has_code};
+ghost use Rattle.al_code.specs.Declarations.{declaration_code, component_code, declaration_form_code, declarations_code, elaborated_code, object_code, subprogram_code};
 
+use crate::marks::emit_mark;
 use al_base::NoMemory;
 use al_code_expr::{emit_checked, emit_flag_place, emit_number, emit_place, emit_sized};
 use al_code_output::Output;
 use al_instr::{Instr, Sized};
 use al_view::{LinkKind, ObjectPlace, Priority, Symbol};
 use al_view_typed::{CheckedValue, ComponentValue, DeclarationForm, TypedDeclaration};
+
+fn is_flag_in_frame(place: &ObjectPlace) -> bool
+    ensures { result ≡ flag_has_code place.now }
+{
+    match place {
+        ObjectPlace::Frame { .. } => true,
+        ObjectPlace::Static { .. } => false,
+    }
+}
+
+/// Whether there is code where a declaration stands.
+fn has_code(form: &DeclarationForm) -> bool
+    ensures { result ≡ declaration_has_code (form_model form.now) }
+{
+    match form {
+        DeclarationForm::Objects { places, .. } => !places.as_slice().is_empty(),
+        DeclarationForm::Subprogram(flag) => is_flag_in_frame(flag),
+        DeclarationForm::Elaborated(_) => true,
+        DeclarationForm::Task { .. } => true,
+        DeclarationForm::Protected { values, .. } => !values.is_empty(),
+    }
+}
+
+/// Whether there is code where some declarations stand.
+pub(crate) fn declarations_have_code(declarations: &[TypedDeclaration]) -> bool
+    ensures { result ≡ list_any (λ d. declaration_has_code d.form) (map declaration_model declarations.now) }
+{
+    for declaration in declarations {
+        if has_code(&declaration.form) {
+            return true;
+        }
+    }
+    false
+}
+
+/// A declaration, with its line where it has code.
+#[tactic(auto, using(al_code_output::proofs::Writing::written_append))]
+fn emit_marked(out: &mut Output, depth: u32, declaration: &TypedDeclaration) -> Result<(), NoMemory>
+    ensures { OnOk result (out.new ≡ written out.old (declaration_code depth (declaration_model declaration.now))) }
+{
+    emit_mark(out, has_code(&declaration.form), declaration.line)?;
+    emit_declaration(out, depth, &declaration.form)
+}
 
 /// Declarations one after another, in a body of so much nesting.
 pub(crate) fn emit_declarations(
@@ -26,7 +71,7 @@ pub(crate) fn emit_declarations(
     ensures { OnOk result (out.new ≡ written out.old (declarations_code depth (map declaration_model declarations.now))) }
 {
     for declaration in declarations {
-        emit_declaration(out, depth, &declaration.form)?;
+        emit_marked(out, depth, declaration)?;
     }
     Ok(())
 }

@@ -1,11 +1,12 @@
 // The object of a labelled unit.
-ghost use Rattle.std.specs.Prelude.{◌≡◌, ◌≤◌, [], ◌++◌, IfOk, OnOk, map, option_map};
+ghost use Rattle.std.specs.Prelude.{◌≡◌, ◌≤◌, [], ◌++◌, IfOk, OnOk, length, map, option_map};
 ghost use Rattle.std.specs.List.{flat_map};
 ghost use Rattle.std.specs.Option.{option_map_or};
 ghost use Rattle.al_view.specs.ViewUses.{link};
 ghost use Rattle.al_view_typed.specs.DeclarationTrees.{declaration_model, form_model};
 ghost use Rattle.al_view_typed.specs.UnitTrees.{body_model, elaboration_model, unit_model};
 ghost use Rattle.al_view_typed.specs.WellFormed.{IsWellFormed};
+ghost use Rattle.al_instr.specs.Lines.{line_table};
 ghost use Rattle.al_code_output.specs.Written.{written};
 ghost use Rattle.al_code.specs.ObjectOf.{data_addresses, is_task, object_of, place_address, protected_addresses, region_of, tasks_in, tasks_of};
 ghost use Rattle.al_code.specs.Routines.{body_code, elaboration_code, unit_code};
@@ -14,15 +15,16 @@ use crate::bodies::{emit_body, emit_elaboration};
 use crate::images::word_of;
 use al_base::NoMemory;
 use al_code_object::{Address, Compiled, Object, Region};
-use al_code_output::Output;
+use al_code_output::{Output, Written};
+use al_instr::{LineEntry, line_table};
 use al_view::{LinkKind, LinkSymbol, Symbol};
 use al_view_typed::{
     DataPlace, DeclarationForm, Elaboration, ProtectedWords, TypedBody, TypedDeclaration, TypedUnit,
 };
 use std::alloc::Global;
 
-/// The object of a unit that is free of faults: its code, where symbols are used and stand in it, its words, its tasks and its
-/// protected objects; large where its code is longer than that of any image.
+/// The object of a unit that is free of faults: its code, where symbols are used and stand in it, its words, its tasks, its
+/// protected objects and its lines; large where its code is longer than that of any image.
 pub fn emit(alloc: Global, unit: &TypedUnit) -> Result<Object, NoMemory>
     requires { IsWellFormed (unit_model unit.now) }
     ensures { IfOk result (λ object. object ≡ object_of (unit_model unit.now)) }
@@ -32,6 +34,7 @@ pub fn emit(alloc: Global, unit: &TypedUnit) -> Result<Object, NoMemory>
     let Some(written) = out.finish() else {
         return Ok(Object::Large);
     };
+    let lines = lines_of(alloc, &written)?;
     let mut defines = written.defines;
     add_data(alloc, &mut defines, unit)?;
     let regions = regions_of(alloc, unit.protected_objects.as_slice())?;
@@ -43,7 +46,15 @@ pub fn emit(alloc: Global, unit: &TypedUnit) -> Result<Object, NoMemory>
         unit.words,
         tasks,
         regions,
+        lines,
     )))
+}
+
+/// The table of lines of code that was written.
+fn lines_of(alloc: Global, written: &Written) -> Result<Vec<LineEntry>, NoMemory>
+    ensures { IfOk result (λ lines. lines.items ≡ line_table (length written.now.code.items) written.now.lines.items) }
+{
+    line_table(alloc, written.lines.as_slice(), written.code.len())
 }
 
 /// The elaboration of a unit, and its bodies.

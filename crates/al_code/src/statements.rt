@@ -9,6 +9,7 @@ use crate::choices::{emit_choices, emit_selector};
 use crate::declarations::emit_declarations;
 use crate::images::emit_output;
 use crate::loops::{emit_bounds, emit_leave, emit_marked, emit_turn, emit_while};
+use crate::marks::{emit_mark, has_code};
 use crate::routine::Routine;
 use crate::simple::{emit_assignment, emit_delay, emit_return};
 use al_base::NoMemory;
@@ -33,7 +34,7 @@ pub(crate) fn emit_statements(
 }
 
 #[cycle(statement)]
-#[tactic(auto, using(crate::proofs::Layers::statement_layers))]
+#[tactic(auto, using(crate::proofs::Layers::statement_layers, al_code_output::proofs::Writing::written_append))]
 fn emit_statement(
     out: &mut Output,
     routine: Routine,
@@ -41,7 +42,8 @@ fn emit_statement(
 ) -> Result<(), NoMemory>
     ensures { OnOk result (out.new ≡ written out.old (statement_code routine (statement_model statement.now))) }
 {
-    emit_statement_form(out, routine, &statement.form)
+    emit_mark(out, has_code(&statement.form), statement.line)?;
+    emit_statement_form(out, routine, statement.line, &statement.form)
 }
 
 #[cycle(statement)]
@@ -49,9 +51,10 @@ fn emit_statement(
 fn emit_statement_form(
     out: &mut Output,
     routine: Routine,
+    line: usize,
     form: &StatementForm,
 ) -> Result<(), NoMemory>
-    ensures { OnOk result (out.new ≡ written out.old (statement_form_code routine (statement_form_model form.now))) }
+    ensures { OnOk result (out.new ≡ written out.old (statement_form_code routine line (statement_form_model form.now))) }
 {
     match form {
         StatementForm::Null => Ok(()),
@@ -89,6 +92,7 @@ fn emit_statement_form(
             let first = out.leaving();
             emit_alternatives(out, routine, alternatives, *slot)?;
             emit_others(out, routine, otherwise)?;
+            emit_mark(out, true, line)?;
             emit_sized(out, Sized::Raise, 1)?;
             out.close(first, Construct::Choice)?;
             Ok(())
@@ -124,6 +128,7 @@ fn emit_branches(out: &mut Output, routine: Routine, branches: &[Branch]) -> Res
 fn emit_branch(out: &mut Output, routine: Routine, branch: &Branch) -> Result<(), NoMemory>
     ensures { OnOk result (out.new ≡ written out.old (branch_code routine (branch_model branch.now))) }
 {
+    emit_mark(out, true, branch.line)?;
     emit_value(out, routine.depth, &branch.condition)?;
     let first = out.leaving();
     emit_unless_zero(out)?;

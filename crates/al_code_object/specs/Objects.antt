@@ -2,6 +2,8 @@
 use Rattle.std.specs.Prelude.{ℕ, ◌≡◌, ◌+◌, ◌<◌, ◌≤◌, List, All, length}
 use Rattle.al_view.specs.declared.link.LinkKind.{LinkKind}
 use Rattle.al_view.specs.declared.link.LinkKind.TheVariants as kind
+use Rattle.al_instr.specs.declared.lines.LineEntry.{LineEntry}
+use Rattle.al_instr.specs.Lines.{AreLines}
 use Rattle.al_code_object.specs.declared.object.Address.{Address}
 use Rattle.al_code_object.specs.declared.object.Region.{Region}
 use Rattle.al_code_object.specs.declared.object.Relocation.{Relocation}
@@ -14,6 +16,7 @@ pub record CompiledCode : Type 0 where
   pub data_words : ℕ
   pub tasks : ℕ
   pub protected : List Region
+  pub lines : List LineEntry
 
 -- the code is a list of instructions, and the uses are the places in it where these use symbols
 pub record IsCode (code : List ℕ) (uses : List Relocation) : Type 0 where
@@ -44,3 +47,4 @@ pub record Keeps (o : CompiledCode) : Type 0 where
   pub within : length o.code ≤ 16777216
   pub defines : All (StandsIn o) o.defines
   pub regions : All (LiesIn o.data_words) o.protected
+  pub lines : AreLines (length o.code) o.lines

@@ -2,5 +2,7 @@
 #![tactic(auto)]
 
 mod object;
+mod same;
 
 pub use object::{Address, Compiled, Object, Region, Relocation};
+pub use same::{are_same_lines, is_same_symbol};

@@ -2,6 +2,7 @@
 ghost use Rattle.std.specs.Prelude.{◌≡◌, ◌≤◌, length};
 ghost use Rattle.al_code_object.specs.Objects.{Keeps};
 
+use al_instr::LineEntry;
 use al_view::{LinkSymbol, Priority};
 use std::marker::Model;
 
@@ -53,6 +54,7 @@ pub struct Compiled {
     data_words: u32,
     tasks: u32,
     protected: Vec<Region>,
+    lines: Vec<LineEntry>,
 }
 
 /// What a unit leaves for the linker.
@@ -76,14 +78,14 @@ impl Model for Compiled {
 
     ghost Value = { CompiledCode };
 
-    ghost view = { λ o. record { code = o.code.items; uses = o.uses.items; defines = o.defines.items; data_words = o.data_words; tasks = o.tasks; protected = o.protected.items } };
+    ghost view = { λ o. record { code = o.code.items; uses = o.uses.items; defines = o.defines.items; data_words = o.data_words; tasks = o.tasks; protected = o.protected.items; lines = o.lines.items } };
 
-    ghost invariant = { λ o. Keeps (record { code = o.code.items; uses = o.uses.items; defines = o.defines.items; data_words = o.data_words; tasks = o.tasks; protected = o.protected.items }) };
+    ghost invariant = { λ o. Keeps (record { code = o.code.items; uses = o.uses.items; defines = o.defines.items; data_words = o.data_words; tasks = o.tasks; protected = o.protected.items; lines = o.lines.items }) };
 }
 
 impl Compiled {
-    /// The code of a unit, where the symbols stand that it uses and defines, how many words and tasks it has, and its
-    /// protected objects.
+    /// The code of a unit, where the symbols stand that it uses and defines, how many words and tasks it has, its
+    /// protected objects, and where its lines begin.
     pub fn new(
         code: Vec<u8>,
         uses: Vec<Relocation>,
@@ -91,9 +93,10 @@ impl Compiled {
         data_words: u32,
         tasks: u32,
         protected: Vec<Region>,
+        lines: Vec<LineEntry>,
     ) -> Compiled
-        requires { Keeps (record { code = code.items; uses = uses.items; defines = defines.items; data_words = data_words; tasks = tasks; protected = protected.items }) }
-        ensures { result ≡ record { code = code.items; uses = uses.items; defines = defines.items; data_words = data_words; tasks = tasks; protected = protected.items } }
+        requires { Keeps (record { code = code.items; uses = uses.items; defines = defines.items; data_words = data_words; tasks = tasks; protected = protected.items; lines = lines.items }) }
+        ensures { result ≡ record { code = code.items; uses = uses.items; defines = defines.items; data_words = data_words; tasks = tasks; protected = protected.items; lines = lines.items } }
     {
         Compiled {
             code,
@@ -102,6 +105,7 @@ impl Compiled {
             data_words,
             tasks,
             protected,
+            lines,
         }
     }
 
@@ -153,5 +157,12 @@ impl Compiled {
         ensures { result.now ≡ self.now.protected }
     {
         self.protected.as_slice()
+    }
+
+    /// From which places of its code on it is of which lines of the unit's text.
+    pub fn lines(&self) -> &[LineEntry]
+        ensures { result.now ≡ self.now.lines }
+    {
+        self.lines.as_slice()
     }
 }

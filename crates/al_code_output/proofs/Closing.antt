@@ -7,11 +7,12 @@ use Rattle.al_instr.specs.Codes.{encoded}
 use Rattle.al_code_object.specs.declared.object.Address.{Address}
 use Rattle.al_code_object.specs.declared.object.Relocation.{Relocation}
 use Rattle.al_code_output.specs.declared.piece.ForwardJump.{ForwardJump}
+use Rattle.al_instr.specs.declared.lines.LineEntry.{LineEntry}
 use Rattle.al_code_output.specs.declared.piece.JumpCondition.{JumpCondition}
 use Rattle.al_code_output.specs.declared.piece.Target.{Target}
 use Rattle.al_code_output.specs.declared.piece.Construct.{Construct}
 use Rattle.al_code_output.specs.Targets.{outside}
-use Rattle.al_code_output.specs.Pieces.{Piece, Whole, Using, Leaving, Begins, jump_of, piece_bytes, piece_size, bytes_of, size, noted_from, use_at, uses_from, definition_at, defines_from, leave_at, leaves_from, over_or, back, closed, repeated}
+use Rattle.al_code_output.specs.Pieces.{Piece, Whole, Using, Leaving, Begins, Line, jump_of, piece_bytes, piece_size, bytes_of, size, noted_from, use_at, uses_from, definition_at, defines_from, leave_at, leaves_from, line_at, lines_from, over_or, back, closed, repeated}
 use Rattle.al_code_output.specs.Written.{Buffer, grown, written, with_jump, all_filled, leave_or, leaves_outside, ended, EndsAt, WaitsAt}
 use Rattle.al_code_output.proofs.Writing.{written_nothing, written_append, grown_none, written_none, written_within, written_beyond, size_cons}
 use Rattle.al_code_output.proofs.Jumps.{jump_filled, jump_size}
@@ -21,12 +22,14 @@ abbrev closed_piece : Construct → ℕ → Piece → Piece
 closed_piece c after (Whole i) = Whole i
 closed_piece c after (Using i symbol) = Using i symbol
 closed_piece c after (Begins symbol) = Begins symbol
+closed_piece c after (Line n) = Line n
 closed_piece c after (Leaving w target) = over_or w (outside c target) after
 
 closed-cons : (c : Construct) (x : Piece) (p : List Piece) → closed c (x ∷ p) ≡ closed_piece c (size p) x ∷ closed c p
 closed-cons c (Whole i) p = refl
 closed-cons c (Using i symbol) p = refl
 closed-cons c (Begins symbol) p = refl
+closed-cons c (Line n) p = refl
 closed-cons c (Leaving w target) p = refl
 
 -- the size of the one piece doesn't change
@@ -34,6 +37,7 @@ piece_closed : (c : Construct) (after : ℕ) (x : Piece) → piece_size (closed_
 piece_closed c after (Whole i) = refl
 piece_closed c after (Using i symbol) = refl
 piece_closed c after (Begins symbol) = refl
+piece_closed c after (Line n) = refl
 piece_closed c after (Leaving w target) = at (outside c target) where
   at : (b : Option Target) → piece_size (over_or w b after) ≡ piece_size (Leaving w target)
   at None = jump_size w (pos after) ∙ sym (jump_size w (pos 0))
@@ -51,6 +55,7 @@ module _ {X : Type 0} (note : ℕ → Piece → List X) (of_whole : (from : ℕ)
   note_closed c after from (Whole i) = refl
   note_closed c after from (Using i symbol) = refl
   note_closed c after from (Begins symbol) = refl
+  note_closed c after from (Line n) = refl
   note_closed c after from (Leaving w target) = at (outside c target) where
     at : (b : Option Target) → note from (over_or w b after) ≡ note from (Leaving w target)
     at None = of_whole from w (pos after) ∙ sym (of_leaving from w target)
@@ -70,10 +75,14 @@ uses_closed c from p = noted_closed use_at (λ n w z. refl) (λ n w t. refl) c f
 defines_closed : (c : Construct) (from : ℕ) (p : List Piece) → defines_from from (closed c p) ≡ defines_from from p
 defines_closed c from p = noted_closed definition_at (λ n w z. refl) (λ n w t. refl) c from p
 
+lines_closed : (c : Construct) (from : ℕ) (p : List Piece) → lines_from from (closed c p) ≡ lines_from from p
+lines_closed c from p = noted_closed line_at (λ n w z. refl) (λ n w t. refl) c from p
+
 leave_closed : (c : Construct) (after from : ℕ) (x : Piece) (ls : List ForwardJump) → leaves_outside c (leave_at from x ++ ls) ≡ leave_at from (closed_piece c after x) ++ leaves_outside c ls
 leave_closed c after from (Whole i) ls = refl
 leave_closed c after from (Using i symbol) ls = refl
 leave_closed c after from (Begins symbol) ls = refl
+leave_closed c after from (Line n) ls = refl
 leave_closed c after from (Leaving w target) ls = at (outside c target) where
   at : (b : Option Target) → leave_or b from ++ leaves_outside c ls ≡ leave_at from (over_or w b after) ++ leaves_outside c ls
   at None = refl
@@ -93,6 +102,7 @@ piece_filled : (c : Construct) (end : ℕ) (front rest : List ℕ) (x : Piece) (
 piece_filled c end front rest (Whole i) ls is = refl
 piece_filled c end front rest (Using i symbol) ls is = refl
 piece_filled c end front rest (Begins symbol) ls is = refl
+piece_filled c end front rest (Line n) ls is = refl
 piece_filled c end front rest (Leaving w target) ls is = at (outside c target) where
   code : with_jump (front ++ (encoded (jump_of w (pos 0)) ++ rest)) (length front) end ≡ front ++ (encoded (jump_of w (pos (length rest))) ++ rest)
   code =
@@ -121,9 +131,9 @@ none : (c : Construct) (first : ℕ) → ended None first c ≡ None
 unfolding ended
 none c first = refl
 
-ended_made : (c : Construct) (g h : Buffer) (kept : List ForwardJump) → all_filled c (length g.code) g.code kept ≡ h.code → g.uses ≡ h.uses → g.defines ≡ h.defines → (first : ℕ) → drop first g.leaving ≡ kept → take first g.leaving ++ leaves_outside c kept ≡ h.leaving → ended (Some g) first c ≡ Some h
+ended_made : (c : Construct) (g h : Buffer) (kept : List ForwardJump) → all_filled c (length g.code) g.code kept ≡ h.code → g.uses ≡ h.uses → g.defines ≡ h.defines → g.lines ≡ h.lines → (first : ℕ) → drop first g.leaving ≡ kept → take first g.leaving ++ leaves_outside c kept ≡ h.leaving → ended (Some g) first c ≡ Some h
 unfolding ended
-ended_made c g h kept code uses defines first is leaves = rw (is, code, uses, defines, leaves) refl
+ended_made c g h kept code uses defines lines first is leaves = rw (is, code, uses, defines, lines, leaves) refl
 
 ended_grown : (b : Buffer) (first : ℕ) (c : Construct) (p : List Piece) → first ≡ length b.leaving → ended (Some (grown b p)) first c ≡ Some (grown b (closed c p))
 ended_grown b first c p at =
@@ -133,6 +143,7 @@ ended_grown b first c p at =
     (code_closed c (length (b.code ++ bytes_of p)) b.code p (length-append b.code (bytes_of p)))
     (ap (λ (us : List Relocation). b.uses ++ us) (sym (uses_closed c (length b.code) p)))
     (ap (λ (us : List Address). b.defines ++ us) (sym (defines_closed c (length b.code) p)))
+    (ap (λ (ms : List LineEntry). b.lines ++ ms) (sym (lines_closed c (length b.code) p)))
     first after
     (ap (λ (ls : List ForwardJump). ls ++ leaves_outside c (leaves_from (length b.code) p)) before ∙ ap (λ (ls : List ForwardJump). b.leaving ++ ls) (leaves_closed c (length b.code) p))
 

@@ -3,3 +3,4 @@ pub mod Closing
 pub mod Jumps
 pub mod Keeping
 pub mod Writing
+pub mod Lines

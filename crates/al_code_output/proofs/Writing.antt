@@ -5,7 +5,7 @@ use Rattle.std.proofs.lemmas.Grind.{flat_map-append}
 use Rattle.std.proofs.lemmas.List.{take_more, take_all}
 use Rattle.std.proofs.lemmas.Bool.Decides.{nat_tests}
 use Rattle.std.proofs.lemmas.Bool.{cases_lt}
-use Rattle.al_code_output.specs.Pieces.{Piece, piece_bytes, piece_size, bytes_of, size, noted_from, use_at, definition_at, leave_at}
+use Rattle.al_code_output.specs.Pieces.{Piece, piece_bytes, piece_size, bytes_of, size, noted_from, use_at, definition_at, leave_at, line_at}
 use Rattle.al_code_output.specs.Written.{Buffer, empty, grown, with_piece, written}
 use Rattle.al_code_output.specs.Laws.{WritesAll}
 
@@ -37,6 +37,7 @@ grown_append b p q =
     let code : (b.code ++ bytes_of p) ++ bytes_of q ≡ b.code ++ bytes_of (p ++ q) = append_assoc b.code (bytes_of p) (bytes_of q) ∙ ap (λ (xs : List ℕ). b.code ++ xs) (sym (bytes_append p q)) in
     let uses = noted_more use_at b.uses (length b.code) (length (b.code ++ bytes_of p)) p q end in
     let defines = noted_more definition_at b.defines (length b.code) (length (b.code ++ bytes_of p)) p q end in
+    let lines = noted_more line_at b.lines (length b.code) (length (b.code ++ bytes_of p)) p q end in
     let leaves = noted_more leave_at b.leaving (length b.code) (length (b.code ++ bytes_of p)) p q end in
     cc
 

@@ -1,10 +1,11 @@
 -- Pieces of code: instructions, the symbols that they use, jumps whose ends aren't there yet, and the symbols that stand
 -- between them.
-use Rattle.std.specs.Prelude.{ℕ, ℤ, pos, neg_ℤ, ◌+◌, Option, Some, None, List, [], ◌∷◌, ◌++◌, length, take}
+use Rattle.std.specs.Prelude.{ℕ, ℤ, pos, neg_ℤ, ◌+◌, min, max, Option, Some, None, List, [], ◌∷◌, ◌++◌, length, take}
 use Rattle.std.specs.List.{flat_map}
 use Rattle.al_view.specs.declared.link.LinkSymbol.{LinkSymbol}
 use Rattle.al_instr.specs.declared.instruction.Instr.{Instr}
 use Rattle.al_instr.specs.declared.instruction.Instr.TheVariants as instr
+use Rattle.al_instr.specs.declared.lines.LineEntry.{LineEntry}
 use Rattle.al_instr.specs.Codes.{encoded}
 use Rattle.al_code_object.specs.declared.object.Address.{Address}
 use Rattle.al_code_object.specs.declared.object.Relocation.{Relocation}
@@ -24,6 +25,8 @@ pub data Piece : Type 0 where
   Leaving : JumpCondition → Target → Piece
   -- the symbol stands here
   Begins : LinkSymbol → Piece
+  -- from here on code is of this line
+  Line : ℕ → Piece
 
 -- a jump over so many bytes
 abbrev pub jump_of : JumpCondition → ℤ → Instr
@@ -35,6 +38,7 @@ piece_bytes (Whole i) = encoded i
 piece_bytes (Using i symbol) = encoded i
 piece_bytes (Leaving w target) = encoded (jump_of w (pos 0))
 piece_bytes (Begins symbol) = []
+piece_bytes (Line n) = []
 
 abbrev pub bytes_of : List Piece → List ℕ
 bytes_of ps = flat_map piece_bytes ps
@@ -67,6 +71,18 @@ definition_at from _ = []
 abbrev pub defines_from : ℕ → List Piece → List Address
 defines_from from ps = noted_from definition_at from ps
 
+-- a line as a word: no text has so many that one wouldn't fit
+abbrev pub line_word : ℕ → ℕ
+line_word n = max (min n 4294967295) 1
+
+-- where the code of a line begins
+abbrev pub line_at : ℕ → Piece → List LineEntry
+line_at from (Line n) = record { place = from; line = line_word n } ∷ []
+line_at from _ = []
+
+abbrev pub lines_from : ℕ → List Piece → List LineEntry
+lines_from from ps = noted_from line_at from ps
+
 -- where a jump waits for its end
 abbrev pub leave_at : ℕ → Piece → List ForwardJump
 leave_at from (Leaving w target) = record { place = from; target = target } ∷ []
@@ -92,6 +108,7 @@ closed c [] = []
 closed c (Whole i ∷ ps) = Whole i ∷ closed c ps
 closed c (Using i symbol ∷ ps) = Using i symbol ∷ closed c ps
 closed c (Begins symbol ∷ ps) = Begins symbol ∷ closed c ps
+closed c (Line n ∷ ps) = Line n ∷ closed c ps
 closed c (Leaving w t ∷ ps) = over_or w (outside c t) (size ps) ∷ closed c ps
 
 -- T: p  Jump T

@@ -1,6 +1,7 @@
 -- Code that is being written.
 use Rattle.std.specs.Prelude.{ℕ, pos, ◌+◌, ◌-◌, nat_le, is_none, ◌≡◌, if◌then◌else◌, List, [], ◌∷◌, ◌++◌, length, take, drop, Option, Some, None, IfSome}
 use Rattle.std.specs.List.{flat_map}
+use Rattle.al_instr.specs.declared.lines.LineEntry.{LineEntry}
 use Rattle.al_instr.specs.Codes.{jump_bytes}
 use Rattle.al_code_object.specs.declared.object.Address.{Address}
 use Rattle.al_code_object.specs.declared.object.Relocation.{Relocation}
@@ -8,17 +9,18 @@ use Rattle.al_code_output.specs.declared.piece.ForwardJump.{ForwardJump}
 use Rattle.al_code_output.specs.declared.piece.Target.{Target}
 use Rattle.al_code_output.specs.declared.piece.Construct.{Construct}
 use Rattle.al_code_output.specs.Targets.{outside}
-use Rattle.al_code_output.specs.Pieces.{Piece, piece_size, bytes_of, uses_from, defines_from, leaves_from}
+use Rattle.al_code_output.specs.Pieces.{Piece, piece_size, bytes_of, uses_from, defines_from, leaves_from, lines_from}
 
--- the bytes, where symbols are used and stand, and the jumps that wait for their ends
+-- the bytes, where symbols are used and stand, the jumps that wait for their ends, and where which lines begin
 pub record Buffer : Type 0 where
   pub code : List ℕ
   pub uses : List Relocation
   pub defines : List Address
   pub leaving : List ForwardJump
+  pub lines : List LineEntry
 
 abbrev pub empty : Buffer
-empty = record { code = []; uses = []; defines = []; leaving = [] }
+empty = record { code = []; uses = []; defines = []; leaving = []; lines = [] }
 
 -- a buffer with the pieces at its end
 abbrev pub grown : Buffer → List Piece → Buffer
@@ -27,6 +29,7 @@ grown b ps = record {
   uses = b.uses ++ uses_from (length b.code) ps;
   defines = b.defines ++ defines_from (length b.code) ps;
   leaving = b.leaving ++ leaves_from (length b.code) ps;
+  lines = b.lines ++ lines_from (length b.code) ps;
 }
 
 -- the same with one piece, where code passes no limit; none where it did

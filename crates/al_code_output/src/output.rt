@@ -6,8 +6,8 @@ ghost use Rattle.al_instr.specs.Codes.{IsInstr, encoded};
 ghost use Rattle.al_code_object.specs.Parts.{MayUse};
 ghost use Rattle.al_code_object.specs.Objects.{IsCode};
 ghost use Rattle.al_code_output.specs.Kept.{IsCodeKind, StandsWithin};
-ghost use Rattle.al_code_output.specs.Pieces.{back, printed};
-ghost use Rattle.al_code_output.specs.Pieces.Piece.{Whole, Using, Leaving, Begins};
+ghost use Rattle.al_code_output.specs.Pieces.{back, line_word, printed};
+ghost use Rattle.al_code_output.specs.Pieces.Piece.{Whole, Using, Leaving, Begins, Line};
 ghost use Rattle.al_code_output.specs.Written.{WaitsAt, ended, empty, written};
 
 use crate::filling::{fill_all, others};
@@ -15,7 +15,7 @@ use crate::piece::{Construct, ForwardJump, JumpCondition, Target};
 use crate::text::printed_names;
 use al_base::{Name, NoMemory};
 use al_code_object::{Address, Relocation};
-use al_instr::{Instr, Text};
+use al_instr::{Instr, LineEntry, Text};
 use al_view::{LinkKind, LinkSymbol, Symbol};
 use std::alloc::Global;
 use std::marker::Model;
@@ -31,6 +31,7 @@ pub struct Output {
     uses: Vec<Relocation>,
     defines: Vec<Address>,
     leaving: Vec<ForwardJump>,
+    lines: Vec<LineEntry>,
     /// The bytes of the last instruction.
     bytes: Vec<u8>,
     is_large: bool,
@@ -44,6 +45,8 @@ pub struct Written {
     pub uses: Vec<Relocation>,
     /// Where symbols stand, in the order of their places.
     pub defines: Vec<Address>,
+    /// From which places on it is of which lines, in the order in which these were marked.
+    pub lines: Vec<LineEntry>,
 }
 
 impl Model for Output {
@@ -54,7 +57,7 @@ impl Model for Output {
 
     ghost use Rattle.al_code_output.specs.Kept.{IsKept};
 
-    ghost view = { λ o. if o.is_large then None else Some (record { code = o.code.items; uses = o.uses.items; defines = o.defines.items; leaving = o.leaving.items }) };
+    ghost view = { λ o. if o.is_large then None else Some (record { code = o.code.items; uses = o.uses.items; defines = o.defines.items; leaving = o.leaving.items; lines = o.lines.items }) };
 
     ghost invariant = { λ o. IsKept o.code.items o.uses.items o.defines.items o.leaving.items };
 }
@@ -70,6 +73,7 @@ impl Output {
             uses: Vec::new(alloc),
             defines: Vec::new(alloc),
             leaving: Vec::new(alloc),
+            lines: Vec::new(alloc),
             bytes: Vec::new(alloc),
             is_large: false,
         }
@@ -91,7 +95,7 @@ impl Output {
 
     /// What was written, and none where it passes the limit.
     pub fn finish(self) -> Option<Written>
-        ensures value { MatchOption result (self ≡ None) (λ w. IsSomeAnd self (λ b. (w.code.items ≡ b.code) × (w.uses.items ≡ b.uses) × (w.defines.items ≡ b.defines))) }
+        ensures value { MatchOption result (self ≡ None) (λ w. IsSomeAnd self (λ b. (w.code.items ≡ b.code) × (w.uses.items ≡ b.uses) × (w.defines.items ≡ b.defines) × (w.lines.items ≡ b.lines))) }
         ensures code { IfSome result (λ w. IsCode w.code.items w.uses.items) }
         ensures within { IfSome result (λ w. length w.code.items ≤ 16777216) }
         ensures standing { IfSome result (λ w. All (StandsWithin (length w.code.items)) w.defines.items) }
@@ -103,6 +107,7 @@ impl Output {
             code: self.code,
             uses: self.uses,
             defines: self.defines,
+            lines: self.lines,
         })
     }
 
@@ -182,6 +187,20 @@ impl Output {
         Ok(())
     }
 
+    /// From here on code is of this line.
+    #[tactic(auto, unfolding(crate::specs::Written::with_piece, crate::specs::Written::written))]
+    pub fn mark(&mut self, line: usize) -> Result<(), NoMemory>
+        ensures { OnOk result (self.new ≡ written self.old (Line line ∷ [])) }
+    {
+        if self.is_large {
+            return Ok(());
+        }
+        let place = self.code.len() as u32;
+        let line = line_word(line);
+        self.lines.push(LineEntry { place, line })?;
+        Ok(())
+    }
+
     /// A jump back to this place, so many bytes back.
     pub fn emit_back(&mut self, start: usize) -> Result<(), NoMemory>
         ensures { (n : ℕ) → IfSome self.old (λ b. length b.code ≡ start + n) → OnOk result (self.new ≡ written self.old (back n ∷ [])) }
@@ -229,6 +248,13 @@ impl Output {
         let names = printed_names(self.alloc, names)?;
         self.put(&Instr::PutName { below, names })
     }
+}
+
+/// A line as a word.
+fn line_word(line: usize) -> u32
+    ensures { result ≡ line_word line }
+{
+    line.min(4_294_967_295).max(1) as u32
 }
 
 /// Appends the bytes of an instruction where they pass no limit, and tells whether that is so.

@@ -1,10 +1,10 @@
-// The code of an object as text: its instructions one after another, with `L0:` where jumps lead, numbered from the front, and
-// `NAME.KIND:` where a symbol stands. An operand that counts from a symbol is `NAME.KIND+NUMBER`.
+// The code of an object as text: its instructions one after another, with `L0:` where jumps lead, numbered from the front,
+// `NAME.KIND:` where a symbol stands, and `LINE N:` where a line of the unit's text begins. An operand that counts from a symbol is `NAME.KIND+NUMBER`.
 use crate::atoms::{Stop, put};
 use crate::instructions::{action_name, plain_name, sized_name};
 use crate::text::Text;
 use al_code_object::{Address, Compiled, Relocation};
-use al_instr::{DecodeFault, Instr, Words, decode};
+use al_instr::{DecodeFault, Instr, LineEntry, Words, decode};
 use al_view::{LinkKind, LinkSymbol};
 use std::alloc::Global;
 
@@ -16,10 +16,15 @@ struct Placed {
     instr: Instr,
 }
 
-/// Puts the code of an object.
-pub fn emit_listing(alloc: Global, text: &mut Text, compiled: &Compiled) -> Result<(), Stop> {
+/// Puts the code of an object, with these of its lines.
+pub fn emit_listing(
+    alloc: Global,
+    text: &mut Text,
+    compiled: &Compiled,
+    lines: &[LineEntry],
+) -> Result<(), Stop> {
     let instructions = instructions(alloc, compiled.code())?;
-    emit_all(alloc, text, compiled, instructions.as_slice())
+    emit_all(alloc, text, compiled, instructions.as_slice(), lines)
 }
 
 fn emit_all(
@@ -27,11 +32,13 @@ fn emit_all(
     text: &mut Text,
     compiled: &Compiled,
     instructions: &[Placed],
+    lines: &[LineEntry],
 ) -> Result<(), Stop> {
     let targets = targets(alloc, instructions)?;
     for placed in instructions {
         emit_symbols(text, compiled.defines(), placed.place)?;
         emit_label(text, &targets, placed.place)?;
+        emit_line(text, lines, placed.place)?;
         emit_instr(text, compiled.uses(), &targets, placed)?;
     }
     all_used(compiled.uses(), instructions)
@@ -99,6 +106,16 @@ fn emit_label(text: &mut Text, targets: &[i64], place: usize) -> Result<(), Stop
         if let Some(label) = label(targets, place) {
             text.word(b"L")?;
             text.push_number(label)?;
+            text.push(b":")?;
+        }
+    }
+    Ok(())
+}
+
+fn emit_line(text: &mut Text, lines: &[LineEntry], place: usize) -> Result<(), Stop> {
+    for entry in lines {
+        if entry.place as usize == place {
+            emit_one(text, b"LINE", entry.line)?;
             text.push(b":")?;
         }
     }

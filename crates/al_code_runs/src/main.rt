@@ -3,6 +3,7 @@
 //!
 //! - `code`: its instructions by their names, `L0:` where jumps lead, `NAME.KIND:` where a symbol stands, `NAME.KIND+NUMBER` for an operand that
 //!   counts from one;
+//! - `lines`: the same, with `LINE N:` where code of a line begins;
 //! - `bytes`: the bytes of its code in hexadecimal digits; `length`: how many they are;
 //! - `links`: which symbols it uses and defines, and at which places, and how many words, tasks and protected objects it has.
 //!
@@ -12,7 +13,7 @@
 //! made of, and each list after its length, as in `loop forever 2 exit 0 set 'x' 1`. Numbers are `-7`, ranges `1..9` or `any` for none, modes
 //! `in`, `out`, `in_out`; texts and names stand between quotes, with `_` for a blank. The other words are listed where they are read: `read_name`, `read_form`,
 //! `read_value`, `read_call`, `read_output`, `read_simple`, `read_control`, `read_declaration`, `read_kind`, `read_body`; operators are words of their
-//! own. All expressions have the root type, and all lines are 1.
+//! own. All expressions have the root type. Lines are 1, but for that of a statement after `on LINE`.
 //!
 //! The output was worked out from the templates, and not by the program.
 #![tactic(auto)]

@@ -6,7 +6,7 @@ use crate::unit::object_of;
 use al_code_object::{Address, Compiled, Object, Relocation};
 use std::alloc::Global;
 
-/// What a line asks for: `code UNIT`, `bytes UNIT`, `length UNIT` or `links UNIT`.
+/// What a line asks for: `code UNIT`, `lines UNIT`, `bytes UNIT`, `length UNIT` or `links UNIT`.
 pub fn answer(alloc: Global, line: &str) -> Result<String, Stop> {
     let (kind, words) = line.split_once(' ').unwrap_or((line, ""));
     let object = object_of(alloc, words)?;
@@ -26,7 +26,8 @@ fn told_of(alloc: Global, kind: &str, object: &Object) -> Result<String, Stop> {
 
 fn emit_told(alloc: Global, text: &mut Text, kind: &str, compiled: &Compiled) -> Result<(), Stop> {
     match kind {
-        "code" => emit_listing(alloc, text, compiled),
+        "code" => emit_listing(alloc, text, compiled, &[]),
+        "lines" => emit_listing(alloc, text, compiled, compiled.lines()),
         "bytes" => emit_bytes(text, compiled.code()),
         "length" => emit_count(text, compiled.code().len()),
         "links" => emit_links(text, compiled),

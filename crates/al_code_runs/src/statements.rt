@@ -112,7 +112,7 @@ impl Statements {
     }
 
     /// Reads a word for another simple statement: `null`, `assign NAME WORDS CHECKED`, `sets COUNT 'NAME' NUMBER` for so many assignments of a number, or
-    /// `set 'NAME' NUMBER` for one, `perform CALL`, `delay VALUE`, `return`, `return_value WORDS CHECKED`, `exit LOOPS`, `exit_when LOOPS VALUE`.
+    /// `set 'NAME' NUMBER` for one, `perform CALL`, `delay VALUE`, `return`, `return_value WORDS CHECKED`, `exit LOOPS`, `exit_when LOOPS VALUE`; or `on LINE STATEMENT`.
     pub fn read_simple(
         &mut self,
         atoms: &mut Atoms,
@@ -121,6 +121,7 @@ impl Statements {
     ) -> Option<Result<(), Stop>> {
         Some(match word {
             "null" => self.emit_form(StatementForm::null()),
+            "on" => self.emit_on(atoms),
             "assign" => self.emit_assignment(atoms, parts),
             "sets" => self.emit_sets(atoms),
             "perform" => self.emit_call(parts),
@@ -164,6 +165,14 @@ impl Statements {
         let words = atoms.word()?;
         let value = pop(&mut parts.checked)?;
         self.emit_form(StatementForm::returning(Some(value), words))
+    }
+
+    /// Gives a statement its line.
+    fn emit_on(&mut self, atoms: &mut Atoms) -> Result<(), Stop> {
+        let line = atoms.count()?;
+        let mut statement = pop(&mut self.statements)?;
+        statement.line = line;
+        put(&mut self.statements, statement)
     }
 
     fn emit_exit(&mut self, atoms: &mut Atoms) -> Result<(), Stop> {

@@ -143,7 +143,7 @@ impl Library {
 
     fn print_ran(&self, ran: &RunReport) -> Result<String, NoMemory> {
         let mut text = Vec::new(self.alloc);
-        push_ran(&mut text, ran)?;
+        push_ran(self.alloc, &mut text, ran)?;
         self.text(text.as_slice())
     }
 }

@@ -117,8 +117,16 @@ fn exception_text(exception: Exception) -> &'static str {
     }
 }
 
+fn push_line(alloc: Global, text: &mut Vec<u8>, line: Option<u32>) -> Result<(), NoMemory> {
+    let Some(line) = line else {
+        return Ok(());
+    };
+    text.push(b' ')?;
+    push_number(alloc, text, u64::from(line))
+}
+
 /// What a run put out, and how it ended.
-pub(crate) fn push_ran(text: &mut Vec<u8>, ran: &RunReport) -> Result<(), NoMemory> {
+pub(crate) fn push_ran(alloc: Global, text: &mut Vec<u8>, ran: &RunReport) -> Result<(), NoMemory> {
     text.extend_from_slice(ran.output.as_slice())?;
     text.extend_from_slice(b"end ")?;
     match &ran.ended {
@@ -126,10 +134,15 @@ pub(crate) fn push_ran(text: &mut Vec<u8>, ran: &RunReport) -> Result<(), NoMemo
         RunEnd::Idle => text.extend_from_slice(b"idle")?,
         RunEnd::Spent => text.extend_from_slice(b"spent")?,
         RunEnd::Stuck => text.extend_from_slice(b"stuck")?,
-        RunEnd::Raised(exception, unit) => {
+        RunEnd::Raised {
+            exception,
+            unit,
+            line,
+        } => {
             text.extend_from_slice(b"raised ")?;
             text.extend_from_slice(exception_text(*exception).as_bytes())?;
             push_unit(text, unit)?;
+            push_line(alloc, text, *line)?;
         }
     }
     text.push(b'\n')?;

@@ -3,3 +3,4 @@ pub mod Fields
 pub mod NameFields
 pub mod RoundTrip
 pub mod Fitting
+pub mod LineLemmas

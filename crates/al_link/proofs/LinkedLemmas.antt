@@ -20,13 +20,13 @@ use Rattle.al_link.specs.Linking.{number_at, patched, with_word}
 use Rattle.al_link.specs.LinkedParts.{shifted, linked_part, LinksParts}
 
 -- an instruction whose first operand is a number in four bytes
-record HasWord (i : Instr) : Type 0 where
-  op : ℕ
-  number : ℕ
-  tail : List ℕ
-  fits : number < 0x1_0000_0000
-  is : encoded i ≡ op ∷ (word_bytes number ++ tail)
-  moves : (v : ℕ) → encoded (shifted v i) ≡ op ∷ (word_bytes ((number + v) % 2 ^ 32) ++ tail)
+pub record HasWord (i : Instr) : Type 0 where
+  pub op : ℕ
+  pub number : ℕ
+  pub tail : List ℕ
+  pub fits : number < 0x1_0000_0000
+  pub is : encoded i ≡ op ∷ (word_bytes number ++ tail)
+  pub moves : (v : ℕ) → encoded (shifted v i) ≡ op ∷ (word_bytes ((number + v) % 2 ^ 32) ++ tail)
 
 word_length : (n : ℕ) → length (word_bytes n) ≡ 4
 unfolding word_bytes
@@ -93,7 +93,7 @@ word_of (instr.PutText text) k fit may = absurd may
 word_of (instr.PutName below names) k fit may = absurd may
 
 -- what uses a symbol has such an operand
-has_word : (i : Instr) (symbol : LinkSymbol) → IsPart (Using i symbol) → HasWord i
+pub has_word : (i : Instr) (symbol : LinkSymbol) → IsPart (Using i symbol) → HasWord i
 has_word i symbol h = word_of i symbol.kind h.0 h.1
 
 -- one operand
@@ -112,7 +112,7 @@ operand_linked places before after done rest_after base k u i h dl bl ul =
     ∙ sym (split done h.op (word_bytes ((h.number + v) % 2 ^ 32)) h.tail rest_after)
     ∙ ap (λ (xs : List ℕ). done ++ (xs ++ rest_after)) (sym (h.moves v))
 
-shifted_length : (i : Instr) (h : HasWord i) (v : ℕ) → length (encoded (shifted v i)) ≡ length (encoded i)
+pub shifted_length : (i : Instr) (h : HasWord i) (v : ℕ) → length (encoded (shifted v i)) ≡ length (encoded i)
 shifted_length i h v =
     ap length (h.moves v) ∙ omega (arith, length-append (word_bytes ((h.number + v) % 2 ^ 32)) h.tail, length-append (word_bytes h.number) h.tail, word_length ((h.number + v) % 2 ^ 32), word_length h.number) ∙ sym (ap length h.is)
 

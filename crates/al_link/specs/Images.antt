@@ -1,11 +1,13 @@
 -- The image of units: the sums of what their objects hold, where these begin, and the linked code.
-use Rattle.std.specs.Prelude.{ℕ, ◌+◌, List, [], ◌∷◌, ◌++◌, map, if◌then◌else◌}
+use Rattle.std.specs.Prelude.{ℕ, ◌+◌, List, [], ◌∷◌, ◌++◌, map, Some, if◌then◌else◌}
 use Rattle.std.specs.List.{flat_map}
 use Rattle.al_view.specs.declared.link.LinkSymbol.{LinkSymbol}
 use Rattle.al_instr.specs.declared.instruction.Instr.{Instr}
 use Rattle.al_instr.specs.declared.instruction.Instr.TheVariants.{Plain, Call}
 use Rattle.al_instr.specs.declared.numbers.Plain.TheVariants as plain
+use Rattle.al_instr.specs.declared.lines.LineEntry.{LineEntry}
 use Rattle.al_instr.specs.Codes.{code_bytes}
+use Rattle.al_instr.specs.Lines.{shifted}
 use Rattle.al_code_object.specs.declared.object.Region.{Region as ObjectRegion}
 use Rattle.al_link_image.specs.declared.parts.Region.{Region}
 use Rattle.al_link_image.specs.declared.parts.ImageObject.{ImageObject}
@@ -27,6 +29,10 @@ region_at base r = record { address = base + r.word; words = r.words; ceiling = 
 
 abbrev pub regions_of : Located → List Region
 regions_of l = map (region_at l.before.words) l.object.protected
+
+-- the lines of a unit's code, which begins where all before it ends
+abbrev pub lines_of : Located → List LineEntry
+lines_of l = shifted l.before.code l.object.lines
 
 -- the call of a routine at library level
 abbrev pub called : ℕ → List Instr
@@ -53,6 +59,7 @@ image_with main us ls = record {
   protected = flat_map regions_of ls;
   objects = map object_of ls;
   code = code_of (code_linked main ls);
+  lines = Some (flat_map lines_of ls);
 }
 
 -- the image of these units, with the main subprogram of this symbol

@@ -1,19 +1,17 @@
-// The image of units.
-ghost use Rattle.std.specs.Prelude.{◌≡◌, ◌+◌, ◌≤◌, ◌++◌, length, map, sum_by, IfOk, IfErr, OnOk};
+// The parts of the image of units.
+ghost use Rattle.std.specs.Prelude.{◌≡◌, ◌+◌, ◌≤◌, ◌++◌, length, map, sum_by, IfOk, OnOk};
 ghost use Rattle.std.specs.List.{All, flat_map};
+ghost use Rattle.al_instr.specs.Lines.{AreLines};
 ghost use Rattle.al_link_image.specs.Images.{IsObject, IsRegion, IsUnitName};
 ghost use Rattle.al_link.specs.Bases.{AreSmall, next_bases};
-ghost use Rattle.al_link.specs.Images.{IsLinkFault, image_of, object_of, region_at, regions_of};
-ghost use Rattle.al_link.specs.Units.{AreWithin, located_model, unit_model};
+ghost use Rattle.al_link.specs.Images.{lines_of, object_of, region_at, regions_of};
+ghost use Rattle.al_link.specs.Units.{located_model};
 
-use crate::patch::link_code;
-use crate::places::Places;
-use crate::start::start_bytes;
-use crate::units::{LinkUnit, Located, first_bases, locate};
+use crate::units::Located;
 use al_base::{Name, NoMemory};
 use al_code_object::Region as CompiledRegion;
-use al_link_image::{Image, ImageObject, ImageParts, LinkFault, MAX_OBJECTS, Region};
-use al_view::LinkSymbol;
+use al_instr::{LineEntry, push_shifted};
+use al_link_image::{ImageObject, Region};
 use std::alloc::Global;
 
 // Where the code of a unit begins.
@@ -32,7 +30,7 @@ fn object_of(alloc: Global, unit: &Located<'_>) -> Result<ImageObject, NoMemory>
 }
 
 // Where the code of each unit begins.
-fn objects_of(alloc: Global, units: &[Located<'_>]) -> Result<Vec<ImageObject>, NoMemory>
+pub(crate) fn objects_of(alloc: Global, units: &[Located<'_>]) -> Result<Vec<ImageObject>, NoMemory>
     requires names { All (λ l. IsUnitName l.key.now.name) units.now }
     requires places { All (λ l. AreSmall (next_bases l.before l.object.now)) units.now }
     ensures value { IfOk result (λ objects. objects.items ≡ map object_of (map located_model units.now)) }
@@ -47,7 +45,7 @@ fn objects_of(alloc: Global, units: &[Located<'_>]) -> Result<Vec<ImageObject>, 
 }
 
 // The words of a protected object, which are among so many.
-fn region_at(base: u32, region: CompiledRegion, total: u32) -> Region
+pub(crate) fn region_at(base: u32, region: CompiledRegion, total: u32) -> Region
     requires { base + region.word + region.words ≤ total }
     ensures value { result ≡ region_at base region }
     ensures fit { IsRegion total result }
@@ -75,7 +73,11 @@ fn push_regions(regions: &mut Vec<Region>, unit: &Located<'_>, total: u32) -> Re
 }
 
 // The words of all protected objects, which are among so many.
-fn regions_of(alloc: Global, units: &[Located<'_>], total: u32) -> Result<Vec<Region>, NoMemory>
+pub(crate) fn regions_of(
+    alloc: Global,
+    units: &[Located<'_>],
+    total: u32,
+) -> Result<Vec<Region>, NoMemory>
     requires { All (λ l. l.before.words + l.object.now.data_words ≤ total) units.now }
     ensures value { IfOk result (λ regions. regions.items ≡ flat_map regions_of (map located_model units.now)) }
     ensures fit { IfOk result (λ regions. All (IsRegion total) regions.items) }
@@ -88,37 +90,25 @@ fn regions_of(alloc: Global, units: &[Located<'_>], total: u32) -> Result<Vec<Re
     Ok(regions)
 }
 
-/// The image of units with their objects, in their order: the starting code, which elaborates the items and calls the main
-/// subprogram, and the objects' code, in which each symbol is the sum of what stands before its object and its own offset.
-///
-/// # Errors
-///
-/// `TooLarge` where a limit of images is passed, and only there.
-pub fn image_of(
-    alloc: Global,
-    main: &LinkSymbol,
-    units: &[LinkUnit<'_>],
-) -> Result<Image, LinkFault>
-    requires { All (λ u. IsUnitName u.key.now.name) units.now }
-    ensures image { IfOk result (λ image. image ≡ image_of main.now (map unit_model units.now)) }
-    ensures within { OnOk result (AreWithin (map unit_model units.now)) }
-    ensures fault { IfErr result (λ fault. IsLinkFault (map unit_model units.now) fault) }
+// Appends the lines of a unit's code.
+fn push_lines(out: &mut Vec<LineEntry>, unit: &Located<'_>) -> Result<(), NoMemory>
+    requires { AreSmall (next_bases unit.now.before unit.now.object.now) }
+    ensures value { OnOk result (out.new.items ≡ out.old.items ++ lines_of (located_model unit.now)) }
+    ensures each { AreLines (length unit.now.object.now.code) unit.now.object.now.lines }
 {
-    if units.len() > MAX_OBJECTS as usize {
-        return Err(LinkFault::TooLarge);
+    unit.object.keeps();
+    push_shifted(out, unit.before.code, unit.object.lines())
+}
+
+// The lines of the code of all units.
+pub(crate) fn lines_of(alloc: Global, units: &[Located<'_>]) -> Result<Vec<LineEntry>, NoMemory>
+    requires { All (λ l. AreSmall (next_bases l.before l.object.now)) units.now }
+    ensures value { IfOk result (λ lines. lines.items ≡ flat_map lines_of (map located_model units.now)) }
+    ensures each { OnOk result (All (λ l. AreLines (length l.object.now.code) l.object.now.lines) units.now) }
+{
+    let mut lines = Vec::new(alloc);
+    for unit in units {
+        push_lines(&mut lines, unit)?;
     }
-    let first = first_bases(units);
-    let (located, totals) = locate(alloc, first, units)?;
-    let places = Places::of(alloc, &located)?;
-    let start = start_bytes(alloc, &located, places.place_of(main))?;
-    let code = link_code(start, &located, &places)?;
-    let protected = regions_of(alloc, &located, totals.words)?;
-    let objects = objects_of(alloc, &located)?;
-    Ok(Image::new(ImageParts {
-        tasks: totals.tasks,
-        data_words: totals.words,
-        protected,
-        objects,
-        code,
-    }))
+    Ok(lines)
 }

@@ -4,15 +4,20 @@
 
 mod bases;
 mod image;
+mod kept;
 mod laws;
+mod linked;
 mod linking;
 mod patch;
 mod places;
+mod prepared;
+mod refilling;
+mod sizes;
 mod start;
 mod units;
+mod writing;
 
 pub use al_link_image::{Image, LinkFault};
-pub use image::image_of;
 pub use laws::links_parts;
-pub use linking::{CompiledUnit, link};
-pub use units::LinkUnit;
+pub use linked::{Linked, link};
+pub use linking::CompiledUnit;

@@ -1,17 +1,14 @@
-// The public call: the image of a partition from what the compilations of its units left.
+// The units of a partition with what their compilations left.
 ghost use Rattle.std.specs.Prelude.{◌≡◌, false, map, IfOk, IfErr, OnOk};
 ghost use Rattle.std.specs.List.{All};
 ghost use Rattle.al_link_image.specs.Images.{IsUnitName};
-ghost use Rattle.al_link.specs.Images.{image_of};
-ghost use Rattle.al_link.specs.Partitions.{AreLinkable, IsFaultOf, IsLargeOf, compiled_units, some_large};
+ghost use Rattle.al_link.specs.Partitions.{IsLargeOf, compiled_units, some_large};
 ghost use Rattle.al_link.specs.Units.{unit_model};
 
-use crate::image::image_of;
 use crate::units::LinkUnit;
 use al_base::UnitKey;
 use al_code_object::Object;
-use al_link_image::{Image, LinkFault};
-use al_view::LinkSymbol;
+use al_link_image::LinkFault;
 use std::alloc::Global;
 
 /// A unit with what its compilation left.
@@ -22,7 +19,10 @@ pub struct CompiledUnit<'a> {
 }
 
 // The units with their objects, where each of them has one.
-fn compiled<'a>(alloc: Global, units: &[CompiledUnit<'a>]) -> Result<Vec<LinkUnit<'a>>, LinkFault>
+pub(crate) fn compiled<'a>(
+    alloc: Global,
+    units: &[CompiledUnit<'a>],
+) -> Result<Vec<LinkUnit<'a>>, LinkFault>
     requires { All (λ u. IsUnitName u.key.now.name) units.now }
     ensures value { IfOk result (λ found. map unit_model found.items ≡ compiled_units units.now) }
     ensures names { IfOk result (λ found. All (λ u. IsUnitName u.key.now.name) found.items) }
@@ -40,25 +40,4 @@ fn compiled<'a>(alloc: Global, units: &[CompiledUnit<'a>]) -> Result<Vec<LinkUni
         }
     }
     Ok(found)
-}
-
-/// The image of a partition's units in the order in which they stand in it: the items in the order of their elaboration, a body's
-/// subunits after it. `main` is the symbol of the main subprogram's code.
-///
-/// # Errors
-///
-/// `TooLarge` where the code of a unit is longer than that of any image or a limit of images is passed, and only there.
-pub fn link(
-    alloc: Global,
-    main: &LinkSymbol,
-    units: &[CompiledUnit<'_>],
-) -> Result<Image, LinkFault>
-    requires { All (λ u. IsUnitName u.key.now.name) units.now }
-    ensures image { IfOk result (λ image. image ≡ image_of main.now (compiled_units units.now)) }
-    ensures within { OnOk result (AreLinkable units.now) }
-    ensures fault { IfErr result (IsFaultOf units.now) }
-{
-    let found = compiled(alloc, units)?;
-    let image = image_of(alloc, main, &found)?;
-    Ok(image)
 }

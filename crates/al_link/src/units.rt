@@ -15,9 +15,9 @@ use std::alloc::Global;
 
 /// A unit with its object.
 #[derive(Clone, Copy)]
-pub struct LinkUnit<'a> {
-    pub key: &'a UnitKey,
-    pub object: &'a Compiled,
+pub(crate) struct LinkUnit<'a> {
+    pub(crate) key: &'a UnitKey,
+    pub(crate) object: &'a Compiled,
 }
 
 // A unit, and what stands before its object.

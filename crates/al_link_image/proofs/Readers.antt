@@ -76,30 +76,30 @@ module _ {A : Type 0} (at : List ℕ → Option (A × List ℕ)) (written : A �
   abbrev counted : List A → List ℕ
   counted xs = word_bytes (length xs) ++ flat_map written xs
 
-  abbrev IsCounted : List A → Type 0
-  IsCounted xs = (length xs ≤ 65535) × All P xs
+  abbrev IsCounted : ℕ → List A → Type 0
+  IsCounted limit xs = (length xs ≤ limit) × All P xs
 
-  counted_takes : (bytes : List ℕ) (xs : List A) (rest : List ℕ) → IsBytes bytes → counted_at at bytes ≡ Some (xs, rest) → Takes bytes (counted xs) rest × IsCounted xs
+  counted_takes : (limit : ℕ) (bytes : List ℕ) (xs : List A) (rest : List ℕ) → IsBytes bytes → counted_at limit at bytes ≡ Some (xs, rest) → Takes bytes (counted xs) rest × IsCounted limit xs
   unfolding counted_at
-  counted_takes bytes xs rest fits e =
-      let b = bind_some (limited_at 65535 bytes) (λ n. more_at at [] n.0 n.1) (xs, rest) e in
-      let t = limited_takes 65535 bytes b.0.0 b.0.1 fits b.1 in
+  counted_takes limit bytes xs rest fits e =
+      let b = bind_some (limited_at limit bytes) (λ n. more_at at [] n.0 n.1) (xs, rest) e in
+      let t = limited_takes limit bytes b.0.0 b.0.1 fits b.1 in
       let m = more_takes [] b.0.0 b.0.1 xs rest t.0.rest_fits b.2 in
       let all_is : xs ≡ m.more = m.all_is in
       let size : b.0.0 ≡ length m.more = sym m.count in
       let number : word_bytes b.0.0 ≡ word_bytes (length m.more) = ap word_bytes size in
       let both = Takes-then bytes (word_bytes b.0.0) b.0.1 (flat_map written m.more) rest t.0 m.takes in
       let named : Takes bytes (counted m.more) rest = subst (λ (ws : List ℕ). Takes bytes (ws ++ flat_map written m.more) rest) number both in
-      let few : length m.more ≤ 65535 = subst (λ n. n ≤ 65535) size t.1 in
-      subst (λ (ys : List A). Takes bytes (counted ys) rest × IsCounted ys) (sym all_is) (named, (few, m.each))
+      let few : length m.more ≤ limit = subst (λ n. n ≤ limit) size t.1 in
+      subst (λ (ys : List A). Takes bytes (counted ys) rest × IsCounted limit ys) (sym all_is) (named, (few, m.each))
 
-  counted_again : (xs : List A) (rest : List ℕ) → IsCounted xs → counted_at at (counted xs ++ rest) ≡ Some (xs, rest)
+  counted_again : (limit : ℕ) (xs : List A) (rest : List ℕ) → limit < 0x1_0000_0000 → IsCounted limit xs → counted_at limit at (counted xs ++ rest) ≡ Some (xs, rest)
   unfolding counted_at
-  counted_again xs rest h =
-      rw (append_assoc (word_bytes (length xs)) (flat_map written xs) rest, limited_again 65535 (length xs) (flat_map written xs ++ rest) (omega arith) h.0) (more_again [] xs rest h.1)
+  counted_again limit xs rest lt h =
+      rw (append_assoc (word_bytes (length xs)) (flat_map written xs) rest, limited_again limit (length xs) (flat_map written xs ++ rest) lt h.0) (more_again [] xs rest h.1)
 
-  pub counted_read : Reads (counted_at at) (λ xs. word_bytes (length xs) ++ flat_map written xs) (λ xs. (length xs ≤ 65535) × All P xs)
-  counted_read = record { takes = counted_takes; again = counted_again }
+  pub counted_read : (limit : ℕ) → limit < 0x1_0000_0000 → Reads (counted_at limit at) (λ xs. word_bytes (length xs) ++ flat_map written xs) (λ xs. (length xs ≤ limit) × All P xs)
+  counted_read limit lt = record { takes = counted_takes limit; again = λ xs rest h. counted_again limit xs rest lt h }
 
 -- ---- loops
 

@@ -1,5 +1,5 @@
 -- Images: all that a partition's run starts from, and their bytes.
-use Rattle.std.specs.Prelude.{◌≡◌, ℕ, ◌+◌, ◌<◌, ◌≤◌, ◌==◌, nat_le, Bool, ◌&&◌, ◌||◌, IsTrue, List, [], ◌∷◌, ◌++◌, length, All, Result, Ok, Err}
+use Rattle.std.specs.Prelude.{◌≡◌, ℕ, ◌+◌, ◌<◌, ◌≤◌, ◌==◌, nat_le, Bool, ◌&&◌, ◌||◌, IsTrue, List, ◌∷◌, ◌++◌, length, All, Option, Result, Ok, Err}
 use Rattle.std.specs.List.{flat_map, list_all}
 use Rattle.al_base.specs.declared.unit_key.UnitKind.{UnitKind}
 use Rattle.al_base.specs.declared.unit_key.UnitKind.TheVariants.{Decl, Body, Sub}
@@ -9,14 +9,18 @@ use Rattle.al_link_image.specs.declared.fault.LinkFault.{LinkFault}
 use Rattle.al_link_image.specs.declared.fault.LinkFault.TheVariants as faults
 use Rattle.al_link_image.specs.declared.parts.Region.{Region}
 use Rattle.al_link_image.specs.declared.parts.ImageObject.{ImageObject}
+use Rattle.al_instr.specs.declared.lines.LineEntry.{LineEntry}
+use Rattle.al_link_image.specs.Lines.{LinesFit, lines_bytes, mark_of}
 
--- an image: how many tasks and data words, the words of protected objects, where the code of each unit begins, and the code
+-- an image: how many tasks and data words, the words of protected objects, where the code of each unit begins, the code, and
+-- where its lines begin; an image of version 1 has no lines
 pub record Image : Type 0 where
   pub tasks : ℕ
   pub data_words : ℕ
   pub protected : List Region
   pub objects : List ImageObject
   pub code : List Instr
+  pub lines : Option (List LineEntry)
 
 -- ---- what an image may be
 
@@ -43,12 +47,9 @@ pub record IsImage (image : Image) : Type 0 where
   pub objects : All IsObject image.objects
   pub code : All IsInstr image.code
   pub code_size : length (code_bytes image.code) ≤ 16777216
+  pub lines : LinesFit (length (code_bytes image.code)) image.lines
 
 -- ---- bytes
-
--- ADLI, and the version 1 in two bytes
-abbrev pub mark : List ℕ
-mark = 65 ∷ 68 ∷ 76 ∷ 73 ∷ 0 ∷ 1 ∷ []
 
 abbrev pub kind_number : UnitKind → ℕ
 kind_number Decl = 0
@@ -73,11 +74,11 @@ objects_bytes objects = word_bytes (length objects) ++ flat_map object_bytes obj
 -- what stands in front of the code
 abbrev pub front_bytes : Image → List ℕ
 front_bytes image =
-    mark ++ word_bytes image.tasks ++ word_bytes image.data_words ++ regions_bytes image.protected ++ objects_bytes image.objects
+    mark_of image.lines ++ word_bytes image.tasks ++ word_bytes image.data_words ++ regions_bytes image.protected ++ objects_bytes image.objects
 
 -- an image's bytes
 unfoldable pub image_bytes : Image → List ℕ
-image_bytes image = front_bytes image ++ word_bytes (length (code_bytes image.code)) ++ code_bytes image.code
+image_bytes image = front_bytes image ++ word_bytes (length (code_bytes image.code)) ++ code_bytes image.code ++ lines_bytes image.lines
 
 -- ---- reading
 

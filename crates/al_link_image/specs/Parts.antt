@@ -1,6 +1,7 @@
 -- The parts of an image, with the code by its bytes.
 use Rattle.std.specs.Prelude.{◌≡◌, ℕ, zero, suc, List, [], ◌∷◌, length, All}
 use Rattle.std.specs.Option.{option_map_or}
+use Rattle.std.specs.Prelude.{option_map}
 use Rattle.al_instr.specs.declared.instruction.Instr.{Instr}
 use Rattle.al_instr.specs.Codes.{code_bytes, IsInstr}
 use Rattle.al_instr.specs.Reading.{decoded}
@@ -28,6 +29,7 @@ image_of p = record {
   protected = p.protected.items;
   objects = p.objects.items;
   code = code_of p.code.items;
+  lines = option_map (λ v. v.items) p.lines;
 }
 
 -- the parts are those of an image

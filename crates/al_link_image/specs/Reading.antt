@@ -1,5 +1,5 @@
 -- Reading the parts of images: what stands at the front of some bytes, with the bytes after it.
-use Rattle.std.specs.Prelude.{◌≡◌, ℕ, zero, suc, ◌+◌, ◌==◌, nat_le, nat_lt, Bool, ◌&&◌, if◌then◌else◌, List, [], ◌∷◌, ◌++◌, length, take, drop, Option, Some, None, Result, Ok, Err}
+use Rattle.std.specs.Prelude.{◌≡◌, ℕ, zero, suc, ◌+◌, ◌==◌, nat_le, nat_lt, Bool, true, false, ◌&&◌, if◌then◌else◌, List, [], ◌∷◌, ◌++◌, length, take, drop, Option, Some, None, Result, Ok, Err}
 use Rattle.std.specs.List.{list_all}
 use Rattle.std.specs.Str.{bytes_eq}
 use Rattle.al_base.specs.declared.unit_key.UnitKind.{UnitKind}
@@ -9,7 +9,10 @@ use Rattle.al_link_image.specs.declared.fault.LinkFault.{LinkFault}
 use Rattle.al_link_image.specs.declared.fault.LinkFault.TheVariants as faults
 use Rattle.al_link_image.specs.declared.parts.Region.{Region}
 use Rattle.al_link_image.specs.declared.parts.ImageObject.{ImageObject}
-use Rattle.al_link_image.specs.Images.{is_name_byte, mark}
+use Rattle.al_link_image.specs.Images.{is_name_byte}
+use Rattle.al_instr.specs.declared.lines.LineEntry.{LineEntry}
+use Rattle.al_instr.specs.Lines.{rise}
+use Rattle.al_link_image.specs.Lines.{mark_of}
 
 -- what was found, seen by view, is what reading gives, unless memory ran out
 abbrev pub Finds : {X Y : Type 0} → (X → Y) → Result X LinkFault → Option Y → Type 0
@@ -26,18 +29,20 @@ checked b x = if b then Some x else None
 unfoldable pub limited_at : ℕ → List ℕ → Option (ℕ × List ℕ)
 limited_at limit bytes = word_at bytes >>= λ n. checked (nat_le n.0 limit) n
 
--- what is after the mark
-unfoldable pub after_mark : List ℕ → Option (List ℕ)
-after_mark bytes = checked (bytes_eq (take 6 bytes) mark) (drop 6 bytes)
+-- whether the version after the mark is 2, with what is after it; there are no versions but 1 and 2
+unfoldable pub version_at : List ℕ → Option (Bool × List ℕ)
+version_at bytes =
+    if bytes_eq (take 6 bytes) (mark_of None) then Some (false, drop 6 bytes)
+    else checked (bytes_eq (take 6 bytes) (mark_of (Some []))) (true, drop 6 bytes)
 
 -- so many more, after those that are there
 unfoldable pub more_at : {A : Type 0} → (List ℕ → Option (A × List ℕ)) → List A → ℕ → List ℕ → Option (List A × List ℕ)
 more_at at xs zero bytes = Some (xs, bytes)
 more_at at xs (suc n) bytes = at bytes >>= λ x. more_at at (xs ++ x.0 ∷ []) n x.1
 
--- some after their number, which is at most 65535
-unfoldable pub counted_at : {A : Type 0} → (List ℕ → Option (A × List ℕ)) → List ℕ → Option (List A × List ℕ)
-counted_at at bytes = limited_at 65535 bytes >>= λ n. more_at at [] n.0 n.1
+-- some after their number, which is at most the limit
+unfoldable pub counted_at : {A : Type 0} → ℕ → (List ℕ → Option (A × List ℕ)) → List ℕ → Option (List A × List ℕ)
+counted_at limit at bytes = limited_at limit bytes >>= λ n. more_at at [] n.0 n.1
 
 -- a protected object's words, which are among so many
 unfoldable pub region_at : ℕ → List ℕ → Option (Region × List ℕ)
@@ -77,12 +82,29 @@ pub record Parts : Type 0 where
   pub protected : List Region
   pub objects : List ImageObject
   pub code : List ℕ
+  pub lines : Option (List LineEntry)
 
-unfoldable pub code_at : List ℕ → Option (List ℕ)
-code_at bytes = limited_at 16777216 bytes >>= λ n. checked (length n.1 == n.0) n.1
+-- the code after its length
+unfoldable pub code_at : List ℕ → Option (List ℕ × List ℕ)
+code_at bytes = limited_at 16777216 bytes >>= λ n. if nat_lt (length n.1) n.0 then None else Some (take n.0 n.1, drop n.0 n.1)
+
+unfoldable pub entry_at : List ℕ → Option (LineEntry × List ℕ)
+entry_at bytes = word_at bytes >>= λ p. word_at p.1 >>= λ l. Some (record { place = p.0; line = l.0 }, l.1)
+
+-- the lines after their number, of a code of this length: all that is left
+unfoldable pub entries_at : ℕ → List ℕ → Option (List LineEntry)
+entries_at end bytes = counted_at 16777216 entry_at bytes >>= λ es. checked (length es.1 == 0 && rise 0 end es.0) es.0
+
+-- they stand in images of version 2 alone
+unfoldable pub lines_at : Bool → ℕ → List ℕ → Option (Option (List LineEntry))
+lines_at has_lines end bytes = if has_lines then (entries_at end bytes >>= λ es. Some (Some es)) else checked (length bytes == 0) None
+
+-- the code and its lines
+unfoldable pub tail_at : Bool → List ℕ → Option (List ℕ × Option (List LineEntry))
+tail_at has_lines bytes = code_at bytes >>= λ c. lines_at has_lines (length c.0) c.1 >>= λ l. Some (c.0, l)
 
 unfoldable pub parts_at : List ℕ → Option Parts
 parts_at bytes =
-    after_mark bytes >>= λ rest. limited_at 63 rest >>= λ t. limited_at 1048576 t.1 >>= λ w.
-    counted_at (region_at w.0) w.1 >>= λ r. counted_at object_at r.1 >>= λ o. code_at o.1 >>= λ c.
-    Some (record { tasks = t.0; data_words = w.0; protected = r.0; objects = o.0; code = c })
+    version_at bytes >>= λ v. limited_at 63 v.1 >>= λ t. limited_at 1048576 t.1 >>= λ w.
+    counted_at 65535 (region_at w.0) w.1 >>= λ r. counted_at 65535 object_at r.1 >>= λ o. tail_at v.0 o.1 >>= λ c.
+    Some (record { tasks = t.0; data_words = w.0; protected = r.0; objects = o.0; code = c.0; lines = c.1 })

@@ -1,14 +1,14 @@
 // The image of a partition.
-ghost use Rattle.std.specs.Prelude.{◌≡◌, ◌≤◌, ◌∷◌, ◌++◌, [], length, IfOk};
+ghost use Rattle.std.specs.Prelude.{◌≡◌, ◌≤◌, ◌∷◌, ◌++◌, [], length, option_map, vec_capacity, IfOk, IsOk, OnOk};
 ghost use Rattle.al_instr.specs.Codes.{code_bytes};
 ghost use Rattle.al_link_image.specs.Images.{IsImage, image_bytes};
 ghost use Rattle.al_link_image.specs.Parts.{IsWhole, image_of};
 
-use crate::bytes::{push_bytes, push_mark, push_objects, push_regions, push_word};
+use crate::bytes::{push_front, push_tail};
 use crate::code::instructions_of;
 use crate::parts::{ImageObject, ImageParts, Region};
 use al_base::NoMemory;
-use al_instr::Instr;
+use al_instr::{Instr, LineEntry};
 use std::alloc::Global;
 use std::marker::Model;
 
@@ -41,6 +41,27 @@ impl Image {
         ensures { result ≡ image_of parts }
     {
         Image { parts }
+    }
+
+    /// The image without tasks, words, objects and code. It takes no memory.
+    pub fn empty(alloc: Global) -> Image {
+        Image::new(ImageParts {
+            tasks: 0,
+            data_words: 0,
+            protected: Vec::new(alloc),
+            objects: Vec::new(alloc),
+            code: Vec::new(alloc),
+            lines: None,
+        })
+    }
+
+    /// What the image is made of. It takes no memory.
+    pub fn into_parts(self) -> ImageParts
+        ensures value { self ≡ image_of result }
+        ensures whole { IsWhole result }
+    {
+        let Image { parts } = self;
+        parts
     }
 
     /// Each image is within the limits.
@@ -89,6 +110,16 @@ impl Image {
         self.parts.code.as_slice()
     }
 
+    /// From which places on the code is of which lines, in the order of the places; none in an image of version 1.
+    pub fn lines(&self) -> Option<&[LineEntry]>
+        ensures { option_map (λ x. x.now) result ≡ self.now.lines }
+    {
+        match &self.parts.lines {
+            None => None,
+            Some(lines) => Some(lines.as_slice()),
+        }
+    }
+
     /// The code's instructions.
     pub fn instructions(&self, alloc: Global) -> Result<Vec<Instr>, NoMemory>
         ensures { IfOk result (λ instructions. instructions.items ≡ self.now.code) }
@@ -97,19 +128,23 @@ impl Image {
     }
 
     /// The image's bytes, in all numbers the highest byte first.
-    #[tactic(auto, unfolding(crate::specs::Images::image_bytes))]
     pub fn bytes(&self, alloc: Global) -> Result<Vec<u8>, NoMemory>
         ensures { IfOk result (λ bytes. bytes.items ≡ image_bytes self.now) }
     {
-        let parts = &self.parts;
         let mut out = Vec::new(alloc);
-        push_mark(&mut out)?;
-        push_word(&mut out, parts.tasks)?;
-        push_word(&mut out, parts.data_words)?;
-        push_regions(&mut out, &parts.protected)?;
-        push_objects(&mut out, &parts.objects)?;
-        push_word(&mut out, parts.code.len() as u32)?;
-        push_bytes(&mut out, &parts.code)?;
+        self.bytes_into(&mut out)?;
         Ok(out)
+    }
+
+    /// The image's bytes in the place of others. It takes no memory where there is room for them.
+    #[tactic(auto, unfolding(crate::specs::Images::image_bytes))]
+    pub fn bytes_into(&self, out: &mut Vec<u8>) -> Result<(), NoMemory>
+        ensures value { OnOk result (out.new.items ≡ image_bytes self.now) }
+        ensures capacity { vec_capacity out.old ≤ vec_capacity out.new }
+        ensures succeeds { length (image_bytes self.now) ≤ vec_capacity out.old → IsOk result }
+    {
+        out.clear();
+        push_front(out, &self.parts)?;
+        push_tail(out, &self.parts)
     }
 }

@@ -7,6 +7,7 @@ mod fault;
 mod image;
 mod laws;
 mod limits;
+mod lines;
 mod parts;
 mod reading;
 mod regions;

@@ -1,5 +1,8 @@
 // What an image is made of.
+ghost use Rattle.std.specs.Prelude.{◌≡◌};
+
 use al_base::{Name, UnitKind};
+use al_instr::LineEntry;
 
 /// The words of a protected object among the data words, and its ceiling.
 #[derive(Clone, Copy)]
@@ -33,6 +36,8 @@ pub struct ImageParts {
     pub protected: Vec<Region>,
     pub objects: Vec<ImageObject>,
     pub code: Vec<u8>,
+    /// From which places on the code is of which lines; none in an image of version 1.
+    pub lines: Option<Vec<LineEntry>>,
 }
 
 impl Drop for ImageParts {
@@ -43,6 +48,24 @@ impl Drop for ImageParts {
             protected: _,
             objects: _,
             code: _,
+            lines: _,
         } = self;
+    }
+}
+
+impl ImageParts {
+    /// The bytes of the code. It takes no memory.
+    pub fn into_code(self) -> Vec<u8>
+        ensures { result ≡ self.code }
+    {
+        let ImageParts {
+            tasks: _,
+            data_words: _,
+            protected: _,
+            objects: _,
+            code,
+            lines: _,
+        } = self;
+        code
     }
 }

@@ -54,7 +54,7 @@ pub(crate) fn regions_at(
     count: u32,
     bytes: &[u8],
 ) -> Result<(Vec<Region>, &[u8]), LinkFault>
-    ensures { Finds (λ x. (x.0.items, x.1.now)) result (counted_at (region_at count) bytes.now) }
+    ensures { Finds (λ x. (x.0.items, x.1.now)) result (counted_at 65535 (region_at count) bytes.now) }
 {
     let (number, rest) = limited_at(MAX_PROTECTED, bytes)?;
     many_regions(alloc, count, number, rest)

@@ -103,7 +103,7 @@ pub(crate) fn objects_at(
     alloc: Global,
     bytes: &[u8],
 ) -> Result<(Vec<ImageObject>, &[u8]), LinkFault>
-    ensures { Finds (λ x. (x.0.items, x.1.now)) result (counted_at object_at bytes.now) }
+    ensures { Finds (λ x. (x.0.items, x.1.now)) result (counted_at 65535 object_at bytes.now) }
 {
     let (number, rest) = limited_at(MAX_OBJECTS, bytes)?;
     many_objects(alloc, number, rest)

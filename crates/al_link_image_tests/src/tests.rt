@@ -107,3 +107,57 @@ fn each_byte_is_changed(rt: HostRuntime) -> Result<(), Fail> {
     assert_eq!(rt; places.as_slice(), PLACES.as_slice());
     Ok(())
 }
+
+// The same image with its lines: two routines, both of line 1.
+const WITH_LINES: [u8; 95] = [
+    65, 68, 76, 73, 0, 2, 0, 0, 0, 0, 0, 0, 0, 0, 0, 0, 0, 0, 0, 0, 0, 1, 1, 1, 110, 0, 0, 0, 22,
+    0, 0, 0, 42, 49, 50, 0, 0, 0, 22, 0, 0, 0, 0, 81, 49, 50, 0, 0, 0, 32, 0, 0, 0, 0, 83, 51, 0,
+    0, 0, 0, 52, 0, 0, 0, 0, 51, 0, 0, 0, 0, 52, 0, 0, 0, 0, 0, 0, 0, 2, 0, 0, 0, 22, 0, 0, 0, 1,
+    0, 0, 0, 32, 0, 0, 0, 1,
+];
+
+/// The places and lines of an image's entries.
+fn entries_of(alloc: Global, bytes: &[u8]) -> Result<Vec<(u32, u32)>, LinkFault> {
+    let image = Image::read(alloc, bytes)?;
+    let mut entries = Vec::new(alloc);
+    for entry in image.lines().unwrap_or(&[]) {
+        entries.push((entry.place, entry.line))?;
+    }
+    Ok(entries)
+}
+
+/// How many shorter or longer fronts of some bytes are images, and how many images they make with one byte one more.
+fn images_of_damage(alloc: Global, bytes: &[u8]) -> Result<(usize, usize), LinkFault> {
+    let mut longer = Vec::from_slice(alloc, bytes)?;
+    longer.push(0)?;
+    let mut fronts: usize = if is_image(alloc, &longer)? { 1 } else { 0 };
+    for len in 0..bytes.len() {
+        if is_image(alloc, &bytes[..len])? {
+            fronts = fronts.wrapping_add(1);
+        }
+    }
+    let mut changed: usize = 0;
+    for place in 0..bytes.len() {
+        let mut other = Vec::from_slice(alloc, bytes)?;
+        if place < other.len() && other[place] < 255 {
+            other[place] += 1;
+        }
+        if is_image(alloc, &other)? {
+            changed = changed.wrapping_add(1);
+        }
+    }
+    Ok((fronts, changed))
+}
+
+#[test]
+fn lines(rt: HostRuntime) -> Result<(), Fail> {
+    let alloc = rt.alloc();
+    assert!(rt; is_image(alloc, &WITH_LINES)?);
+    assert_eq!(rt;
+        entries_of(alloc, &WITH_LINES)?.as_slice(),
+        [(22, 1), (32, 1)].as_slice()
+    );
+    assert_eq!(rt; entries_of(alloc, &NOTHING)?.len(), 0);
+    assert_eq!(rt; images_of_damage(alloc, &WITH_LINES)?, (0, 59));
+    Ok(())
+}

@@ -12,11 +12,12 @@ use al_view::{LinkKind, LinkSymbol, Symbol};
 use std::alloc::Global;
 use std::test::Fail;
 
-// The image of a procedure that does nothing, by hand.
-const NOTHING: [u8; 75] = [
-    0x41, 0x44, 0x4c, 0x49, 0, 1, 0, 0, 0, 0, 0, 0, 0, 0, 0, 0, 0, 0, 0, 0, 0, 1, 1, 1, 0x6e, 0, 0,
+// The image of a procedure that does nothing, by hand: all of its code is of line 1.
+const NOTHING: [u8; 87] = [
+    0x41, 0x44, 0x4c, 0x49, 0, 2, 0, 0, 0, 0, 0, 0, 0, 0, 0, 0, 0, 0, 0, 0, 0, 1, 1, 1, 0x6e, 0, 0,
     0, 22, 0, 0, 0, 42, 0x31, 0x32, 0, 0, 0, 22, 0, 0, 0, 0, 0x51, 0x31, 0x32, 0, 0, 0, 32, 0, 0,
-    0, 0, 0x53, 0x33, 0, 0, 0, 0, 0x34, 0, 0, 0, 0, 0x33, 0, 0, 0, 0, 0x34, 0, 0, 0, 0,
+    0, 0, 0x53, 0x33, 0, 0, 0, 0, 0x34, 0, 0, 0, 0, 0x33, 0, 0, 0, 0, 0x34, 0, 0, 0, 0, 0, 0, 0, 1,
+    0, 0, 0, 22, 0, 0, 0, 1,
 ];
 
 fn is_name_byte(byte: u8) -> bool
@@ -37,7 +38,7 @@ fn is_named(name: &[u8]) -> bool
     !name.is_empty() && name.len() <= 255 && is_of_name_bytes(name)
 }
 
-fn are_named(units: &[CompiledUnit<'_>]) -> bool
+pub(crate) fn are_named(units: &[CompiledUnit<'_>]) -> bool
     ensures { result ≡ true → All (λ u. IsUnitName u.key.now.name) units.now }
 {
     for unit in units {
@@ -49,7 +50,7 @@ fn are_named(units: &[CompiledUnit<'_>]) -> bool
 }
 
 /// The bytes of the image of units, where they are named as units are and no limit is passed.
-fn image_bytes(
+pub(crate) fn image_bytes(
     alloc: Global,
     main: &LinkSymbol,
     units: &[CompiledUnit<'_>],
@@ -67,7 +68,7 @@ fn image_bytes(
     }
 }
 
-fn main_of(alloc: Global, name: &[u8]) -> Result<Symbol, LinkFault> {
+pub(crate) fn main_of(alloc: Global, name: &[u8]) -> Result<Symbol, LinkFault> {
     let main = symbol(alloc, name, UnitKind::Body, name)?;
     Ok(main)
 }
@@ -100,7 +101,7 @@ fn a_procedure_alone(rt: HostRuntime) -> Result<(), Fail> {
     Ok(())
 }
 
-fn code_of(symbol: Symbol) -> LinkSymbol {
+pub(crate) fn code_of(symbol: Symbol) -> LinkSymbol {
     let kind = LinkKind::Code;
     LinkSymbol { symbol, kind }
 }
@@ -141,13 +142,13 @@ fn empty_packages(alloc: Global, second: &[u8], kind: UnitKind) -> Result<usize,
 
 #[test]
 fn packages_without_declarations(rt: HostRuntime) -> Result<(), Fail> {
-    assert_eq!(rt; empty_packages(rt.alloc(), b"a.b", UnitKind::Decl)?, 131);
-    assert_eq!(rt; empty_packages(rt.alloc(), b"a", UnitKind::Body)?, 129);
+    assert_eq!(rt; empty_packages(rt.alloc(), b"a.b", UnitKind::Decl)?, 159);
+    assert_eq!(rt; empty_packages(rt.alloc(), b"a", UnitKind::Body)?, 157);
     Ok(())
 }
 
 /// The object of Q, which may declare an object.
-fn q_of(alloc: Global, has_one: bool) -> Result<Object, LinkFault> {
+pub(crate) fn q_of(alloc: Global, has_one: bool) -> Result<Object, LinkFault> {
     if has_one {
         let data = symbol(alloc, b"q", UnitKind::Decl, b"y")?;
         let object = package_without_value(alloc, data)?;
@@ -159,7 +160,7 @@ fn q_of(alloc: Global, has_one: bool) -> Result<Object, LinkFault> {
 }
 
 /// The object that the client sets, of P or of Q.
-fn set_by(alloc: Global, sets_q: bool) -> Result<Symbol, LinkFault> {
+pub(crate) fn set_by(alloc: Global, sets_q: bool) -> Result<Symbol, LinkFault> {
     let (unit, name) = if sets_q { (b"q", b"y") } else { (b"p", b"x") };
     let data = symbol(alloc, unit, UnitKind::Decl, name)?;
     Ok(data)
@@ -193,16 +194,17 @@ fn client(alloc: Global, q_has_one: bool, sets_q: bool) -> Result<Option<Vec<u8>
     image_bytes(alloc, &main, &units)
 }
 
-/// How long an image is, and the last byte of the operand of the client's assignment, which is in the last 14 bytes.
+/// How long an image is, and the last byte of the operand of the client's assignment, which is in the last 14 bytes of the code:
+/// the lines of three units stand after it.
 fn length_and_operand(bytes: Option<Vec<u8>>) -> (usize, u8) {
     match bytes {
         None => (0, 0),
         Some(bytes) => {
             let len = bytes.len();
-            if len < 11 {
+            if len < 39 {
                 (len, 0)
             } else {
-                (len, bytes[len - 11])
+                (len, bytes[len - 39])
             }
         }
     }
@@ -211,9 +213,9 @@ fn length_and_operand(bytes: Option<Vec<u8>>) -> (usize, u8) {
 #[test]
 fn symbols_are_sums(rt: HostRuntime) -> Result<(), Fail> {
     let alloc = rt.alloc();
-    assert_eq!(rt; length_and_operand(client(alloc, false, false)?), (206, 0));
-    assert_eq!(rt; length_and_operand(client(alloc, true, false)?), (216, 0));
+    assert_eq!(rt; length_and_operand(client(alloc, false, false)?), (234, 0));
+    assert_eq!(rt; length_and_operand(client(alloc, true, false)?), (244, 0));
     // the object of Q stands after that of P
-    assert_eq!(rt; length_and_operand(client(alloc, true, true)?), (216, 1));
+    assert_eq!(rt; length_and_operand(client(alloc, true, true)?), (244, 1));
     Ok(())
 }

@@ -1,8 +1,11 @@
 // Objects by hand.
+ghost use Rattle.std.specs.Prelude.{IfOk};
+ghost use Rattle.al_instr.specs.Lines.{AreLines};
+
 use al_base::{Name, NoMemory, UnitKey, UnitKind};
 use al_code_object::{Address, Compiled, Object, Region};
 use al_code_output::Output;
-use al_instr::{Instr, Sized};
+use al_instr::{Instr, LineEntry, Sized};
 use al_view::{LinkKind, LinkSymbol, Symbol};
 use std::alloc::Global;
 
@@ -28,20 +31,35 @@ pub(crate) fn symbol(
     })
 }
 
-/// The object of code without data words.
-fn object_of(alloc: Global, out: Output) -> Object {
-    let protected: Vec<Region> = Vec::new(alloc);
-    match out.finish() {
-        None => Object::Large,
-        Some(written) => Object::Compiled(Compiled::new(
-            written.code,
-            written.uses,
-            written.defines,
-            0,
-            0,
-            protected,
-        )),
+/// The lines of code that is all of line 1.
+#[tactic(auto, using(crate::proofs::ObjectLemmas::one_line, crate::proofs::ObjectLemmas::no_line))]
+fn one_line(alloc: Global, end: usize) -> Result<Vec<LineEntry>, NoMemory>
+    ensures { IfOk result (λ lines. AreLines end lines.items) }
+{
+    if end == 0 {
+        return Ok(Vec::new(alloc));
     }
+    let mut lines = Vec::new(alloc);
+    lines.push(LineEntry { place: 0, line: 1 })?;
+    Ok(lines)
+}
+
+/// The object of code without data words.
+fn object_of(alloc: Global, out: Output) -> Result<Object, NoMemory> {
+    let Some(written) = out.finish() else {
+        return Ok(Object::Large);
+    };
+    let lines = one_line(alloc, written.code.len())?;
+    let protected: Vec<Region> = Vec::new(alloc);
+    Ok(Object::Compiled(Compiled::new(
+        written.code,
+        written.uses,
+        written.defines,
+        0,
+        0,
+        protected,
+        lines,
+    )))
 }
 
 /// The object of code with one data word, where this symbol stands.
@@ -55,8 +73,9 @@ fn object_with(alloc: Global, out: Output, data: Symbol) -> Result<Object, NoMem
         kind: LinkKind::Data,
     };
     defines.push(Address { symbol, offset: 0 })?;
+    let lines = one_line(alloc, written.code.len())?;
     let protected: Vec<Region> = Vec::new(alloc);
-    Ok(Object::Compiled(Compiled::new(written.code, written.uses, defines, 1, 0, protected)))
+    Ok(Object::Compiled(Compiled::new(written.code, written.uses, defines, 1, 0, protected, lines)))
 }
 
 fn emit_sized(out: &mut Output, sized: Sized, number: u32) -> Result<(), NoMemory> {
@@ -88,7 +107,7 @@ fn emit_assignment(out: &mut Output, word: i64, data: &Symbol) -> Result<(), NoM
 pub(crate) fn package(alloc: Global) -> Result<Object, NoMemory> {
     let mut out = Output::new(alloc);
     emit_nothing(&mut out)?;
-    Ok(object_of(alloc, out))
+    object_of(alloc, out)
 }
 
 /// The object of a package with an object of Integer that has a value.
@@ -117,20 +136,30 @@ pub(crate) fn procedure(alloc: Global, main: &Symbol) -> Result<Object, NoMemory
     emit_nothing(&mut out)?;
     out.begin(LinkKind::Code, main)?;
     emit_nothing(&mut out)?;
-    Ok(object_of(alloc, out))
+    object_of(alloc, out)
 }
 
-/// The object of a library procedure that sets an object.
+/// The object of a library procedure that sets an object to 2.
 pub(crate) fn procedure_that_sets(
     alloc: Global,
     main: &Symbol,
     data: &Symbol,
 ) -> Result<Object, NoMemory> {
+    procedure_that_sets_to(alloc, main, data, 2)
+}
+
+/// The object of a library procedure that sets an object.
+pub(crate) fn procedure_that_sets_to(
+    alloc: Global,
+    main: &Symbol,
+    data: &Symbol,
+    word: i64,
+) -> Result<Object, NoMemory> {
     let mut out = Output::new(alloc);
     emit_nothing(&mut out)?;
     out.begin(LinkKind::Code, main)?;
     emit_sized(&mut out, Sized::Enter, 0)?;
-    emit_assignment(&mut out, 2, data)?;
+    emit_assignment(&mut out, word, data)?;
     emit_sized(&mut out, Sized::Return, 0)?;
-    Ok(object_of(alloc, out))
+    object_of(alloc, out)
 }

@@ -43,7 +43,7 @@ end_of Finished = ended.Finished
 end_of Idle = ended.Idle
 end_of Spent = ended.Spent
 end_of Stuck = ended.Stuck
-end_of (Raised raised unit) = ended.Raised (exception_of raised) unit
+end_of (Raised raised unit line) = ended.Raised (exception_of raised) unit line
 
 -- what a run gives
 abbrev pub run_told : images.Run → adds.Run

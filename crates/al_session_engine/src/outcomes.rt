@@ -54,6 +54,14 @@ pub(crate) fn end_of(ended: ImageEnd) -> RunEnd
         ImageEnd::Idle => RunEnd::Idle,
         ImageEnd::Spent => RunEnd::Spent,
         ImageEnd::Stuck => RunEnd::Stuck,
-        ImageEnd::Raised(exception, unit) => RunEnd::Raised(exception_of(exception), unit),
+        ImageEnd::Raised {
+            exception,
+            unit,
+            line,
+        } => RunEnd::Raised {
+            exception: exception_of(exception),
+            unit,
+            line,
+        },
     }
 }

@@ -72,13 +72,18 @@ exception_word Constraint = codes "constraint_error"
 exception_word Program = codes "program_error"
 exception_word Storage = codes "storage_error"
 
--- how a run ended; where by an exception, in the code of which unit
+-- the line of a text, where it is known
+abbrev pub line_words : Option ℕ → List ℕ
+line_words None = []
+line_words (Some line) = codes " " ++ decimal line
+
+-- how a run ended; where by an exception, in the code of which unit, and on which line of its text
 abbrev pub end_words : RunEnd → List ℕ
 end_words Finished = codes "finished"
 end_words Idle = codes "idle"
 end_words Spent = codes "spent"
 end_words Stuck = codes "stuck"
-end_words (Raised exception unit) = codes "raised " ++ exception_word exception ++ codes " " ++ key_words (key_of unit)
+end_words (Raised exception unit line) = codes "raised " ++ exception_word exception ++ codes " " ++ key_words (key_of unit) ++ line_words line
 
 -- a word, a number, and a line for each member
 abbrev pub listing : {A : Type 0} → List ℕ → (A → List ℕ) → List A → List ℕ

@@ -7,7 +7,7 @@ ghost use Rattle.al_session_stream.specs.Output.{Adds};
 ghost use Rattle.al_session_served.specs.Builds.{run_model};
 ghost use Rattle.al_session_served.specs.Library.{file_unit_of};
 ghost use Rattle.al_session_served.specs.declared.run.RunEnd.TheVariants.{Raised};
-ghost use Rattle.al_session_served.specs.Replies.{refused, message_of, finding_line, kind_word, key_words, key_line, reason_word, cycle_line, file_line, exception_word, end_words, run_reply};
+ghost use Rattle.al_session_served.specs.Replies.{refused, message_of, finding_line, kind_word, key_words, key_line, reason_word, cycle_line, file_line, exception_word, line_words, end_words, run_reply};
 
 use crate::run::{Exception, RunEnd, RunReport};
 use al_base::{Diagnostic, Name, Refusal, Rule, UnitKey, UnitKind};
@@ -224,21 +224,40 @@ fn exception_word(exception: Exception) -> &'static [u8]
     }
 }
 
-// Writes that an exception ended a run, and in the code of which unit.
+// Writes the line of a text, where it is known.
+fn emit_line<K: Sink>(
+    so_far: Result<(), Device>,
+    writer: &mut K,
+    line: Option<u32>,
+) -> Result<(), Device>
+    requires { IsOk so_far → K.faults writer.old < 2 ^ 64 - 1 }
+    ensures faults { IsOk result → IsOk so_far × (K.faults writer.new ≡ K.faults writer.old) }
+    ensures adds { Adds K.written K.faults K.waits writer.old writer.new so_far result (line_words line) }
+{
+    let Some(line) = line else {
+        return emit(so_far, writer, b"");
+    };
+    let so_far = emit(so_far, writer, b" ");
+    emit_number(so_far, writer, line as usize)
+}
+
+// Writes that an exception ended a run, in the code of which unit, and on which line of its text.
 fn emit_raised<K: Sink>(
     so_far: Result<(), Device>,
     writer: &mut K,
     exception: Exception,
     unit: &UnitKey,
+    line: Option<u32>,
 ) -> Result<(), Device>
     requires { IsOk so_far → K.faults writer.old < 2 ^ 64 - 1 }
     ensures faults { IsOk result → IsOk so_far × (K.faults writer.new ≡ K.faults writer.old) }
-    ensures adds { Adds K.written K.faults K.waits writer.old writer.new so_far result (end_words (Raised exception unit.now)) }
+    ensures adds { Adds K.written K.faults K.waits writer.old writer.new so_far result (end_words (Raised exception unit.now line)) }
 {
     let so_far = emit(so_far, writer, b"raised ");
     let so_far = emit(so_far, writer, exception_word(exception));
     let so_far = emit(so_far, writer, b" ");
-    emit_key(so_far, writer, unit)
+    let so_far = emit_key(so_far, writer, unit);
+    emit_line(so_far, writer, line)
 }
 
 // Writes how a run ended.
@@ -252,7 +271,11 @@ fn emit_end<K: Sink>(so_far: Result<(), Device>, writer: &mut K, end: &RunEnd) -
         RunEnd::Idle => emit(so_far, writer, b"idle"),
         RunEnd::Spent => emit(so_far, writer, b"spent"),
         RunEnd::Stuck => emit(so_far, writer, b"stuck"),
-        RunEnd::Raised(exception, unit) => emit_raised(so_far, writer, *exception, unit),
+        RunEnd::Raised {
+            exception,
+            unit,
+            line,
+        } => emit_raised(so_far, writer, *exception, unit, *line),
     }
 }
 

@@ -20,8 +20,12 @@ pub enum RunEnd {
     Spent,
     /// The machine has no meaning for the next step.
     Stuck,
-    /// An exception was raised in the code of this unit, and ended the run.
-    Raised(Exception, UnitKey),
+    /// An exception was raised in the code of this unit, on this line of its text where that is known, and ended the run.
+    Raised {
+        exception: Exception,
+        unit: UnitKey,
+        line: Option<u32>,
+    },
 }
 
 /// What a run put out, and how it ended.

@@ -27,7 +27,7 @@ pub(crate) fn status_of(state: &State) -> Status
             }
         }
         Some(Ending::Finished) => Status::Finished,
-        Some(Ending::Raised { kind, unit }) => Status::Raised { kind, unit },
+        Some(Ending::Raised { kind, unit, line }) => Status::Raised { kind, unit, line },
         Some(Ending::Stuck) => Status::Stuck,
     }
 }

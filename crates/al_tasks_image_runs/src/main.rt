@@ -55,16 +55,17 @@ fn ending_of(alloc: Global, image: &Image, status: Status) -> Result<String, All
         Status::Finished => String::from_str(alloc, "finished"),
         Status::Idle => String::from_str(alloc, "idle"),
         Status::Stuck => String::from_str(alloc, "stuck"),
-        Status::Raised { kind, unit } => raised_of(alloc, image, kind, unit),
+        Status::Raised { kind, unit, line } => raised_of(alloc, image, kind, unit, line),
     }
 }
 
-// An exception with the unit in whose code it was raised.
+// An exception with the unit in whose code it was raised, and the line of its text.
 fn raised_of(
     alloc: Global,
     image: &Image,
     kind: Exception,
     unit: usize,
+    line: Option<u32>,
 ) -> Result<String, AllocError> {
     let exception = match kind {
         Exception::Constraint => "constraint_error",
@@ -80,7 +81,10 @@ fn raised_of(
         UnitKind::Sub => "sub",
     };
     let name = String::from_utf8_lossy(alloc, object.name.as_slice())?;
-    format!(in alloc; "raised {exception} {name} {part}")
+    match line {
+        None => format!(in alloc; "raised {exception} {name} {part}"),
+        Some(line) => format!(in alloc; "raised {exception} {name} {part} {line}"),
+    }
 }
 
 // The bytes of hexadecimal digits, two each.

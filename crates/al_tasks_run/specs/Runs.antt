@@ -11,17 +11,17 @@ use Rattle.al_tasks_run.specs.declared.running.RunEnd.{RunEnd}
 use Rattle.al_tasks_run.specs.declared.running.RunEnd.TheVariants.{Finished, Idle, Raised, Spent, Stuck}
 use Rattle.al_tasks_run.specs.declared.running.RunReport.{RunReport}
 
--- an exception was raised in the code of this unit; an image without the unit is damaged
-abbrev pub raised_in : Exception → Option ImageObject → RunEnd
-raised_in exception None = Stuck
-raised_in exception (Some object) = Raised exception (record { name = object.name; kind = object.kind })
+-- an exception was raised in the code of this unit, on this line of its text; an image without the unit is damaged
+abbrev pub raised_in : Exception → Option ImageObject → Option ℕ → RunEnd
+raised_in exception None line = Stuck
+raised_in exception (Some object) line = Raised exception (record { name = object.name; kind = object.kind }) line
 
 -- how a run ended whose image has these units: where the program is still going, its events are spent
 abbrev pub end_of : List ImageObject → Status → RunEnd
 end_of objects status.Going = Spent
 end_of objects status.Finished = Finished
 end_of objects status.Idle = Idle
-end_of objects (status.Raised exception unit) = raised_in exception (slice_get objects unit)
+end_of objects (status.Raised exception unit line) = raised_in exception (slice_get objects unit) line
 end_of objects status.Stuck = Stuck
 
 -- what a run put out, and how it ended

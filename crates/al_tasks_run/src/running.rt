@@ -21,8 +21,12 @@ pub enum RunEnd {
     Spent,
     /// The image is damaged.
     Stuck,
-    /// An exception was raised in the code of this unit.
-    Raised(Exception, UnitKey),
+    /// An exception was raised in the code of this unit, on this line of its text where the image tells that.
+    Raised {
+        exception: Exception,
+        unit: UnitKey,
+        line: Option<u32>,
+    },
 }
 
 /// What a run put out, and how it ended.
@@ -37,15 +41,21 @@ fn raised_in(
     alloc: Global,
     exception: Exception,
     object: Option<&ImageObject>,
+    line: Option<u32>,
 ) -> Result<RunEnd, NoMemory>
-    ensures { IfOk result (λ ended. ended ≡ raised_in exception (option_copied object.entry)) }
+    ensures { IfOk result (λ ended. ended ≡ raised_in exception (option_copied object.entry) line) }
 {
     match object {
         None => Ok(RunEnd::Stuck),
         Some(object) => {
             let name = Name::from_slice(alloc, object.name.as_slice())?;
             let kind = object.kind;
-            Ok(RunEnd::Raised(exception, UnitKey { name, kind }))
+            let unit = UnitKey { name, kind };
+            Ok(RunEnd::Raised {
+                exception,
+                unit,
+                line,
+            })
         }
     }
 }
@@ -58,7 +68,7 @@ fn end_of(alloc: Global, objects: &[ImageObject], status: Status) -> Result<RunE
         Status::Going => Ok(RunEnd::Spent),
         Status::Finished => Ok(RunEnd::Finished),
         Status::Idle => Ok(RunEnd::Idle),
-        Status::Raised { kind, unit } => raised_in(alloc, kind, objects.get(unit)),
+        Status::Raised { kind, unit, line } => raised_in(alloc, kind, objects.get(unit), line),
         Status::Stuck => Ok(RunEnd::Stuck),
     }
 }

@@ -28,7 +28,7 @@ use Rattle.al_tasks_world.specs.declared.event.Pause.TheVariants.{Activating, De
 use Rattle.al_tasks_world.specs.declared.event.Ending.{Ending}
 use Rattle.al_tasks_world.specs.declared.event.Ending.TheVariants.{Finished, Stuck}
 use Rattle.al_tasks_world.specs.Task.{Task, Program, World, is_created, is_activating, is_waiting, is_ended}
-use Rattle.al_tasks_world.specs.World.{stuck, at_head, at_tail, is_inside_nothing, raises, released, pauses, goes_on, machine_of, unit_at, raised_in, puts, jumps, flows, turns, inside, outside, enters, enters_entry, leaves, blocks, sleeps, wakes, creates, goes, begins, ends, seeds, pushes_waiting, handled, printed, performed, runs, ticks, step_by, step, after, load}
+use Rattle.al_tasks_world.specs.World.{stuck, at_head, at_tail, is_inside_nothing, raises, released, pauses, goes_on, machine_of, raised_at, puts, jumps, flows, turns, inside, outside, enters, enters_entry, leaves, blocks, sleeps, wakes, creates, goes, begins, ends, seeds, pushes_waiting, handled, printed, performed, runs, ticks, step_by, step, after, load}
 use Rattle.al_tasks_world.specs.Exclusion.{IsAlikeBut as Alike, AreAlikeBut, WordsAreUnread, Each, IsLaidOut}
 use Rattle.al_machine.proofs.MoveLemmas.{IsSafe}
 use Rattle.al_tasks_world.proofs.TwinLemmas.{TwinMachine, Twin, TwinFlow, own, twin-exec, twin-pushed, alike-copied, alike-zeroed}
@@ -87,7 +87,7 @@ module _ (p : Program) (image : IsLaidOut p) (q : ℕ) (low : q < p.words) (w : 
       where
         at : (x : Trap) → AreAlikeBut q (turns p next t ts w (Err x)) (turns p next t ts v (Err x))
         at trap.Stuck = with_end Stuck
-        at (trap.Raised e) = with_end (raised_in e (unit_at 0 p.units t.place))
+        at (trap.Raised e) = with_end (raised_at p e t.place)
 
     twin-turns : (next : ℕ) (r s : Result Machine Trap) → Twin q r s → AreAlikeBut q (turns p next t ts w r) (turns p next t ts v s)
     twin-turns next (Ok a) (Ok b) g = twin-goes_on next a b g
@@ -100,7 +100,7 @@ module _ (p : Program) (image : IsLaidOut p) (q : ℕ) (low : q < p.words) (w : 
       where
         at : (x : Trap) → AreAlikeBut q (flows p next t ts w (Err x)) (flows p next t ts v (Err x))
         at trap.Stuck = with_end Stuck
-        at (trap.Raised e) = with_end (raised_in e (unit_at 0 p.units t.place))
+        at (trap.Raised e) = with_end (raised_at p e t.place)
 
     flow_same : (next : ℕ) (g h : Flow) (a b : Machine) → h ≡ g → TwinMachine q a b → AreAlikeBut q (flows p next t ts w (Ok (g, a))) (flows p next t ts v (Ok (h, b)))
     flow_same next g h a b e k = subst (λ (z : Flow). AreAlikeBut q (flows p next t ts w (Ok (g, a))) (flows p next t ts v (Ok (z, b)))) (sym e) (at g)
@@ -116,7 +116,7 @@ module _ (p : Program) (image : IsLaidOut p) (q : ℕ) (low : q < p.words) (w : 
     twin-flows next (Err x) (Err y) k = flow_raised next x y k
 
     raised : AreAlikeBut q (raises p ProgramError t w) (raises p ProgramError t v)
-    raised = with_end (raised_in ProgramError (unit_at 0 p.units t.place))
+    raised = with_end (raised_at p ProgramError t.place)
 
     twin-enters : (t' : Task) (o : ℕ) (r : Option Region) → AreAlikeBut q (enters p o r t t' ts w) (enters p o r t t' ts v)
     twin-enters t' o None = with_end Stuck
@@ -218,7 +218,7 @@ module _ (p : Program) (image : IsLaidOut p) (q : ℕ) (low : q < p.words) (w : 
     twin-puts : (next : ℕ) (r : Result (List ℕ) Trap) → AreAlikeBut q (puts p r t (record t { place = next }) ts w) (puts p r t (record t { place = next }) ts v)
     twin-puts next (Ok text) = plain q (record w { output = w.output ++ text; ready = record t { place = next } ∷ ts }) ys alike
     twin-puts next (Err trap.Stuck) = with_end Stuck
-    twin-puts next (Err (trap.Raised e)) = with_end (raised_in e (unit_at 0 p.units t.place))
+    twin-puts next (Err (trap.Raised e)) = with_end (raised_at p e t.place)
 
     twin-printed : (i : OutputInstruction) (next : ℕ) → AreAlikeBut q (printed p i t (record t { place = next }) ts w) (printed p i t (record t { place = next }) ts v)
     unfolding printed

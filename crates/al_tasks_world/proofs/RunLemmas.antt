@@ -1,10 +1,16 @@
 -- A run is one of the lists of events, and images are laid out.
-use Rattle.std.proofs.Common.{◌≡◌, ℕ, zero, suc, ◌+◌, ◌≤◌, List, [], ◌∷◌, Bool, true, false, cond, Some, slice_get, get_or, refl, arith, subst}
+use Rattle.std.proofs.Common.{◌≡◌, ℕ, zero, suc, ◌+◌, ◌≤◌, List, [], ◌∷◌, length, Bool, true, false, cond, Option, Some, None, slice_get, get_or, refl, arith, subst}
 use Rattle.std.specs.List.{All}
+use Rattle.std.specs.Prelude.{unwrap_or}
 use Rattle.std.proofs.lemmas.Option.{slice_get_within, get_or_from_slice_get}
 use Rattle.std.proofs.lemmas.List.Elements.{All-get_or}
+use Rattle.al_instr.specs.declared.lines.LineEntry.{LineEntry}
+use Rattle.al_instr.specs.Codes.{code_bytes}
+use Rattle.al_instr.specs.Lines.{rise}
+use Rattle.al_instr.proofs.LineLemmas.{rise_within}
 use Rattle.al_link_image.specs.declared.parts.Region.{Region}
 use Rattle.al_link_image.specs.Images as images
+use Rattle.al_link_image.specs.Lines.{LinesFit}
 use Rattle.al_tasks_world.specs.declared.event.Event.{Event}
 use Rattle.al_tasks_world.specs.Task.{Program, World}
 use Rattle.al_tasks_world.specs.World.{step, after}
@@ -27,6 +33,14 @@ regions_within words rs all number o is =
     let here = All-get_or (images.IsRegion words) rs number o (slice_get_within rs number o is) all in
     let same : get_or rs number o ≡ o = get_or_from_slice_get rs number o o is in
     subst (λ (x : Region). x.address + x.words ≤ words) same here.0
+
+-- an image's lines rise
+lines_fit : (end : ℕ) (lines : Option (List LineEntry)) → end ≤ 16777216 → LinesFit end lines → rise 0 0x1_0000_0000 (unwrap_or lines []) ≡ true
+lines_fit end None le h = refl
+lines_fit end (Some es) le h = rise_within es 0 end 0x1_0000_0000 (omega arith) h.rise_in
+
+pub lines_rise : (image : images.Image) → images.IsImage image → rise 0 0x1_0000_0000 (unwrap_or image.lines []) ≡ true
+lines_rise image h = lines_fit (length (code_bytes image.code)) image.lines h.code_size h.lines
 
 -- an image's program is laid out
 pub laid_out : (image : images.Image) → images.IsImage image → IsLaidOut (program_of image)

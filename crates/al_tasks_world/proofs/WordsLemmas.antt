@@ -30,7 +30,7 @@ use Rattle.al_tasks_world.specs.declared.event.Pause.TheVariants.{Activating, De
 use Rattle.al_tasks_world.specs.declared.event.Ending.{Ending}
 use Rattle.al_tasks_world.specs.declared.event.Ending.TheVariants.{Finished, Stuck}
 use Rattle.al_tasks_world.specs.Task.{Task, Program, World, is_created, is_activating, is_waiting, is_ended}
-use Rattle.al_tasks_world.specs.World.{at_head, at_tail, is_inside_nothing, stuck, raises, passing, released, pauses, goes_on, machine_of, unit_at, raised_in, puts, jumps, flows, turns, inside, outside, enters, enters_entry, leaves, blocks, sleeps, wakes, creates, goes, begins, ends, seeds, pushes_waiting, handled, printed, performed, runs, ticks, step_by, step, after, load}
+use Rattle.al_tasks_world.specs.World.{at_head, at_tail, is_inside_nothing, stuck, raises, passing, released, pauses, goes_on, machine_of, raised_at, puts, jumps, flows, turns, inside, outside, enters, enters_entry, leaves, blocks, sleeps, wakes, creates, goes, begins, ends, seeds, pushes_waiting, handled, printed, performed, runs, ticks, step_by, step, after, load}
 use Rattle.al_tasks_world.specs.Exclusion.{Each, IsWordOf, IsLaidOut, size, runs_inside, is_seed, runs_seed, seeds_now, WordsAreKept}
 use Rattle.al_tasks_world.specs.Fits.{InPlace, Stands, Fits}
 use Rattle.al_machine.proofs.MemoryLemmas.{length-copied, length-zeroed, zeroed_apart}
@@ -150,15 +150,15 @@ module _ (S : Type 0) (p : Program) (image : IsLaidOut p) (k : ℕ) (low : S →
     kept-flows next (Ok (On, m)) g = kept-goes_on next m g
     kept-flows next (Ok (To place, m)) g = kept-jumps (fetch p.code place) place m g
     kept-flows next (Err trap.Stuck) g = with_end Stuck
-    kept-flows next (Err (trap.Raised e)) g = with_end (raised_in e (unit_at 0 p.units t.place))
+    kept-flows next (Err (trap.Raised e)) g = with_end (raised_at p e t.place)
 
     kept-turns : (next : ℕ) (r : Result Machine Trap) → Good S k (machine_of w t) r → Kept S p k w (turns p next t ts w r)
     kept-turns next (Ok m) g = kept-goes_on next m g
     kept-turns next (Err trap.Stuck) g = with_end Stuck
-    kept-turns next (Err (trap.Raised e)) g = with_end (raised_in e (unit_at 0 p.units t.place))
+    kept-turns next (Err (trap.Raised e)) g = with_end (raised_at p e t.place)
 
     raised : Kept S p k w (raises p ProgramError t w)
-    raised = with_end (raised_in ProgramError (unit_at 0 p.units t.place))
+    raised = with_end (raised_at p ProgramError t.place)
 
     kept-enters : (t' : Task) (o : ℕ) (r : Option Region) → Stands p t' → Kept S p k w (enters p o r t t' ts w)
     kept-enters t' o None s = with_end Stuck
@@ -297,7 +297,7 @@ module _ (S : Type 0) (p : Program) (image : IsLaidOut p) (k : ℕ) (low : S →
     kept-puts : (next : ℕ) (r : Result (List ℕ) Trap) → Kept S p k w (puts p r t (record t { place = next }) ts w)
     kept-puts next (Ok text) = kept-moved (record w { output = w.output ++ text; ready = record t { place = next } ∷ ts }) (record t { place = next }) both.0 refl refl refl refl
     kept-puts next (Err trap.Stuck) = with_end Stuck
-    kept-puts next (Err (trap.Raised e)) = with_end (raised_in e (unit_at 0 p.units t.place))
+    kept-puts next (Err (trap.Raised e)) = with_end (raised_at p e t.place)
 
     kept-printed : (i : OutputInstruction) (next : ℕ) → Kept S p k w (printed p i t (record t { place = next }) ts w)
     unfolding printed

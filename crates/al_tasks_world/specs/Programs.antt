@@ -1,5 +1,5 @@
 -- The program of an image.
-use Rattle.std.specs.Prelude.{ℕ, List, map}
+use Rattle.std.specs.Prelude.{ℕ, List, [], map, unwrap_or}
 use Rattle.al_machine.specs.Code.{steps_from}
 use Rattle.al_link_image.specs.declared.parts.ImageObject.{ImageObject}
 use Rattle.al_link_image.specs.Images.{Image}
@@ -16,4 +16,5 @@ program_of image = record {
   units = beginnings image.objects;
   words = image.data_words;
   tasks = image.tasks;
+  lines = unwrap_or image.lines [];
 }

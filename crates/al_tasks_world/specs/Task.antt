@@ -1,5 +1,6 @@
 -- Tasks, and a running program.
 use Rattle.std.specs.Prelude.{ℕ, ℤ, int_le, Bool, true, false, ◌==◌, List, Option}
+use Rattle.al_instr.specs.declared.lines.LineEntry.{LineEntry}
 use Rattle.al_machine.specs.declared.code.Step.{Step}
 use Rattle.al_machine.specs.declared.regions.Entered.{Entered}
 use Rattle.al_machine.specs.declared.stack.Registers.{Registers}
@@ -21,13 +22,14 @@ pub record Task : Type 0 where
   pub pause : Pause
 
 -- a program: its instructions with their places; its protected objects; where the code of each unit begins; its data words,
--- and how many tasks it may create
+-- and how many tasks it may create; and where which lines of the units' texts begin in the code
 pub record Program : Type 0 where
   pub code : List Step
   pub objects : List Region
   pub units : List ℕ
   pub words : ℕ
   pub tasks : ℕ
+  pub lines : List LineEntry
 
 -- a running program: memory; the ready tasks in the order of their dispatch, and the others by number; how many tasks are
 -- created, whether they are made ready, and how many activations go on; the clock, in milliseconds; what was put out; and how

@@ -27,8 +27,13 @@ pub enum Pause {
 pub enum Ending {
     /// All tasks have ended.
     Finished,
-    /// An exception was raised in the code of a unit, which goes by its number among the image's objects.
-    Raised { kind: Exception, unit: usize },
+    /// An exception was raised in the code of a unit, which goes by its number among the image's objects, on a line of its
+    /// text where the image tells that.
+    Raised {
+        kind: Exception,
+        unit: usize,
+        line: Option<u32>,
+    },
     /// The program is damaged.
     Stuck,
 }
@@ -41,8 +46,13 @@ pub enum Status {
     Finished,
     /// No task is ready or delayed.
     Idle,
-    /// An exception was raised in the code of a unit, which goes by its number among the image's objects.
-    Raised { kind: Exception, unit: usize },
+    /// An exception was raised in the code of a unit, which goes by its number among the image's objects, on a line of its
+    /// text where the image tells that.
+    Raised {
+        kind: Exception,
+        unit: usize,
+        line: Option<u32>,
+    },
     /// The program is damaged.
     Stuck,
 }

@@ -57,7 +57,7 @@ pub emit_branch-returns : goal.emit_branch-returns
 emit_branch-returns t c =
     let inner = rw c.deref.ensures.value at c.in_ok-emit_statements.ensures in
     rw (branch_layers c.args.branch.now)
-    (then_steps c.args.out.now c.emit_value.new.out c.close.new.self _ _ c.in_ok-emit_value.ensures
+    (then_steps c.args.out.now c.emit_value.new.out c.close.new.self _ _ (then_steps c.args.out.now c.emit_mark.new.out c.emit_value.new.out _ _ c.in_ok-emit_mark.ensures c.in_ok-emit_value.ensures)
     (guarded_steps c.emit_value.new.out c.emit_unless_zero.new.out c.emit_join.new.out c.close.new.self c.leaving-first.result _ c.leaving-first.ensures c.in_ok-emit_unless_zero.ensures
     (then_steps c.emit_unless_zero.new.out c.emit_statements.new.out c.emit_join.new.out _ join inner c.in_ok-emit_join.ensures) c.in_ok-close.ensures))
 
@@ -124,5 +124,6 @@ emit_statement_form-returns-in_ok-close-in-Case t c =
     rw c.in-Case.is (rw (case_made c.in-Case.selector c.in-Case.slot c.in-Case.alternatives c.in-Case.otherwise)
     (then_steps c.args.out.now c.emit_selector.new.out c.close-in-Case.new.self _ _ c.in_ok-emit_selector-in-Case.ensures
     (closed_steps c.emit_selector.new.out c.emit_sized.new.out c.close-in-Case.new.self c.leaving-first-in-Case.result construct.Choice _ c.leaving-first-in-Case.ensures
-    (then_steps c.emit_selector.new.out c.emit_others.new.out c.emit_sized.new.out _ _
-    (then_steps c.emit_selector.new.out c.emit_alternatives.new.out c.emit_others.new.out _ _ alternatives others) c.in_ok-emit_sized-in-Case.ensures) c.in_ok-close-in-Case.ensures)))
+    (then_steps c.emit_selector.new.out c.emit_mark.new.out c.emit_sized.new.out _ _
+    (then_steps c.emit_selector.new.out c.emit_others.new.out c.emit_mark.new.out _ _
+    (then_steps c.emit_selector.new.out c.emit_alternatives.new.out c.emit_others.new.out _ _ alternatives others) c.in_ok-emit_mark-in-Case.ensures) c.in_ok-emit_sized-in-Case.ensures) c.in_ok-close-in-Case.ensures)))

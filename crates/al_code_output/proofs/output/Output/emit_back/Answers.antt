@@ -26,7 +26,7 @@ negated d less = grind (arith, ints, to_z-of_z)
 
 pub returns : goal.returns
 returns c = λ n at.
-    let b : Buffer = record { code = c.self.inside.code.items; uses = c.self.inside.uses.items; defines = c.self.inside.defines.items; leaving = c.self.inside.leaving.items } in
+    let b : Buffer = record { code = c.self.inside.code.items; uses = c.self.inside.uses.items; defines = c.self.inside.defines.items; leaving = c.self.inside.leaving.items; lines = c.self.inside.lines.items } in
     let d : ℕ = c.saturating_sub-distance.result + 5 in
     let far : d ≡ (length c.self.inside.code.items - c.args.start) + 5 = omega (arith, c.saturating_sub-distance.ensures, c.len.ensures, c.self.inside.code.ok.0) in
     let same = same_jump c.self.inside.is_large b c.args.self.now c.args.start n d c.self.view_is far at in
