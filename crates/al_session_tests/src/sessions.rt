@@ -9,7 +9,7 @@ use std::test::Fail;
 static HELLO: &[u8] =
     b"put hello.adb 82\nwith Ada.Text_IO; procedure Hello is begin Ada.Text_IO.Put_Line (\"hi\"); end Hello;\nbuild hello\nrun 1000\n";
 
-static HELLO_REPLIES: &[u8] = b"ok\nbuilt 1 87\noutput 3\nhi\n\nend finished\n";
+static HELLO_REPLIES: &[u8] = b"ok\nbuilt 1 115\noutput 3\nhi\n\nend finished\n";
 
 /// A library of Ada units with no file.
 fn new_library(alloc: Global) -> Result<Engine<AdaCheck>, NoMemory> {
@@ -59,7 +59,7 @@ fn at_most_so_many_commands(rt: HostRuntime) -> Result<(), Fail> {
     let (ended, replies) = hello_within(rt.alloc(), 2, 9999)?;
     assert_eq!(rt;
         (ended, replies.as_slice()),
-        (Ok(Ended::Quit), b"ok\nbuilt 1 87\n".as_slice())
+        (Ok(Ended::Quit), b"ok\nbuilt 1 115\n".as_slice())
     );
     Ok(())
 }
