@@ -1,0 +1,3 @@
+mod SameUnits
+mod SameFaults
+mod SamePartitions
