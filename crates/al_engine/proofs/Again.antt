@@ -18,6 +18,7 @@ use Rattle.al_engine_keep.specs.Staying.{is_there, or_else, staying}
 use Rattle.al_engine_recheck.specs.Rechecks.{setting_of}
 use Rattle.al_engine_recheck.proofs.RecheckLemmas.{settled}
 use Rattle.al_engine_recheck.specs.UnitCache.{Kept}
+use Rattle.al_engine_graph.specs.declared.graph.UnitGraph.{UnitGraph}
 use Rattle.al_engine_rebuild.specs.Rebuilds.{IsRebuilt}
 use Rattle.al_engine_rebuild.specs.declared.rebuilding.Rebuilt.{Rebuilt}
 use Rattle.al_unit_map.specs.Units.{at_unit}
@@ -76,14 +77,15 @@ module _ (meaning : TextMeaning) (header : List ℕ → Header) (predefined : Qu
       → IsRebuilt meaning header predefined (library b.files) b.main entries entries (with-checked b checked).gave
   settled-again entries b checked none is = rebuilt-again meaning header predefined (library b.files) b.main is.before entries b.gave is.rebuilt checked none
 
-  right-some : (files : Texts) (entries : UnitKey → Option Stored) (is_edited : Bool) (b : Built) (checked : List UnitKey) → checked ≡ [] → IsRight meaning header predefined library files entries is_edited (Some b)
-      → IsRight meaning header predefined library files entries is_edited (Some (with-checked b checked))
-  right-some files entries is_edited b checked none right = record {
+  right-some : (files : Texts) (entries : UnitKey → Option Stored) (is_edited : Bool) (graph : Option (Texts × UnitGraph)) (b : Built) (checked : List UnitKey) → checked ≡ [] → IsRight meaning header predefined library files entries is_edited graph (Some b)
+      → IsRight meaning header predefined library files entries is_edited graph (Some (with-checked b checked))
+  right-some files entries is_edited graph b checked none right = record {
     read = right.read;
     predefined_units = right.predefined_units;
     built_right = right.built_right;
     settled = record { before = entries; rebuilt = settled-again entries b checked none right.settled };
     unedited = right.unedited;
+    keeps_graph = right.keeps_graph;
   }
 
   build-some : {C P : Type 0} (count : C → ℕ) (cache : Kept C) (pre : P) (files : Texts) (main : List ℕ) (b : Built) (checked : List UnitKey) → checked ≡ [] → IsSettledBy meaning header predefined library (at_unit cache.entries) b
@@ -103,19 +105,19 @@ module _ (meaning : TextMeaning) (header : List ℕ → Header) (predefined : Qu
       }
 
 -- the last build is there, and is made once more with no unit checked
-module _ (meaning : TextMeaning) (header : List ℕ → Header) (library : Texts → Library) {X : Type 0} (last : Option X) (x : X) (there : last ≡ Some x) (model : X → Built) (checked : List UnitKey) (none : checked ≡ []) (files : Texts) (is_edited : Bool) where
-  pub right-again : (predefined : Query → AnswerKind) (entries : UnitKey → Option Stored) → IsRight meaning header predefined library files entries is_edited (option_map model last)
-      → IsRight meaning header predefined library files entries is_edited (Some (with-checked (model x) checked))
+module _ (meaning : TextMeaning) (header : List ℕ → Header) (library : Texts → Library) {X : Type 0} (last : Option X) (x : X) (there : last ≡ Some x) (kept : X → Texts × UnitGraph) (model : X → Built) (checked : List UnitKey) (none : checked ≡ []) (files : Texts) (is_edited : Bool) where
+  pub right-again : (predefined : Query → AnswerKind) (entries : UnitKey → Option Stored) → IsRight meaning header predefined library files entries is_edited (option_map kept last) (option_map model last)
+      → IsRight meaning header predefined library files entries is_edited (Some (kept x)) (Some (with-checked (model x) checked))
   right-again predefined entries right =
-      right-some meaning header predefined library files entries is_edited (model x) checked none (subst (λ (o : Option X). IsRight meaning header predefined library files entries is_edited (option_map model o)) there right)
+      right-some meaning header predefined library files entries is_edited (Some (kept x)) (model x) checked none (subst (λ (o : Option X). IsRight meaning header predefined library files entries is_edited (option_map kept o) (option_map model o)) there right)
 
   pub build-again : {C P : Type 0} (count : C → ℕ) (table : P → Query → AnswerKind) (cache : Kept C) (pre : P) (old : Held C P) → (record { cache = cache; predefined = pre; files = files; built = option_map model last }) ≡ old
-      → IsRight meaning header (table pre) library files (at_unit cache.entries) is_edited (option_map model last) → count cache.checker < 2 ^ 64 → (main : List ℕ) → IsOfNow old.files main old.built
+      → IsRight meaning header (table pre) library files (at_unit cache.entries) is_edited (option_map kept last) (option_map model last) → count cache.checker < 2 ^ 64 → (main : List ℕ) → IsOfNow old.files main old.built
       → IsBuild meaning header count (table old.predefined) library main old (record { cache = cache; predefined = pre; files = files; built = Some (with-checked (model x) checked) })
   build-again {C} {P} count table cache pre old view right bound main of-now =
       let new : Held C P = record { cache = cache; predefined = pre; files = files; built = Some (with-checked (model x) checked) } in
       let is : record { cache = cache; predefined = pre; files = files; built = Some (model x) } ≡ old =
       subst (λ (o : Option X). (record { cache = cache; predefined = pre; files = files; built = option_map model o }) ≡ old) there view in
-      let right_now = subst (λ (o : Option X). IsRight meaning header (table pre) library files (at_unit cache.entries) is_edited (option_map model o)) there right in
+      let right_now = subst (λ (o : Option X). IsRight meaning header (table pre) library files (at_unit cache.entries) is_edited (option_map kept o) (option_map model o)) there right in
       subst (λ (h : Held C P). IsBuild meaning header count (table h.predefined) library main h new) is
       (build-some meaning header (table pre) library count cache pre files main (model x) checked none right_now.settled bound (subst (λ (h : Held C P). IsOfNow h.files main h.built) (sym is) of-now))

@@ -14,6 +14,8 @@ use Rattle.al_entries.specs.Stored.{Stored}
 use Rattle.al_engine_recheck.specs.UnitCache.{Kept}
 use Rattle.al_engine_recheck.specs.Rechecks.{setting_of}
 use Rattle.al_engine_batch.specs.Batches.{IsCompiled}
+use Rattle.al_engine_graph.specs.declared.graph.UnitGraph.{UnitGraph}
+use Rattle.al_engine.specs.Graphs.{KeepsGraph}
 use Rattle.al_engine_rebuild.specs.Rebuilds.{IsRebuilt}
 use Rattle.al_engine_rebuild.specs.declared.rebuilding.Rebuilt.{Rebuilt}
 
@@ -52,13 +54,15 @@ IsOfNow files main None = ⊥
 IsOfNow files main (Some b) = (b.files ≡ files) × (b.main ≡ main)
 
 -- what every library keeps, beside the law of its entries
-pub record IsRight (meaning : TextMeaning) (header : List ℕ → Header) (predefined : Query → AnswerKind) (library : Texts → Library) (files : Texts) (entries : UnitKey → Option Stored) (is_edited : Bool) (built : Option Built) : Type 0 where
+pub record IsRight (meaning : TextMeaning) (header : List ℕ → Header) (predefined : Query → AnswerKind) (library : Texts → Library) (files : Texts) (entries : UnitKey → Option Stored) (is_edited : Bool) (graph : Option (Texts × UnitGraph)) (built : Option Built) : Type 0 where
   pub read : AreReadFor header library
   pub predefined_units : ArePredefined predefined
   pub built_right : IsBuiltRight meaning header predefined library built
   -- the entries are those that the last build settled, and while no file was edited it is of the files as they are
   pub settled : IfSome built (λ b. IsSettledBy meaning header predefined library entries b)
   pub unedited : is_edited ≡ false → IfSome built (λ b. b.files ≡ files)
+  -- the graph that is kept is that of the files of the last build
+  pub keeps_graph : KeepsGraph library graph
 
 -- the units that the last build checked
 abbrev pub last_checked : Option Built → List UnitKey

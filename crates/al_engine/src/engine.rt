@@ -53,7 +53,7 @@ impl<R: ReadFiles, C: UnitCheck, P: Answers> Model for Engine<R, C, P> {
 
     ghost view = { λ e. record { cache = e.cache; predefined = e.predefined; files = e.files; built = option_map (λ b. record { files = R.files b.read; main = b.main; gave = b.gave }) e.last } };
 
-    ghost invariant = { λ e. IsRight C.meaning C.header (P.table e.predefined) R.library e.files (at_unit e.cache.entries) e.is_edited (option_map (λ b. record { files = R.files b.read; main = b.main; gave = b.gave }) e.last) };
+    ghost invariant = { λ e. IsRight C.meaning C.header (P.table e.predefined) R.library e.files (at_unit e.cache.entries) e.is_edited (option_map (λ b. (R.files b.read, b.graph.value)) e.last) (option_map (λ b. record { files = R.files b.read; main = b.main; gave = b.gave }) e.last) };
 }
 
 impl<R: ReadFiles, C: UnitCheck, P: Answers> Engine<R, C, P> {
@@ -178,7 +178,14 @@ impl<R: ReadFiles, C: UnitCheck, P: Answers> Engine<R, C, P> {
             return Ok(());
         }
         let read = read_now(self.alloc, &self.files, &self.last)?;
-        let last = build_read(self.alloc, &mut self.cache, &self.predefined, read, main)?;
+        let last = build_read(
+            self.alloc,
+            &mut self.cache,
+            &self.predefined,
+            &self.last,
+            read,
+            main,
+        )?;
         self.is_edited = false;
         self.last = Some(last);
         Ok(())

@@ -1,21 +1,21 @@
 -- Libraries with the same headers break the same rules, and have the same orders of dependence.
-use Rattle.std.proofs.Common.{◌≡◌, ℕ, zero, suc, Bool, true, false, not, ◌&&◌, ◌||◌, List, [], ◌∷◌, ◌++◌, length, map, Option, Some, None, refl, sym, ap, subst, ◌∙◌}
+use Rattle.std.proofs.Common.{◌≡◌, ℕ, zero, suc, true, false, not, ◌&&◌, ◌||◌, List, [], ◌∷◌, ◌++◌, length, Option, Some, None, refl, sym, ap, subst, ◌∙◌}
 use Rattle.std.specs.Option.{is_none, option_map, option_map_or}
 use Rattle.std.specs.List.{Contains, flat_map, list_any}
 use Rattle.std.specs.Map.{keys_of}
 use Rattle.std.proofs.lemmas.List.{length-map}
-use Rattle.al_base.specs.Batch.{Finding, Key}
+use Rattle.al_base.specs.Batch.{Key}
 use Rattle.al_base.specs.FileNames.{file_name_of}
 use Rattle.al_base.specs.declared.unit_key.UnitKind.TheVariants.{Decl, Sub}
 use Rattle.al_base_graph.specs.Closing.{closing}
 use Rattle.al_unit_graph.specs.Headers.{Contents, Headed, Unread, Mention, Header, Source, Library, key_of_unit, kind_of, is_package, is_package_body, is_library_body}
 use Rattle.al_unit_graph.specs.Names.{is_predefined, lineage, parent_of}
-use Rattle.al_unit_graph.specs.Library.{source_at, unit_in, unit_at, is_kind}
-use Rattle.al_unit_graph.specs.Dependence.{listed, direct}
+use Rattle.al_unit_graph.specs.Library.{source_at, unit_in, is_kind}
+use Rattle.al_unit_graph.specs.Dependence.{listed}
 use Rattle.al_unit_graph.specs.Closures.{is_same_key}
 use Rattle.al_unit_graph.specs.FaultLists.{finding_if, fits, has_no_parent, has_no_stub, has_stub, is_misfit, is_missing, is_no_package, is_no_parent, lacks_stub, declaration_faults, mention_faults, name_faults, own_faults, parent_faults}
 use Rattle.al_unit_faults.specs.Cycles.{all_dependences, cycle_faults, depends_on_itself, unit_keys}
-use Rattle.al_unit_faults.specs.GraphFaults.{contents_faults, file_faults, header_faults, or_else, rule_faults}
+use Rattle.al_unit_faults.specs.GraphFaults.{contents_faults, file_faults, or_else, rule_faults}
 use Rattle.al_unit_faults.specs.Orders.{ascending}
 use Rattle.al_unit_faults.specs.Parts.{part_of, part_within}
 use Rattle.al_unit_faults.specs.Private.{descends, descends_below, is_behind_declaration, is_hidden, is_private, is_private_descendant, may_mention_as, may_mention_children, private_faults}

@@ -1,5 +1,5 @@
 -- Libraries with the same headers have the same partitions: what these lack, their orders of elaboration and their cycles.
-use Rattle.std.proofs.Common.{◌≡◌, ◌≢◌, ◌↔◌, ℕ, ◌<◌, Bool, true, false, not, ◌&&◌, List, [], ◌∷◌, ◌++◌, length, Option, refl, sym, subst, ◌∙◌, if◌then◌else◌}
+use Rattle.std.proofs.Common.{◌≡◌, ℕ, false, not, ◌&&◌, List, [], ◌∷◌, ◌++◌, length, refl, sym, subst, ◌∙◌, if◌then◌else◌}
 use Rattle.std.specs.Option.{is_some, option_map_or}
 use Rattle.std.specs.List.{Contains, filter, flat_map}
 use Rattle.al_base.specs.Batch.{Key}
@@ -10,14 +10,14 @@ use Rattle.al_base_order.specs.declared.edge.Edge.{Edge}
 use Rattle.al_base_order.specs.declared.edge.Reason.{Reason}
 use Rattle.al_unit_graph.specs.Headers.{Library}
 use Rattle.al_unit_graph.specs.Library.{is_kind}
-use Rattle.al_unit_graph.specs.Dependence.{DependsOn, direct, directly, through}
-use Rattle.al_unit_graph.specs.Needed.{ListsUnits, Needed, body_of, main_unit, dependence, body, subunit, subunits_of}
+use Rattle.al_unit_graph.specs.Dependence.{DependsOn, directly, through}
+use Rattle.al_unit_graph.specs.Needed.{ListsUnits, Needed, main_unit, dependence, body, subunit}
 use Rattle.al_bind.specs.Binding.{IsBindFault, IsCycleOfItems, IsElaboration, items_at, items_of, key_at}
 use Rattle.al_bind.specs.Elaboration as elaborating
 use Rattle.al_bind.specs.Elaboration.{Carries, Follows, IsItem, IsPartOf, Wants, is_pair, node_of, itself, depends, elaborate, elaborate_all_body, elaborate_all}
-use Rattle.al_bind.specs.Faults.{HasBodies, HasSubunits, IsComplete, IsLack}
+use Rattle.al_bind.specs.Faults.{HasBodies, IsComplete, IsLack}
 use Rattle.al_bind.specs.Missing.{IsLeastName, LacksBody, LacksSubunit, is_main, lacks_body, missing_bodies, missing_stub, missing_stubs}
-use Rattle.al_bind.specs.Numbers.{AreNumbered, ComesAfter, IsAt, TellsEdge, is_node, nodes_among}
+use Rattle.al_bind.specs.Numbers.{ComesAfter, IsAt, TellsEdge, is_node, nodes_among}
 use Rattle.al_bind.specs.declared.binding.BindFault.{BindFault}
 use Rattle.al_bind.specs.declared.binding.BindFault.TheVariants.{Lacks, Cycle}
 use Rattle.al_bind.specs.declared.binding.Line.{Line}
@@ -163,13 +163,13 @@ module _ (old new : Library) (same : HaveSameHeaders old new) where
     λ name lacking. is.2 name (lacking_subunit new old (back old new same) lacking),
   )
 
-  same_lack : {main : List ℕ} (lack : MissingItem) → IsLack old main lack → IsLack new main lack
-  same_lack {main} lacks.Main is = sym (main_is old new same main) ∙ is
-  same_lack {main} (lacks.Body name) is = (
+  same_lack : (main : List ℕ) (lack : MissingItem) → IsLack old main lack → IsLack new main lack
+  same_lack main lacks.Main is = sym (main_is old new same main) ∙ is
+  same_lack main (lacks.Body name) is = (
     sym (main_is old new same main) ∙ is.0,
     least_name (LacksBody old main) (LacksBody new main) (λ n l. lacking_body old new same l) (λ n l. lacking_body new old (back old new same) l) name is.1,
   )
-  same_lack {main} (lacks.Subunit name) is = (
+  same_lack main (lacks.Subunit name) is = (
     sym (main_is old new same main) ∙ is.0,
     has_bodies is.1,
     least_name (LacksSubunit old main) (LacksSubunit new main) (λ n l. lacking_subunit old new same l) (λ n l. lacking_subunit new old (back old new same) l) name is.2,
@@ -205,7 +205,7 @@ module _ (old new : Library) (same : HaveSameHeaders old new) where
   }
 
   same_fault : (main : List ℕ) (fault : BindFault) → IsBindFault old main fault → IsBindFault new main fault
-  same_fault main (Lacks lack) is = same_lack lack is
+  same_fault main (Lacks lack) is = same_lack main lack is
   same_fault main (Cycle lines) is = same_cycle main lines.items is
 
 pub graphs_go_by_headers : GraphsGoByHeaders

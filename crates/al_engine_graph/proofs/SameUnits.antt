@@ -1,5 +1,5 @@
 -- Libraries with the same headers have the same units, and these depend on the same ones.
-use Rattle.std.proofs.Common.{◌≡◌, ℕ, Bool, false, not, ◌&&◌, List, [], ◌∷◌, ◌++◌, Option, Some, None, refl, sym, ◌∙◌, if◌then◌else◌}
+use Rattle.std.proofs.Common.{◌≡◌, ℕ, false, not, ◌&&◌, List, [], ◌∷◌, ◌++◌, Option, Some, None, refl, sym, ◌∙◌, if◌then◌else◌}
 use Rattle.std.specs.Option.{is_some, option_and_then, option_map, option_map_or}
 use Rattle.std.specs.List.{flat_map}
 use Rattle.al_base.specs.Batch.{Key}
@@ -8,9 +8,9 @@ use Rattle.al_base.specs.declared.unit_key.UnitKind.TheVariants.{Decl, Body, Sub
 use Rattle.al_unit_graph.specs.Headers.{Mention, Header, Source, Library, is_library_body, is_subprogram_body}
 use Rattle.al_unit_graph.specs.Names.{is_without_file, lineage, parent_of}
 use Rattle.al_unit_graph.specs.Library.{source_at, is_there, held, unit_in, of_key, unit_at, is_unit, has_declaration_file, acts_as_declaration, declaration_of, has_body_file, parent_body_of}
-use Rattle.al_unit_graph.specs.Dependence.{listed, parent_declaration, own_declaration, parent_dependences, declared, mention_dependences, dependences, direct}
+use Rattle.al_unit_graph.specs.Dependence.{listed, parent_declaration, own_declaration, parent_dependences, mention_dependences, dependences, direct}
 use Rattle.al_unit_graph.specs.Needed.{present, body_of, subunits_of}
-use Rattle.al_engine_graph.specs.Graphs.{HaveSameHeaders, contents_at}
+use Rattle.al_engine_graph.specs.Graphs.{HaveSameHeaders}
 
 some_by : (o : Option Source) → is_some o ≡ is_some (option_map (λ source. source.contents) o)
 some_by None = refl

@@ -6,6 +6,13 @@ use crate::headers::same_contents;
 use al_base::NoMemory;
 use al_unit_graph::Sources;
 
+/// Whether these are the same names in the same order.
+fn are_same(a: &[&[u8]], b: &[&[u8]]) -> bool
+    ensures { IsTrue result → map (λ n. n.now) a.now ≡ map (λ n. n.now) b.now }
+{
+    a == b
+}
+
 /// Whether a file is read as the same in both libraries, or is in neither.
 fn is_read_alike(old: &Sources, new: &Sources, file: &[u8]) -> bool
     ensures { IsTrue result → contents_at old.now file.now ≡ contents_at new.now file.now }
@@ -29,7 +36,7 @@ pub fn have_same_headers(old: &Sources, new: &Sources) -> Result<bool, NoMemory>
 {
     let files = old.file_names()?;
     let others = new.file_names()?;
-    if files.as_slice() != others.as_slice() {
+    if !are_same(files.as_slice(), others.as_slice()) {
         return Ok(false);
     }
     for file in files.as_slice() {
