@@ -1,3 +1,4 @@
+pub mod Graphs
 pub mod States
 pub mod Builds
 pub mod Reports

@@ -1,5 +1,5 @@
 -- What a library stands for.
-use Rattle.std.specs.Prelude.{ℕ, List, [], Option, IfSome}
+use Rattle.std.specs.Prelude.{ℕ, ◌≡◌, Bool, false, List, [], Option, Some, None, IfSome}
 use Rattle.std.specs.Option.{option_map_or}
 use Rattle.al_base.specs.Files.{Texts}
 use Rattle.al_base.specs.declared.unit_key.UnitKey.{UnitKey}
@@ -10,9 +10,13 @@ use Rattle.al_query.specs.declared.answer.AnswerKind.{AnswerKind}
 use Rattle.al_query.specs.declared.query.Query.{Query}
 use Rattle.al_engine_setting.specs.Settings.{ArePredefined}
 use Rattle.al_entries.specs.EntryLaw.{TextMeaning}
+use Rattle.al_entries.specs.Stored.{Stored}
 use Rattle.al_engine_recheck.specs.UnitCache.{Kept}
 use Rattle.al_engine_recheck.specs.Rechecks.{setting_of}
 use Rattle.al_engine_batch.specs.Batches.{IsCompiled}
+use Rattle.al_engine_graph.specs.declared.graph.UnitGraph.{UnitGraph}
+use Rattle.al_engine.specs.Graphs.{KeepsGraph}
+use Rattle.al_engine_rebuild.specs.Rebuilds.{IsRebuilt}
 use Rattle.al_engine_rebuild.specs.declared.rebuilding.Rebuilt.{Rebuilt}
 
 -- the files that a build found, its main unit, and what it gave
@@ -39,11 +43,26 @@ pub record AreReadFor (header : List ℕ → Header) (library : Texts → Librar
 abbrev pub IsBuiltRight : TextMeaning → (List ℕ → Header) → (Query → AnswerKind) → (Texts → Library) → Option Built → Type 0
 IsBuiltRight meaning header predefined library built = IfSome built (λ b. IsCompiled meaning (setting_of header predefined (library b.files)) b.main b.gave.compiled)
 
+-- the entries of the units are those that a build settled, whatever there were before it
+pub record IsSettledBy (meaning : TextMeaning) (header : List ℕ → Header) (predefined : Query → AnswerKind) (library : Texts → Library) (entries : UnitKey → Option Stored) (b : Built) : Type 0 where
+  pub before : UnitKey → Option Stored
+  pub rebuilt : IsRebuilt meaning header predefined (library b.files) b.main before entries b.gave
+
+-- the last build is of these files and this main unit
+abbrev pub IsOfNow : Texts → List ℕ → Option Built → Type 0
+IsOfNow files main None = ⊥
+IsOfNow files main (Some b) = (b.files ≡ files) × (b.main ≡ main)
+
 -- what every library keeps, beside the law of its entries
-pub record IsRight (meaning : TextMeaning) (header : List ℕ → Header) (predefined : Query → AnswerKind) (library : Texts → Library) (built : Option Built) : Type 0 where
+pub record IsRight (meaning : TextMeaning) (header : List ℕ → Header) (predefined : Query → AnswerKind) (library : Texts → Library) (files : Texts) (entries : UnitKey → Option Stored) (is_edited : Bool) (graph : Option (Texts × UnitGraph)) (built : Option Built) : Type 0 where
   pub read : AreReadFor header library
   pub predefined_units : ArePredefined predefined
   pub built_right : IsBuiltRight meaning header predefined library built
+  -- the entries are those that the last build settled, and while no file was edited it is of the files as they are
+  pub settled : IfSome built (λ b. IsSettledBy meaning header predefined library entries b)
+  pub unedited : is_edited ≡ false → IfSome built (λ b. b.files ≡ files)
+  -- the graph that is kept is that of the files of the last build
+  pub keeps_graph : KeepsGraph library graph
 
 -- the units that the last build checked
 abbrev pub last_checked : Option Built → List UnitKey

@@ -1,5 +1,5 @@
 // The library.
-ghost use Rattle.std.specs.Prelude.{◌≡◌, [], None, Some, Ok, Err, IfOk, MatchResult, OnOk, OnErr, length, map, option_map};
+ghost use Rattle.std.specs.Prelude.{◌≡◌, ℕ, List, [], None, Some, Ok, Err, IfOk, IsTrue, MatchResult, OnOk, OnErr, length, map, option_map};
 ghost use Rattle.al_base.specs.Batch.{key_of};
 ghost use Rattle.al_base.specs.Files.{with_file, without_file, with_renamed, put_refusal, delete_refusal, rename_refusal, AnswersRefusal, AnswersFirst};
 ghost use Rattle.al_unit_obsolete.specs.Units.{unit_model, units_of};
@@ -7,7 +7,7 @@ ghost use Rattle.al_unit_map.specs.Units.{at_unit};
 ghost use Rattle.al_entries.specs.EntryLaw.{AllKeepLaw};
 ghost use Rattle.al_engine_setting.specs.Settings.{ArePredefined};
 ghost use Rattle.al_engine_reported.specs.Gave.{order_of, program_of};
-ghost use Rattle.al_engine.specs.States.{AreReadFor, IsBuiltRight, last_checked};
+ghost use Rattle.al_engine.specs.States.{AreReadFor, IsBuiltRight, IsOfNow, last_checked};
 ghost use Rattle.al_engine.specs.Builds.{IsBuild};
 ghost use Rattle.al_engine.specs.Reports.{found_last, gave_last, obsolete_refusal, obsolete_since, reported};
 ghost use Rattle.al_engine.specs.Runs.{AnswersRun};
@@ -23,6 +23,7 @@ use al_query::Answers;
 use al_query_check::UnitCheck;
 use al_tasks_run::{RunReport, run};
 use al_unit_obsolete::units;
+use al_view::Seq;
 use std::alloc::Global;
 use std::marker::Model;
 
@@ -34,6 +35,8 @@ pub struct Engine<R: ReadFiles, C: UnitCheck, P: Answers> {
     predefined: P,
     files: Files,
     last: Option<LastBuild<R>>,
+    /// Whether a file was edited since the last build.
+    is_edited: bool,
 }
 
 impl<R: ReadFiles, C: UnitCheck, P: Answers> Model for Engine<R, C, P> {
@@ -41,6 +44,7 @@ impl<R: ReadFiles, C: UnitCheck, P: Answers> Model for Engine<R, C, P> {
     ghost use Rattle.std.specs.Coded.{codes};
     ghost use Rattle.al_view_typed.specs.contracts.expression.Typed as expression;
     ghost use Rattle.al_view_typed.specs.contracts.statement.TypedStatement as statement;
+    ghost use Rattle.al_unit_map.specs.Units.{at_unit};
     ghost use Rattle.al_engine.specs.States.{Held, IsRight};
 
     ghost Value = { Held C P };
@@ -49,7 +53,7 @@ impl<R: ReadFiles, C: UnitCheck, P: Answers> Model for Engine<R, C, P> {
 
     ghost view = { λ e. record { cache = e.cache; predefined = e.predefined; files = e.files; built = option_map (λ b. record { files = R.files b.read; main = b.main; gave = b.gave }) e.last } };
 
-    ghost invariant = { λ e. IsRight C.meaning C.header (P.table e.predefined) R.library (option_map (λ b. record { files = R.files b.read; main = b.main; gave = b.gave }) e.last) };
+    ghost invariant = { λ e. IsRight C.meaning C.header (P.table e.predefined) R.library e.files (at_unit e.cache.entries) e.is_edited (option_map (λ b. (R.files b.read, b.graph.value)) e.last) (option_map (λ b. record { files = R.files b.read; main = b.main; gave = b.gave }) e.last) };
 }
 
 impl<R: ReadFiles, C: UnitCheck, P: Answers> Engine<R, C, P> {
@@ -66,6 +70,7 @@ impl<R: ReadFiles, C: UnitCheck, P: Answers> Engine<R, C, P> {
             predefined,
             files: Files::new(alloc),
             last: None,
+            is_edited: false,
         }
     }
 
@@ -92,7 +97,13 @@ impl<R: ReadFiles, C: UnitCheck, P: Answers> Engine<R, C, P> {
         ensures ok { OnOk result (self.new ≡ record self.old { files = with_file self.old.files name.now text.items }) }
         ensures err { OnErr result (self.new ≡ self.old) }
     {
-        self.files.put(name, text)
+        match self.files.put(name, text) {
+            Ok(()) => {
+                self.is_edited = true;
+                Ok(())
+            }
+            Err(refusal) => Err(refusal),
+        }
     }
 
     /// Takes a file away. It takes no memory.
@@ -101,7 +112,13 @@ impl<R: ReadFiles, C: UnitCheck, P: Answers> Engine<R, C, P> {
         ensures ok { OnOk result (self.new ≡ record self.old { files = without_file self.old.files name.now }) }
         ensures err { OnErr result (self.new ≡ self.old) }
     {
-        self.files.delete(name)
+        match self.files.delete(name) {
+            Ok(()) => {
+                self.is_edited = true;
+                Ok(())
+            }
+            Err(refusal) => Err(refusal),
+        }
     }
 
     /// Gives a file another name, which no file has.
@@ -110,11 +127,43 @@ impl<R: ReadFiles, C: UnitCheck, P: Answers> Engine<R, C, P> {
         ensures ok { OnOk result (self.new ≡ record self.old { files = with_renamed self.old.files old.now new.now }) }
         ensures err { OnErr result (self.new ≡ self.old) }
     {
-        self.files.rename(old, new)
+        match self.files.rename(old, new) {
+            Ok(()) => {
+                self.is_edited = true;
+                Ok(())
+            }
+            Err(refusal) => Err(refusal),
+        }
+    }
+
+    /// Whether no file was edited since the last build, which was of this main unit.
+    fn is_built(&self, main: &[u8]) -> bool
+        ensures { IsTrue result → IsOfNow self.now.files main.now self.now.built }
+    {
+        if self.is_edited {
+            return false;
+        }
+        match &self.last {
+            Some(last) => last.main.as_slice() == main,
+            None => false,
+        }
+    }
+
+    /// Makes the last build once more, where no file was edited since: no unit is checked, and what it gave stays. It takes no memory.
+    fn repeat(&mut self)
+        ensures files { (self.new.files ≡ self.old.files) × (self.new.predefined ≡ self.old.predefined) }
+        ensures built { (main : List ℕ) → IsOfNow self.old.files main self.old.built → IsBuild C.meaning C.header C.count (P.table self.old.predefined) R.library main self.old self.new }
+    {
+        let _before = self.cache.checks();
+        let Some(last) = &mut self.last else {
+            return;
+        };
+        last.gave.checked = Seq::empty(self.alloc);
     }
 
     /// Compiles the files, with this main unit in lower case, and checks again what an edit reached. The last build is this one then,
-    /// whether something is wrong with the files or not.
+    /// whether something is wrong with the files or not. Where no file was edited since the last build of the same main unit, no file
+    /// and no unit is looked at.
     ///
     /// # Errors
     ///
@@ -124,8 +173,20 @@ impl<R: ReadFiles, C: UnitCheck, P: Answers> Engine<R, C, P> {
         ensures ok { OnOk result (IsBuild C.meaning C.header C.count (P.table self.old.predefined) R.library main.now self.old self.new) }
         ensures err { OnErr result ((self.new.cache.entries ≡ self.old.cache.entries) × (self.new.built ≡ self.old.built)) }
     {
+        if self.is_built(main) {
+            self.repeat();
+            return Ok(());
+        }
         let read = read_now(self.alloc, &self.files, &self.last)?;
-        let last = build_read(self.alloc, &mut self.cache, &self.predefined, read, main)?;
+        let last = build_read(
+            self.alloc,
+            &mut self.cache,
+            &self.predefined,
+            &self.last,
+            read,
+            main,
+        )?;
+        self.is_edited = false;
         self.last = Some(last);
         Ok(())
     }

@@ -4,6 +4,7 @@
 
 mod building;
 mod engine;
+mod graphs;
 mod last_build;
 mod read_files;
 

@@ -1,26 +1,21 @@
 // The units of a library checked, over what is kept of them.
-ghost use Rattle.std.specs.Prelude.{◌≡◌, IfOk, length, map};
-ghost use Rattle.std.specs.Map.{keys_of};
-ghost use Rattle.al_unit_faults.specs.FilesSeen.{file_faults_model};
-ghost use Rattle.al_unit_faults.specs.GraphFaults.{file_faults};
+ghost use Rattle.std.specs.Prelude.{◌≡◌, IfOk, length};
 ghost use Rattle.al_unit_map.specs.Units.{at_unit};
 ghost use Rattle.al_unit_order.specs.Read.{AreHeaded, NameParentBodies};
+ghost use Rattle.al_engine_graph.specs.Kept.{IsGraphOf};
 ghost use Rattle.al_engine_setting.specs.Settings.{ArePredefined};
 ghost use Rattle.al_engine_refresh.specs.Builds.{raised};
 ghost use Rattle.al_engine_recheck.specs.Rechecks.{IsRechecked, setting_of};
 
 use al_base::{NoMemory, UnitKey};
-use al_base_shortage::AllocFailures;
+use al_engine_graph::UnitGraph;
 use al_engine_order::laws::order_is_for_builds;
 use al_engine_recheck::{Rechecked, UnitCache};
 use al_entries::Entry;
 use al_query::Answers;
 use al_query_check::UnitCheck;
-use al_unit_faults::{FileFaults, faults_by_file};
 use al_unit_graph::Sources;
 use al_unit_map::UnitMap;
-use al_unit_order::dependence_order;
-use std::alloc::Global;
 
 /// What the check of a library gives.
 #[derive(Drop)]
@@ -29,42 +24,33 @@ pub struct CheckedLibrary {
     pub entries: UnitMap<Entry>,
     /// The units that were checked, by unit and kind.
     pub checked: Vec<UnitKey>,
-    /// What is wrong with each file as a unit among the others.
-    pub faults: Vec<FileFaults>,
 }
 
 /// Checks the units of a library over what is kept of them: each unit that is reached and has no entry for its text, or one with an
-/// answer that differs now. What is kept stays as it is, until the entries are settled.
+/// answer that differs now. The library's graph is given. What is kept stays as it is, until the entries are settled.
 /// - `checked`: which units were checked, and the entries of those that are reached: their outcomes are the one map that solves the
 ///   library's equations, whatever was kept.
-/// - `faults`: the faults of the graph.
 /// - `counted`: so many checks were made.
 ///
 /// # Errors
 ///
 /// `NoMemory` where memory was wanted and not given. Only the count of checks may have risen.
 pub fn check_library<C: UnitCheck, P: Answers>(
-    alloc: Global,
     cache: &mut UnitCache<C>,
     predefined: &P,
     sources: &Sources,
+    graph: &UnitGraph,
 ) -> Result<CheckedLibrary, NoMemory>
     requires headed { AreHeaded C.header sources.now }
     requires bodies { NameParentBodies sources.now }
     requires predefined { ArePredefined (P.table predefined.now) }
+    requires graph { IsGraphOf sources.now graph.now }
     ensures checked { IfOk result (λ r. IsRechecked C.meaning C.header (setting_of C.header (P.table predefined.now) sources.now) (at_unit cache.old.entries) (at_unit r.entries) r.checked.items) }
-    ensures faults { IfOk result (λ r. map file_faults_model r.faults.items ≡ map (λ file. (file, file_faults sources.now file)) (keys_of sources.now)) }
     ensures counted { IfOk result (λ r. C.count cache.new.checker ≡ raised (C.count cache.old.checker) (length r.checked.items)) }
     ensures entries { cache.new.entries ≡ cache.old.entries }
 {
     order_is_for_builds();
-    let faults = faults_by_file(alloc, sources, &mut AllocFailures::new())?;
-    let order = dependence_order(alloc, sources, faults.as_slice())?;
-    let rechecked = cache.recheck(predefined, sources, order.as_slice())?;
+    let rechecked = cache.recheck(predefined, sources, graph.order.as_slice())?;
     let Rechecked { entries, checked } = rechecked;
-    Ok(CheckedLibrary {
-        entries,
-        checked,
-        faults,
-    })
+    Ok(CheckedLibrary { entries, checked })
 }

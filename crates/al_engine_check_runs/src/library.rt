@@ -3,6 +3,7 @@ use crate::printed::printed;
 use al_base::{Files, NoMemory, Refusal};
 use al_engine_check::check_library;
 use al_engine_found::findings_of;
+use al_engine_graph::UnitGraph;
 use al_engine_recheck::UnitCache;
 use al_engine_toy::{Packages, Toy, sources_of};
 use std::alloc::Global;
@@ -63,13 +64,14 @@ impl Library {
         let predefined = Packages { alloc: self.alloc };
         let before = self.kept.checks();
         let sources = sources_of(self.alloc, &self.files)?;
-        let given = check_library(self.alloc, &mut self.kept, &predefined, &sources)?;
+        let graph = UnitGraph::of(self.alloc, &sources)?;
+        let given = check_library(&mut self.kept, &predefined, &sources, &graph)?;
         let more = self.kept.checks().saturating_sub(before);
         let found = findings_of(
             self.alloc,
             &sources,
             &given.entries,
-            given.faults.as_slice(),
+            graph.faults.as_slice(),
         )?;
         let printed = printed(self.alloc, found.as_slice(), given.checked.as_slice(), more)?;
         self.kept.settle(&sources, given.entries)?;

@@ -5,6 +5,10 @@ use Rattle.al_unit_map.specs.Units.{at_unit}
 use Rattle.al_engine_recheck.specs.Rechecks.{setting_of}
 use Rattle.al_engine_batch.specs.Batches.{IsCompiled}
 use Rattle.al_engine_rebuild.specs.Rebuilds.{IsRebuilt}
+use Rattle.al_engine_graph.specs.Graphs.{HaveSameHeaders}
+use Rattle.al_engine_graph.specs.Kept.{IsGraphOf}
+use Rattle.al_engine.specs.Graphs.{IsOrdered}
+use Rattle.al_engine.proofs.Taken.{first_of, second_of}
 use Rattle.al_engine.proofs.building.build_read.Goals as goal
 
 pub rebuild-requires-clause-headed : goal.rebuild-requires-clause-headed
@@ -26,3 +30,23 @@ returns-clause-right g c =
     let is = subst (λ (l : Library). IsRebuilt meaning header table l c.args.main.now (at_unit c.args.cache.now.entries) (at_unit c.rebuild.new.cache.entries) c.in_ok-gave.gave) c.sources.ensures c.in_ok-gave.ensures.rebuilt in
     let compiled = c.rebuilds_are_compiled.ensures meaning header table lib c.args.main.now (at_unit c.args.cache.now.entries) (at_unit c.rebuild.new.cache.entries) c.in_ok-gave.gave is in
     subst (λ (m : List ℕ). IsCompiled meaning (setting_of header table lib) m c.in_ok-gave.gave.compiled) (sym c.in_ok-main_name.ensures) compiled
+
+pub graph_now-requires : goal.graph_now-requires
+graph_now-requires g c =
+    let library = g.R.ReadFiles.library in
+    let files = g.R.ReadFiles.files in
+    first_of c.args.last.now (λ b. b.now) (λ b. IsGraphOf (library (files b.read)) b.graph.value) (λ b. IsOrdered (library (files b.read)) b.main b.gave.compiled)
+    (λ b. HaveSameHeaders (library (files b.now.read)) (library (files c.args.read))) c.in_ok-same.same c.in_ok-same.ensures c.requires.last
+
+pub order_now-requires : goal.order_now-requires
+order_now-requires g c =
+    let library = g.R.ReadFiles.library in
+    let files = g.R.ReadFiles.files in
+    second_of c.args.last.now (λ b. b.now) (λ b. IsGraphOf (library (files b.read)) b.graph.value) (λ b. IsOrdered (library (files b.read)) b.main b.gave.compiled)
+    (λ b. HaveSameHeaders (library (files b.now.read)) (library (files c.args.read))) c.in_ok-same.same c.in_ok-same.ensures c.requires.last
+
+pub rebuild-requires-clause-graph : goal.rebuild-requires-clause-graph
+rebuild-requires-clause-graph g c = ?
+
+pub rebuild-requires-clause-known : goal.rebuild-requires-clause-known
+rebuild-requires-clause-known g c = ?

@@ -1,16 +1,12 @@
-use Rattle.std.proofs.Common.{List, map, ap, sym, subst, ◌∙◌}
+use Rattle.std.proofs.Common.{List, map, sym, subst}
 use Rattle.al_base.specs.Batch.{key_of}
 use Rattle.al_base.specs.declared.unit_key.UnitKey.{UnitKey}
-use Rattle.al_unit_faults.specs.FilesSeen.{file_faults_model}
 use Rattle.al_unit_order.specs.Reached.{IsDependenceOrder}
 use Rattle.al_engine_check.proofs.checking.check_library.Goals as goal
-
-pub dependence_order-requires : goal.dependence_order-requires
-dependence_order-requires g c = ap (map file_faults_model) c.as_slice.ensures.value ∙ c.in_ok-faults.ensures.found
 
 pub recheck-requires : goal.recheck-requires
 recheck-requires g c =
     let lib = c.args.sources.now in
-    let order = c.as_slice-2.result.now in
+    let order = c.as_slice.result.now in
     c.order_is_for_builds.ensures g.C.UnitCheck.header lib (g.P.Answers.table c.args.predefined.now) order c.requires.headed c.requires.bodies c.requires.predefined
-    (subst (λ (us : List UnitKey). IsDependenceOrder lib (map key_of us)) (sym c.as_slice-2.ensures.value) c.in_ok-order.ensures)
+    (subst (λ (us : List UnitKey). IsDependenceOrder lib (map key_of us)) (sym c.as_slice.ensures.value) c.requires.graph.order)

@@ -8,7 +8,7 @@ use Rattle.al_engine_recheck.specs.Rechecks.{IsRechecked, setting_of}
 use Rattle.al_engine_rebuild.proofs.rebuilding.rebuild.Goals as goal
 
 pub compile-requires-clause-faults : goal.compile-requires-clause-faults
-compile-requires-clause-faults g c = ap (map file_faults_model) c.as_slice.ensures.value ∙ c.in_ok-given.ensures.faults
+compile-requires-clause-faults g c = ap (map file_faults_model) c.as_slice-faults.ensures.value ∙ c.requires.graph.faults
 
 pub compile-requires-clause-coded : goal.compile-requires-clause-coded
 compile-requires-clause-coded g c = λ u e is. (c.in_ok-given.ensures.checked.law u e is).code

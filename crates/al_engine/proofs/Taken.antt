@@ -1,0 +1,39 @@
+-- What a build takes over of the last one.
+use Rattle.std.proofs.Common.{◌≡◌, ℕ, List, map, Option, Some, None, IfSome, subst}
+use Rattle.al_base.specs.Batch.{key_of}
+use Rattle.al_base.specs.declared.unit_key.UnitKey.{UnitKey}
+use Rattle.al_unit_graph.specs.Headers.{Library}
+use Rattle.al_bind.specs.Binding.{IsElaboration}
+use Rattle.al_query_outcome.specs.Equations.{Setting}
+use Rattle.al_query_outcome.specs.Results.{Outcome}
+use Rattle.al_entries.specs.EntryLaw.{TextMeaning}
+use Rattle.al_engine_batch.specs.Batches.{IsBatch, IsCompiled}
+use Rattle.al_engine_batch.specs.declared.compiled.Compiled.{Compiled}
+use Rattle.al_engine_batch.specs.declared.compiled.Compiled.TheVariants.{Faulty, Unbound, TooLarge, Made}
+use Rattle.al_engine_reported.specs.Gave.{order_of}
+use Rattle.al_engine.specs.Graphs.{IsOrdered}
+
+-- a build that was found to be the last one is as that one is
+pub first_of : {X B : Type 0} (last : Option B) (now : X → B) (A C : B → Type 0) (Q : X → Type 0) (same : Option X)
+    → IfSome same (λ b. (last ≡ Some (now b)) × Q b) → IfSome last (λ b. A b × C b) → IfSome same (λ b. A (now b) × Q b)
+first_of last now A C Q None is has = tt
+first_of {X} {B} last now A C Q (Some b) is has = ((subst (λ (o : Option B). IfSome o (λ b. A b × C b)) is.0 has).0, is.1)
+
+pub second_of : {X B : Type 0} (last : Option B) (now : X → B) (A C : B → Type 0) (Q : X → Type 0) (same : Option X)
+    → IfSome same (λ b. (last ≡ Some (now b)) × Q b) → IfSome last (λ b. A b × C b) → IfSome same (λ b. C (now b) × Q b)
+second_of last now A C Q None is has = tt
+second_of {X} {B} last now A C Q (Some b) is has = ((subst (λ (o : Option B). IfSome o (λ b. A b × C b)) is.0 has).1, is.1)
+
+module _ (lib : Library) (f : UnitKey → Option Outcome) (main : List ℕ) where
+  some_is : {X : Type 0} (P : X → Type 0) (x y : X) → P x → Some x ≡ Some y → P y
+  some_is {X} P x y p e = subst P (cc) p
+
+  batch_orders : (compiled : Compiled) → IsBatch lib f main compiled → IsOrdered lib main compiled
+  batch_orders (Faulty diagnostics) is order e = absurd (cc)
+  batch_orders (Unbound fault) is order e = absurd (cc)
+  batch_orders (TooLarge found) is order e = some_is (λ (us : List UnitKey). IsElaboration lib main (map key_of us)) found.items order is.1.ordered e
+  batch_orders (Made program) is order e = some_is (λ (us : List UnitKey). IsElaboration lib main (map key_of us)) program.order.items order is.1.ordered e
+
+-- the order that compiling from nothing gives is one of elaboration
+pub compiled_orders : (meaning : TextMeaning) (s : Setting) (main : List ℕ) (compiled : Compiled) → IsCompiled meaning s main compiled → IsOrdered s.files main compiled
+compiled_orders meaning s main compiled is = batch_orders s.files is.outcomes main compiled is.is_batch

@@ -1,0 +1,73 @@
+// What of the last build's graph a build can take over.
+ghost use Rattle.std.specs.Prelude.{◌≡◌, List, Some, IfOk, IfSome, map};
+ghost use Rattle.al_base.specs.Batch.{key_of};
+ghost use Rattle.al_bind.specs.Binding.{IsElaboration};
+ghost use Rattle.al_engine_graph.specs.Graphs.{HaveSameHeaders};
+ghost use Rattle.al_engine_graph.specs.Kept.{IsGraphOf};
+ghost use Rattle.al_engine.specs.Graphs.{IsOrdered};
+
+use crate::last_build::LastBuild;
+use crate::read_files::ReadFiles;
+use al_base::{NoMemory, UnitKey};
+use al_engine_graph::laws::graphs_go_by_headers;
+use al_engine_graph::{UnitGraph, have_same_headers};
+use al_engine_reported::order_of;
+use std::alloc::Global;
+use std::rc::Rc;
+
+/// The last build, where its files are those that were read now, and each is read as the same.
+pub(crate) fn alike<'a, R: ReadFiles>(
+    read: &R,
+    last: &'a Option<LastBuild<R>>,
+) -> Result<Option<&'a LastBuild<R>>, NoMemory>
+    ensures { IfOk result (λ found. IfSome found (λ b. (last.now ≡ Some b.now) × HaveSameHeaders (R.library (R.files b.now.read)) (R.library (R.files read.now)))) }
+{
+    let Some(last) = last else {
+        return Ok(None);
+    };
+    if have_same_headers(last.read.sources(), read.sources())? {
+        Ok(Some(last))
+    } else {
+        Ok(None)
+    }
+}
+
+/// The graph of the files that were read: that of a build whose files have the same headers, where there is one.
+pub(crate) fn graph_now<R: ReadFiles>(
+    alloc: Global,
+    read: &R,
+    alike: Option<&LastBuild<R>>,
+) -> Result<Rc<UnitGraph>, NoMemory>
+    requires { IfSome alike (λ b. IsGraphOf (R.library (R.files b.now.read)) b.now.graph.value × HaveSameHeaders (R.library (R.files b.now.read)) (R.library (R.files read.now))) }
+    ensures { IfOk result (λ graph. IsGraphOf (R.library (R.files read.now)) graph.value) }
+{
+    graphs_go_by_headers();
+    match alike {
+        Some(build) => Ok(build.graph.clone()?),
+        None => {
+            let graph = UnitGraph::of(alloc, read.sources())?;
+            Ok(Rc::new(alloc, graph)?)
+        }
+    }
+}
+
+/// The order of elaboration that a build gave whose files have the same headers, where it was of this main unit.
+pub(crate) fn order_now<'a, R: ReadFiles>(
+    main: &[u8],
+    read: &R,
+    alike: Option<&'a LastBuild<R>>,
+) -> Option<&'a [UnitKey]>
+    requires { IfSome alike (λ b. IsOrdered (R.library (R.files b.now.read)) b.now.main b.now.gave.compiled × HaveSameHeaders (R.library (R.files b.now.read)) (R.library (R.files read.now))) }
+    ensures { IfSome result (λ order. IsElaboration (R.library (R.files read.now)) main.now (map key_of order.now)) }
+{
+    graphs_go_by_headers();
+    let _read = read;
+    let Some(build) = alike else {
+        return None;
+    };
+    if build.main.as_slice() == main {
+        order_of(&build.gave.compiled)
+    } else {
+        None
+    }
+}

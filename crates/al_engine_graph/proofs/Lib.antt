@@ -1,0 +1,4 @@
+mod Files
+mod SameUnits
+mod SameFaults
+mod SamePartitions
