@@ -1,3 +1,4 @@
 pub mod Copies
 pub mod Layers
 pub mod Lists
+pub mod CodelessLemmas

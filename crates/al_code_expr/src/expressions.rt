@@ -6,6 +6,7 @@ ghost use Rattle.al_code_expr.specs.Pieces.{times};
 ghost use Rattle.al_code_expr.specs.Templates.{address_of, all_passed_code, call_code, checked_code, components_code, converted_code, form_code, passed_code, short_code, value_of, variable_code, variables_code};
 
 use crate::calls::{emit_copies, emit_flag, emit_formal, emit_mark, emit_routine};
+use crate::codeless::is_codeless_value;
 use crate::operators::{
     emit_above, emit_below, emit_binary, emit_index, emit_kept, emit_negation, emit_step,
     emit_unary,
@@ -163,7 +164,7 @@ fn emit_converted(
     emit_check(out, &value.bounds)
 }
 
-/// A value so many times.
+/// A value so many times. Of a value without code there is none, and past the limit nothing more is written.
 #[cycle(expression)]
 fn emit_times(
     out: &mut Output,
@@ -173,7 +174,13 @@ fn emit_times(
 ) -> Result<(), NoMemory>
     ensures { OnOk result (out.new ≡ written out.old (times count (checked_code depth (value_model value.now)))) }
 {
+    if is_codeless_value(value) {
+        return Ok(());
+    }
     for _i in 0..count {
+        if out.is_large() {
+            return Ok(());
+        }
         emit_checked(out, depth, value)?;
     }
     Ok(())

@@ -2,6 +2,7 @@
 #![tactic(auto)]
 
 mod calls;
+mod codeless;
 mod expressions;
 mod operators;
 mod pieces;

@@ -1,5 +1,5 @@
 // Code that is being written.
-ghost use Rattle.std.specs.Prelude.{◌≡◌, ◌≤◌, [], ◌∷◌, ◌++◌, ◌+◌, ℕ, Some, None, length, map, nat_le, if◌then◌else◌, IfOk, IfSome, IsSomeAnd, MatchOption, OnErr, OnOk, All};
+ghost use Rattle.std.specs.Prelude.{◌≡◌, ◌≤◌, [], ◌∷◌, ◌++◌, ◌+◌, ℕ, Some, None, length, map, nat_le, is_none, if◌then◌else◌, IfOk, IfSome, IsSomeAnd, MatchOption, OnErr, OnOk, All};
 ghost use Rattle.al_view.specs.ViewUses.{link};
 ghost use Rattle.al_instr.specs.declared.instruction.Instr.TheVariants.{PutName, PutText};
 ghost use Rattle.al_instr.specs.Codes.{IsInstr, encoded};
@@ -84,6 +84,13 @@ impl Output {
         ensures { IfSome self.now (λ b. result ≡ length b.code) }
     {
         self.code.len()
+    }
+
+    /// Whether it passes the limit, so that nothing is written any more.
+    pub fn is_large(&self) -> bool
+        ensures { result ≡ is_none self.now }
+    {
+        self.is_large
     }
 
     /// How many jumps wait for their ends.

@@ -1,8 +1,11 @@
-use Rattle.std.proofs.Common.{◌≡◌, refl, sym, arith}
+use Rattle.std.proofs.Common.{◌≡◌, List, [], refl, sym, ap, ◌∙◌, arith}
 use Rattle.al_view_typed.specs.ExpressionTrees.{ValuesTree as values_trees, ActualsTree as actuals_trees}
 use Rattle.al_view_typed.specs.ExpressionViews.{actual_model, value_model}
 use Rattle.al_code_expr.specs.Templates.{all_passed_code, checked_code, components_code, passed_code, variable_code, variables_code}
 use Rattle.al_code_output.proofs.Writing.{written_nothing, written_more}
+use Rattle.al_code_output.specs.Pieces.{Piece}
+use Rattle.al_code_output.specs.Written.{written}
+use Rattle.al_code_expr.proofs.CodelessLemmas.{codeless_checked, none_is, times_large, times_nothing}
 use Rattle.al_code_expr.proofs.Lists.{and_steps, or_steps, times_more, written_listed}
 use Rattle.al_code_expr.proofs.expressions.+expression.Goals as goal
 
@@ -68,3 +71,15 @@ pub emit_times-returns : goal.emit_times-returns
 emit_times-returns t c =
     let all : c.loop-i._i ≡ c.args.count = omega (arith, c.loop-i-test.false, c.loop-i.auto._i-end) in
     rw all at c.loop-i.invariant
+
+pub emit_times-returns-then-is_codeless_value : goal.emit_times-returns-then-is_codeless_value
+emit_times-returns-then-is_codeless_value t c =
+    let code = checked_code c.args.depth (value_model c.args.value.now) in
+    let none : code ≡ [] = codeless_checked c.args.depth (value_model c.args.value.now) (sym c.is_codeless_value.ensures ∙ c.if-is_codeless_value.true) in
+    sym (written_nothing c.args.out.now) ∙ ap (λ (ps : List Piece). written c.args.out.now ps) (sym (times_nothing c.args.count code none))
+
+pub emit_times-returns-then-is_large : goal.emit_times-returns-then-is_large
+emit_times-returns-then-is_large t c =
+    let code = checked_code c.args.depth (value_model c.args.value.now) in
+    let large = none_is c.loop-i.out (sym c.is_large.ensures ∙ c.if-is_large.true) in
+    large ∙ sym (times_large code c.args.out.now c.loop-i._i c.args.count (omega (arith, c.loop-i-test.true)) (sym c.loop-i.invariant ∙ large))
