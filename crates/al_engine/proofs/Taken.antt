@@ -1,5 +1,5 @@
 -- What a build takes over of the last one.
-use Rattle.std.proofs.Common.{◌≡◌, ℕ, List, map, Option, Some, None, IfSome, subst}
+use Rattle.std.proofs.Common.{◌≡◌, ℕ, List, map, Bor, Option, Some, None, IfSome, sym, subst, ◌∙◌}
 use Rattle.al_base.specs.Batch.{key_of}
 use Rattle.al_base.specs.declared.unit_key.UnitKey.{UnitKey}
 use Rattle.al_unit_graph.specs.Headers.{Library}
@@ -10,6 +10,10 @@ use Rattle.al_entries.specs.EntryLaw.{TextMeaning}
 use Rattle.al_engine_batch.specs.Batches.{IsBatch, IsCompiled}
 use Rattle.al_engine_batch.specs.declared.compiled.Compiled.{Compiled}
 use Rattle.al_engine_batch.specs.declared.compiled.Compiled.TheVariants.{Faulty, Unbound, TooLarge, Made}
+use Rattle.std.specs.Option.{option_map}
+use Rattle.al_engine_graph.specs.Graphs.{HaveOneGraph, HaveSameHeaders}
+use Rattle.al_engine_graph.specs.Kept.{IsGraphOf}
+use Rattle.al_engine_graph.specs.declared.graph.UnitGraph.{UnitGraph}
 use Rattle.al_engine_reported.specs.Gave.{order_of}
 use Rattle.al_engine.specs.Graphs.{IsOrdered}
 
@@ -37,3 +41,18 @@ module _ (lib : Library) (f : UnitKey → Option Outcome) (main : List ℕ) wher
 -- the order that compiling from nothing gives is one of elaboration
 pub compiled_orders : (meaning : TextMeaning) (s : Setting) (main : List ℕ) (compiled : Compiled) → IsCompiled meaning s main compiled → IsOrdered s.files main compiled
 compiled_orders meaning s main compiled is = batch_orders s.files is.outcomes main compiled is.is_batch
+
+-- what is so of what there is
+pub some_has : {X : Type 0} (o : Option X) (x : X) (P : X → Type 0) → o ≡ Some x → IfSome o P → P x
+some_has {X} o x P is has = subst (λ (p : Option X). IfSome p P) is has
+
+pub graph_stays : (old new : Library) (graph : UnitGraph) → HaveOneGraph old new → HaveSameHeaders old new → IsGraphOf old graph → IsGraphOf new graph
+graph_stays old new graph one same is = record {
+  faults = is.faults ∙ (λ i. map (λ file. (file, one.faults file i)) (same.files i));
+  order = one.dependence (map key_of graph.order.items) is.order;
+}
+
+pub order_stays : (old new : Library) (main : List ℕ) (compiled : Compiled) (found : Option (Bor (List UnitKey))) → HaveOneGraph old new → IsOrdered old main compiled → option_map (λ order. order.now) found ≡ order_of compiled
+    → IfSome found (λ order. IsElaboration new main (map key_of order.now))
+order_stays old new main compiled None one is e = tt
+order_stays old new main compiled (Some order) one is e = one.elaboration main (map key_of order.now) (is order.now (sym e))
