@@ -25,7 +25,7 @@ module _ (meaning : TextMeaning) (header : List ℕ → Header) (predefined : Qu
   module _ {C P : Type 0} (count : C → ℕ) (table : Query → AnswerKind) (same : table ≡ predefined) (main : List ℕ) (old new : Held C P) (build : IsBuild meaning header count table library main old new) where
     -- what the build gave is what compiling the files as they were gives
     build_compiles : CompilesTo meaning header predefined library old.files main build.last.gave.compiled
-    build_compiles = compiled_to old.files main (at_unit old.kept.entries) (at_unit new.kept.entries) build.last.gave (subst (λ (t : Query → AnswerKind). IsRebuilt meaning header t (library old.files) main (at_unit old.kept.entries) (at_unit new.kept.entries) build.last.gave) same build.rebuilt)
+    build_compiles = compiled_to old.files main (at_unit old.cache.entries) (at_unit new.cache.entries) build.last.gave (subst (λ (t : Query → AnswerKind). IsRebuilt meaning header t (library old.files) main (at_unit old.cache.entries) (at_unit new.cache.entries) build.last.gave) same build.rebuilt)
 
     last_only : IsLastOnly meaning header predefined library new.built
     last_only =
@@ -46,10 +46,10 @@ module _ (meaning : TextMeaning) (header : List ℕ → Header) (predefined : Qu
 
   module _ {C P X E : Type 0} (count : C → ℕ) (table : Query → AnswerKind) (same : table ≡ predefined) (main : List ℕ) (old new : Held C P) (result : Result X E) (ok : OnOk result (IsBuild meaning header count table library main old new)) where
     -- what a build leaves is what compiling its files gives, whether it found memory or not
-    pub keeps_only : OnErr result ((new.kept.entries ≡ old.kept.entries) × (new.built ≡ old.built)) → IsLastOnly meaning header predefined library old.built → IsLastOnly meaning header predefined library new.built
+    pub keeps_only : OnErr result ((new.cache.entries ≡ old.cache.entries) × (new.built ≡ old.built)) → IsLastOnly meaning header predefined library old.built → IsLastOnly meaning header predefined library new.built
     keeps_only err right = at result ok err
       where
-        at : (r : Result X E) → OnOk r (IsBuild meaning header count table library main old new) → OnErr r ((new.kept.entries ≡ old.kept.entries) × (new.built ≡ old.built)) → IsLastOnly meaning header predefined library new.built
+        at : (r : Result X E) → OnOk r (IsBuild meaning header count table library main old new) → OnErr r ((new.cache.entries ≡ old.cache.entries) × (new.built ≡ old.built)) → IsLastOnly meaning header predefined library new.built
         at (Ok x) ok err = last_only count table same main old new ok
         at (Err e) ok err = subst (λ (b : Option Built). IsLastOnly meaning header predefined library b) (sym err.1) right
 
