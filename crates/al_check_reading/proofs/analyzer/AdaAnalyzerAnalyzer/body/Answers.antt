@@ -3,7 +3,7 @@ use Rattle.al_view_typed.specs.UnitTrees.{BodyTree}
 use Rattle.al_check_here.proofs.Lists.{if_ok}
 use Rattle.al_stmts_walk.specs.Readings.{giving}
 use Rattle.al_check_reading.specs.Ada.{ada}
-use Rattle.al_check_reading.proofs.analyzer.AdaReaderReader.body.Goals as goal
+use Rattle.al_check_reading.proofs.analyzer.AdaAnalyzerAnalyzer.body.Goals as goal
 
 pub returns-clause-answered : goal.returns-clause-answered
 unfolding ada

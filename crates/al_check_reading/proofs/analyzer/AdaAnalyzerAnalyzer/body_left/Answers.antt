@@ -1,5 +1,5 @@
 use Rattle.al_check_reading.specs.Ada.{ada}
-use Rattle.al_check_reading.proofs.analyzer.AdaReaderReader.body_left.Goals as goal
+use Rattle.al_check_reading.proofs.analyzer.AdaAnalyzerAnalyzer.body_left.Goals as goal
 
 pub returns-clause-answered : goal.returns-clause-answered
 unfolding ada

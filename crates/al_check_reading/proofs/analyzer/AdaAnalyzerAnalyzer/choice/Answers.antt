@@ -4,7 +4,7 @@ use Rattle.al_base_fault.specs.declared.fault.Fault.{Fault}
 use Rattle.al_check_here.proofs.Lists.{if_ok}
 use Rattle.al_stmts_walk.specs.Readings.{giving}
 use Rattle.al_check_reading.specs.Ada.{ada}
-use Rattle.al_check_reading.proofs.analyzer.AdaReaderReader.choice.Goals as goal
+use Rattle.al_check_reading.proofs.analyzer.AdaAnalyzerAnalyzer.choice.Goals as goal
 
 pub returns-clause-answered : goal.returns-clause-answered
 unfolding ada

@@ -1,5 +1,5 @@
 use Rattle.al_check_reading.specs.Ada.{ada}
-use Rattle.al_check_reading.proofs.analyzer.AdaReaderReader.statements_entered.Goals as goal
+use Rattle.al_check_reading.proofs.analyzer.AdaAnalyzerAnalyzer.statements_entered.Goals as goal
 
 pub returns-clause-answered : goal.returns-clause-answered
 unfolding ada

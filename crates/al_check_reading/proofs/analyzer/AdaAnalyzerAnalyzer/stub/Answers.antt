@@ -4,7 +4,7 @@ use Rattle.al_check_declared.specs.HeadsHere.{stub_here}
 use Rattle.al_check_here.proofs.Lists.{if_ok}
 use Rattle.al_tree.specs.DeclarationViews.{specification_model}
 use Rattle.al_check_reading.specs.Ada.{ada}
-use Rattle.al_check_reading.proofs.analyzer.AdaReaderReader.stub.Goals as goal
+use Rattle.al_check_reading.proofs.analyzer.AdaAnalyzerAnalyzer.stub.Goals as goal
 
 pub returns-then-is_nowhere-clause-answered : goal.returns-then-is_nowhere-clause-answered
 unfolding ada

@@ -5,7 +5,7 @@ use Rattle.al_check_here.proofs.Lists.{if_ok}
 use Rattle.al_check_here.specs.Standings.{is_whole}
 use Rattle.al_tree.specs.DeclarationViews.{specification_model}
 use Rattle.al_check_reading.specs.Ada.{ada}
-use Rattle.al_check_reading.proofs.analyzer.AdaReaderReader.subprogram.Goals as goal
+use Rattle.al_check_reading.proofs.analyzer.AdaAnalyzerAnalyzer.subprogram.Goals as goal
 
 pub returns-then-is_nowhere-clause-answered : goal.returns-then-is_nowhere-clause-answered
 unfolding ada

@@ -1,6 +1,6 @@
 use Rattle.al_check_here.proofs.Lists.{on_ok}
 use Rattle.al_check_reading.specs.Ada.{ada}
-use Rattle.al_check_reading.proofs.analyzer.AdaReaderReader.with_parameter.Goals as goal
+use Rattle.al_check_reading.proofs.analyzer.AdaAnalyzerAnalyzer.with_parameter.Goals as goal
 
 pub returns-clause-answered : goal.returns-clause-answered
 unfolding ada
