@@ -53,7 +53,7 @@ impl AllocFailures {
 }
 
 /// One more, to 2^64-1.
-fn one_more(count: u64) -> u64
+pub fn one_more(count: u64) -> u64
     ensures { result ≡ one_more count }
 {
     if count < u64::MAX { count + 1 } else { count }

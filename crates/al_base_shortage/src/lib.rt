@@ -4,4 +4,4 @@
 
 mod failures;
 
-pub use failures::AllocFailures;
+pub use failures::{AllocFailures, one_more};

@@ -1,6 +1,7 @@
 // The checker.
 ghost use Rattle.std.specs.Prelude.{◌≡◌, [], IfOk, OnOk};
-ghost use Rattle.al_query_outcome.specs.ReadsLaw.{AsksOthers, one_more};
+ghost use Rattle.al_query_outcome.specs.ReadsLaw.{AsksOthers};
+ghost use Rattle.al_base_shortage.specs.Counts.{one_more};
 ghost use Rattle.al_query_outcome.specs.Results.{checked_model};
 ghost use Rattle.al_check_bounds.specs.Bounding.{AsksByNames};
 ghost use Rattle.al_check_within.specs.Within.{IsChecked};
@@ -9,6 +10,7 @@ ghost use Rattle.al_check_bounded.specs.Meanings.{header_in, text_meaning};
 
 use crate::texts::check_text;
 use al_base::{NoMemory, UnitKey};
+use al_base_shortage::one_more;
 use al_check_within::UnitFinder;
 use al_query::{Answers, Recorder};
 use al_query_check::UnitCheck;
@@ -50,17 +52,6 @@ impl<F: UnitFinder> BoundedCheck<F> {
     {
         self.checks = one_more(self.checks);
         check_text(alloc, &self.finder, unit, text, recorder)
-    }
-}
-
-/// One more, to the greatest number of 64 bits.
-fn one_more(checks: u64) -> u64
-    ensures { result ≡ one_more checks }
-{
-    if checks < u64::MAX {
-        checks + 1
-    } else {
-        checks
     }
 }
 

@@ -2,7 +2,7 @@
 ghost use Rattle.std.specs.Prelude.{◌≡◌, [], IfOk, OnOk, MatchOption, Some};
 ghost use Rattle.al_query.specs.Reads.{Agrees};
 ghost use Rattle.al_unit_map.specs.Units.{at_unit};
-ghost use Rattle.al_query_outcome.specs.ReadsLaw.{one_more};
+ghost use Rattle.al_base_shortage.specs.Counts.{one_more};
 ghost use Rattle.al_entries.specs.EntryLaw.{HasCurrent, IsCurrent, KeepsLaw};
 ghost use Rattle.al_engine_refresh.specs.Builds.{has_sound_dependences, present, results_of, text_of};
 ghost use Rattle.al_engine_refresh.specs.Handling.{Handled};

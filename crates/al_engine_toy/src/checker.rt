@@ -8,13 +8,14 @@ ghost use Rattle.al_query.specs.Reads.{FromAnswers, logged};
 ghost use Rattle.al_query.specs.declared.answer.AnswerKind.{AnswerKind};
 ghost use Rattle.al_query.specs.declared.query.Property.TheVariants.{Parent};
 ghost use Rattle.al_query.specs.declared.query.Query.TheVariants.{Of};
-ghost use Rattle.al_query_outcome.specs.ReadsLaw.{one_more};
+ghost use Rattle.al_base_shortage.specs.Counts.{one_more};
 ghost use Rattle.al_query_outcome.specs.Results.{checked_model};
 ghost use Rattle.al_engine_toy.specs.Toys.{IsJudged, another, first_named, header_in, is_marked, toy_meaning};
 
 use crate::outcomes::{faulty, plain};
 use crate::reading::{first_named, is_marked};
 use al_base::{NoMemory, UnitKey};
+use al_base_shortage::one_more;
 use al_query::{Answer, Answers, Property, Query, Recorder};
 use al_query_check::UnitCheck;
 use al_query_outcome::Checked;
@@ -119,13 +120,6 @@ impl Toy {
     {
         Toy { made: 0 }
     }
-}
-
-/// One more, to the greatest number of 64 bits.
-fn one_more(made: u64) -> u64
-    ensures { result ≡ one_more made }
-{
-    if made < u64::MAX { made + 1 } else { made }
 }
 
 impl UnitCheck for Toy {

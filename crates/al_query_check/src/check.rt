@@ -5,7 +5,8 @@ ghost use Rattle.al_query.specs.Reads.{Agrees};
 ghost use Rattle.al_query.specs.declared.answer.AnswerKind.{AnswerKind};
 ghost use Rattle.al_query.specs.declared.query.Query.{Query};
 ghost use Rattle.al_query_outcome.specs.Defines.{DefinesOwn, ShowsOnly};
-ghost use Rattle.al_query_outcome.specs.ReadsLaw.{AsksOthers, FaultsFit, HasCode, NamesOnly, UsesOnly, named_by, one_more};
+ghost use Rattle.al_query_outcome.specs.ReadsLaw.{AsksOthers, FaultsFit, HasCode, NamesOnly, UsesOnly, named_by};
+ghost use Rattle.al_base_shortage.specs.Counts.{one_more};
 ghost use Rattle.al_query_outcome.specs.Results.{checked_model};
 
 use al_base::{NoMemory, UnitKey};

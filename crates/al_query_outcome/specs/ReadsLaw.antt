@@ -1,5 +1,5 @@
 -- What a check may ask and what its result may name.
-use Rattle.std.specs.Prelude.{ℕ, ◌+◌, ◌-◌, ◌^◌, ◌≡◌, ◌⊎◌, Bool, true, ◌&&◌, ◌||◌, ◌==◌, not, List, [], ◌∷◌, ◌++◌, ⊤, map, nat_lt, Option, Some, None, length, if◌then◌else◌}
+use Rattle.std.specs.Prelude.{ℕ, ◌≡◌, ◌⊎◌, Bool, true, ◌&&◌, ◌||◌, ◌==◌, not, List, [], ◌∷◌, ◌++◌, ⊤, map, nat_lt, Option, Some, None, length, if◌then◌else◌}
 use Rattle.std.specs.List.{Contains, flat_map, list_all, list_any}
 use Rattle.std.specs.Option.{option_map_or}
 use Rattle.std.specs.Str.{bytes_eq}
@@ -106,7 +106,3 @@ is_fault_of unit d = bytes_eq d.file (file_name_of (key_of unit)) && is_check_co
 abbrev pub FaultsFit : UnitKey → Outcome → Type 0
 FaultsFit unit (Faulty faults) = (nat_lt 0 (length faults) ≡ true) × (list_all (is_fault_of unit) faults ≡ true)
 FaultsFit unit (Sound interface tree) = ⊤
-
--- one more, to the greatest number of 64 bits
-abbrev pub one_more : ℕ → ℕ
-one_more n = if nat_lt n (2 ^ 64 - 1) then n + 1 else n
