@@ -3,7 +3,9 @@
 programs.py --gnat [NAME..]: the same through GNAT, where there is one.
 
 tests/programs/NAME holds the units of one Ada program, whose main unit is NAME, beside `stdout`, what it writes, and `outcome`, how its
-run ends where it doesn't end `finished`. Where the file `no-gnat` is there, GNAT's run differs, for the reason in it.
+run ends where it doesn't end `finished`. Where the file `no-gnat` is there, GNAT's run differs, for the reason in it. GNAT gets programs with tasks or
+protected objects under the Ravenscar profile, on one processor, and with the main procedure at priority 15; there no task ever ends, so what is
+written within four seconds counts.
 
 Each program is put, its units are reported, it is built and run: every unit is sound, and the run's reply is held against the files. The last line
 is `N passed, M failed`.
@@ -14,6 +16,7 @@ import subprocess
 import sys
 import tempfile
 
+RAVENSCAR = "pragma Profile (Ravenscar);\npragma Partition_Elaboration_Policy (Sequential);\n"
 PROGRAMS = pathlib.Path(__file__).resolve().parent / "programs"
 STEPS = 1_000_000_000
 
@@ -64,10 +67,29 @@ def by_program(program, folder):
     return judged(folder, done.stdout)
 
 
+def has_tasks(folder):
+    return any(re.search(rb"^\s*(task|protected)\b", it.read_bytes(), re.M) for it in files_of(folder))
+
+
+def by_ravenscar(folder, room):
+    """What is wrong with GNAT's run of a program with tasks, or None."""
+    (room / "gnat.adc").write_text(RAVENSCAR)
+    (room / "gnat_main.adb").write_text(f"with {folder.name};\nprocedure Gnat_Main is\n   pragma Priority (15);\nbegin\n   {folder.name};\nend Gnat_Main;\n")
+    made = subprocess.run(["gnatmake", "-q", "-gnat2012", "gnat_main"], cwd=room, stdout=subprocess.PIPE, stderr=subprocess.STDOUT)
+    if made.returncode != 0:
+        return made.stdout.decode(errors="replace")
+    done = subprocess.run(["timeout", "4", "taskset", "-c", "0", room / "gnat_main"], stdout=subprocess.PIPE, stderr=subprocess.PIPE)
+    if done.stderr:
+        return f"{done.stderr[-300:]!r}"
+    return None if done.stdout == (folder / "stdout").read_bytes() else f"{done.stdout[-300:]!r}"
+
+
 def by_gnat(folder):
     with tempfile.TemporaryDirectory() as room:
         for it in files_of(folder):
             (pathlib.Path(room) / it.name).write_bytes(it.read_bytes())
+        if has_tasks(folder):
+            return by_ravenscar(folder, pathlib.Path(room))
         made = subprocess.run(["gnatmake", "-q", "-gnat2012", folder.name], cwd=room, stdout=subprocess.PIPE, stderr=subprocess.STDOUT)
         if made.returncode != 0:
             return made.stdout.decode(errors="replace")

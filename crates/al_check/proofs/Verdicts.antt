@@ -1,5 +1,5 @@
--- What is found of a unit, by whether it is compiled, by its start, and by the faults of its item.
-use Rattle.std.proofs.Common.{◌≡◌, ◌≢◌, ℕ, Bool, true, false, List, [], ◌∷◌, map, Option, Some, None, Result, Ok, Err, refl, ap, sym, ◌∙◌, if◌then◌else◌}
+-- What is found of a unit, by its start and by the faults of its item.
+use Rattle.std.proofs.Common.{◌≡◌, ◌≢◌, ℕ, List, [], ◌∷◌, map, Option, Some, None, Result, Ok, Err, refl, ap, ◌∙◌}
 use Rattle.al_base.specs.declared.diagnostic.Diagnostic.{Diagnostic}
 use Rattle.al_base.specs.declared.unit_key.UnitKey.{UnitKey}
 use Rattle.al_tree_syntax.specs.UnitTrees.{CompilationUnitTree}
@@ -18,11 +18,10 @@ use Rattle.al_check_start.specs.declared.unit.UnitStart.{UnitStart}
 use Rattle.al_check_made.specs.Ended.{ended, right_at, viewed}
 use Rattle.al_check_made.specs.Made.{fault_in, faults_in, unless_wrong}
 use Rattle.al_check_made.specs.Said.{own_view}
-use Rattle.al_check_made.specs.Uncompiled.{is_not_compiled}
 use Rattle.al_check_made.specs.declared.after.EndedText.{EndedText}
 use Rattle.al_check_made.specs.declared.after.UnitFacts.{UnitFacts}
 use Rattle.al_check.specs.Ada.{ada_verdict, ended_text, item_faults, item_walked, round_of, verdict_from}
-use Rattle.al_check.specs.Laws.{ItemFaultsAreReported, SoundUnitsHaveNoFault, StartFaultsAreReported, UncompiledIsRefused}
+use Rattle.al_check.specs.Laws.{ItemFaultsAreReported, SoundUnitsHaveNoFault, StartFaultsAreReported}
 
 -- ---- what is found after an item
 
@@ -57,33 +56,22 @@ module _ (r : UnitFacts) (e : EndedText) (x : Inside) where
 
 -- ---- what is found of a unit
 
-abbrev in_all : Table → UnitKey → CompilationUnitTree → Bool → Result UnitStart Fault → Verdict
-in_all t unit tree b start = if b then Wrong [] else verdict_from t unit tree start
+right_in : (t : Table) (unit : UnitKey) (tree : CompilationUnitTree) (start : Result UnitStart Fault) (i : UnitInterface) (made : UnitTree) → verdict_from t unit tree start ≡ Right i made
+    → (s : UnitStart) × (start ≡ Ok s) × (all_faults (item_faults t tree s) ≡ [])
+right_in t unit tree (Err f) i made h = absurd (cc)
+right_in t unit tree (Ok s) i made h = (s, refl, ended_right (round_of tree s) (ended_text (ends_of (item_walked t tree s).0)) (item_walked t tree s).1 i made h)
 
-right_in : (t : Table) (unit : UnitKey) (tree : CompilationUnitTree) (b : Bool) (start : Result UnitStart Fault) (i : UnitInterface) (made : UnitTree) → in_all t unit tree b start ≡ Right i made
-    → (s : UnitStart) × (b ≡ false) × (start ≡ Ok s) × (all_faults (item_faults t tree s) ≡ [])
-right_in t unit tree true start i made h = absurd (cc)
-right_in t unit tree false (Err f) i made h = absurd (cc)
-right_in t unit tree false (Ok s) i made h = (s, refl, refl, ended_right (round_of tree s) (ended_text (ends_of (item_walked t tree s).0)) (item_walked t tree s).1 i made h)
-
-module _ (unit : UnitKey) (text : List ℕ) (tree : CompilationUnitTree) (t : Table) where
-  pub uncompiled_is : (b : Bool) → b ≡ is_not_compiled text tree → in_all t unit tree b (unit_at t unit tree) ≡ ada_verdict unit text tree t
-  unfolding ada_verdict
-  uncompiled_is b h = ap (λ (c : Bool). in_all t unit tree c (unit_at t unit tree)) h
-
-  started : (start : Result UnitStart Fault) → is_not_compiled text tree ≡ false → unit_at t unit tree ≡ start → ada_verdict unit text tree t ≡ verdict_from t unit tree start
-  started start c h = sym (uncompiled_is false (sym c)) ∙ ap (verdict_from t unit tree) h
-
-pub uncompiled_refused : UncompiledIsRefused
-uncompiled_refused unit text tree t h = sym (uncompiled_is unit text tree t true (sym h))
+started : (unit : UnitKey) (text : List ℕ) (tree : CompilationUnitTree) (t : Table) (start : Result UnitStart Fault) → unit_at t unit tree ≡ start → ada_verdict unit text tree t ≡ verdict_from t unit tree start
+unfolding ada_verdict
+started unit text tree t start h = ap (verdict_from t unit tree) h
 
 pub start_told : StartFaultsAreReported
-start_told unit text tree t f c h = started unit text tree t (Err f) c h
+start_told unit text tree t f h = started unit text tree t (Err f) h
 
 pub item_told : ItemFaultsAreReported
-item_told unit text tree t s c h some =
-    started unit text tree t (Ok s) c h ∙ ended_wrong (round_of tree s) (ended_text (ends_of (item_walked t tree s).0)) (item_walked t tree s).1 some
+item_told unit text tree t s h some =
+    started unit text tree t (Ok s) h ∙ ended_wrong (round_of tree s) (ended_text (ends_of (item_walked t tree s).0)) (item_walked t tree s).1 some
 
 pub sound_faultless : SoundUnitsHaveNoFault
 unfolding ada_verdict
-sound_faultless unit text tree t i made h = right_in t unit tree (is_not_compiled text tree) (unit_at t unit tree) i made h
+sound_faultless unit text tree t i made h = right_in t unit tree (unit_at t unit tree) i made h

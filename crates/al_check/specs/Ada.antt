@@ -1,7 +1,7 @@
 -- What is found in the text of an Ada unit, under a table of answers.
-use Rattle.std.specs.Prelude.{ℕ, List, [], ◌∷◌, None, Result, Ok, Err, if◌then◌else◌}
+use Rattle.std.specs.Prelude.{ℕ, List, [], ◌∷◌, None, Result, Ok, Err}
 use Rattle.al_base.specs.declared.unit_key.UnitKey.{UnitKey}
-use Rattle.al_tree_syntax.specs.UnitTrees.{CompilationUnitTree, LibraryItemTree}
+use Rattle.al_tree_syntax.specs.UnitTrees.{CompilationUnitTree}
 use Rattle.al_unit_header.specs.Units.{header_of}
 use Rattle.al_unit_graph.specs.Headers.{Header}
 use Rattle.al_query.specs.Reads.{Table}
@@ -15,7 +15,6 @@ use Rattle.al_check_within.specs.Verdicts.Verdict.{Wrong}
 use Rattle.al_check_known.specs.Starts.{units_known}
 use Rattle.al_check_start.specs.UnitsAt.{unit_at}
 use Rattle.al_check_start.specs.declared.unit.UnitStart.{UnitStart}
-use Rattle.al_stmts_ends.specs.BodyEnds.{unit_ends}
 use Rattle.al_check_here.specs.Ends.{ends_of}
 use Rattle.al_check_here.specs.Standings.{begun_at}
 use Rattle.al_check_here.specs.declared.ends.Ends.{Ends}
@@ -26,18 +25,17 @@ use Rattle.al_check_made.specs.Constants.{predefined, the_memory}
 use Rattle.al_check_made.specs.Ended.{ended}
 use Rattle.al_check_made.specs.Lines.{item_line}
 use Rattle.al_check_made.specs.Made.{fault_in}
-use Rattle.al_check_made.specs.Uncompiled.{is_not_compiled}
 use Rattle.al_check_made.specs.declared.after.EndedText.{EndedText}
 use Rattle.al_check_made.specs.declared.after.UnitFacts.{UnitFacts}
 
 -- ---- where the item of a unit begins that starts so
 
--- what stays the same in its text: what every unit has, the packages that are mentioned, what the text says of its place, and where its bodies end
-abbrev pub text_of : LibraryItemTree → List UnitKey → OwnText → UnitText
-text_of item packages own = record { labeller = record { alloc = the_memory; predefined = predefined; own = None }; packages = packages; own = own; ends = unit_ends item }
+-- what stays the same in its text: what every unit has, the packages that are mentioned, and what the text says of its place
+abbrev pub text_of : List UnitKey → OwnText → UnitText
+text_of packages own = record { labeller = record { alloc = the_memory; predefined = predefined; own = None }; packages = packages; own = own }
 
 abbrev pub standing_of : CompilationUnitTree → UnitStart → CheckState
-standing_of tree s = begun_at (text_of tree.item s.packages s.own) s.scope s.progress s.uncompleted
+standing_of tree s = begun_at (text_of s.packages s.own) s.scope s.progress s.uncompleted
 
 -- what is known of it before its item is walked
 abbrev pub round_of : CompilationUnitTree → UnitStart → UnitFacts
@@ -79,6 +77,6 @@ verdict_from t unit tree (Ok s) = item_verdict t tree s
 abbrev pub ada_units : UnitKey → Header → Table → List UnitKey
 ada_units unit h t = units_known t unit h
 
--- what is found in its text: nothing where it isn't compiled yet, which is E700
+-- what is found in its text
 unfoldable pub ada_verdict : UnitKey → List ℕ → CompilationUnitTree → Table → Verdict
-ada_verdict unit text tree t = if is_not_compiled text tree then Wrong [] else verdict_from t unit tree (unit_at t unit tree)
+ada_verdict unit text tree t = verdict_from t unit tree (unit_at t unit tree)

@@ -1,5 +1,5 @@
 -- What the check of an Ada unit tells, and of which units it gives an interface.
-use Rattle.std.specs.Prelude.{◌≡◌, ◌≢◌, ℕ, true, false, List, [], ◌∷◌, Ok, Err}
+use Rattle.std.specs.Prelude.{◌≡◌, ◌≢◌, ℕ, List, [], ◌∷◌, Ok, Err}
 use Rattle.al_base.specs.declared.unit_key.UnitKey.{UnitKey}
 use Rattle.al_tree_syntax.specs.UnitTrees.{CompilationUnitTree}
 use Rattle.al_query.specs.Reads.{Table}
@@ -11,24 +11,19 @@ use Rattle.al_check_within.specs.Verdicts.Verdict.{Wrong, Right}
 use Rattle.al_check_start.specs.UnitsAt.{unit_at}
 use Rattle.al_check_start.specs.declared.unit.UnitStart.{UnitStart}
 use Rattle.al_check_made.specs.Made.{fault_in, faults_in}
-use Rattle.al_check_made.specs.Uncompiled.{is_not_compiled}
 use Rattle.al_check.specs.Ada.{ada_verdict, item_faults, unit_after}
-
--- what isn't compiled yet is told so
-abbrev pub UncompiledIsRefused : Type 0
-UncompiledIsRefused = (unit : UnitKey) (text : List ℕ) (tree : CompilationUnitTree) (t : Table) → is_not_compiled text tree ≡ true → ada_verdict unit text tree t ≡ Wrong []
 
 -- a fault of the context clause or of the defining name is told, alone
 abbrev pub StartFaultsAreReported : Type 0
-StartFaultsAreReported = (unit : UnitKey) (text : List ℕ) (tree : CompilationUnitTree) (t : Table) (f : Fault) → is_not_compiled text tree ≡ false → unit_at t unit tree ≡ Err f
+StartFaultsAreReported = (unit : UnitKey) (text : List ℕ) (tree : CompilationUnitTree) (t : Table) (f : Fault) → unit_at t unit tree ≡ Err f
     → ada_verdict unit text tree t ≡ Wrong (fault_in unit f ∷ [])
 
 -- of an item with faults all are told
 abbrev pub ItemFaultsAreReported : Type 0
-ItemFaultsAreReported = (unit : UnitKey) (text : List ℕ) (tree : CompilationUnitTree) (t : Table) (s : UnitStart) → is_not_compiled text tree ≡ false → unit_at t unit tree ≡ Ok s
+ItemFaultsAreReported = (unit : UnitKey) (text : List ℕ) (tree : CompilationUnitTree) (t : Table) (s : UnitStart) → unit_at t unit tree ≡ Ok s
     → all_faults (item_faults t tree s) ≢ [] → ada_verdict unit text tree t ≡ Wrong (faults_in (unit_after t tree s) (item_faults t tree s))
 
--- only a unit that is compiled, and has no fault in its start or in its item, has an interface
+-- only a unit that has no fault in its start and none in its item has an interface
 abbrev pub SoundUnitsHaveNoFault : Type 0
 SoundUnitsHaveNoFault = (unit : UnitKey) (text : List ℕ) (tree : CompilationUnitTree) (t : Table) (i : UnitInterface) (made : UnitTree) → ada_verdict unit text tree t ≡ Right i made
-    → (s : UnitStart) × (is_not_compiled text tree ≡ false) × (unit_at t unit tree ≡ Ok s) × (all_faults (item_faults t tree s) ≡ [])
+    → (s : UnitStart) × (unit_at t unit tree ≡ Ok s) × (all_faults (item_faults t tree s) ≡ [])

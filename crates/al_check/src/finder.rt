@@ -13,7 +13,7 @@ use al_base::{NoMemory, UnitKey};
 use al_base_fault::{CheckResult, Fault};
 use al_check_bounded::BoundedCheck;
 use al_check_known::units_known;
-use al_check_made::{diagnostic, is_not_compiled};
+use al_check_made::diagnostic;
 use al_check_start::{UnitStart, unit_at};
 use al_check_within::{UnitFinder, UnitResult, UnitVerdict};
 use al_query::{Answers, Recorder};
@@ -21,17 +21,6 @@ use al_tree::CompilationUnit;
 use al_unit_graph::Header;
 use al_view::Seq;
 use std::alloc::Global;
-
-/// A unit that isn't compiled yet.
-fn not_yet<A: Answers + Drop>(alloc: Global, recorder: Recorder<A>) -> UnitResult
-    ensures agrees { Agrees (A.table recorder.asked) result.log }
-    ensures finding { verdict_of result.finding ≡ Wrong [] }
-{
-    UnitResult {
-        finding: UnitVerdict::Faulty(Seq::empty(alloc)),
-        log: recorder.into_log(),
-    }
-}
 
 /// The fault of a unit's start.
 fn one_fault(alloc: Global, unit: &UnitKey, fault: &Fault) -> Result<UnitVerdict, NoMemory>
@@ -83,7 +72,7 @@ fn find_from<A: Answers + Drop>(
     }
 }
 
-/// What is found in the text of a unit that may be compiled.
+/// What is found in the text of a unit.
 fn find_in<A: Answers + Drop>(
     alloc: Global,
     unit: &UnitKey,
@@ -128,18 +117,11 @@ impl UnitFinder for AdaFinder {
         &self,
         alloc: Global,
         unit: &UnitKey,
-        text: &[u8],
+        _text: &[u8],
         tree: &CompilationUnit,
         recorder: Recorder<A>,
     ) -> Result<UnitResult, NoMemory> {
-        match is_not_compiled(alloc, text, tree) {
-            Ok(true) => Ok(not_yet(alloc, recorder)),
-            Ok(false) => find_in(alloc, unit, tree, recorder),
-            Err(error) => {
-                drop(recorder);
-                Err(error)
-            }
-        }
+        find_in(alloc, unit, tree, recorder)
     }
 }
 

@@ -1,9 +1,8 @@
 //! Laws of what is found, as contracts of functions without code.
-ghost use Rattle.al_check.specs.Laws.{ItemFaultsAreReported, SoundUnitsHaveNoFault, StartFaultsAreReported, UncompiledIsRefused};
+ghost use Rattle.al_check.specs.Laws.{ItemFaultsAreReported, SoundUnitsHaveNoFault, StartFaultsAreReported};
 
-/// Whatever is wrong with a unit is told: that it isn't compiled yet, the fault of its start, or all faults of its item.
+/// Whatever is wrong with a unit is told: the fault of its start, or all faults of its item.
 pub fn faults_are_reported()
-    ensures uncompiled { UncompiledIsRefused }
     ensures start { StartFaultsAreReported }
     ensures item { ItemFaultsAreReported }
 {}

@@ -1,6 +1,6 @@
 // Where the item of a unit begins.
 ghost use Rattle.std.specs.Prelude.{◌≡◌, IfOk};
-ghost use Rattle.al_tree.specs.UnitViews.{library_item_model, unit_model};
+ghost use Rattle.al_tree.specs.UnitViews.{unit_model};
 ghost use Rattle.al_unit_header.specs.Units as headers;
 ghost use Rattle.al_check.specs.Ada.{round_of, standing_of, text_of};
 
@@ -10,23 +10,16 @@ use al_check_made::{UnitFacts, item_line, predefined_everywhere};
 use al_check_start::UnitStart;
 use al_overload_nodes::Labeller;
 use al_scope_unit::OwnText;
-use al_stmts_ends::ends_in;
-use al_tree::{CompilationUnit, LibraryItem};
+use al_tree::CompilationUnit;
 use al_unit_header::header_of;
 use al_view::Seq;
 use std::alloc::Global;
 
 /// What stays the same in the text of a unit.
-fn text_of(
-    alloc: Global,
-    item: &LibraryItem,
-    packages: Seq<UnitKey>,
-    own: OwnText,
-) -> Result<UnitText, NoMemory>
-    ensures { IfOk result (λ text. text ≡ text_of (library_item_model item.now) packages own) }
+fn text_of(alloc: Global, packages: Seq<UnitKey>, own: OwnText) -> Result<UnitText, NoMemory>
+    ensures { IfOk result (λ text. text ≡ text_of packages own) }
 {
     let predefined = predefined_everywhere(alloc)?;
-    let ends = ends_in(alloc, item)?;
     let labeller = Labeller {
         alloc,
         predefined,
@@ -36,7 +29,6 @@ fn text_of(
         labeller,
         packages,
         own,
-        ends,
     })
 }
 
@@ -76,7 +68,7 @@ pub(crate) fn begun_at(
         parent,
         view,
     } = start;
-    let text = text_of(alloc, &tree.item, packages, own)?;
+    let text = text_of(alloc, packages, own)?;
     let line = item_line(&tree.item);
     let unit_facts = UnitFacts {
         needs_body,

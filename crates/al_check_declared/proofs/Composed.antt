@@ -1,5 +1,5 @@
 -- What follows from results; what changes of a place that is put in place of another one.
-use Rattle.std.proofs.Common.{◌≡◌, List, IfOk, OnOk, Option, Result, Ok, Err, refl, ap, ◌∙◌, rules}
+use Rattle.std.proofs.Common.{◌≡◌, Bool, true, false, if◌then◌else◌, List, IfOk, OnOk, Option, Some, None, Result, Ok, Err, refl, ap, ◌∙◌, rules}
 use Rattle.al_check_here.specs.Faulty.{effect_settled}
 use Rattle.al_check_here.specs.Standings.{with_here}
 use Rattle.al_check_here.specs.declared.state.CheckState.{CheckState}
@@ -14,7 +14,22 @@ use Rattle.al_decl_profile.specs.declared.heading.Heading.{Heading}
 use Rattle.al_view_typed.specs.DeclarationTrees.{DeclarationTree}
 use Rattle.al_view.specs.Named.{Declarations}
 use Rattle.al_view.specs.declared.symbol.Symbol.{Symbol}
+use Rattle.al_base_fault.specs.Judging.{map_ok, unless}
+use Rattle.al_check_here.specs.BodiesHere.{nested_entered}
+use Rattle.al_check_here.specs.declared.state.AnalyzedHeading.{AnalyzedHeading}
+use Rattle.al_check_here.specs.declared.state.BodyRole.{BodyRole}
+use Rattle.al_check_here.specs.declared.state.OpenObject.{OpenObject}
+use Rattle.al_check_objects.specs.OpenObjects.{is_of_object, renewed_in}
+use Rattle.al_decl_profile.specs.Headings.{is_function}
+use Rattle.al_check_declared.specs.EnteredHere.{nested_body}
+use Rattle.al_decl.specs.Checking.{at_place}
+use Rattle.al_decl_judged.specs.declared.names.DefiningName.{DefiningName}
+use Rattle.al_decl_protected.specs.Bodies.{Named, named_model}
+use Rattle.al_decl_protected.specs.declared.body.NamedBody.{NamedBody}
+use Rattle.al_tree_syntax.specs.StatementTrees.{OperationBodiesTree}
+use Rattle.al_view.specs.declared.view.ViewKind.{ViewKind}
 use Rattle.al_check_declared.specs.HeadsHere.{head_settled, stub_settled}
+use Rattle.al_check_declared.specs.ObjectsHere.{named_settled, object_settled, operation_settled}
 use Rattle.al_check_declared.specs.WholeHere.{own_settled, whole_settled, with_taken}
 
 pub if_ok : {A E : Type 0} (r : Result A E) (P Q : A → Type 0) → ((a : A) → P a → Q a) → IfOk r P → IfOk r Q
@@ -54,3 +69,37 @@ pub whole_same : (h : CheckState) (p : Progress) (w : List Completion) (head : H
     → whole_settled (with_here h (with_taken h.env p w)) head x ≡ whole_settled h head x
 whole_same h p w head (Ok x) = refl
 whole_same h p w head (Err f) = refl
+
+pub operation_same : (h : CheckState) (p : Environment) (head : Heading) (x : Result (Environment × (Option DeclarationTree × Symbol)) Fault) → operation_settled (with_here h p) head x ≡ operation_settled h head x
+operation_same h p head (Ok x) = refl
+operation_same h p head (Err f) = refl
+
+pub named_same : (h : CheckState) (p : Environment) (role : BodyRole) (n : DefiningName) (x : Result Named Fault) → named_settled (with_here h p) role n x ≡ named_settled h role n x
+named_same h p role n (Ok x) = refl
+named_same h p role n (Err f) = refl
+
+pub object_same : (h : CheckState) (p : Environment) (os : OperationBodiesTree) (x : Result Named Fault) → object_settled (with_here h p) os x ≡ object_settled h os x
+object_same h p os (Ok x) = refl
+object_same h p os (Err f) = refl
+
+-- with a fault more, at a place
+pub entry_made : (e : Environment) (wrong : Option Fault) (checked made : Result NamedBody Fault) (x : Result Named Fault)
+    → made ≡ unless wrong checked → at_place e (map_ok named_model checked) ≡ x → at_place e (map_ok named_model made) ≡ unless wrong x
+entry_made e wrong checked made x made_is is =
+    ap (λ (m : Result NamedBody Fault). at_place e (map_ok named_model m)) made_is ∙ placed e wrong checked ∙ ap (unless wrong) is
+  where
+    placed : (e : Environment) (wrong : Option Fault) (checked : Result NamedBody Fault) → at_place e (map_ok named_model (unless wrong checked)) ≡ unless wrong (at_place e (map_ok named_model checked))
+    placed e None checked = refl
+    placed e (Some f) (Ok b) = refl
+    placed e (Some f) (Err g) = refl
+
+-- the head that was read is kept no longer than till its body is entered
+pub nested_kept : (h : CheckState) (p : Option AnalyzedHeading) (read : AnalyzedHeading) → nested_body h read ≡ nested_body (record h { pending = p }) read
+nested_kept h p read = by_cases (is_of_object read.role) h.object
+  where
+    by_cases : (b : Bool) (o : Option OpenObject)
+        → nested_entered (if b then renewed_in h (is_function read.heading.returned) o else h) read
+        ≡ nested_entered (if b then renewed_in (record h { pending = p }) (is_function read.heading.returned) o else record h { pending = p }) read
+    by_cases false o = refl
+    by_cases true None = refl
+    by_cases true (Some o) = refl

@@ -1,6 +1,6 @@
 -- Declarations where the check of a unit stands (ARM 3.1, 6.1, 8.4), by a table of answers.
 use Rattle.std.specs.Prelude.{ℕ, Bool, ◌&&◌, List, [], Option, Some, None, Result, Ok, Err, if◌then◌else◌}
-use Rattle.al_check_here.specs.BodiesHere.{first_line}
+use Rattle.al_stmts_walk.specs.Walking.{first_line}
 use Rattle.al_check_here.specs.Faulty.{effect_settled, ended}
 use Rattle.al_check_here.specs.PartsHere.{with_uses}
 use Rattle.al_check_here.specs.Stacks.{is_bare}

@@ -5,6 +5,7 @@ use Rattle.al_check_here.specs.PartsHere.{private_begun}
 use Rattle.al_check_here.specs.Standings.{is_nowhere, is_whole}
 use Rattle.al_check_here.specs.declared.state.AnalyzedHeading.{AnalyzedHeading}
 use Rattle.al_check_here.specs.declared.state.CheckState.{CheckState}
+use Rattle.al_check_objects.specs.OpenObjects.{is_of_object, renewed}
 use Rattle.al_query.specs.Reads.{Table}
 use Rattle.al_scope_unit.specs.UnitPlaces.{private_regions}
 use Rattle.al_check_declared.specs.DeclarationsHere.{with_regions}
@@ -20,9 +21,16 @@ private_here t h = private_begun (opened t h)
 abbrev pub whole_body : Table → CheckState → AnalyzedHeading → CheckState
 whole_body t h read = if is_nowhere h then h else whole_entered (with_regions h (private_regions t h.unit.own h.env.scope.regions)) read
 
+-- the body of an operation of a protected object, in that one's region, which is entered anew for it; or of what else stands inside the unit
+abbrev pub renewed_for : CheckState → AnalyzedHeading → CheckState
+renewed_for h read = if is_of_object read.role then renewed h read else h
+
+abbrev pub nested_body : CheckState → AnalyzedHeading → CheckState
+nested_body h read = nested_entered (renewed_for h read) read
+
 abbrev pub read_entered : Table → CheckState → Option AnalyzedHeading → CheckState
 read_entered t h None = h
-read_entered t h (Some read) = if is_whole h then whole_body t h read else nested_entered h read
+read_entered t h (Some read) = if is_whole h then whole_body t h read else nested_body h read
 
 -- after the head that was read last
 abbrev pub body_here : Table → CheckState → CheckState

@@ -1,10 +1,12 @@
 -- Heads of bodies and stubs where the check of a unit stands (ARM 6.3, 10.1.3), by a table of answers.
-use Rattle.std.specs.Prelude.{ℕ, List, Option, Some, None, Result, Ok, Err, is_some}
-use Rattle.al_check_here.specs.BodiesHere.{first_line}
+use Rattle.std.specs.Prelude.{ℕ, true, List, Option, Some, None, Result, Ok, Err, is_some}
+use Rattle.al_stmts_walk.specs.Walking.{first_line}
 use Rattle.al_check_here.specs.Ends.{stub_names}
 use Rattle.al_check_here.specs.Faulty.{effect_list}
 use Rattle.al_check_here.specs.PartsHere.{with_stub}
 use Rattle.al_check_here.specs.Standings.{is_immediate, with_here}
+use Rattle.al_check_here.specs.declared.state.BodyRole.{BodyRole}
+use Rattle.al_check_here.specs.declared.state.BodyRole.TheVariants as roles
 use Rattle.al_check_here.specs.declared.state.CheckState.{CheckState}
 use Rattle.al_decl_completes.specs.CompletingFound.{completing_found}
 use Rattle.al_decl_completion.specs.Standing.{stub_fault}
@@ -28,7 +30,7 @@ heading_here t h s = heading_read (parts_here t h) h.env.scope s
 -- a body or stub with that head, which completes what waits first with its name and its types
 abbrev pub body_at : Table → Environment → ℕ → Option Fault → Heading → Result (Environment × (Option DeclarationTree × Symbol)) Fault
 body_at t env line stub head =
-    body_placed env line stub head (completing_found env.uncompleted head.name (specification_of head) (is_some (head_duplicate t env head)))
+    body_placed env line stub head (completing_found env.uncompleted head.name (specification_of head) true (is_some (head_duplicate t env head)))
 
 -- ---- stubs
 
@@ -51,11 +53,11 @@ stub_here t h s = stub_of t h (first_line s) (heading_here t h s)
 
 -- ---- heads of bodies inside a unit
 
-abbrev pub with_head : CheckState → Environment → Heading → Symbol → CheckState
-with_head h env head symbol = record h { env = env; pending = Some (record { heading = head; symbol = symbol }) }
+abbrev pub with_head : CheckState → Environment → BodyRole → Heading → Symbol → CheckState
+with_head h env role head symbol = record h { env = env; pending = Some (record { role = role; heading = head; symbol = symbol }) }
 
 abbrev pub head_settled : CheckState → Heading → Result (Environment × (Option DeclarationTree × Symbol)) Fault → Read CheckState (List DeclarationTree)
-head_settled h head (Ok x) = (with_head h x.0 head x.1.1, Ok (effect_list x.1.0))
+head_settled h head (Ok x) = (with_head h x.0 roles.Subprogram head x.1.1, Ok (effect_list x.1.0))
 head_settled h head (Err f) = faulty_here h f
 
 abbrev pub head_of : Table → CheckState → ℕ → Heading → Read CheckState (List DeclarationTree)

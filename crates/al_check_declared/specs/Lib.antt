@@ -2,3 +2,4 @@ pub mod DeclarationsHere
 pub mod HeadsHere
 pub mod WholeHere
 pub mod EnteredHere
+pub mod ObjectsHere

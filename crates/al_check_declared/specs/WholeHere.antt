@@ -1,8 +1,9 @@
 -- A unit that is one subprogram (ARM 10.1.1, 10.1.3): its declaration, and the head of its body, which completes its declaration or its stub.
 use Rattle.std.specs.Prelude.{ℕ, false, List, fold, Some, None, Result, Ok, Err}
-use Rattle.al_check_here.specs.BodiesHere.{first_line}
+use Rattle.al_stmts_walk.specs.Walking.{first_line}
 use Rattle.al_check_here.specs.Faulty.{effect_list}
 use Rattle.al_check_here.specs.Standings.{with_here}
+use Rattle.al_check_here.specs.declared.state.BodyRole.TheVariants as roles
 use Rattle.al_check_here.specs.declared.state.CheckState.{CheckState}
 use Rattle.al_decl_completes.specs.CompletingFound.{unit_completing}
 use Rattle.al_decl_type.specs.declared.declaration.Declaration.{Declaration}
@@ -57,7 +58,7 @@ abbrev pub with_whole : CheckState → Heading → DeclaredTree × Symbol → Ch
 with_whole h head x = record h {
   env = record h.env { scope = with_own h.unit.own.unit.name h.env.scope x.0.declarations };
   own = x.0.declarations;
-  pending = Some (record { heading = head; symbol = x.1 });
+  pending = Some (record { role = roles.Subprogram; heading = head; symbol = x.1 });
 }
 
 abbrev pub whole_kept : CheckState → Heading → DeclaredTree × Symbol → Read CheckState (List DeclarationTree)

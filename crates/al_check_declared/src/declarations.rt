@@ -13,12 +13,13 @@ ghost use Rattle.al_check_declared.specs.DeclarationsHere.{declared_here, is_at_
 
 use crate::settled::{Effects, no_place, settle_pragma, settle_uses};
 use al_base::{NoMemory, UnitKind};
-use al_check_here::{CheckState, first_line, settle_effect};
+use al_check_here::{CheckState, settle_effect};
 use al_decl_ada::AdaPartAnalyzer;
 use al_decl_item::{check_object_item, check_subtype_item, check_type_item};
 use al_decl_subprogram::check_subprogram;
 use al_query::{Answers, Recorder};
 use al_scope_uses::{pragma_fault, use_at};
+use al_stmts_walked::first_line;
 use al_tree::{
     CommonDeclaration, ObjectDeclaration, Pragma, Specification, SubtypeDeclaration,
     TypeDeclaration, UseClause,

@@ -5,15 +5,17 @@ ghost use Rattle.al_query.specs.Reads.{FromAnswers};
 ghost use Rattle.al_tree.specs.DeclarationViews.{specification_model};
 ghost use Rattle.al_stmts_walk.specs.Views.{effects_model};
 ghost use Rattle.al_check_declared.specs.HeadsHere.{head_of, nested_head, stub_here, stub_of, stub_wrong};
+ghost use Rattle.al_check_declared.specs.ObjectsHere.{inner_head, operation_head, operation_of};
 
-use crate::placing::{body_at, heading_here};
-use crate::settled::{Effects, settle_head, settle_stub};
+use crate::placing::{body_at, heading_here, operation_at};
+use crate::settled::{Effects, settle_head, settle_operation, settle_stub};
 use al_base::NoMemory;
 use al_base_fault::Fault;
-use al_check_here::{CheckState, first_line, stub_names};
+use al_check_here::{CheckState, stub_names};
 use al_decl_completion::stub_fault;
 use al_decl_profile::Heading;
 use al_query::{Answers, Recorder};
+use al_stmts_walked::first_line;
 use al_tree::Specification;
 
 /// What is wrong with a stub that may not stand there.
@@ -96,7 +98,7 @@ fn head_of<A: Answers>(
 }
 
 /// What stands before the `is` of a body inside the unit (ARM 6.3).
-pub fn nested_head<A: Answers>(
+fn nested_head<A: Answers>(
     state: &mut CheckState,
     specification: &Specification,
     recorder: &mut Recorder<A>,
@@ -107,4 +109,57 @@ pub fn nested_head<A: Answers>(
 {
     let heading = heading_here(state, specification, recorder)?;
     head_of(state, first_line(specification), heading, recorder)
+}
+
+/// The head of the body of an operation.
+fn operation_of<A: Answers>(
+    state: &mut CheckState,
+    line: usize,
+    heading: Heading,
+    recorder: &mut Recorder<A>,
+) -> Result<Effects, NoMemory>
+    requires { 0 < length state.old.env.scope.regions }
+    ensures asked { recorder.new.asked ≡ recorder.old.asked }
+    ensures answered { IfOk result (λ checked. FromAnswers recorder.old.log recorder.new.log (λ t. (state.new, map_ok effects_model checked) ≡ operation_of t state.old line heading)) }
+{
+    let labeller = &state.unit.labeller;
+    let checked = operation_at(
+        labeller.alloc,
+        &labeller.predefined.standard,
+        &mut state.env,
+        line,
+        &heading,
+        recorder,
+    )?;
+    settle_operation(state, heading, checked)
+}
+
+/// What stands before the `is` of the body of a subprogram of a protected object (ARM 9.5.1).
+fn operation_head<A: Answers>(
+    state: &mut CheckState,
+    specification: &Specification,
+    recorder: &mut Recorder<A>,
+) -> Result<Effects, NoMemory>
+    requires { 0 < length state.old.env.scope.regions }
+    ensures asked { recorder.new.asked ≡ recorder.old.asked }
+    ensures answered { IfOk result (λ checked. FromAnswers recorder.old.log recorder.new.log (λ t. (state.new, map_ok effects_model checked) ≡ operation_head t state.old (specification_model specification.now))) }
+{
+    let heading = heading_here(state, specification, recorder)?;
+    operation_of(state, first_line(specification), heading, recorder)
+}
+
+/// What stands before the `is` of a subprogram's body that isn't the unit (ARM 6.3, 9.5.1).
+pub fn inner_head<A: Answers>(
+    state: &mut CheckState,
+    specification: &Specification,
+    recorder: &mut Recorder<A>,
+) -> Result<Effects, NoMemory>
+    requires { 0 < length state.old.env.scope.regions }
+    ensures asked { recorder.new.asked ≡ recorder.old.asked }
+    ensures answered { IfOk result (λ checked. FromAnswers recorder.old.log recorder.new.log (λ t. (state.new, map_ok effects_model checked) ≡ inner_head t state.old (specification_model specification.now))) }
+{
+    if state.is_operation() {
+        return operation_head(state, specification, recorder);
+    }
+    nested_head(state, specification, recorder)
 }

@@ -6,6 +6,7 @@ ghost use Rattle.al_base_fault.specs.Judging.{map_ok};
 ghost use Rattle.al_query.specs.Reads.{FromAnswers};
 ghost use Rattle.al_tree.specs.DeclarationViews.{specification_model};
 ghost use Rattle.al_check_declared.specs.HeadsHere.{body_at, heading_here};
+ghost use Rattle.al_check_declared.specs.ObjectsHere.{operation_at};
 
 use al_base::NoMemory;
 use al_base_fault::{CheckResult, Fault};
@@ -14,7 +15,7 @@ use al_decl_ada::AdaPartAnalyzer;
 use al_decl_headings::heading_at;
 use al_decl_here::Environment;
 use al_decl_profile::Heading;
-use al_decl_subprogram::{PlacedBody, place_body};
+use al_decl_subprogram::{PlacedBody, has_right_marks, place_body};
 use al_query::{Answers, Recorder};
 use al_tree::Specification;
 use al_view_predefined::StandardTypes;
@@ -56,5 +57,31 @@ pub(crate) fn body_at<A: Answers>(
     ensures asked { recorder.new.asked ≡ recorder.old.asked }
     ensures answered { IfOk result (λ checked. FromAnswers recorder.old.log recorder.new.log (λ t. at_place env.new (map_ok placed_model checked) ≡ body_at t env.old line stub heading.now)) }
 {
-    place_body(alloc, standard, env, line, stub, heading, recorder)
+    place_body(alloc, standard, env, line, stub, true, heading, recorder)
+}
+
+/// The body of a subprogram of a protected object with that head, which completes a declaration of the object (ARM 9.4(10)).
+pub(crate) fn operation_at<A: Answers>(
+    alloc: Global,
+    standard: &StandardTypes,
+    env: &mut Environment,
+    line: usize,
+    heading: &Heading,
+    recorder: &mut Recorder<A>,
+) -> Result<CheckResult<PlacedBody>, NoMemory>
+    requires { 0 < length env.old.scope.regions }
+    ensures asked { recorder.new.asked ≡ recorder.old.asked }
+    ensures answered { IfOk result (λ checked. FromAnswers recorder.old.log recorder.new.log (λ t. at_place env.new (map_ok placed_model checked) ≡ operation_at t env.old line heading.now)) }
+{
+    let may_declare = !has_right_marks(heading);
+    place_body(
+        alloc,
+        standard,
+        env,
+        line,
+        None,
+        may_declare,
+        heading,
+        recorder,
+    )
 }

@@ -1,5 +1,5 @@
 // Behind what was judged: the place goes on where it is right, else the list of faults ends there.
-ghost use Rattle.std.specs.Prelude.{◌≡◌, Ok, option_map, IfOk, OnOk};
+ghost use Rattle.std.specs.Prelude.{◌≡◌, Ok, map, option_map, IfOk, OnOk};
 ghost use Rattle.al_check_here.specs.Faulty.{effect_list};
 ghost use Rattle.al_decl.specs.Checking.{at_place};
 ghost use Rattle.al_decl_subprogram.specs.Bodies.{placed_model};
@@ -11,19 +11,27 @@ ghost use Rattle.al_view_typed.specs.DeclarationTrees.{declaration_model};
 ghost use Rattle.al_stmts_walk.specs.Views.{effects_model};
 ghost use Rattle.al_check_declared.specs.DeclarationsHere.{faulty_here, no_place, pragma_settled, uses_settled};
 ghost use Rattle.al_check_declared.specs.HeadsHere.{head_settled, stub_kept, stub_settled, with_head};
+ghost use Rattle.al_check_declared.specs.ObjectsHere.{named_settled, object_settled, operation_settled, view_symbol};
+ghost use Rattle.al_decl_protected.specs.Bodies.{named_model};
+ghost use Rattle.al_tree.specs.StatementViews.{operation_bodies_of, operation_body_model};
 ghost use Rattle.al_check_declared.specs.WholeHere.{own_mentioned, own_settled, whole_kept, whole_settled, with_own};
 
 use al_base::{Name, NoMemory};
 use al_base_fault::{CheckResult, Fault};
-use al_check_here::{AnalyzedHeading, CheckState, add_stub, add_uses, effect_list, end_list};
+use al_check_here::{
+    AnalyzedHeading, BodyRole, CheckState, add_stub, add_uses, effect_list, end_list,
+};
+use al_check_objects::open_object;
 use al_check_values::not_yet_fault;
-use al_decl_judged::Declared;
+use al_decl_judged::{Declared, DefiningName};
 use al_decl_profile::{Heading, NewBody};
+use al_decl_protected::{NamedBody, bare_head};
 use al_decl_subprogram::PlacedBody;
 use al_decl_type::Declaration;
 use al_query::UseClause;
 use al_scope::Scope;
-use al_view::{Seq, Symbol};
+use al_tree::OperationBody;
+use al_view::{Seq, Symbol, View, ViewKind};
 use al_view_typed::TypedDeclaration;
 use std::alloc::Global;
 
@@ -116,10 +124,14 @@ pub(crate) fn settle_stub(
 }
 
 /// A head is kept until its body is entered.
-fn keep_head(state: &mut CheckState, heading: Heading, symbol: Symbol)
-    ensures { state.new ≡ with_head state.old state.old.env heading symbol }
+pub(crate) fn keep_head(state: &mut CheckState, role: BodyRole, heading: Heading, symbol: Symbol)
+    ensures { state.new ≡ with_head state.old state.old.env role heading symbol }
 {
-    state.pending = Some(AnalyzedHeading { heading, symbol });
+    state.pending = Some(AnalyzedHeading {
+        role,
+        heading,
+        symbol,
+    });
 }
 
 /// Behind the head of a body inside the unit.
@@ -134,7 +146,83 @@ pub(crate) fn settle_head(
     match checked {
         Ok(body) => {
             let PlacedBody { effect, symbol } = body;
-            keep_head(state, heading, symbol);
+            keep_head(state, BodyRole::Subprogram, heading, symbol);
+            right(alloc, effect)
+        }
+        Err(fault) => faulty(alloc, state, fault),
+    }
+}
+
+/// Behind the head of the body of an operation of a protected object: what is elaborated is the object as a whole.
+pub(crate) fn settle_operation(
+    state: &mut CheckState,
+    heading: Heading,
+    checked: CheckResult<PlacedBody>,
+) -> Result<Effects, NoMemory>
+    ensures { IfOk result (λ effects. (state.new, map_ok effects_model effects) ≡ operation_settled state.old heading (at_place state.old.env (map_ok placed_model checked))) }
+{
+    let alloc = state.unit.labeller.alloc;
+    match checked {
+        Ok(body) => {
+            let PlacedBody { effect: _, symbol } = body;
+            keep_head(state, BodyRole::Operation, heading, symbol);
+            Ok(Ok(Vec::new(alloc)))
+        }
+        Err(fault) => faulty(alloc, state, fault),
+    }
+}
+
+/// What the code of a body is known by that completes what has this view.
+fn view_symbol(alloc: Global, state: &CheckState, view: &View) -> Result<Symbol, NoMemory>
+    ensures { IfOk result (λ symbol. symbol ≡ view_symbol state.now view.now) }
+{
+    match view.kind() {
+        ViewKind::OfSubprogram(subprogram) => subprogram.symbol.copy(alloc),
+        ViewKind::OfTask(task) => task.symbol.copy(alloc),
+        ViewKind::OfProtected(object) => object.symbol.copy(alloc),
+        ViewKind::OfType(_) => state.unit.own.symbol.copy(alloc),
+        ViewKind::OfSubtype(_) => state.unit.own.symbol.copy(alloc),
+        ViewKind::OfObject(_) => state.unit.own.symbol.copy(alloc),
+        ViewKind::OfComponent => state.unit.own.symbol.copy(alloc),
+        ViewKind::OfNumber(_) => state.unit.own.symbol.copy(alloc),
+        ViewKind::OfLiteral(_) => state.unit.own.symbol.copy(alloc),
+        ViewKind::OfPackage(_) => state.unit.own.symbol.copy(alloc),
+    }
+}
+
+/// Behind the head of a body that has a name alone.
+pub(crate) fn settle_named(
+    state: &mut CheckState,
+    role: BodyRole,
+    name: DefiningName,
+    checked: CheckResult<NamedBody>,
+) -> Result<Effects, NoMemory>
+    ensures { IfOk result (λ effects. (state.new, map_ok effects_model effects) ≡ named_settled state.old role name (at_place state.old.env (map_ok named_model checked))) }
+{
+    let alloc = state.unit.labeller.alloc;
+    match checked {
+        Ok(body) => {
+            let symbol = view_symbol(alloc, state, &body.view)?;
+            keep_head(state, role, bare_head(alloc, name), symbol);
+            Ok(Ok(Vec::new(alloc)))
+        }
+        Err(fault) => faulty(alloc, state, fault),
+    }
+}
+
+/// Behind what stands before the operations of a protected body.
+pub(crate) fn settle_object(
+    state: &mut CheckState,
+    operations: &[OperationBody],
+    checked: CheckResult<NamedBody>,
+) -> Result<Effects, NoMemory>
+    ensures { IfOk result (λ effects. (state.new, map_ok effects_model effects) ≡ object_settled state.old (operation_bodies_of (map operation_body_model operations.now)) (at_place state.old.env (map_ok named_model checked))) }
+{
+    let alloc = state.unit.labeller.alloc;
+    match checked {
+        Ok(body) => {
+            open_object(alloc, state, &body.view, operations)?;
+            let NamedBody { effect, view: _ } = body;
             right(alloc, effect)
         }
         Err(fault) => faulty(alloc, state, fault),
@@ -193,7 +281,7 @@ fn keep_whole(
         declarations,
         effect,
     } = declared;
-    keep_head(state, heading, symbol);
+    keep_head(state, BodyRole::Subprogram, heading, symbol);
     let name = &state.unit.own.unit.name;
     mention_all(&mut state.env.scope, name, declarations.as_slice())?;
     state.own = declarations;

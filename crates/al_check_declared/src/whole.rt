@@ -10,10 +10,11 @@ ghost use Rattle.al_check_declared.specs.WholeHere.{undotted, whole_declared, wh
 use crate::placing::heading_here;
 use crate::settled::{Effects, settle_own, settle_whole};
 use al_base::NoMemory;
-use al_check_here::{CheckState, first_line};
+use al_check_here::CheckState;
 use al_decl_completes::unit_completing;
 use al_decl_profile::{Heading, declare_body, declare_subprogram};
 use al_query::{Answers, Recorder};
+use al_stmts_walked::first_line;
 use al_tree::Specification;
 
 /// The head of a unit, whose name may have dots.

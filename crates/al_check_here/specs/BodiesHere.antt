@@ -1,5 +1,5 @@
--- Bodies of subprograms at a place (ARM 6.3, 6.5, 8.1).
-use Rattle.std.specs.Prelude.{ℕ, ◌+◌, ◌-◌, min, List, [], ◌∷◌, ◌++◌, fold, Option, Some, None, Result, Ok, Err, slice_get, unwrap_or, if◌then◌else◌}
+-- Bodies at a place (ARM 6.3, 6.5, 8.1, 9.1, 9.5.1, 9.5.2).
+use Rattle.std.specs.Prelude.{ℕ, ◌-◌, List, [], ◌∷◌, ◌++◌, fold, Option, Some, None, Result, Ok, Err, if◌then◌else◌}
 use Rattle.std.specs.List.{filter_map}
 use Rattle.al_decl_body.specs.Regions.{outside_of, set_aside, subprogram_entered, taken_back, with_formals_declared}
 use Rattle.al_decl_body.specs.declared.block.Outside.{Outside}
@@ -17,13 +17,13 @@ use Rattle.al_decl_profile.specs.declared.frame.NewFormal.{NewFormal}
 use Rattle.al_decl_profile.specs.declared.heading.Heading.{Heading}
 use Rattle.al_decl_profile.specs.declared.heading.ReturnedPart.{ReturnedPart}
 use Rattle.al_decl_profile.specs.declared.heading.ReturnedPart.TheVariants.{NoValue, Value}
-use Rattle.al_tree_syntax.specs.DeclarationTrees.{SpecificationTree}
-use Rattle.al_tree_syntax.specs.DeclarationTrees.SpecificationTree.{ProcedureSpecification, FunctionSpecification}
+use Rattle.al_stmts_walk.specs.declared.extent.BodyExtent.{BodyExtent}
 use Rattle.al_view_typed.specs.DeclarationTrees.{DeclarationTree}
 use Rattle.al_view_typed.specs.StatementTrees.{StatementTree}
 use Rattle.al_view_typed.specs.UnitTrees.{BodyTree, ElaborationTree}
 use Rattle.al_view_typed.specs.declared.unit.BodyKind.{BodyKind}
 use Rattle.al_view_typed.specs.declared.unit.BodyKind.TheVariants as kinds
+use Rattle.al_view_typed.specs.declared.unit.EntryOf.{EntryOf}
 use Rattle.al_view_typed.specs.declared.unit.FormalWords.{FormalWords}
 use Rattle.al_view.specs.declared.symbol.Symbol.{Symbol}
 use Rattle.al_view.specs.declared.view.SubtypeView.{SubtypeView}
@@ -31,7 +31,10 @@ use Rattle.al_check_here.specs.RegionsHere.{region_left}
 use Rattle.al_check_here.specs.Stacks.{innermost, without_innermost}
 use Rattle.al_check_here.specs.Standings.{is_whole, with_here, word_of}
 use Rattle.al_check_here.specs.declared.state.AnalyzedHeading.{AnalyzedHeading}
+use Rattle.al_check_here.specs.declared.state.BodyRole.{BodyRole}
+use Rattle.al_check_here.specs.declared.state.BodyRole.TheVariants as roles
 use Rattle.al_check_here.specs.declared.state.OpenBody.{OpenBody}
+use Rattle.al_check_here.specs.declared.state.OpenObject.{OpenObject}
 use Rattle.al_check_here.specs.declared.state.CheckState.{CheckState}
 
 -- ---- what returns in a body stand in (ARM 6.5)
@@ -43,6 +46,13 @@ value_context (Err f) = record { body = bodies.Function; words = 0; bounds = Non
 abbrev pub return_context : ReturnedPart → ReturnContext
 return_context NoValue = record { body = bodies.Procedure; words = 0; bounds = None }
 return_context (Value of) = value_context of
+
+-- by what a body is of
+abbrev pub role_context : BodyRole → ReturnedPart → ReturnContext
+role_context roles.Subprogram returned = return_context returned
+role_context roles.Task returned = record { body = bodies.Task; words = 0; bounds = None }
+role_context roles.Operation returned = return_context returned
+role_context roles.Entry returned = record { body = bodies.Entry; words = 0; bounds = None }
 
 abbrev pub right_subtype : Result SubtypeView Fault → Option SubtypeView
 right_subtype (Ok of) = Some of
@@ -71,16 +81,13 @@ right_formals head = filter_map new_formal head.formals
 abbrev pub outer_frame : Environment → OuterFrame
 outer_frame env = record { depth = env.progress.depth; word = env.progress.words.frame }
 
-abbrev pub one_more : ℕ → ℕ
-one_more n = min (n + 1) 18446744073709551615
-
 -- a body with that head and with formals in these words, round which this stands; its frame goes on at the place
 abbrev pub open_of : CheckState → AnalyzedHeading → OuterFrame → Outside → List FormalWords → OpenBody
 open_of h read outer outside formals = record {
+  role = read.role;
   symbol = read.symbol;
-  number = h.entered;
   formals = formals;
-  returns = return_context read.heading.returned;
+  returns = role_context read.role read.heading.returned;
   result = result_subtype read.heading.returned;
   after = word_of h;
   outer = outer;
@@ -92,7 +99,6 @@ abbrev pub with_body : CheckState → AnalyzedHeading → OuterFrame → Outside
 with_body h read outer outside formals = record h {
   bodies = h.bodies ++ open_of h read outer outside formals ∷ [];
   pending = None;
-  entered = one_more h.entered;
 }
 
 -- at a place in a body's region and frame, both just begun, the formals are declared
@@ -140,17 +146,35 @@ with_copied words f = if is_input f.mode then words else place_after words f.wor
 abbrev pub copied_words : List FormalWords → ℕ
 copied_words formals = fold with_copied 0 formals
 
-abbrev pub first_line : SpecificationTree → ℕ
-first_line (ProcedureSpecification l n f) = l.line
-first_line (FunctionSpecification l n f r m) = l.line
+-- of a subprogram, by what it returns
+abbrev pub subprogram_kind : EnclosingBody → ReturnContext → ℕ → ℕ → BodyKind
+subprogram_kind bodies.Function returns copied end = kinds.Function returns.words end
+subprogram_kind _ returns copied end = kinds.Procedure copied
 
--- the line of the `end` of the body of that number; where it isn't told, another one
-abbrev pub end_line : CheckState → ℕ → ℕ → ℕ
-end_line h number other = unwrap_or (slice_get h.unit.ends number) other
+-- of a subprogram of a protected object, which may open the object's entry
+abbrev pub operation_kind : OpenObject → EnclosingBody → ReturnContext → ℕ → ℕ → BodyKind
+operation_kind object bodies.Function returns copied end = kinds.ProtectedFunction object.symbol returns.words end
+operation_kind object _ returns copied end = kinds.ProtectedProcedure object.symbol object.entry copied
 
-abbrev pub kind_of : EnclosingBody → ReturnContext → ℕ → ℕ → BodyKind
-kind_of bodies.Function returns copied end = kinds.Function returns.words end
-kind_of _ returns copied end = kinds.Procedure copied
+-- of an entry with its barrier
+abbrev pub entry_kind : OpenObject → Option EntryOf → BodyKind
+entry_kind object None = kinds.Procedure 0
+entry_kind object (Some e) = kinds.Entry object.symbol e.barrier
+
+-- where no object is open, an operation is a subprogram
+abbrev pub operation_in : Option OpenObject → ReturnContext → ℕ → ℕ → BodyKind
+operation_in None returns copied end = subprogram_kind returns.body returns copied end
+operation_in (Some o) returns copied end = operation_kind o returns.body returns copied end
+
+abbrev pub entry_in : Option OpenObject → BodyKind
+entry_in None = kinds.Procedure 0
+entry_in (Some o) = entry_kind o o.entry
+
+abbrev pub kind_of : Option OpenObject → BodyRole → ReturnContext → ℕ → ℕ → BodyKind
+kind_of object roles.Subprogram returns copied end = subprogram_kind returns.body returns copied end
+kind_of object roles.Task returns copied end = kinds.Task
+kind_of object roles.Operation returns copied end = operation_in object returns copied end
+kind_of object roles.Entry returns copied end = entry_in object
 
 -- how many words of the frame are taken after the formals
 abbrev pub frame_words : CheckState → Option OpenBody → ℕ
@@ -167,21 +191,21 @@ formals_in None = []
 formals_in (Some b) = b.formals
 
 abbrev pub kind_in : CheckState → ℕ → Option OpenBody → BodyKind
-kind_in h line None = kinds.Procedure 0
-kind_in h line (Some b) = kind_of b.returns.body b.returns (copied_words b.formals) (end_line h b.number line)
+kind_in h end None = kinds.Procedure 0
+kind_in h end (Some b) = kind_of h.object b.role b.returns (copied_words b.formals) end
 
--- a body with this inside it
-abbrev pub labelled_body : CheckState → ElaborationTree → Option OpenBody → BodyTree
-labelled_body h inside body = record {
+-- a body with this inside it, whose `end` stands on that line
+abbrev pub labelled_body : CheckState → ℕ → ElaborationTree → Option OpenBody → BodyTree
+labelled_body h end inside body = record {
   symbol = symbol_in h body;
-  kind = kind_in h inside.line body;
+  kind = kind_in h end body;
   depth = h.env.progress.depth;
   formals = formals_in body;
   inside = inside;
 }
 
 -- the innermost body
-abbrev pub labelled : CheckState → SpecificationTree → List DeclarationTree → List StatementTree → BodyTree
-labelled h s declarations statements =
-    labelled_body h (record { line = first_line s; frame = frame_words h (innermost h.bodies); declarations = declarations; statements = statements })
+abbrev pub labelled : CheckState → BodyExtent → List DeclarationTree → List StatementTree → BodyTree
+labelled h extent declarations statements =
+    labelled_body h extent.end.line (record { line = extent.line; frame = frame_words h (innermost h.bodies); declarations = declarations; statements = statements })
     (innermost h.bodies)

@@ -10,7 +10,7 @@ use Rattle.al_check_here.specs.declared.state.CheckState.{CheckState}
 
 -- nothing was taken in that unit
 abbrev pub nothing_taken : UnitKey → Progress
-nothing_taken unit = record { unit = unit; depth = 0; words = record { frame = 3; «data» = 0 }; homonyms = []; objects = []; flags = [] }
+nothing_taken unit = record { unit = unit; depth = 0; words = record { frame = 3; «data» = 0 }; homonyms = []; objects = []; flags = []; protected_objects = [] }
 
 -- outside of all regions
 abbrev pub nowhere : UnitKey → Environment

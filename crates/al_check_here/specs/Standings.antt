@@ -1,5 +1,5 @@
 -- Where the check of a unit stands.
-use Rattle.std.specs.Prelude.{ℕ, Bool, not, ◌&&◌, ◌==◌, List, [], Option, Some, None, length, if◌then◌else◌}
+use Rattle.std.specs.Prelude.{ℕ, Bool, not, ◌&&◌, ◌==◌, List, [], Option, Some, None, is_some, length, if◌then◌else◌}
 use Rattle.al_base.specs.declared.unit_key.UnitKey.{UnitKey}
 use Rattle.al_base.specs.declared.unit_key.UnitKind.{UnitKind}
 use Rattle.al_base.specs.declared.unit_key.UnitKind.TheVariants.{Decl, Body, Sub}
@@ -32,6 +32,7 @@ begun_at unit scope progress uncompleted = record {
   env = record { scope = scope; progress = progress; uncompleted = uncompleted; declared = [] };
   blocks = [];
   bodies = [];
+  object = None;
   pending = None;
   parameter = None;
   part = first_part unit.own;
@@ -39,7 +40,6 @@ begun_at unit scope progress uncompleted = record {
   stubs = [];
   uses = [];
   own = [];
-  entered = 0;
 }
 
 -- ---- parts of it
@@ -57,6 +57,10 @@ is_nowhere h = is_bare h.env.scope.regions
 -- the place is in no body yet, in the text of a unit that is one subprogram: the head and the body that come are the unit's own
 abbrev pub is_whole : CheckState → Bool
 is_whole h = not h.unit.own.is_package && is_bare h.bodies
+
+-- the place is immediately in a protected body: the heads and bodies that come are those of its operations
+abbrev pub is_operation : CheckState → Bool
+is_operation h = is_some h.object && is_bare h.bodies
 
 -- the place is immediately in a part of the unit: of a package in no body, of a subprogram in its body
 abbrev pub is_immediate : CheckState → Bool

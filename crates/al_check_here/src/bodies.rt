@@ -2,15 +2,15 @@
 ghost use Rattle.std.specs.Prelude.{◌≡◌, ◌<◌, Some, None, length, map, IfOk, OnOk};
 ghost use Rattle.al_decl_body.specs.Regions.{outside_of, set_aside};
 ghost use Rattle.al_decl_type.specs.Objects.{is_input};
-ghost use Rattle.al_tree.specs.DeclarationViews.{specification_model};
 ghost use Rattle.al_view_typed.specs.StatementViews.{statement_model};
 ghost use Rattle.al_view_typed.specs.UnitTrees.{body_model, elaboration_model};
 ghost use Rattle.al_stmts_walk.specs.Views.{effects_model};
-ghost use Rattle.al_check_here.specs.BodiesHere.{body_opened, copied_words, end_line, first_line, frame_words, kind_of, labelled, labelled_body, left_open, nested_entered, out_of_body, own_region_left, result_subtype, return_context, returns_in, whole_entered, with_body, with_copied};
+ghost use Rattle.al_check_here.specs.BodiesHere.{body_opened, copied_words, frame_words, labelled, labelled_body, left_open, nested_entered, out_of_body, own_region_left, result_subtype, return_context, returns_in, role_context, whole_entered, with_body, with_copied};
 ghost use Rattle.al_check_here.specs.Stacks.{innermost};
 
+use crate::kinds::kind_of;
 use crate::regions::{leave_region, take_back};
-use crate::state::{AnalyzedHeading, CheckState, OpenBody};
+use crate::state::{AnalyzedHeading, BodyRole, CheckState, OpenBody};
 use al_base::NoMemory;
 use al_decl_body::{OuterFrame, Outside, declare_all_formals, enter_subprogram};
 use al_decl_completion::Uncompleted;
@@ -19,7 +19,7 @@ use al_decl_profile::{Heading, ReturnedPart, enter_body, leave_body};
 use al_decl_type::words_of;
 use al_stmts::ReturnContext;
 use al_stmts_loops::EnclosingBody;
-use al_tree::Specification;
+use al_stmts_walk::BodyExtent;
 use al_view::{Interface, Mode, Seq, SubtypeView};
 use al_view_predefined::StandardTypes;
 use al_view_typed::{
@@ -45,6 +45,26 @@ fn return_context(standard: &StandardTypes, returned: &ReturnedPart) -> ReturnCo
         },
         ReturnedPart::Value(Err(_)) => ReturnContext {
             body: EnclosingBody::Function,
+            words: 0,
+            bounds: None,
+        },
+    }
+}
+
+/// What returns stand in, in a body of that.
+fn role_context(standard: &StandardTypes, role: BodyRole, returned: &ReturnedPart) -> ReturnContext
+    ensures { result ≡ role_context role returned.now }
+{
+    match role {
+        BodyRole::Subprogram => return_context(standard, returned),
+        BodyRole::Task => ReturnContext {
+            body: EnclosingBody::Task,
+            words: 0,
+            bounds: None,
+        },
+        BodyRole::Operation => return_context(standard, returned),
+        BodyRole::Entry => ReturnContext {
+            body: EnclosingBody::Entry,
             words: 0,
             bounds: None,
         },
@@ -94,13 +114,17 @@ fn push_body(
 ) -> Result<(), NoMemory>
     ensures { OnOk result (state.new ≡ with_body state.old read outer outside formals) }
 {
-    let AnalyzedHeading { heading, symbol } = read;
+    let AnalyzedHeading {
+        role,
+        heading,
+        symbol,
+    } = read;
     let standard = &state.unit.labeller.predefined.standard;
-    let returns = return_context(standard, &heading.returned);
+    let returns = role_context(standard, role, &heading.returned);
     let result = result_in(heading);
     let body = OpenBody {
+        role,
         symbol,
-        number: state.entered,
         formals,
         returns,
         result,
@@ -110,7 +134,6 @@ fn push_body(
     };
     state.bodies.push(body)?;
     state.pending = None;
-    state.entered = state.entered.saturating_add(1);
     Ok(())
 }
 
@@ -143,8 +166,8 @@ pub fn enter_nested(
     open_body(alloc, state, read, outer, outside)
 }
 
-/// Nothing waits and nothing is declared from here on.
-fn set_aside(alloc: Global, env: &mut Environment) -> Outside
+/// Nothing waits and nothing is declared from here on: what did.
+pub fn set_aside(alloc: Global, env: &mut Environment) -> Outside
     ensures env { env.new ≡ set_aside env.old }
     ensures outside { result ≡ outside_of env.old }
 {
@@ -230,38 +253,6 @@ fn copied_words(formals: &[FormalWords]) -> u32
     words
 }
 
-/// The line of the first token of a specification.
-pub fn first_line(specification: &Specification) -> usize
-    ensures { result ≡ first_line (specification_model specification.now) }
-{
-    match specification {
-        Specification::Procedure(place, _, _) => place.line as usize,
-        Specification::Function(place, _, _, _, _) => place.line as usize,
-    }
-}
-
-/// The line of the `end` of the body of that number, where it is told.
-fn end_line(state: &CheckState, number: usize, other: usize) -> usize
-    ensures { result ≡ end_line state.now number other }
-{
-    match state.unit.ends.as_slice().get(number) {
-        Some(line) => *line,
-        None => other,
-    }
-}
-
-fn kind_of(returns: ReturnContext, copied: u32, end: usize) -> BodyKind
-    ensures { result ≡ kind_of returns.body returns copied end }
-{
-    match returns.body {
-        EnclosingBody::Function => BodyKind::Function {
-            words: returns.words,
-            end,
-        },
-        _ => BodyKind::Procedure { copied },
-    }
-}
-
 fn copied_formals(alloc: Global, formals: &[FormalWords]) -> Result<Seq<FormalWords>, NoMemory>
     ensures { IfOk result (λ copy. copy ≡ formals.now) }
 {
@@ -277,17 +268,18 @@ fn open_labelled(
     alloc: Global,
     state: &CheckState,
     body: &OpenBody,
+    end: usize,
     inside: Elaboration,
 ) -> Result<TypedBody, NoMemory>
-    ensures { IfOk result (λ made. body_model made ≡ labelled_body state.now (elaboration_model inside) (Some body.now)) }
+    ensures { IfOk result (λ made. body_model made ≡ labelled_body state.now end (elaboration_model inside) (Some body.now)) }
 {
     let formals = copied_formals(alloc, body.formals.as_slice())?;
     let symbol = body.symbol.copy(alloc)?;
     let copied = copied_words(body.formals.as_slice());
-    let end = end_line(state, body.number, inside.line);
+    let kind = kind_of(alloc, &state.object, body.role, body.returns, copied, end)?;
     Ok(TypedBody {
         symbol,
-        kind: kind_of(body.returns, copied, end),
+        kind,
         depth: state.env.progress.depth,
         formals,
         inside,
@@ -299,7 +291,7 @@ fn none_labelled(
     state: &CheckState,
     inside: Elaboration,
 ) -> Result<TypedBody, NoMemory>
-    ensures { IfOk result (λ made. body_model made ≡ labelled_body state.now (elaboration_model inside) None) }
+    ensures { IfOk result (λ made. body_model made ≡ labelled_body state.now 0 (elaboration_model inside) None) }
 {
     let symbol = state.unit.own.symbol.copy(alloc)?;
     Ok(TypedBody {
@@ -321,16 +313,17 @@ fn frame_words(state: &CheckState) -> u32
     }
 }
 
-/// The innermost body with its labels and this inside it.
+/// The innermost body with its labels and this inside it, whose `end` stands on that line.
 fn labelled_inside(
     alloc: Global,
     state: &CheckState,
+    end: usize,
     inside: Elaboration,
 ) -> Result<TypedBody, NoMemory>
-    ensures { IfOk result (λ made. body_model made ≡ labelled_body state.now (elaboration_model inside) (innermost state.now.bodies)) }
+    ensures { IfOk result (λ made. body_model made ≡ labelled_body state.now end (elaboration_model inside) (innermost state.now.bodies)) }
 {
     match state.bodies.innermost() {
-        Some(body) => open_labelled(alloc, state, body, inside),
+        Some(body) => open_labelled(alloc, state, body, end, inside),
         None => none_labelled(alloc, state, inside),
     }
 }
@@ -339,17 +332,17 @@ fn labelled_inside(
 pub fn labelled(
     alloc: Global,
     state: &CheckState,
-    specification: &Specification,
+    extent: BodyExtent,
     declarations: Vec<TypedDeclaration>,
     statements: Vec<TypedStatement>,
 ) -> Result<TypedBody, NoMemory>
-    ensures { IfOk result (λ body. body_model body ≡ labelled state.now (specification_model specification.now) (effects_model declarations) (map statement_model statements.items)) }
+    ensures { IfOk result (λ body. body_model body ≡ labelled state.now extent (effects_model declarations) (map statement_model statements.items)) }
 {
     let inside = Elaboration {
-        line: first_line(specification),
+        line: extent.line,
         frame: frame_words(state),
         declarations,
         statements,
     };
-    labelled_inside(alloc, state, inside)
+    labelled_inside(alloc, state, extent.end.line as usize, inside)
 }

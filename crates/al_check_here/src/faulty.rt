@@ -30,6 +30,7 @@ fn nothing_taken(alloc: Global, unit: &UnitKey) -> Result<Progress, NoMemory>
         homonyms: Homonyms::new(alloc),
         objects: Seq::empty(alloc),
         flags: Seq::empty(alloc),
+        protected_objects: Seq::empty(alloc),
     })
 }
 

@@ -4,16 +4,21 @@
 mod bodies;
 mod ends;
 mod faulty;
+mod kinds;
 mod parts;
 mod regions;
 mod stack;
 mod state;
 mod words;
 
-pub use bodies::{enter_nested, enter_whole, first_line, labelled, leave_innermost, returns_in};
+pub use bodies::{enter_nested, enter_whole, labelled, leave_innermost, returns_in, set_aside};
 pub use ends::{Ends, into_ends, stub_names};
 pub use faulty::{effect_list, end_list, settle_effect};
 pub use parts::{add_stub, add_uses, begin_private, copied_interface, enter_statements};
-pub use regions::{declare_parameter, enter_block, enter_loop, leave_block};
+pub use regions::{
+    declare_alone, declare_parameter, enter_block, enter_loop, leave_block, leave_region, leave_to,
+};
 pub use stack::Stack;
-pub use state::{AnalyzedHeading, CheckState, LoopType, OpenBody, UnitText, UseHere};
+pub use state::{
+    AnalyzedHeading, BodyRole, CheckState, LoopType, OpenBody, OpenObject, UnitText, UseHere,
+};

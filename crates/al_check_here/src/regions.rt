@@ -20,7 +20,7 @@ use al_view::{Bounds, Names, ObjectPlace, Seq, Subtype, SubtypeView};
 use std::alloc::Global;
 
 /// Leaves the innermost region, if one is open.
-pub(crate) fn leave_region(scope: &mut Scope)
+pub fn leave_region(scope: &mut Scope)
     ensures { scope.new ≡ region_left scope.old }
 {
     if scope.is_empty() {
@@ -76,8 +76,8 @@ pub fn enter_loop(
     begin_parameter(alloc, &mut state.env, parameter)
 }
 
-/// Outside of the innermost region.
-fn leave_to(env: &mut Environment, outside: Outside)
+/// Outside of the innermost region, where this waited and was declared.
+pub fn leave_to(env: &mut Environment, outside: Outside)
     ensures { env.new ≡ left_to env.old outside }
 {
     leave_region(&mut env.scope);
@@ -136,13 +136,14 @@ fn parameter_declaration(
 }
 
 /// A declaration alone becomes visible.
-fn declare_alone(
+pub fn declare_alone(
     alloc: Global,
     env: &mut Environment,
     declaration: Declaration,
 ) -> Result<(), NoMemory>
     requires { 0 < length env.old.scope.regions }
-    ensures { OnOk result (env.new ≡ with_declarations env.old (declaration ∷ [])) }
+    ensures declared { OnOk result (env.new ≡ with_declarations env.old (declaration ∷ [])) }
+    ensures depth { length env.new.scope.regions ≡ length env.old.scope.regions }
 {
     let mut all = Seq::empty(alloc);
     all.push(declaration)?;

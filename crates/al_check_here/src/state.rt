@@ -16,35 +16,58 @@ use al_query_outcome::StubDeclarations;
 use al_scope::Scope;
 use al_scope_unit::OwnText;
 use al_stmts::ReturnContext;
-use al_view::{Bounds, Interface, Part, Seq, SubtypeView, Symbol, Types};
-use al_view_typed::FormalWords;
+use al_view::{Bounds, Interface, Part, Seq, SubtypeView, Symbol, Types, View};
+use al_view_typed::{EntryOf, FormalWords};
 
 /// What stays the same in a unit.
 #[derive(Drop)]
 pub struct UnitText {
-    /// What every unit has, and the protected object in whose bodies the text stands, which is none.
+    /// What every unit has, and the protected object in whose body the place is.
     pub labeller: Labeller,
     /// The library packages that are mentioned in the unit.
     pub packages: Seq<UnitKey>,
     /// What the unit's own text says of its place.
     pub own: OwnText,
-    /// The lines of the words `end` of its bodies, in the order of their first tokens.
-    pub ends: Seq<usize>,
 }
 
-/// The head of a body that was read: what stands before its `is`, and what its code is known by.
+/// What a body is of.
+#[derive(Clone, Copy)]
+pub enum BodyRole {
+    /// ARM 6.3
+    Subprogram,
+    /// ARM 9.1
+    Task,
+    /// A subprogram of a protected object (ARM 9.5.1).
+    Operation,
+    /// An entry of a protected object (ARM 9.5.2).
+    Entry,
+}
+
+/// The head of a body that was read: what the body is of, what stands before its `is`, and what its code is known by.
 #[derive(Drop)]
 pub struct AnalyzedHeading {
+    pub role: BodyRole,
     pub heading: Heading,
     pub symbol: Symbol,
+}
+
+/// The protected object in whose body the place is (ARM 9.4).
+#[derive(Drop)]
+pub struct OpenObject {
+    pub symbol: Symbol,
+    /// As other units see it: its operations and its components.
+    pub view: View,
+    /// Its entry, where it has one whose barrier is right.
+    pub entry: Option<EntryOf>,
+    /// What waits and is declared round its body.
+    pub outside: Outside,
 }
 
 /// A body round the place.
 #[derive(Drop)]
 pub struct OpenBody {
+    pub role: BodyRole,
     pub symbol: Symbol,
-    /// How many bodies of the unit were entered before it.
-    pub number: usize,
     /// Its formals with their words.
     pub formals: Seq<FormalWords>,
     /// What its return statements stand in, and of a function the subtype of its result.
@@ -93,6 +116,8 @@ pub struct CheckState {
     pub blocks: Stack<Outside>,
     /// The bodies that the place is in, outermost first.
     pub bodies: Stack<OpenBody>,
+    /// The protected object in whose body the place is. They don't stand inside one another.
+    pub object: Option<OpenObject>,
     /// The head that was read last, until its body is entered.
     pub pending: Option<AnalyzedHeading>,
     /// The type of the range of a for loop that was read last.
@@ -106,8 +131,6 @@ pub struct CheckState {
     pub uses: Seq<UseHere>,
     /// Of a library subprogram, or of a body that acts as its declaration, its name with its own view.
     pub own: Seq<Declaration>,
-    /// How many bodies were entered.
-    pub entered: usize,
 }
 
 /// In which part the text of a unit begins.
@@ -138,6 +161,7 @@ impl CheckState {
             },
             blocks: Stack::empty(alloc),
             bodies: Stack::empty(alloc),
+            object: None,
             pending: None,
             parameter: None,
             part,
@@ -145,7 +169,6 @@ impl CheckState {
             stubs: Seq::empty(alloc),
             uses: Seq::empty(alloc),
             own: Seq::empty(alloc),
-            entered: 0,
         }
     }
 }

@@ -1,6 +1,6 @@
 // What of a standing is looked at, and its words.
 ghost use Rattle.std.specs.Prelude.{◌≡◌};
-ghost use Rattle.al_check_here.specs.Standings.{at_word, is_immediate, is_nowhere, is_whole, with_word, word_of};
+ghost use Rattle.al_check_here.specs.Standings.{at_word, is_immediate, is_nowhere, is_operation, is_whole, with_word, word_of};
 
 use crate::state::CheckState;
 
@@ -38,6 +38,13 @@ impl CheckState {
         ensures { result ≡ is_whole self.now }
     {
         !self.unit.own.is_package && self.bodies.len() == 0
+    }
+
+    /// Whether the heads and bodies that come are those of the operations of a protected object.
+    pub fn is_operation(&self) -> bool
+        ensures { result ≡ is_operation self.now }
+    {
+        self.object.is_some() && self.bodies.len() == 0
     }
 
     /// Whether the place is immediately in a part of the unit.

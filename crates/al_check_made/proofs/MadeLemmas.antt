@@ -7,7 +7,6 @@ use Rattle.al_view.specs.Symbols.{same_kind}
 use Rattle.al_view.specs.declared.view.ViewKind.{ViewKind}
 use Rattle.al_view_typed.specs.UnitTrees.{ElaborationTree, elaboration_model, unit_model}
 use Rattle.al_view_typed.specs.declared.unit.Elaboration.{Elaboration}
-use Rattle.al_view_typed.specs.declared.unit.ProtectedWords.{ProtectedWords}
 use Rattle.al_view_typed.specs.declared.unit.TypedUnit.{TypedUnit}
 use Rattle.al_stmts_walked.specs.WalkedViews.{inside_model}
 use Rattle.al_stmts_walked.specs.declared.inside.WalkedInside.{WalkedInside}
@@ -27,16 +26,15 @@ elaborated false e = refl
 abbrev inside_of : WalkedUnit → Elaboration
 inside_of w = record { line = w.line; frame = w.frame; declarations = w.declarations; statements = w.statements }
 
-unit_of : WalkedUnit → Option Elaboration → List ProtectedWords → TypedUnit
-unit_of w e rows = record { unit = w.unit; elaboration = e; bodies = w.bodies; words = w.words; objects = w.objects; flags = w.flags; protected_objects = rows }
+unit_of : WalkedUnit → Option Elaboration → TypedUnit
+unit_of w e = record { unit = w.unit; elaboration = e; bodies = w.bodies; words = w.words; objects = w.objects; flags = w.flags; protected_objects = w.protected_objects }
 
 -- a unit in which no fault was found
-pub sound_is : (w : WalkedUnit) (e : Option Elaboration) (rows : List ProtectedWords) → e ≡ (if same_kind w.unit.kind Sub then None else Some (inside_of w)) → rows ≡ [] → sound_of (record { properties = w.properties; parts = w.parts; tree = record { unit = w.unit; elaboration = e; bodies = w.bodies; words = w.words; objects = w.objects; flags = w.flags; protected_objects = rows } }) ≡ made w
+pub sound_is : (w : WalkedUnit) (e : Option Elaboration) → e ≡ (if same_kind w.unit.kind Sub then None else Some (inside_of w)) → sound_of (record { properties = w.properties; parts = w.parts; tree = record { unit = w.unit; elaboration = e; bodies = w.bodies; words = w.words; objects = w.objects; flags = w.flags; protected_objects = w.protected_objects } }) ≡ made w
 unfolding unit_of unit_model elaboration_model
-sound_is w e rows is none =
-    ap (λ (x : Option Elaboration). Right (interface_of w.properties w.parts) (unit_model (unit_of w x rows))) is
-    ∙ ap (λ (ys : List ProtectedWords). Right (interface_of w.properties w.parts) (unit_model (unit_of w (if same_kind w.unit.kind Sub then None else Some (inside_of w)) ys))) none
-    ∙ ap (λ (x : Option ElaborationTree). Right (interface_of w.properties w.parts) (record (unit_model (unit_of w None [])) { elaboration = x })) (elaborated (same_kind w.unit.kind Sub) (inside_of w))
+sound_is w e is =
+    ap (λ (x : Option Elaboration). Right (interface_of w.properties w.parts) (unit_model (unit_of w x))) is
+    ∙ ap (λ (x : Option ElaborationTree). Right (interface_of w.properties w.parts) (record (unit_model (unit_of w None)) { elaboration = x })) (elaborated (same_kind w.unit.kind Sub) (inside_of w))
 
 -- what is found with a view
 pub with_kind : (r : UnitFacts) (kind : ViewKind) (e : EndedText) (inside : WalkedInside) → finding_of inside.faults (walked_unit r kind e inside.declarations inside.statements inside.bodies) ≡ viewed r (Some kind) e (inside_model inside)

@@ -1,5 +1,5 @@
 -- What is found in the text of a unit after its end.
-use Rattle.std.specs.Prelude.{ℕ, ◌-◌, [], Option, Some, None, if◌then◌else◌}
+use Rattle.std.specs.Prelude.{ℕ, ◌-◌, Option, Some, None, if◌then◌else◌}
 use Rattle.std.specs.Global.{Vec}
 use Rattle.al_base.specs.declared.unit_key.UnitKind.TheVariants.{Sub}
 use Rattle.al_view.specs.Symbols.{same_kind}
@@ -27,7 +27,7 @@ tree_at line e inside = record {
   words = e.progress.words.data;
   objects = e.progress.objects;
   flags = e.progress.flags;
-  protected_objects = [];
+  protected_objects = e.progress.protected_objects;
 }
 
 abbrev pub right_at : UnitFacts → ViewKind → EndedText → Inside → Verdict
@@ -46,6 +46,7 @@ walked_unit r kind e declarations statements bodies = record {
   words = e.progress.words.data;
   objects = e.progress.objects;
   flags = e.progress.flags;
+  protected_objects = e.progress.protected_objects;
   declarations = declarations;
   statements = statements;
   bodies = bodies;

@@ -3,4 +3,3 @@ pub mod Ended
 pub mod Lines
 pub mod Made
 pub mod Said
-pub mod Uncompiled

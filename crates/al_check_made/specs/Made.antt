@@ -37,7 +37,7 @@ tree_of w = record {
   words = w.words;
   objects = w.objects;
   flags = w.flags;
-  protected_objects = [];
+  protected_objects = w.protected_objects;
 }
 
 abbrev pub made : WalkedUnit → Verdict

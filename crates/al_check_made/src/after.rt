@@ -35,7 +35,7 @@ pub struct UnitFacts {
 #[derive(Drop)]
 pub struct EndedText {
     pub own: OwnText,
-    /// The unit's words, its objects and its flags.
+    /// The unit's words, its objects, its flags and its protected objects.
     pub progress: Progress,
     /// What its declaration leaves to its body.
     pub completions: Seq<Completion>,
@@ -76,6 +76,7 @@ fn walked_unit(
         words,
         objects,
         flags,
+        protected_objects,
         ..
     } = progress;
     let properties = properties_of(SaidUnit {
@@ -95,6 +96,7 @@ fn walked_unit(
         words: words.data,
         objects,
         flags,
+        protected_objects,
         declarations,
         statements,
         bodies,

@@ -7,7 +7,6 @@ mod lines;
 mod made;
 mod predefined;
 mod said;
-mod uncompiled;
 
 pub use after::{EndedText, UnitFacts, found_after};
 pub use faults::{diagnostic, faults_in};
@@ -15,4 +14,3 @@ pub use lines::item_line;
 pub use made::{WalkedUnit, finding_of};
 pub use predefined::predefined_everywhere;
 pub use said::{SaidUnit, own_view, properties_of};
-pub use uncompiled::is_not_compiled;

@@ -14,7 +14,7 @@ use al_check_within::UnitVerdict;
 use al_query_outcome::{Parts, Properties};
 use al_view::Seq;
 use al_view_typed::{
-    DataPlace, Elaboration, TypedBody, TypedDeclaration, TypedStatement, TypedUnit,
+    DataPlace, Elaboration, ProtectedWords, TypedBody, TypedDeclaration, TypedStatement, TypedUnit,
 };
 use std::alloc::Global;
 
@@ -28,10 +28,11 @@ pub struct WalkedUnit {
     pub line: usize,
     /// The words of the frame of its elaboration.
     pub frame: u32,
-    /// The words of its objects and flags.
+    /// The words of its objects, flags and protected objects.
     pub words: u32,
     pub objects: Seq<DataPlace>,
     pub flags: Seq<DataPlace>,
+    pub protected_objects: Seq<ProtectedWords>,
     /// What its declarations do, and its statements; none of a subunit.
     pub declarations: Vec<TypedDeclaration>,
     pub statements: Vec<TypedStatement>,
@@ -54,7 +55,7 @@ fn elaboration_of(unit: &UnitKey, inside: Elaboration) -> Option<Elaboration>
 
 /// A unit in which no fault was found.
 #[tactic(auto, unfolding(al_view_typed::specs::UnitTrees::unit_model, al_view_typed::specs::UnitTrees::elaboration_model))]
-fn sound(alloc: Global, walked: WalkedUnit) -> SoundUnit
+fn sound(walked: WalkedUnit) -> SoundUnit
     ensures { sound_of result ≡ made walked }
 {
     let WalkedUnit {
@@ -66,6 +67,7 @@ fn sound(alloc: Global, walked: WalkedUnit) -> SoundUnit
         words,
         objects,
         flags,
+        protected_objects,
         declarations,
         statements,
         bodies,
@@ -87,18 +89,18 @@ fn sound(alloc: Global, walked: WalkedUnit) -> SoundUnit
             words,
             objects,
             flags,
-            protected_objects: Seq::empty(alloc),
+            protected_objects,
         },
     }
 }
 
 /// What is wrong, where something is; else the unit.
-fn found(alloc: Global, wrong: Seq<Diagnostic>, walked: WalkedUnit) -> UnitVerdict
+fn found(wrong: Seq<Diagnostic>, walked: WalkedUnit) -> UnitVerdict
     ensures { verdict_of result ≡ unless_wrong wrong (made walked) }
 {
     if wrong.as_slice().is_empty() {
         drop(wrong);
-        UnitVerdict::Sound(sound(alloc, walked))
+        UnitVerdict::Sound(sound(walked))
     } else {
         drop(walked);
         UnitVerdict::Faulty(wrong)
@@ -115,7 +117,7 @@ pub fn finding_of(
     ensures { IfOk result (λ finding. verdict_of finding ≡ finding_of faults walked) }
 {
     match faults_in(alloc, &walked.unit, faults) {
-        Ok(wrong) => Ok(found(alloc, wrong, walked)),
+        Ok(wrong) => Ok(found(wrong, walked)),
         Err(error) => {
             drop(walked);
             Err(error)

@@ -5,7 +5,7 @@ use Rattle.al_check_here.specs.PartsHere.{in_statements}
 use Rattle.al_check_here.specs.RegionsHere.{in_block, in_loop, out_of_block, with_parameter}
 use Rattle.al_check_here.specs.Standings.{is_nowhere, is_whole, with_word, word_of}
 use Rattle.al_check_here.specs.declared.state.CheckState.{CheckState}
-use Rattle.al_check_values.specs.ValuesHere.{choice_here, condition_here, loop_range_here, moment_here, not_yet_fault, call_effect_here, result_here, selector_here, source_here, target_here, whole_here}
+use Rattle.al_check_values.specs.ValuesHere.{choice_here, condition_here, loop_range_here, moment_here, call_effect_here, result_here, selector_here, source_here, target_here, whole_here}
 use Rattle.al_decl_completion.specs.Uncompleted.{missing_fault}
 use Rattle.al_tree_grammar.specs.Grammar.{Label}
 use Rattle.al_base_fault.specs.declared.fault.Fault.{Fault}
@@ -17,7 +17,9 @@ use Rattle.al_view_typed.specs.DeclarationTrees.{DeclarationTree}
 use Rattle.al_stmts_walk.specs.Readings.{Read, Reading}
 use Rattle.al_check_declared.specs.DeclarationsHere.{declared_here, nested_declared, no_place}
 use Rattle.al_check_declared.specs.EnteredHere.{body_here, private_here}
-use Rattle.al_check_declared.specs.HeadsHere.{nested_head, stub_here}
+use Rattle.al_check_declared.specs.HeadsHere.{stub_here}
+use Rattle.al_check_declared.specs.ObjectsHere.{entry_head, inner_head, object_entered, object_here, task_head, task_here}
+use Rattle.al_check_objects.specs.OpenObjects.{object_left}
 use Rattle.al_check_declared.specs.WholeHere.{whole_declared, whole_head}
 
 -- outside of all regions nothing is declared
@@ -28,7 +30,7 @@ abbrev pub subprogram_here : Table → CheckState → SpecificationTree → Read
 subprogram_here t h s = where_open h (if is_whole h then whole_declared t h s else nested_declared t h s)
 
 abbrev pub head_here : Table → CheckState → SpecificationTree → Read CheckState (List DeclarationTree)
-head_here t h s = where_open h (if is_whole h then whole_head t h s else nested_head t h s)
+head_here t h s = where_open h (if is_whole h then whole_head t h s else inner_head t h s)
 
 -- what waits in the innermost part
 abbrev pub missing_here : CheckState → Label → Option Fault
@@ -56,13 +58,18 @@ ada t = record {
   declared = declared_here t;
   subprogram = subprogram_here t;
   stub = λ h s l. where_open h (stub_here t h s);
-  not_yet = λ h. not_yet_fault;
+  single_task = λ h k. where_open h (task_here t h k);
+  single_object = λ h l p. where_open h (object_here t h l.line p);
   missing = missing_here;
   head = head_here t;
-  body_entered = λ h s. body_here t h;
+  task_head = λ h n. where_open h (task_head t h n);
+  entry_head = λ h n barrier. where_open h (entry_head t h n barrier);
+  body_entered = body_here t;
   returns = returns_in;
   body = labelled;
   body_left = out_of_body;
+  object_entered = λ h l n os. where_open h (object_entered t h l.line n os);
+  object_left = object_left;
   private_entered = private_here t;
   statements_entered = in_statements;
 }

@@ -2,21 +2,24 @@
 use al_base::{NoMemory, Place};
 use al_base_fault::{CheckResult, Fault};
 use al_check_declared::{
-    declared, enter_body, enter_private, nested_head, nested_subprogram, no_place, open_stub,
-    whole_head, whole_subprogram,
+    declare_object, declare_task, declared, enter_body, enter_object, enter_private, entry_head,
+    inner_head, nested_subprogram, no_place, open_stub, task_head, whole_head, whole_subprogram,
 };
 use al_check_here::{
     CheckState, declare_parameter, enter_block, enter_loop, enter_statements, labelled,
     leave_block, leave_innermost, returns_in,
 };
+use al_check_objects::leave_object;
 use al_check_values as values;
 use al_query::{Answers, Recorder};
 use al_stmts::{LoopRange, LoopWords, ReturnContext};
 use al_stmts_choices::{Choice, Selector};
 use al_stmts_reader::{Analyzer, CallEffect};
 use al_stmts_right_choices::are_right;
+use al_stmts_walk::BodyExtent;
 use al_tree::{
-    Choice as ChoiceOfText, CommonDeclaration, DiscreteRange, Expression, Identifier, Specification,
+    Choice as ChoiceOfText, CommonDeclaration, DiscreteRange, Expression, Identifier,
+    OperationBody, ProtectedDefinition, Specification, TaskDeclaration,
 };
 use al_view::{Bounds, Seq};
 use al_view_typed::{Typed, TypedBody, TypedDeclaration, TypedStatement};
@@ -179,8 +182,26 @@ impl<A: Answers> Analyzer for AdaAnalyzer<A> {
         open_stub(&mut self.state, specification, &mut self.recorder)
     }
 
-    fn not_yet(&mut self) -> Result<Fault, NoMemory> {
-        Ok(values::not_yet_fault())
+    fn single_task(
+        &mut self,
+        task: &TaskDeclaration,
+    ) -> Result<CheckResult<Vec<TypedDeclaration>>, NoMemory> {
+        if self.state.is_nowhere() {
+            return no_place(&mut self.state);
+        }
+        declare_task(&mut self.state, task, &mut self.recorder)
+    }
+
+    fn single_object(
+        &mut self,
+        opening: Place,
+        object: &ProtectedDefinition,
+    ) -> Result<CheckResult<Vec<TypedDeclaration>>, NoMemory> {
+        if self.state.is_nowhere() {
+            return no_place(&mut self.state);
+        }
+        let line = opening.line as usize;
+        declare_object(&mut self.state, line, object, &mut self.recorder)
     }
 
     fn missing(&mut self, end: Place) -> Result<Option<Fault>, NoMemory> {
@@ -197,10 +218,31 @@ impl<A: Answers> Analyzer for AdaAnalyzer<A> {
         if self.state.is_whole() {
             return whole_head(&mut self.state, specification, &mut self.recorder);
         }
-        nested_head(&mut self.state, specification, &mut self.recorder)
+        inner_head(&mut self.state, specification, &mut self.recorder)
     }
 
-    fn body_entered(&mut self, _specification: &Specification) -> Result<(), NoMemory> {
+    fn task_head(
+        &mut self,
+        name: &Identifier,
+    ) -> Result<CheckResult<Vec<TypedDeclaration>>, NoMemory> {
+        if self.state.is_nowhere() {
+            return no_place(&mut self.state);
+        }
+        task_head(&mut self.state, name, &mut self.recorder)
+    }
+
+    fn entry_head(
+        &mut self,
+        name: &Identifier,
+        barrier: &Expression,
+    ) -> Result<CheckResult<Vec<TypedDeclaration>>, NoMemory> {
+        if self.state.is_nowhere() {
+            return no_place(&mut self.state);
+        }
+        entry_head(&mut self.state, name, barrier, &mut self.recorder)
+    }
+
+    fn body_entered(&mut self) -> Result<(), NoMemory> {
         enter_body(&mut self.state, &mut self.recorder)
     }
 
@@ -210,21 +252,33 @@ impl<A: Answers> Analyzer for AdaAnalyzer<A> {
 
     fn body(
         &mut self,
-        specification: &Specification,
+        extent: BodyExtent,
         declarations: Vec<TypedDeclaration>,
         statements: Vec<TypedStatement>,
     ) -> Result<TypedBody, NoMemory> {
-        labelled(
-            self.alloc(),
-            &self.state,
-            specification,
-            declarations,
-            statements,
-        )
+        labelled(self.alloc(), &self.state, extent, declarations, statements)
     }
 
     fn body_left(&mut self) -> Result<(), NoMemory> {
         leave_innermost(&mut self.state);
+        Ok(())
+    }
+
+    fn object_entered(
+        &mut self,
+        opening: Place,
+        name: &Identifier,
+        operations: &[OperationBody],
+    ) -> Result<CheckResult<Vec<TypedDeclaration>>, NoMemory> {
+        if self.state.is_nowhere() {
+            return no_place(&mut self.state);
+        }
+        let line = opening.line as usize;
+        enter_object(&mut self.state, line, name, operations, &mut self.recorder)
+    }
+
+    fn object_left(&mut self) -> Result<(), NoMemory> {
+        leave_object(&mut self.state);
         Ok(())
     }
 

@@ -128,7 +128,7 @@ depth_of (Subunit l o n s b) (Some (OfSubprogram s')) = call_depth s'.call
 depth_of _ _ = 0
 
 abbrev pub progress_at : UnitKey → ℕ → Progress
-progress_at unit depth = record { unit = unit; depth = depth; words = record { frame = 3; «data» = 0 }; homonyms = []; objects = []; flags = [] }
+progress_at unit depth = record { unit = unit; depth = depth; words = record { frame = 3; «data» = 0 }; homonyms = []; objects = []; flags = []; protected_objects = [] }
 
 -- ---- its name
 

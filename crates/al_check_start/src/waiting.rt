@@ -117,5 +117,6 @@ pub(crate) fn progress_at(
         homonyms: Homonyms::new(alloc),
         objects: Seq::empty(alloc),
         flags: Seq::empty(alloc),
+        protected_objects: Seq::empty(alloc),
     })
 }

@@ -16,7 +16,7 @@ use al_stmts_loops::EnclosingBody;
 use al_stmts_reader::Analyzer;
 use al_stmts_text::{check_after, check_body, check_items};
 use al_stmts_walked::{Enclosing, WalkedInside, WalkedPart, end_of_compound};
-use al_stmts_walker::{close_part, declared_item, item_not_yet, subprogram_item};
+use al_stmts_walker::{close_part, declared_item, object_item, subprogram_item, task_item};
 use al_tree::{
     CompoundEnd, CompoundName, Declaration, LibraryItem, PackageBody, PackageDeclaration,
     PackageStatements, PrivatePart,
@@ -42,8 +42,10 @@ fn check_declaration<R: Analyzer>(
     match declaration {
         Declaration::Common(common) => declared_item(analyzer, alloc, common),
         Declaration::Subprogram(specification) => subprogram_item(analyzer, alloc, specification),
-        Declaration::Task(_) => item_not_yet(analyzer, alloc),
-        Declaration::Protected(_, _) => item_not_yet(analyzer, alloc),
+        Declaration::Task(task) => task_item(analyzer, alloc, task),
+        Declaration::Protected(opening, object) => {
+            object_item(analyzer, alloc, object, *opening)
+        }
     }
 }
 

@@ -28,7 +28,7 @@ use Rattle.al_view_typed.specs.declared.unit.FormalWords.{FormalWords}
 use Rattle.al_code_output.specs.declared.piece.Construct.TheVariants as construct
 use Rattle.al_code_output.specs.Pieces.{Piece}
 use Rattle.al_code.specs.declared.routine.Routine.{Routine}
-use Rattle.al_code.specs.Declarations.{object_code, subprogram_code, elaborated_code, component_code, declaration_code, declaration_form_code, declarations_code}
+use Rattle.al_code.specs.Declarations.{object_code, subprogram_code, elaborated_code, component_code, declaration_code, declaration_form_code, seed_code, declarations_code}
 use Rattle.al_code.specs.Images.{dropped_code, image_code, images, line_code, piece_code, pieces_code, emit_code}
 use Rattle.al_code.specs.Loops.{bounds_code, compare_code, high_word, leave_code, low_word, mark_check, marked_code, round_code, step_operator, turn_code}
 use Rattle.al_code.specs.Routines.{barrier_code, begun_code, copied_code, ending_code, entry_call_code, formal_code, gate_code, inside_code, mode_code, served_code}
@@ -62,8 +62,11 @@ elaborated_bounded : (depth : ℕ) (flag : ObjectPlace) → Bounded (elaborated_
 unfolding elaborated_code
 elaborated_bounded depth flag = then (then (number_bounded (pos 1)) (place_bounded Flag depth flag)) (whole refl)
 
+seed_bounded : (depth : ℕ) (symbol : Symbol) (words : ℕ) (value : ValueTree) (word : ℕ) → Bounded (seed_code depth symbol words value word)
+seed_bounded depth symbol words value word = then (checked_bounded depth value) (using_one refl)
+
 component_bounded : (depth : ℕ) (symbol : Symbol) (c : ComponentValueTree) → Bounded (component_code depth symbol c)
-component_bounded depth symbol c = then (checked_bounded depth c.value) (using_one refl)
+component_bounded depth symbol c = each_bounded (seed_code depth symbol c.words c.value) (λ word. seed_bounded depth symbol c.words c.value word) c.places
 
 declaration_bounded : (depth : ℕ) (d : DeclarationFormTree) → Bounded (declaration_form_code depth d)
 declaration_bounded depth (Objects objects words value) = each_bounded (object_code depth words value) (λ place. object_bounded depth words value place) objects

@@ -30,9 +30,13 @@ subprogram_code depth (places.Static symbol word) = []
 unfoldable pub elaborated_code : ℕ → ObjectPlace → List Piece
 elaborated_code depth flag = number (pos 1) ++ place_code Flag depth flag ++ of_size sized.Store 1
 
--- the first value of a component of a protected object
+-- a component of a protected object begins with its value
+abbrev pub seed_code : ℕ → Symbol → ℕ → ValueTree → ℕ → List Piece
+seed_code depth symbol words value word = checked_code depth value ++ Using (instr.Seed word words) (link Data symbol) ∷ []
+
+-- each component of a declaration evaluates the value anew (ARM 3.3.1(7))
 abbrev pub component_code : ℕ → Symbol → ComponentValueTree → List Piece
-component_code depth symbol c = checked_code depth c.value ++ Using (instr.Seed c.word c.words) (link Data symbol) ∷ []
+component_code depth symbol c = flat_map (seed_code depth symbol c.words c.value) c.places
 
 abbrev pub declaration_form_code : ℕ → DeclarationFormTree → List Piece
 declaration_form_code depth (Objects objects words value) = flat_map (object_code depth words value) objects

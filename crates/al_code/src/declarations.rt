@@ -9,7 +9,7 @@ ghost use Rattle.al_view_typed.specs.ExpressionViews.{value_model};
 ghost use Rattle.al_code_output.specs.Pieces.Piece.{Using};
 ghost use Rattle.al_code_output.specs.Written.{written};
 ghost use Rattle.al_code.specs.Marks.{declaration_has_code, flag_has_code};
-ghost use Rattle.al_code.specs.Declarations.{declaration_code, component_code, declaration_form_code, declarations_code, elaborated_code, object_code, subprogram_code};
+ghost use Rattle.al_code.specs.Declarations.{declaration_code, component_code, declaration_form_code, declarations_code, elaborated_code, object_code, seed_code, subprogram_code};
 
 use crate::marks::emit_mark;
 use al_base::NoMemory;
@@ -181,7 +181,7 @@ fn emit_components(
     Ok(())
 }
 
-#[tactic(auto, using(al_code_output::proofs::Writing::written_append))]
+/// Components that are declared together each evaluate their value (ARM 3.3.1(7)).
 fn emit_component(
     out: &mut Output,
     depth: u32,
@@ -190,8 +190,45 @@ fn emit_component(
 ) -> Result<(), NoMemory>
     ensures { OnOk result (out.new ≡ written out.old (component_code depth symbol.now (component_value_model component.now))) }
 {
-    emit_checked(out, depth, &component.value)?;
-    emit_seed(out, symbol, component.word, component.words)
+    emit_seeds(
+        out,
+        depth,
+        symbol,
+        component.words,
+        &component.value,
+        component.places.as_slice(),
+    )
+}
+
+fn emit_seeds(
+    out: &mut Output,
+    depth: u32,
+    symbol: &Symbol,
+    words: u32,
+    value: &CheckedValue,
+    places: &[u32],
+) -> Result<(), NoMemory>
+    ensures { OnOk result (out.new ≡ written out.old (flat_map (seed_code depth symbol.now words (value_model value.now)) places.now)) }
+{
+    for word in places {
+        emit_seeded(out, depth, symbol, words, value, *word)?;
+    }
+    Ok(())
+}
+
+#[tactic(auto, using(al_code_output::proofs::Writing::written_append))]
+fn emit_seeded(
+    out: &mut Output,
+    depth: u32,
+    symbol: &Symbol,
+    words: u32,
+    value: &CheckedValue,
+    word: u32,
+) -> Result<(), NoMemory>
+    ensures { OnOk result (out.new ≡ written out.old (seed_code depth symbol.now words (value_model value.now) word)) }
+{
+    emit_checked(out, depth, value)?;
+    emit_seed(out, symbol, word, words)
 }
 
 /// The words on top become the first value of a component, from this word of the object on.

@@ -166,6 +166,16 @@ impl Atoms {
         }
     }
 
+    /// So many words.
+    pub fn words(&mut self) -> Result<Vec<u32>, Stop> {
+        let count = self.count()?;
+        let mut words = Vec::new(self.alloc);
+        for _ in 0..count {
+            put(&mut words, self.word()?)?;
+        }
+        Ok(words)
+    }
+
     /// How many things there are.
     pub fn count(&mut self) -> Result<usize, Stop> {
         let number = self.number()?;

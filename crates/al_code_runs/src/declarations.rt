@@ -20,7 +20,7 @@ impl Statements {
     /// - `objects COUNT PLACE.. WORDS CHECKED`, `zeros COUNT PLACE.. WORDS` for objects without a value;
     /// - `begins_unelaborated PLACE`, `is_elaborated PLACE`, by what tells that a body is elaborated;
     /// - `task 'NAME' PRIORITY`;
-    /// - `protected_object 'NAME' COUNT COMPONENT..`, and a component: `component_value WORD WORDS CHECKED`.
+    /// - `protected_object 'NAME' COUNT COMPONENT..`, and components of one declaration: `component_value WORDS COUNT WORD.. CHECKED`.
     pub fn read_declaration(
         &mut self,
         atoms: &mut Atoms,
@@ -93,9 +93,16 @@ impl Statements {
     }
 
     fn emit_component(&mut self, atoms: &mut Atoms, parts: &mut Expressions) -> Result<(), Stop> {
-        let word = atoms.word()?;
         let words = atoms.word()?;
-        let value = pop(&mut parts.checked)?;
-        put(&mut self.components, ComponentValue { word, words, value })
+        let (places, value) = both(atoms.words(), pop(&mut parts.checked))?;
+        let places = Seq::new(places);
+        put(
+            &mut self.components,
+            ComponentValue {
+                places,
+                words,
+                value,
+            },
+        )
     }
 }

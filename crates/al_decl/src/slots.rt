@@ -1,13 +1,13 @@
 // The words of temporaries in what a declaration does.
-ghost use Rattle.std.specs.Prelude.{◌≡◌, option_map};
-ghost use Rattle.al_decl.specs.Effects.{after_effect, effect_after, effect_numbered, form_after, form_numbered, optional_after};
+ghost use Rattle.std.specs.Prelude.{◌≡◌, map, option_map};
+ghost use Rattle.al_decl.specs.Effects.{after_effect, component_numbered, components_after, components_numbered, effect_after, effect_numbered, form_after, form_numbered, optional_after};
 ghost use Rattle.al_overload_slots.specs.Slots.{value_after, value_numbered};
-ghost use Rattle.al_view_typed.specs.DeclarationTrees.{declaration_model, form_model};
+ghost use Rattle.al_view_typed.specs.DeclarationTrees.{component_value_model, declaration_model, form_model};
 ghost use Rattle.al_view_typed.specs.ExpressionViews.{value_model};
 
 use al_decl_judged::Progress;
 use al_overload_slots::number_slots;
-use al_view_typed::{CheckedValue, DeclarationForm, TypedDeclaration};
+use al_view_typed::{CheckedValue, ComponentValue, DeclarationForm, TypedDeclaration};
 
 /// A value takes words from this one on: the next word after them.
 #[tactic(auto, using(al_overload_slots::proofs::Layers::value_layers, al_view_typed::proofs::ExpressionsMade::value_made))]
@@ -28,6 +28,25 @@ fn number_optional(value: &mut Option<CheckedValue>, word: u32) -> u32
     }
 }
 
+fn number_component(component: &mut ComponentValue, word: u32) -> u32
+    ensures tree { component_value_model component.new ≡ component_numbered word (component_value_model component.old) }
+    ensures word { result ≡ value_after word (component_value_model component.old).value }
+{
+    number_value(&mut component.value, word)
+}
+
+/// The values of components, one declaration after the other.
+fn number_components(values: &mut Vec<ComponentValue>, word: u32) -> u32
+    ensures tree { map component_value_model values.new.items ≡ components_numbered word (map component_value_model values.old.items) }
+    ensures word { result ≡ components_after word (map component_value_model values.old.items) }
+{
+    let mut after = word;
+    for value in values.iter_mut() {
+        after = number_component(value, after);
+    }
+    after
+}
+
 fn number_form(form: &mut DeclarationForm, word: u32) -> u32
     ensures tree { form_model form.new ≡ form_numbered word (form_model form.old) }
     ensures word { result ≡ form_after word (form_model form.old) }
@@ -37,7 +56,7 @@ fn number_form(form: &mut DeclarationForm, word: u32) -> u32
         DeclarationForm::Subprogram(_) => word,
         DeclarationForm::Elaborated(_) => word,
         DeclarationForm::Task { .. } => word,
-        DeclarationForm::Protected { .. } => word,
+        DeclarationForm::Protected { values, .. } => number_components(values, word),
     }
 }
 

@@ -35,6 +35,10 @@ number_at t s x = checked_at t s contexts.NumberValue None [] x
 abbrev pub bound_at : Table → Surroundings → ExpressionTree → Result TypedTree Fault
 bound_at t s x = checked_at t s contexts.IntegerBound None [] x
 
+-- the value of aspect Priority, which is of Integer (ARM D.1(15))
+abbrev pub priority_at : Table → Surroundings → ExpressionTree → Result TypedTree Fault
+priority_at t s x = checked_at t s contexts.PriorityValue None [] x
+
 -- what is read at the places of a unit
 unfoldable pub parts_read : Table → List UnitKey → Predefined → Option Symbol → PartReading
 parts_read t packages predefined own = record {
@@ -44,4 +48,5 @@ parts_read t packages predefined own = record {
   value = λ place of x. initial_at t (surrounded packages predefined own place) of x;
   number = λ place x. number_at t (surrounded packages predefined own place) x;
   bound = λ place x. bound_at t (surrounded packages predefined own place) x;
+  priority = λ place x. priority_at t (surrounded packages predefined own place) x;
 }

@@ -1,7 +1,7 @@
 // The parts of declarations.
 ghost use Rattle.al_decl_ada.specs.AdaPartReading.{parts_read};
 
-use crate::value::{bound_at, initial_at, number_at};
+use crate::value::{bound_at, initial_at, number_at, priority_at};
 use al_base::{NoMemory, UnitKey};
 use al_base_fault::CheckResult;
 use al_decl_reader::PartAnalyzer;
@@ -112,5 +112,20 @@ impl PartAnalyzer for AdaPartAnalyzer<'_> {
             packages: self.packages,
         };
         bound_at(&site, bound, recorder)
+    }
+
+    fn priority<A: Answers>(
+        &self,
+        _alloc: Global,
+        scope: &Scope,
+        value: &Expression,
+        recorder: &mut Recorder<A>,
+    ) -> Result<CheckResult<Typed>, NoMemory> {
+        let site = Site {
+            labeller: self.labeller,
+            scope,
+            packages: self.packages,
+        };
+        priority_at(&site, value, recorder)
     }
 }

@@ -1,6 +1,6 @@
 // Values and bounds of declarations.
 ghost use Rattle.std.specs.Prelude.{◌≡◌, IfOk, Some};
-ghost use Rattle.al_decl_ada.specs.AdaPartReading.{bound_at, initial_at, number_at};
+ghost use Rattle.al_decl_ada.specs.AdaPartReading.{bound_at, initial_at, number_at, priority_at};
 ghost use Rattle.al_overload_heads.specs.Parts.{nominal};
 ghost use Rattle.al_base_fault.specs.Judging.{map_ok};
 ghost use Rattle.al_overload.specs.declared.context.Context.TheVariants as contexts;
@@ -95,4 +95,18 @@ pub(crate) fn bound_at<A: Answers>(
     let types = no_types(site.labeller.alloc)?;
     let context = Context::IntegerBound;
     checked_at(site, &context, &None, &types, bound, recorder)
+}
+
+/// The value of aspect Priority (ARM D.1(15)).
+pub(crate) fn priority_at<A: Answers>(
+    site: &Site<'_>,
+    value: &Expression,
+    recorder: &mut Recorder<A>,
+) -> Result<CheckResult<Typed>, NoMemory>
+    ensures asked { recorder.new.asked ≡ recorder.old.asked }
+    ensures answered { IfOk result (λ checked. FromAnswers recorder.old.log recorder.new.log (λ t. map_ok typed_model checked ≡ priority_at t (site_model site.now) (expression_model value.now))) }
+{
+    let types = no_types(site.labeller.alloc)?;
+    let context = Context::PriorityValue;
+    checked_at(site, &context, &None, &types, value, recorder)
 }

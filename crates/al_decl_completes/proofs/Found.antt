@@ -42,37 +42,37 @@ completed-is number place s symbol flag fault (OfSubprogram v) h =
     ∙ ap (λ (x : Option Fault). Declared number v.symbol v.flag x) (conformance-is place s v.profile fault h.2)
 completed-is number place s symbol flag fault _ h = absurd h
 
-abbrev choice : ℕ → DefiningName → Specification → Bool → Completion → List Completion → Bool → Completing
-choice number n s h c cs b = if b then view_completed number n.place s c.view else first_completed (suc number) n s h cs
+abbrev choice : ℕ → DefiningName → Specification → Bool → Bool → Completion → List Completion → Bool → Completing
+choice number n s may h c cs b = if b then view_completed number n.place s c.view else first_completed (suc number) n s may h cs
 
-alone-is : (number : ℕ) (n : DefiningName) (s : Specification) (h : Bool) (cs : List Completion) → All (λ c. Completes n.name (head.Subprogram s) c → ⊥) cs
-    → Alone (lone_body_fault n.place h true) ≡ first_completed number n s h cs
-alone-is number n s h [] none = refl
-alone-is number n s h (c ∷ cs) none =
-    alone-is (suc number) n s h cs (λ k d lt. none (suc k) d (omega arith))
-    ∙ sym (ap (choice number n s h c cs) (false_from_ne_true (completes n.name s c) (λ e. none zero c (omega arith) (completes-yes n.name s c e))))
+alone-is : (number : ℕ) (n : DefiningName) (s : Specification) (may h : Bool) (cs : List Completion) → All (λ c. Completes n.name (head.Subprogram s) c → ⊥) cs
+    → Alone (lone_body_fault n.place h may) ≡ first_completed number n s may h cs
+alone-is number n s may h [] none = refl
+alone-is number n s may h (c ∷ cs) none =
+    alone-is (suc number) n s may h cs (λ k d lt. none (suc k) d (omega arith))
+    ∙ sym (ap (choice number n s may h c cs) (false_from_ne_true (completes n.name s c) (λ e. none zero c (omega arith) (completes-yes n.name s c e))))
 
-declared-is : (number : ℕ) (n : DefiningName) (s : Specification) (h : Bool) (cs : List Completion) (at : ℕ) (symbol : Symbol) (flag : Option ObjectPlace) (fault : Option Fault)
+declared-is : (number : ℕ) (n : DefiningName) (s : Specification) (may h : Bool) (cs : List Completion) (at : ℕ) (symbol : Symbol) (flag : Option ObjectPlace) (fault : Option Fault)
     → IsFirst (Completes n.name (head.Subprogram s)) cs at → ((d : Completion) → IsCompleted n.place s symbol flag fault (slice_index_or cs at d).view)
-    → Declared (number + at) symbol flag fault ≡ first_completed number n s h cs
-declared-is number n s h [] at symbol flag fault first is = absurd (omega (arith, first.inside))
-declared-is number n s h (c ∷ cs) zero symbol flag fault first is =
+    → Declared (number + at) symbol flag fault ≡ first_completed number n s may h cs
+declared-is number n s may h [] at symbol flag fault first is = absurd (omega (arith, first.inside))
+declared-is number n s may h (c ∷ cs) zero symbol flag fault first is =
     let same : number + zero ≡ number = omega arith in
     ap (λ (m : ℕ). Declared m symbol flag fault) same
     ∙ completed-is number n.place s symbol flag fault c.view (is c)
-    ∙ sym (ap (choice number n s h c cs) (completes-so n.name s c (first.env c)))
-declared-is number n s h (c ∷ cs) (suc at) symbol flag fault first is =
+    ∙ sym (ap (choice number n s may h c cs) (completes-so n.name s c (first.env c)))
+declared-is number n s may h (c ∷ cs) (suc at) symbol flag fault first is =
     let same : number + suc at ≡ suc number + at = omega arith in
     ap (λ (m : ℕ). Declared m symbol flag fault) same
-    ∙ declared-is (suc number) n s h cs at symbol flag fault
+    ∙ declared-is (suc number) n s may h cs at symbol flag fault
     (record { inside = omega (arith, first.inside); env = first.env; before = λ k d lt. first.before (suc k) d (omega arith) }) is
-    ∙ sym (ap (choice number n s h c cs) (false_from_ne_true (completes n.name s c) (λ e. first.before zero c (omega arith) (completes-yes n.name s c e))))
+    ∙ sym (ap (choice number n s may h c cs) (false_from_ne_true (completes n.name s c) (λ e. first.before zero c (omega arith) (completes-yes n.name s c e))))
 
-pub completing-is : (uncompleted : List Completion) (n : DefiningName) (s : Specification) (h : Bool) (c : Completing) → IsCompleting uncompleted n s h c → c ≡ completing_found uncompleted n s h
-completing-is uncompleted n s h (Declared at symbol flag fault) is =
+pub completing-is : (uncompleted : List Completion) (n : DefiningName) (s : Specification) (may h : Bool) (c : Completing) → IsCompleting uncompleted n s may h c → c ≡ completing_found uncompleted n s may h
+completing-is uncompleted n s may h (Declared at symbol flag fault) is =
     let same : at ≡ zero + at = omega arith in
-    ap (λ (m : ℕ). Declared m symbol flag fault) same ∙ declared-is zero n s h uncompleted at symbol flag fault is.0 is.1
-completing-is uncompleted n s h (Alone fault) is = ap Alone is.1 ∙ alone-is zero n s h uncompleted is.0
+    ap (λ (m : ℕ). Declared m symbol flag fault) same ∙ declared-is zero n s may h uncompleted at symbol flag fault is.0 is.1
+completing-is uncompleted n s may h (Alone fault) is = ap Alone is.1 ∙ alone-is zero n s may h uncompleted is.0
 
 pub if_ok : {A E : Type 0} (r : Result A E) (P Q : A → Type 0) → ((a : A) → P a → Q a) → IfOk r P → IfOk r Q
 if_ok (Ok a) P Q f h = f a h

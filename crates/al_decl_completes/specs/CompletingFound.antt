@@ -25,14 +25,15 @@ abbrev pub view_completed : ℕ → Place → Specification → ViewKind → Com
 view_completed number place s (OfSubprogram v) = Declared number v.symbol v.flag (conformance place s v.profile)
 view_completed number place s _ = Alone (Some (fault_at place (number_of NotConformant)))
 
--- the first that waits under that name with these types, where so many stand before the list; else the body stands alone
-abbrev pub first_completed : ℕ → DefiningName → Specification → Bool → List Completion → Completing
-first_completed number n s has_homograph [] = Alone (lone_body_fault n.place has_homograph true)
-first_completed number n s has_homograph (c ∷ cs) =
-    if completes n.name s c then view_completed number n.place s c.view else first_completed (suc number) n s has_homograph cs
+-- the first that waits under that name with these types, where so many stand before the list; else the body stands alone, where it
+-- may declare its subprogram
+abbrev pub first_completed : ℕ → DefiningName → Specification → Bool → Bool → List Completion → Completing
+first_completed number n s may_declare has_homograph [] = Alone (lone_body_fault n.place has_homograph may_declare)
+first_completed number n s may_declare has_homograph (c ∷ cs) =
+    if completes n.name s c then view_completed number n.place s c.view else first_completed (suc number) n s may_declare has_homograph cs
 
-abbrev pub completing_found : List Completion → DefiningName → Specification → Bool → Completing
-completing_found uncompleted n s has_homograph = first_completed zero n s has_homograph uncompleted
+abbrev pub completing_found : List Completion → DefiningName → Specification → Bool → Bool → Completing
+completing_found uncompleted n s may_declare has_homograph = first_completed zero n s may_declare has_homograph uncompleted
 
 -- the body of a unit completes what waits there, whatever its types are; where nothing does, it acts as its declaration
 abbrev pub unit_completing : List Completion → DefiningName → Specification → Completing

@@ -10,15 +10,17 @@ use al_decl_profile::{Completing, Heading};
 use std::alloc::Global;
 
 /// What a body or a stub is to the declarations that wait: it completes the first of them that has its name and its types, and E303 stands at its name
-/// where it doesn't conform. One that completes none has E301 there where its region has a homograph, else it declares its subprogram (ARM 6.3(4)).
+/// where it doesn't conform. One that completes none has E301 there where its region has a homograph, else it declares its subprogram where it
+/// may (ARM 6.3(4)), and has E303 where it may not, as in the body of a protected object.
 pub fn completing_of(
     alloc: Global,
     uncompleted: &Uncompleted,
     heading: &Heading,
+    may_declare: bool,
     has_homograph: bool,
 ) -> Result<Completing, NoMemory>
-    ensures found { IfOk result (λ completing. completing ≡ completing_found uncompleted.now heading.now.name (specification_of heading.now) has_homograph) }
+    ensures found { IfOk result (λ completing. completing ≡ completing_found uncompleted.now heading.now.name (specification_of heading.now) may_declare has_homograph) }
     ensures waiting { IfOk result (λ completing. IsWaiting uncompleted.now completing) }
 {
-    al_decl_profile::completing_of(alloc, uncompleted, heading, has_homograph)
+    al_decl_profile::completing_of(alloc, uncompleted, heading, may_declare, has_homograph)
 }

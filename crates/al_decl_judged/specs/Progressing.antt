@@ -4,6 +4,7 @@ use Rattle.al_view.specs.declared.symbol.Symbol.{Symbol}
 use Rattle.al_view.specs.declared.view.ObjectPlace.{ObjectPlace}
 use Rattle.al_view.specs.declared.view.ObjectPlace.TheVariants.{Frame, Static}
 use Rattle.al_view_typed.specs.declared.unit.DataPlace.{DataPlace}
+use Rattle.al_view_typed.specs.declared.unit.ProtectedWords.{ProtectedWords}
 use Rattle.al_decl_type.specs.Homonyms.{with_name}
 use Rattle.al_decl_type.specs.TypeDeclarations.{next_symbol, with_names}
 use Rattle.al_decl_type.specs.WordCounts.{after_data, after_frame}
@@ -44,3 +45,15 @@ abbrev pub after_flag : Progress → Symbol → Progress
 after_flag p symbol =
     if is_library_level p then record p { words = after_data p.words 1; flags = p.flags ++ next_data p symbol ∷ [] }
     else record p { words = after_frame p.words 1 }
+
+-- so many words of the unit for the components of a protected object with this ceiling
+abbrev pub next_region : Progress → Symbol → ℕ → ℕ → ProtectedWords
+next_region p symbol words ceiling = record { symbol = symbol; word = p.words.data; words = words; ceiling = ceiling }
+
+abbrev pub with_region : Progress → Symbol → ℕ → ℕ → Progress
+with_region p symbol words ceiling =
+    record p { words = after_data p.words words; protected_objects = p.protected_objects ++ next_region p symbol words ceiling ∷ [] }
+
+-- a protected object lies there: its flag comes first, outside of the words that are entered (ARM 9.5.1)
+abbrev pub after_protected : Progress → Symbol → ℕ → ℕ → Progress
+after_protected p symbol words ceiling = with_region (after_flag p symbol) symbol words ceiling

@@ -19,6 +19,6 @@ pub use new_object::{NewObject, ObjectType, copied_subtype, new_objects};
 pub use number::declare_numbers;
 pub use object::declare_objects;
 pub use progress::Progress;
-pub use static_piece::{static_of, static_range};
+pub use static_piece::{place_label, static_of, static_range};
 pub use subtype::declare_subtype;
 pub use type_kind::{declare_array, declare_enumeration, declare_integer, declare_record};

@@ -1,11 +1,11 @@
 // What the declarations of a unit have taken so far.
 ghost use Rattle.std.specs.Prelude.{◌≡◌, IfOk, OnOk};
-ghost use Rattle.al_decl_judged.specs.Progressing.{after_flag, after_object, is_library_level, next_place, symbol_of, with_counted};
+ghost use Rattle.al_decl_judged.specs.Progressing.{after_flag, after_object, after_protected, is_library_level, next_place, symbol_of, with_counted};
 
 use al_base::{NoMemory, UnitKey};
 use al_decl_type::{Homonyms, Words, next_symbol};
-use al_view::{ObjectPlace, Seq, Symbol};
-use al_view_typed::DataPlace;
+use al_view::{ObjectPlace, Priority, Seq, Symbol};
+use al_view_typed::{DataPlace, ProtectedWords};
 use std::alloc::Global;
 
 /// How far the check of a unit's text has come: what the declarations before a place have taken.
@@ -22,6 +22,8 @@ pub struct Progress {
     pub objects: Seq<DataPlace>,
     /// The unit's flags, by their words.
     pub flags: Seq<DataPlace>,
+    /// The unit's protected objects, by the words of their components.
+    pub protected_objects: Seq<ProtectedWords>,
 }
 
 impl Progress {
@@ -92,6 +94,28 @@ impl Progress {
             return Ok(());
         }
         let _ = self.words.take_frame(1);
+        Ok(())
+    }
+
+    /// A protected object lies there: the word of its flag, and after it so many words of its components (ARM 9.4).
+    pub fn take_protected(
+        &mut self,
+        alloc: Global,
+        symbol: &Symbol,
+        words: u32,
+        ceiling: Priority,
+    ) -> Result<(), NoMemory>
+        ensures { OnOk result (self.new ≡ after_protected self.old symbol.now words ceiling) }
+    {
+        self.take_flag(alloc, symbol)?;
+        let symbol = symbol.copy(alloc)?;
+        let word = self.words.take_data(words);
+        self.protected_objects.push(ProtectedWords {
+            symbol,
+            word,
+            words,
+            ceiling,
+        })?;
         Ok(())
     }
 }

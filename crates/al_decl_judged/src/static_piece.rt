@@ -19,7 +19,7 @@ pub(crate) fn value_label(expression: &Typed) -> Option<StaticValue>
 
 /// Where it begins.
 #[tactic(auto, using(crate::proofs::Layers::place_layer))]
-fn place_label(expression: &Typed) -> Place
+pub fn place_label(expression: &Typed) -> Place
     ensures { result ≡ place_label (typed_model expression.now) }
 {
     expression.labels.place

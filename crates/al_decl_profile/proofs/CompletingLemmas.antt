@@ -37,8 +37,8 @@ pub is_of_subprogram : (cs : List Completion) (name : List ℕ) (h : BodyHead) (
 is_of_subprogram cs name h s at c is first there =
     of_subprogram s c.view (subst (λ (x : BodyHead). IsBodyOf x c.view) is (completed_there cs name h at c first there).1)
 
-pub completes_first : (cs : List Completion) (n : DefiningName) (h : BodyHead) (s : Specification) (b : Bool) (at : ℕ) (c : Completion) (v : ViewKind) (m : Completing) → h ≡ head.Subprogram s → IsFirst (Completes n.name h) cs at → slice_get cs at ≡ Some c → c.view ≡ v → IsCompletedAt n.place s at v m → IsCompleting cs n s b m × IsWaiting cs m
-completes_first cs n h s b at c v (completing.Declared number symbol flag fault) is first there seen done = (
+pub completes_first : (cs : List Completion) (n : DefiningName) (h : BodyHead) (s : Specification) (may b : Bool) (at : ℕ) (c : Completion) (v : ViewKind) (m : Completing) → h ≡ head.Subprogram s → IsFirst (Completes n.name h) cs at → slice_get cs at ≡ Some c → c.view ≡ v → IsCompletedAt n.place s at v m → IsCompleting cs n s may b m × IsWaiting cs m
+completes_first cs n h s may b at c v (completing.Declared number symbol flag fault) is first there seen done = (
   (
     subst (λ (i : ℕ). IsFirst (Completes n.name (head.Subprogram s)) cs i) (sym done.0) (subst (λ (x : BodyHead). IsFirst (Completes n.name x) cs at) is first),
     λ d. subst (λ (x : ViewKind). IsCompleted n.place s symbol flag fault x) (sym (there_view d)) done.1,
@@ -48,4 +48,4 @@ completes_first cs n h s b at c v (completing.Declared number symbol flag fault)
   where
     there_view : (d : Completion) → (get_or cs number d).view ≡ v
     there_view d = ap (λ (i : ℕ). (get_or cs i d).view) done.0 ∙ ap (λ (x : Completion). x.view) (get_or_from_slice_get cs at c d there) ∙ seen
-completes_first cs n h s b at c v (completing.Alone fault) is first there seen done = absurd done
+completes_first cs n h s may b at c v (completing.Alone fault) is first there seen done = absurd done

@@ -46,11 +46,11 @@ abbrev pub IsOfSubprogram : ViewKind → Type 0
 IsOfSubprogram (OfSubprogram v) = Unit {0}
 IsOfSubprogram _ = ⊥
 
--- a body completes the first declaration that waits for it, by name and types; else it stands alone
-abbrev pub IsCompleting : List Completion → DefiningName → Specification → Bool → Completing → Type 0
-IsCompleting uncompleted n s has_homograph (Declared at symbol flag fault) =
+-- a body completes the first declaration that waits for it, by name and types; else it stands alone, where it may declare its subprogram
+abbrev pub IsCompleting : List Completion → DefiningName → Specification → Bool → Bool → Completing → Type 0
+IsCompleting uncompleted n s may_declare has_homograph (Declared at symbol flag fault) =
     IsFirst (Completes n.name (head.Subprogram s)) uncompleted at
     × ((d : Completion) → IsCompleted n.place s symbol flag fault (slice_index_or uncompleted at d).view)
-IsCompleting uncompleted n s has_homograph (Alone fault) =
+IsCompleting uncompleted n s may_declare has_homograph (Alone fault) =
     All (λ c. Completes n.name (head.Subprogram s) c → ⊥) uncompleted
-    × (fault ≡ lone_body_fault n.place has_homograph true)
+    × (fault ≡ lone_body_fault n.place has_homograph may_declare)

@@ -79,14 +79,16 @@ fn completed_subprogram(
 }
 
 /// What a body or a stub is to the declarations that wait: it completes the first of them that has its name and its types, and E303 stands at its name
-/// where it doesn't conform. One that completes none has E301 there where its region has a homograph, else it declares its subprogram (ARM 6.3(4)).
+/// where it doesn't conform. One that completes none has E301 there where its region has a homograph, else it declares its subprogram where it may (ARM
+/// 6.3(4)), and has E303 where it may not, as in the body of a protected object.
 pub fn completing_of(
     alloc: Global,
     uncompleted: &Uncompleted,
     heading: &Heading,
+    may_declare: bool,
     has_homograph: bool,
 ) -> Result<Completing, NoMemory>
-    ensures completing { IfOk result (λ completing. IsCompleting uncompleted.now heading.now.name (specification_of heading.now) has_homograph completing) }
+    ensures completing { IfOk result (λ completing. IsCompleting uncompleted.now heading.now.name (specification_of heading.now) may_declare has_homograph completing) }
     ensures waiting { IfOk result (λ completing. IsWaiting uncompleted.now completing) }
 {
     let place = heading.name.place;
@@ -96,6 +98,6 @@ pub fn completing_of(
             let subprogram = subprogram_in(uncompleted.at(at).view.kind());
             completed_subprogram(alloc, place, at, specification_in(&head), subprogram)
         }
-        None => Ok(Completing::Alone(lone_body_fault(place, has_homograph, true))),
+        None => Ok(Completing::Alone(lone_body_fault(place, has_homograph, may_declare))),
     }
 }

@@ -12,5 +12,5 @@ pub use body::{Completing, NewBody, declare_body};
 pub use completing::completing_of;
 pub use frame::{Formals, NewFormal, declare_formals, enter_body, leave_body, new_formals};
 pub use heading::{FormalPart, Heading, ReturnedPart, heading_fault};
-pub use profile::{profile_of, specification_of};
+pub use profile::{profile_of, profile_types, specification_of};
 pub use subprogram::{declare_subprogram, subprogram_view};

@@ -162,7 +162,7 @@ fn formal_types(
 }
 
 /// The types of the parameters and of the result, each once, and Standard's left out.
-pub(crate) fn profile_types(
+pub fn profile_types(
     alloc: Global,
     standard: &StandardTypes,
     heading: &Heading,

@@ -14,7 +14,8 @@ pub record PartReading : Type 0 where
   pub indication : Place → SubtypeIndicationTree → Result SubtypeView Fault
   -- of the index of an array
   pub index : Place → DiscreteRangeTree → Result SubtypeView Fault
-  -- the initial value of objects of a subtype, the value of named numbers, a bound of an integer type; words of temporaries aren't numbered
+  -- the initial value of objects of a subtype, the value of named numbers, a bound of an integer type, a priority; words of temporaries aren't numbered
   pub value : Place → SubtypeView → ExpressionTree → Result TypedTree Fault
   pub number : Place → ExpressionTree → Result TypedTree Fault
   pub bound : Place → ExpressionTree → Result TypedTree Fault
+  pub priority : Place → ExpressionTree → Result TypedTree Fault

@@ -90,4 +90,15 @@ pub trait PartAnalyzer {
     ) -> Result<CheckResult<Typed>, NoMemory>
         ensures asked { recorder.new.asked ≡ recorder.old.asked }
         ensures answered { IfOk result (λ checked. FromAnswers recorder.old.log recorder.new.log (λ t. map_ok typed_model checked ≡ (reading self.now t).bound scope.now (expression_model bound.now))) };
+
+    /// The value of aspect Priority of a task or a protected object (ARM D.1(15 to 17)).
+    fn priority<A: Answers>(
+        &self,
+        alloc: Global,
+        scope: &Scope,
+        value: &Expression,
+        recorder: &mut Recorder<A>,
+    ) -> Result<CheckResult<Typed>, NoMemory>
+        ensures asked { recorder.new.asked ≡ recorder.old.asked }
+        ensures answered { IfOk result (λ checked. FromAnswers recorder.old.log recorder.new.log (λ t. map_ok typed_model checked ≡ (reading self.now t).priority scope.now (expression_model value.now))) };
 }

@@ -96,7 +96,7 @@ impl ComponentList {
 }
 
 /// E301 at the first of these names that a component of the record has already, or that stands twice among them.
-fn names_fault<A: Answers>(
+pub fn names_fault<A: Answers>(
     alloc: Global,
     scope: &Scope,
     names: &[DefiningName],

@@ -4,4 +4,5 @@
 mod components;
 mod record;
 
+pub use components::names_fault;
 pub use record::{check_null_record, check_record_type};

@@ -34,6 +34,7 @@ fn start(alloc: Global, depth: u32) -> Result<Progress, NoMemory> {
         homonyms: Homonyms::new(alloc),
         objects: Seq::empty(alloc),
         flags: Seq::empty(alloc),
+        protected_objects: Seq::empty(alloc),
     })
 }
 

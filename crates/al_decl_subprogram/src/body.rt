@@ -80,22 +80,30 @@ fn complete(
 }
 
 /// The head of a body or stub, whose first token stands on that line: it completes the first declaration that waits with its name and types, or declares its
-/// subprogram. `stub` is what is wrong with a stub that may not stand there.
+/// subprogram. `stub` is what is wrong with a stub that may not stand there; a body in a protected
+/// object's may not declare.
 pub fn place_body<A: Answers>(
     alloc: Global,
     standard: &StandardTypes,
     env: &mut Environment,
     line: usize,
     stub: Option<Fault>,
+    may_declare: bool,
     heading: &Heading,
     recorder: &mut Recorder<A>,
 ) -> Result<CheckResult<PlacedBody>, NoMemory>
     requires { 0 < length env.old.scope.regions }
     ensures asked { recorder.new.asked ≡ recorder.old.asked }
-    ensures answered { IfOk result (λ checked. FromAnswers recorder.old.log recorder.new.log (λ t. (completed : Completing) × IsCompleting env.old.uncompleted heading.now.name (specification_of heading.now) (is_some (head_duplicate t env.old heading.now)) completed × (at_place env.new (map_ok placed_model checked) ≡ body_placed env.old line stub heading.now completed))) }
+    ensures answered { IfOk result (λ checked. FromAnswers recorder.old.log recorder.new.log (λ t. (completed : Completing) × IsCompleting env.old.uncompleted heading.now.name (specification_of heading.now) may_declare (is_some (head_duplicate t env.old heading.now)) completed × (at_place env.new (map_ok placed_model checked) ≡ body_placed env.old line stub heading.now completed))) }
     ensures depth { length env.new.scope.regions ≡ length env.old.scope.regions }
 {
     let duplicate = head_duplicate(alloc, standard, env, heading, recorder)?;
-    let completes = completing_of(alloc, &env.uncompleted, heading, duplicate.is_some())?;
+    let completes = completing_of(
+        alloc,
+        &env.uncompleted,
+        heading,
+        may_declare,
+        duplicate.is_some(),
+    )?;
     complete(alloc, standard, env, line, stub, heading, &completes)
 }

@@ -33,7 +33,7 @@ fn is_right_return(returned: &ReturnedPart) -> bool
 }
 
 /// Whether no mark has a fault, so that the types are known.
-fn has_right_marks(heading: &Heading) -> bool
+pub fn has_right_marks(heading: &Heading) -> bool
     ensures { result ≡ has_right_marks heading.now }
 {
     has_right_formals(heading.formals.as_slice()) && is_right_return(&heading.returned)
@@ -80,7 +80,7 @@ fn typed_duplicate<A: Answers>(
 }
 
 /// E301 at the name of a subprogram whose region has a homograph. Where a mark has a fault its types aren't known: then what may not be overloaded is one.
-pub(crate) fn head_duplicate<A: Answers>(
+pub fn head_duplicate<A: Answers>(
     alloc: Global,
     standard: &StandardTypes,
     env: &Environment,

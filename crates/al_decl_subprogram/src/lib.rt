@@ -6,4 +6,5 @@ mod homograph;
 mod subprogram;
 
 pub use body::{PlacedBody, place_body};
+pub use homograph::{has_right_marks, head_duplicate};
 pub use subprogram::{check_subprogram, place_subprogram};

@@ -12,6 +12,7 @@ mod sign;
 mod steps;
 
 pub use attribute::{Attribute, attribute_named};
+pub use copied::copied_subprogram;
 pub use mark::mark_in;
 pub use pair::together;
 pub use prefix::Prefix;

@@ -1,11 +1,12 @@
 // Operations of protected objects after the object's name (ARM 9.5, 4.1.3).
-ghost use Rattle.std.specs.Prelude.{◌≡◌, IfOk};
+ghost use Rattle.std.specs.Prelude.{◌≡◌, ◌++◌, IfOk, OnOk};
 ghost use Rattle.std.specs.Option.{option_copied};
 ghost use Rattle.al_overload_term.specs.TermViews.{term_model};
-ghost use Rattle.al_overload_readings.specs.Operations.{called, operation_named, operation_of, protected_in, protected_of};
+ghost use Rattle.al_overload_readings.specs.Operations.{called, named_so, operation_of, operations_named, protected_in, protected_of};
 
 use crate::copied::copied_subprogram;
 use al_base::{NoMemory, Place};
+use al_overload_keys::is_none;
 use al_overload_term::Term;
 use al_view::{Operation, ProtectedView, View, ViewKind, Views};
 use std::alloc::Global;
@@ -38,25 +39,57 @@ pub fn protected_in(views: &[View]) -> Option<&ProtectedView>
     }
 }
 
-fn called(alloc: Global, place: Place, operation: &Operation) -> Result<Term, NoMemory>
-    ensures { IfOk result (λ term. term_model term ≡ called place operation.now) }
+/// One more operation, after others, where it has that name.
+fn add_if_named(
+    alloc: Global,
+    views: &mut Views,
+    operation: &Operation,
+    name: &[u8],
+) -> Result<(), NoMemory>
+    ensures { OnOk result (views.new ≡ views.old ++ named_so name.now operation.now) }
 {
-    let subprogram = copied_subprogram(alloc, &operation.subprogram)?;
-    let view = View::new(alloc, ViewKind::OfSubprogram(subprogram))?;
+    if name == operation.name.as_slice() {
+        let subprogram = copied_subprogram(alloc, &operation.subprogram)?;
+        let view = View::new(alloc, ViewKind::OfSubprogram(subprogram))?;
+        views.push(view)?;
+    }
+    Ok(())
+}
+
+fn add_named(
+    alloc: Global,
+    views: &mut Views,
+    operations: &[Operation],
+    name: &[u8],
+) -> Result<(), NoMemory>
+    ensures { OnOk result (views.new ≡ views.old ++ operations_named name.now operations.now) }
+{
+    for operation in operations {
+        add_if_named(alloc, views, operation, name)?;
+    }
+    Ok(())
+}
+
+/// All operations of that name.
+fn operations_named(alloc: Global, operations: &[Operation], name: &[u8]) -> Result<Views, NoMemory>
+    ensures { IfOk result (λ views. views ≡ operations_named name.now operations.now) }
+{
     let mut views = Views::new(alloc);
-    views.push(view)?;
-    Ok(Term::named(place, views))
+    add_named(alloc, &mut views, operations, name)?;
+    Ok(views)
 }
 
-fn operation_named<'a>(operations: &'a [Operation], name: &[u8]) -> Option<&'a Operation>
-    ensures { option_copied result ≡ operation_named name.now operations.now }
+fn called(place: Place, views: Views) -> Term
+    ensures { term_model result ≡ called place views }
 {
-    operations
-        .iter()
-        .find(|operation| name == operation.name.as_slice())
+    if is_none(views.as_slice()) {
+        Term::nothing(place)
+    } else {
+        Term::named(place, views)
+    }
 }
 
-/// The operation of that name of the object.
+/// The operations of that name of the object.
 #[tactic(auto, unfolding(crate::specs::Operations::operation_of))]
 pub fn operation_of(
     alloc: Global,
@@ -66,8 +99,6 @@ pub fn operation_of(
 ) -> Result<Term, NoMemory>
     ensures { IfOk result (λ term. term_model term ≡ operation_of place object.now name.now) }
 {
-    match operation_named(object.operations.as_slice(), name) {
-        Some(operation) => called(alloc, place, operation),
-        None => Ok(Term::nothing(place)),
-    }
+    let views = operations_named(alloc, object.operations.as_slice(), name)?;
+    Ok(called(place, views))
 }

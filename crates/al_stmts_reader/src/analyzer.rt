@@ -3,8 +3,10 @@ use al_base::{NoMemory, Place};
 use al_base_fault::{CheckResult, Fault};
 use al_stmts::{LoopRange, LoopWords, ReturnContext};
 use al_stmts_choices::{Choice, Selector};
+use al_stmts_walk::BodyExtent;
 use al_tree::{
-    Choice as ChoiceOfText, CommonDeclaration, DiscreteRange, Expression, Identifier, Specification,
+    Choice as ChoiceOfText, CommonDeclaration, DiscreteRange, Expression, Identifier,
+    OperationBody, ProtectedDefinition, Specification, TaskDeclaration,
 };
 use al_view::{Bounds, Seq};
 use al_view_typed::{Piece, Typed, TypedBody, TypedCall, TypedDeclaration, TypedStatement};
@@ -28,10 +30,10 @@ pub trait Analyzer {
     ghost use Rattle.al_query.specs.declared.answer.AnswerKind.{AnswerKind};
     ghost use Rattle.al_query.specs.declared.query.Query.{Query};
     ghost use Rattle.al_stmts.specs.LoopForms.{range_model};
-    ghost use Rattle.al_tree.specs.DeclarationViews.{common_model, discrete_range_model, specification_model};
+    ghost use Rattle.al_tree.specs.DeclarationViews.{common_model, discrete_range_model, protected_model, specification_model, task_model};
     ghost use Rattle.al_tree.specs.ExpressionViews.{expression_model};
     ghost use Rattle.al_tree.specs.Lexemes.{identifier_label, place_label};
-    ghost use Rattle.al_tree.specs.StatementViews.{choice_model};
+    ghost use Rattle.al_tree.specs.StatementViews.{choice_model, operation_bodies_of, operation_body_model};
     ghost use Rattle.al_view_typed.specs.ExpressionViews.{typed_model};
     ghost use Rattle.al_view_typed.specs.StatementViews.{statement_model};
     ghost use Rattle.al_view_typed.specs.UnitTrees.{body_model};
@@ -182,10 +184,22 @@ pub trait Analyzer {
         ensures asked { asked self.new ≡ asked self.old }
         ensures answered { IfOk result (λ checked. FromAnswers (log self.old) (log self.new) (λ t. (env self.new, map_ok effects_model checked) ≡ (reading t).stub (env self.old) (specification_model specification.now) (place_label separate))) };
 
-    /// The fault of what isn't compiled yet.
-    fn not_yet(&mut self) -> Result<Fault, NoMemory>
+    /// A task (ARM 9.1).
+    fn single_task(
+        &mut self,
+        task: &TaskDeclaration,
+    ) -> Result<CheckResult<Vec<TypedDeclaration>>, NoMemory>
         ensures asked { asked self.new ≡ asked self.old }
-        ensures answered { IfOk result (λ found. FromAnswers (log self.old) (log self.new) (λ t. (env self.new, found) ≡ giving (env self.old) ((reading t).not_yet (env self.old)))) };
+        ensures answered { IfOk result (λ checked. FromAnswers (log self.old) (log self.new) (λ t. (env self.new, map_ok effects_model checked) ≡ (reading t).single_task (env self.old) (task_model task.now))) };
+
+    /// A protected object, with the place of `protected` (ARM 9.4).
+    fn single_object(
+        &mut self,
+        opening: Place,
+        object: &ProtectedDefinition,
+    ) -> Result<CheckResult<Vec<TypedDeclaration>>, NoMemory>
+        ensures asked { asked self.new ≡ asked self.old }
+        ensures answered { IfOk result (λ checked. FromAnswers (log self.old) (log self.new) (λ t. (env self.new, map_ok effects_model checked) ≡ (reading t).single_object (env self.old) (place_label opening) (protected_model object.now))) };
 
     /// The fault at the end of a part, where a declaration of it waits for its body.
     fn missing(&mut self, end: Place) -> Result<Option<Fault>, NoMemory>
@@ -200,10 +214,27 @@ pub trait Analyzer {
         ensures asked { asked self.new ≡ asked self.old }
         ensures answered { IfOk result (λ checked. FromAnswers (log self.old) (log self.new) (λ t. (env self.new, map_ok effects_model checked) ≡ (reading t).head (env self.old) (specification_model specification.now))) };
 
-    /// The region of a body, after its head.
-    fn body_entered(&mut self, specification: &Specification) -> Result<(), NoMemory>
+    /// What stands before the `is` of a task's body (ARM 9.1).
+    fn task_head(
+        &mut self,
+        name: &Identifier,
+    ) -> Result<CheckResult<Vec<TypedDeclaration>>, NoMemory>
         ensures asked { asked self.new ≡ asked self.old }
-        ensures answered { OnOk result (FromAnswers (log self.old) (log self.new) (λ t. env self.new ≡ (reading t).body_entered (env self.old) (specification_model specification.now))) };
+        ensures answered { IfOk result (λ checked. FromAnswers (log self.old) (log self.new) (λ t. (env self.new, map_ok effects_model checked) ≡ (reading t).task_head (env self.old) (identifier_label name.now))) };
+
+    /// What stands before the `is` of an entry's body (ARM 9.5.2).
+    fn entry_head(
+        &mut self,
+        name: &Identifier,
+        barrier: &Expression,
+    ) -> Result<CheckResult<Vec<TypedDeclaration>>, NoMemory>
+        ensures asked { asked self.new ≡ asked self.old }
+        ensures answered { IfOk result (λ checked. FromAnswers (log self.old) (log self.new) (λ t. (env self.new, map_ok effects_model checked) ≡ (reading t).entry_head (env self.old) (identifier_label name.now) (expression_model barrier.now))) };
+
+    /// The region of the body whose head was read last.
+    fn body_entered(&mut self) -> Result<(), NoMemory>
+        ensures asked { asked self.new ≡ asked self.old }
+        ensures answered { OnOk result (FromAnswers (log self.old) (log self.new) (λ t. env self.new ≡ (reading t).body_entered (env self.old))) };
 
     /// What return statements stand in, in the innermost body (ARM 6.5).
     fn returns(&mut self) -> Result<ReturnContext, NoMemory>
@@ -213,17 +244,33 @@ pub trait Analyzer {
     /// The innermost body with its labels, after what stands inside it.
     fn body(
         &mut self,
-        specification: &Specification,
+        extent: BodyExtent,
         declarations: Vec<TypedDeclaration>,
         statements: Vec<TypedStatement>,
     ) -> Result<TypedBody, NoMemory>
         ensures asked { asked self.new ≡ asked self.old }
-        ensures answered { IfOk result (λ found. FromAnswers (log self.old) (log self.new) (λ t. (env self.new, body_model found) ≡ giving (env self.old) ((reading t).body (env self.old) (specification_model specification.now) (effects_model declarations) (map statement_model statements.items)))) };
+        ensures answered { IfOk result (λ found. FromAnswers (log self.old) (log self.new) (λ t. (env self.new, body_model found) ≡ giving (env self.old) ((reading t).body (env self.old) extent (effects_model declarations) (map statement_model statements.items)))) };
 
     /// The region of a body is left.
     fn body_left(&mut self) -> Result<(), NoMemory>
         ensures asked { asked self.new ≡ asked self.old }
         ensures answered { OnOk result (FromAnswers (log self.old) (log self.new) (λ t. env self.new ≡ (reading t).body_left (env self.old))) };
+
+    /// A protected body up to its operations (ARM 9.4), with the place of `protected`: their region, in which they wait for their bodies, and what
+    /// the body does where it stands.
+    fn object_entered(
+        &mut self,
+        opening: Place,
+        name: &Identifier,
+        operations: &[OperationBody],
+    ) -> Result<CheckResult<Vec<TypedDeclaration>>, NoMemory>
+        ensures asked { asked self.new ≡ asked self.old }
+        ensures answered { IfOk result (λ checked. FromAnswers (log self.old) (log self.new) (λ t. (env self.new, map_ok effects_model checked) ≡ (reading t).object_entered (env self.old) (place_label opening) (identifier_label name.now) (operation_bodies_of (map operation_body_model operations.now)))) };
+
+    /// The region of a protected body is left.
+    fn object_left(&mut self) -> Result<(), NoMemory>
+        ensures asked { asked self.new ≡ asked self.old }
+        ensures answered { OnOk result (FromAnswers (log self.old) (log self.new) (λ t. env self.new ≡ (reading t).object_left (env self.old))) };
 
     /// From here on the private parts of the ancestors are seen (ARM 8.2(5)).
     fn private_entered(&mut self) -> Result<(), NoMemory>

@@ -2,17 +2,18 @@
 use Rattle.std.proofs.Common.{◌≡◌, Bool, true, false, List, [], ◌∷◌, Option, Some, None, map, refl, sym, ap, ◌∙◌}
 use Rattle.std.specs.Prelude.{fold, is_some, if◌then◌else◌}
 use Rattle.al_base_fault.specs.declared.fault.Fault.{Fault}
-use Rattle.al_tree.specs.StatementViews.{alternative_model, alternatives_of, branch_model, elsif_model, elsifs_of, item_model, items_of, more_statements_of, statement_model}
+use Rattle.al_tree.specs.StatementViews.{alternative_model, alternatives_of, branch_model, elsif_model, elsifs_of, item_model, items_of, more_statements_of, operation_bodies_of, operation_body_model, statement_model}
 use Rattle.al_tree.specs.declared.statement.Alternative.{Alternative}
 use Rattle.al_tree.specs.declared.statement.ElsifBranch.{ElsifBranch, out-ElsifBranch}
 use Rattle.al_tree.specs.declared.statement.Item.{Item}
+use Rattle.al_tree.specs.declared.statement.OperationBody.{OperationBody}
 use Rattle.al_tree.specs.declared.statement.Statement.{Statement}
 use Rattle.al_view_typed.specs.DeclarationTrees.{DeclarationTree}
 use Rattle.al_view_typed.specs.StatementTrees.{StatementTree}
 use Rattle.al_view_typed.specs.UnitTrees.{BodyTree}
 use Rattle.al_stmts_walk.specs.Readings.{Reading, giving}
 use Rattle.al_stmts_walk.specs.Steps.{Enclosing, Branching, Choosing, Part, Walked, joined, parts_joined}
-use Rattle.al_stmts_walk.specs.Walking.{alternative_walked, alternatives_walked, branch_walked, elsifs_walked, item_walked, items_walked, more_walked, part_after, statement_walked, walked_after}
+use Rattle.al_stmts_walk.specs.Walking.{alternative_walked, alternatives_walked, branch_walked, elsifs_walked, item_walked, items_walked, more_walked, operation_walked, operations_walked, part_after, statement_walked, walked_after}
 use Rattle.al_stmts_returns.proofs.Layers.{elsif_layers}
 use Rattle.al_stmts_walk.proofs.Behind.{last, last_part, parted, parts_parted}
 use Rattle.al_stmts_walker.proofs.Loops.{stops}
@@ -133,3 +134,23 @@ item_added {H} R h after a one made i goes is made_is =
 
 pub items_stop : {H : Type 0} (R : Reading H) (s : H × Part) (is : List Item) → is_some s.1.faults.end ≡ true → fold (item_step R) s is ≡ s
 items_stop R s is ended = stops (item_step R) s is (λ i. rw ended refl)
+
+-- ---- bodies of operations
+
+abbrev pub operation_step : {H : Type 0} → Reading H → H × Part → OperationBody → H × Part
+operation_step R s o = part_after s (operation_walked R s.0 (operation_body_model o))
+
+pub operations_folded : {H : Type 0} (R : Reading H) (s : H × Part) (os : List OperationBody)
+    → fold (operation_step R) s os ≡ part_after s (operations_walked R s.0 (operation_bodies_of (map operation_body_model os)))
+operations_folded R s [] = sym (last_part s.0 s.1)
+operations_folded R s (o ∷ os) =
+    operations_folded R (operation_step R s o) os
+    ∙ part_again s (operation_walked R s.0 (operation_body_model o)) (λ h. operations_walked R h (operation_bodies_of (map operation_body_model os)))
+
+pub operation_added : {H : Type 0} (R : Reading H) (h after : H) (a one made : Part) (o : OperationBody)
+    → is_some a.faults.end ≡ false → giving after one ≡ operation_walked R h (operation_body_model o) → made ≡ parts_joined a one → giving after made ≡ operation_step R (giving h a) o
+operation_added {H} R h after a one made o goes is made_is =
+    rw goes (ap (λ (w : Part). giving after w) made_is ∙ goes_on (λ (k : H) (w : Part). giving k (parts_joined a w)) after one (operation_walked R h (operation_body_model o)) is)
+
+pub operations_stop : {H : Type 0} (R : Reading H) (s : H × Part) (os : List OperationBody) → is_some s.1.faults.end ≡ true → fold (operation_step R) s os ≡ s
+operations_stop R s os ended = stops (operation_step R) s os (λ o. rw ended refl)

@@ -1,18 +1,20 @@
 -- Statements and bodies that were walked over, by what was walked over inside them.
-use Rattle.std.proofs.Common.{◌≡◌, ℕ, Bool, true, false, List, Option, Result, Ok, Err, map, refl, ap, ◌∙◌}
+use Rattle.std.proofs.Common.{◌≡◌, ℕ, Bool, true, false, List, Option, Some, Result, Ok, Err, map, refl, ap, ◌∙◌}
 use Rattle.std.specs.Prelude.{is_some, option_map}
 use Rattle.al_base_fault.specs.declared.fault.Fault.{Fault}
 use Rattle.al_tree_grammar.specs.Grammar.{Label}
 use Rattle.al_tree_syntax.specs.DeclarationTrees.{SpecificationTree}
-use Rattle.al_tree_syntax.specs.StatementTrees.{ElseTree as else_trees, ItemsTree, StatementsTree}
+use Rattle.al_tree_syntax.specs.ExpressionTrees.{ExpressionTree}
+use Rattle.al_tree_syntax.specs.StatementTrees.{ElseTree as else_trees, ItemsTree, NamedEndTree, StatementsTree}
 use Rattle.al_tree.specs.ExpressionViews.{expression_model}
 use Rattle.al_tree.specs.Lexemes.{identifier_label, place_label}
-use Rattle.al_tree.specs.StatementViews.{alternative_model, alternatives_of, body_model, branch_model, case_model, compound_end_model, elsif_model, elsifs_of, else_of, handled_model, if_model, item_model, items_of, more_statements_of, statement_model, statements_model}
+use Rattle.al_tree.specs.StatementViews.{alternative_model, alternatives_of, body_model, branch_model, case_model, compound_end_model, elsif_model, elsifs_of, else_of, handled_model, if_model, item_model, items_of, more_statements_of, named_end_model, statement_model, statements_model}
 use Rattle.al_tree.specs.declared.statement.Alternative.{Alternative, out-Alternative}
 use Rattle.al_tree.specs.declared.statement.Branch.{Branch, out-Branch}
 use Rattle.al_tree.specs.declared.statement.CaseStatement.{CaseStatement, out-CaseStatement}
 use Rattle.al_tree.specs.declared.statement.DeclaredStatements.{DeclaredStatements, out-DeclaredStatements}
 use Rattle.al_tree.specs.declared.statement.IfStatement.{IfStatement, out-IfStatement}
+use Rattle.al_tree.specs.declared.statement.OperationBody.{OperationBody}
 use Rattle.al_tree.specs.declared.statement.Statements.{Statements, out-Statements}
 use Rattle.al_tree.specs.declared.statement.SubprogramBody.{SubprogramBody, out-SubprogramBody}
 use Rattle.al_view_typed.specs.DeclarationTrees.{DeclarationTree}
@@ -22,10 +24,11 @@ use Rattle.al_stmts.specs.declared.simple.ReturnContext.{ReturnContext}
 use Rattle.al_view_typed.specs.ExpressionTrees.{TypedTree}
 use Rattle.al_stmts_returns.proofs.Layers.{alternative_layers, branch_layers, case_layers, handled_layers, if_layers, statements_layers}
 use Rattle.al_stmts_text.proofs.Layers.{body_layers}
-use Rattle.al_stmts_text.specs.Parts.{all_alternatives, all_branches, body_inside, headed_walked}
+use Rattle.al_stmts_text.specs.Parts.{all_alternatives, all_branches, body_inside, entered_walked, object_walked, opened_walked, operation_trees}
 use Rattle.al_stmts_walk.specs.Readings.{Reading, giving}
 use Rattle.al_stmts_walk.specs.Steps.{Enclosing, Branching, Choosing, Inside, Part, Walked, block_of, case_of, if_of, inside_of, no_branching, no_part, nothing, one_alternative, one_branch, one_otherwise, part_of, parts_joined}
-use Rattle.al_stmts_walk.specs.Walking.{alternative_walked, alternatives_walked, body_entered, body_made, body_walked, branch_walked, case_head, closed, elsifs_walked, else_walked, end_of, handled_walked, inside_after, items_walked, more_walked, part_after, region_left, statement_walked, statements_walked, walked_after}
+use Rattle.al_stmts_walk.specs.Walking.{alternative_walked, alternatives_walked, body_ended, body_entered, body_walked, branch_walked, case_head, closed, elsifs_walked, else_walked, end_of, entry_walked, handled_walked, inside_after, items_walked, more_walked, named_extent, object_ended, operations_walked, part_after, region_left, statement_walked, statements_walked, subprogram_extent, task_walked, walked_after, walked_body}
+use Rattle.al_stmts_walk.specs.declared.extent.BodyExtent.{BodyExtent}
 use Rattle.al_stmts_walker.proofs.Read.{goes_on, made_of}
 
 pub statements_made : {H : Type 0} (R : Reading H) (r env : Enclosing) (h after : H) (first so_far : Walked) (done : H × Walked) (s : Statements)
@@ -118,24 +121,70 @@ handled_made {H} R r n line h entered closed_at after part inside done d entered
     ∙ ap (λ (p : H × Part). region_left R (giving ((inside_after p (statements_walked R r p.0 ss)).0) (block_of line end (inside_after p (statements_walked R r p.0 ss)).1))) part_is
     ∙ ap (λ (k : H). let p = closed R (items_walked R k items) begin in region_left R (giving ((inside_after p (statements_walked R r p.0 ss)).0) (block_of line end (inside_after p (statements_walked R r p.0 ss)).1))) entered_is)
 
-pub inside_made : {H : Type 0} (R : Reading H) (r : Enclosing) (h closed_at : H) (part : Part) (done : H × Inside) (b : SubprogramBody)
-    → giving closed_at part ≡ closed R (items_walked R h (items_of (map item_model (out-SubprogramBody b).items.items))) (place_label (out-SubprogramBody b).begin)
-    → done ≡ inside_after (giving closed_at part) (statements_walked R r closed_at (statements_model (out-SubprogramBody b).statements))
-    → done ≡ body_inside R r h b
-inside_made {H} R r h closed_at part done b part_is done_is =
-    done_is ∙ ap (λ (p : H × Part). inside_after p (statements_walked R r p.0 (statements_model (out-SubprogramBody b).statements))) part_is
+pub inside_made : {H : Type 0} (R : Reading H) (r : Enclosing) (h closed_at : H) (part : Part) (done : H × Inside) (items : ItemsTree) (begin : Label) (ss : StatementsTree)
+    → giving closed_at part ≡ closed R (items_walked R h items) begin
+    → done ≡ inside_after (giving closed_at part) (statements_walked R r closed_at ss)
+    → done ≡ body_inside R r h items begin ss
+inside_made {H} R r h closed_at part done items begin ss part_is done_is = done_is ∙ ap (λ (p : H × Part). inside_after p (statements_walked R r p.0 ss)) part_is
 
-pub body_headed : {H : Type 0} (R : Reading H) (h after : H) (s : SpecificationTree) (effects : List DeclarationTree) (done : H × Part) (b : SubprogramBody)
-    → giving after (Ok effects) ≡ R.head h s
-    → done ≡ headed_walked R after s effects b
+-- ---- bodies after their heads
+
+abbrev Head : Type 0
+Head = Result (List DeclarationTree) Fault
+
+pub body_read : {H : Type 0} (R : Reading H) (h after : H) (s : SpecificationTree) (head : Head) (extent : BodyExtent) (done : H × Part) (b : SubprogramBody)
+    → extent ≡ subprogram_extent s (compound_end_model (out-SubprogramBody b).end)
+    → giving after head ≡ R.head h s
+    → done ≡ walked_body R (giving after head) extent (items_of (map item_model (out-SubprogramBody b).items.items)) (place_label (out-SubprogramBody b).begin) (statements_model (out-SubprogramBody b).statements)
     → done ≡ body_walked R h s (body_model b)
-body_headed {H} R h after s effects done b head is = rw (body_layers b, ← head) is
+body_read {H} R h after s head extent done b extent_is head_is is =
+    let items = items_of (map item_model (out-SubprogramBody b).items.items) in
+    let begin = place_label (out-SubprogramBody b).begin in
+    let ss = statements_model (out-SubprogramBody b).statements in
+    rw (body_layers b)
+    (is
+    ∙ ap (λ (p : H × Head). walked_body R p extent items begin ss) head_is
+    ∙ ap (λ (x : BodyExtent). walked_body R (R.head h s) x items begin ss) extent_is)
 
-pub body_refused : {H : Type 0} (R : Reading H) (h after : H) (s : SpecificationTree) (f : Fault) (done : Part) (b : SubprogramBody)
-    → giving after (Err f) ≡ R.head h s
+pub task_read : {H : Type 0} (R : Reading H) (h after : H) (l n : Label) (head : Head) (extent : BodyExtent) (done : H × Part) (d : DeclaredStatements)
+    → extent ≡ named_extent l n (named_end_model (out-DeclaredStatements d).end)
+    → giving after head ≡ R.task_head h n
+    → done ≡ walked_body R (giving after head) extent (items_of (map item_model (out-DeclaredStatements d).items.items)) (place_label (out-DeclaredStatements d).begin) (statements_model (out-DeclaredStatements d).statements)
+    → done ≡ task_walked R h l n (handled_model d)
+task_read {H} R h after l n head extent done d extent_is head_is is =
+    let items = items_of (map item_model (out-DeclaredStatements d).items.items) in
+    let begin = place_label (out-DeclaredStatements d).begin in
+    let ss = statements_model (out-DeclaredStatements d).statements in
+    rw (handled_layers d)
+    (is
+    ∙ ap (λ (p : H × Head). walked_body R p extent items begin ss) head_is
+    ∙ ap (λ (x : BodyExtent). walked_body R (R.task_head h n) x items begin ss) extent_is)
+
+pub entry_read : {H : Type 0} (R : Reading H) (h after : H) (l n : Label) (barrier : ExpressionTree) (head : Head) (extent : BodyExtent) (done : H × Part) (d : DeclaredStatements)
+    → extent ≡ named_extent l n (named_end_model (out-DeclaredStatements d).end)
+    → giving after head ≡ R.entry_head h n barrier
+    → done ≡ walked_body R (giving after head) extent (items_of (map item_model (out-DeclaredStatements d).items.items)) (place_label (out-DeclaredStatements d).begin) (statements_model (out-DeclaredStatements d).statements)
+    → done ≡ entry_walked R h l n barrier (handled_model d)
+entry_read {H} R h after l n barrier head extent done d extent_is head_is is =
+    let items = items_of (map item_model (out-DeclaredStatements d).items.items) in
+    let begin = place_label (out-DeclaredStatements d).begin in
+    let ss = statements_model (out-DeclaredStatements d).statements in
+    rw (handled_layers d)
+    (is
+    ∙ ap (λ (p : H × Head). walked_body R p extent items begin ss) head_is
+    ∙ ap (λ (x : BodyExtent). walked_body R (R.entry_head h n barrier) x items begin ss) extent_is)
+
+pub object_read : {H : Type 0} (R : Reading H) (h after : H) (l n : Label) (os : List OperationBody) (e : NamedEndTree) (effects : List DeclarationTree) (done : H × Part)
+    → giving after (Ok effects) ≡ R.object_entered h l n (operation_trees os)
+    → done ≡ opened_walked R after n os e effects
+    → done ≡ object_walked R h l n os e
+object_read {H} R h after l n os e effects done opened is = rw (← opened) is
+
+pub object_refused : {H : Type 0} (R : Reading H) (h after : H) (l n : Label) (os : List OperationBody) (e : NamedEndTree) (f : Fault) (done : Part)
+    → giving after (Err f) ≡ R.object_entered h l n (operation_trees os)
     → done ≡ part_of (Err f)
-    → giving after done ≡ body_walked R h s (body_model b)
-body_refused {H} R h after s f done b head is = rw (body_layers b, ← head) (ap (λ (p : Part). giving after p) is)
+    → giving after done ≡ object_walked R h l n os e
+object_refused {H} R h after l n os e f done opened is = rw (← opened) (ap (λ (p : Part). giving after p) is)
 
 pub branches_all : {H : Type 0} (R : Reading H) (r one two : Enclosing) (h h1 h2 : H) (so_far first more : Branching) (done : H × Branching) (s : IfStatement)
     → one ≡ r
@@ -172,20 +221,33 @@ pub part_made : {H : Type 0} (R : Reading H) (h h1 : H) (new all : Part) (items 
 part_made {H} R h h1 new all items end done new_is all_are is =
     is ∙ ap (λ (p : H × Part). closed R p end) (all_are ∙ ap (λ (n : Part). part_after (giving h n) (items_walked R h items)) new_is ∙ none_before h (items_walked R h items))
 
-pub headed_made : {H : Type 0} (R : Reading H) (h h1 h2 : H) (s : SpecificationTree) (effects : List DeclarationTree) (enclosing left : Enclosing) (inside : Inside) (returns : ReturnContext) (no_return : Option Fault) (has : Bool) (done : H × Part) (b : SubprogramBody)
-    → giving h1 enclosing ≡ body_entered R h s
-    → giving h2 inside ≡ body_inside R enclosing h1 b
+pub opened_made : {H : Type 0} (R : Reading H) (h h1 h2 : H) (new all last : Part) (fault : Option Fault) (effects : List DeclarationTree) (n : Label) (os : List OperationBody) (e : NamedEndTree) (done : H × Part)
+    → new ≡ no_part
+    → giving h1 all ≡ part_after (giving h new) (operations_walked R h (operation_trees os))
+    → giving h2 last ≡ closed R (giving h1 all) e.end
+    → fault ≡ end_of (Some n) e.end_name
+    → done ≡ object_ended R effects fault (giving h2 last)
+    → done ≡ opened_walked R h n os e effects
+opened_made {H} R h h1 h2 new all last fault effects n os e done new_is all_are last_is fault_is is =
+    let operations = operations_walked R h (operation_trees os) in
+    let before = all_are ∙ ap (λ (p : Part). part_after (giving h p) operations) new_is ∙ none_before h operations in
+    is
+    ∙ ap (λ (p : H × Part). object_ended R effects fault p) (last_is ∙ ap (λ (p : H × Part). closed R p e.end) before)
+    ∙ ap (λ (f : Option Fault). object_ended R effects f (closed R operations e.end)) fault_is
+
+pub entered_made : {H : Type 0} (R : Reading H) (h h1 h2 : H) (effects : List DeclarationTree) (extent : BodyExtent) (enclosing left : Enclosing) (inside : Inside) (returns : ReturnContext) (no_return : Option Fault) (has : Bool) (done : H × Part) (items : ItemsTree) (begin : Label) (ss : StatementsTree)
+    → giving h1 enclosing ≡ body_entered R h
+    → giving h2 inside ≡ body_inside R enclosing h1 items begin ss
     → left ≡ enclosing
     → returns ≡ left.returns
-    → has ≡ has_return (statements_model (out-SubprogramBody b).statements)
-    → no_return ≡ no_return_fault (out-SubprogramBody b).end.end returns.body has
-    → done ≡ body_made R s effects no_return (compound_end_model (out-SubprogramBody b).end) (giving h2 inside)
-    → done ≡ headed_walked R h s effects b
-headed_made {H} R h h1 h2 s effects enclosing left inside returns no_return has done b entered inside_is same returns_are has_is no_return_is is =
-    let end = compound_end_model (out-SubprogramBody b).end in
-    let place = (out-SubprogramBody b).end.end in
-    let has_one = has_return (statements_model (out-SubprogramBody b).statements) in
+    → has ≡ has_return ss
+    → no_return ≡ no_return_fault extent.end returns.body has
+    → done ≡ body_ended R effects extent no_return (giving h2 inside)
+    → done ≡ entered_walked R h effects extent items begin ss
+entered_made {H} R h h1 h2 effects extent enclosing left inside returns no_return has done items begin ss entered inside_is same returns_are has_is no_return_is is =
+    let place = extent.end in
+    let has_one = has_return ss in
     is
-    ∙ ap (λ (f : Option Fault). body_made R s effects f end (giving h2 inside)) (no_return_is ∙ ap (λ (v : Bool). no_return_fault place returns.body v) has_is ∙ ap (λ (x : ReturnContext). no_return_fault place x.body has_one) (returns_are ∙ ap (λ (k : Enclosing). k.returns) same))
-    ∙ ap (λ (p : H × Inside). body_made R s effects (no_return_fault place enclosing.returns.body has_one) end p) inside_is
-    ∙ goes_on (λ (k : H) (a : Enclosing). body_made R s effects (no_return_fault place a.returns.body has_one) end (body_inside R a k b)) h1 enclosing (body_entered R h s) entered
+    ∙ ap (λ (f : Option Fault). body_ended R effects extent f (giving h2 inside)) (no_return_is ∙ ap (λ (v : Bool). no_return_fault place returns.body v) has_is ∙ ap (λ (x : ReturnContext). no_return_fault place x.body has_one) (returns_are ∙ ap (λ (k : Enclosing). k.returns) same))
+    ∙ ap (λ (p : H × Inside). body_ended R effects extent (no_return_fault place enclosing.returns.body has_one) p) inside_is
+    ∙ goes_on (λ (k : H) (a : Enclosing). body_ended R effects extent (no_return_fault place a.returns.body has_one) (body_inside R a k items begin ss)) h1 enclosing (body_entered R h) entered

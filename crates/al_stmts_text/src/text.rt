@@ -3,13 +3,14 @@ ghost use Rattle.std.specs.Prelude.{◌≡◌, IfOk, OnOk, map, option_map};
 ghost use Rattle.al_base_fault.specs.Judging.{map_ok};
 ghost use Rattle.al_query.specs.Reads.{FromAnswers};
 ghost use Rattle.al_tree.specs.DeclarationViews.{specification_model};
+ghost use Rattle.al_tree.specs.ExpressionViews.{expression_model};
 ghost use Rattle.al_tree.specs.Lexemes.{identifier_label, place_label};
-ghost use Rattle.al_tree.specs.StatementViews.{alternative_model, alternatives_of, block_model, body_model, branch_model, case_model, elsif_model, elsifs_of, else_of, handled_model, if_model, item_model, items_of, loop_model, more_statements_of, statement_model, statements_model};
+ghost use Rattle.al_tree.specs.StatementViews.{alternative_model, alternatives_of, block_model, body_model, branch_model, case_model, elsif_model, elsifs_of, else_of, handled_model, if_model, item_model, items_of, loop_model, more_statements_of, named_end_model, operation_bodies_of, operation_body_model, statement_model, statements_model};
 ghost use Rattle.al_view_typed.specs.StatementViews.{scheme_model};
 ghost use Rattle.al_stmts_walk.specs.Steps.{in_loop};
 ghost use Rattle.al_stmts_walk.specs.Views.{effects_model};
-ghost use Rattle.al_stmts_walk.specs.Walking.{alternative_walked, alternatives_walked, body_walked, branch_walked, closed, elsifs_walked, else_walked, end_of, for_walked, handled_walked, inner_block_walked, inner_loop_walked, inside_after, item_walked, items_walked, loop_walked, more_walked, part_after, statement_walked, statements_walked, walked_after};
-ghost use Rattle.al_stmts_text.specs.Parts.{all_alternatives, all_branches, body_inside, headed_walked};
+ghost use Rattle.al_stmts_walk.specs.Walking.{alternative_walked, alternatives_walked, body_walked, branch_walked, closed, elsifs_walked, else_walked, end_of, entry_walked, for_walked, handled_walked, inner_block_walked, inner_loop_walked, inside_after, item_walked, items_walked, loop_walked, more_walked, operation_walked, operations_walked, part_after, statement_walked, statements_walked, task_walked, walked_after, walked_body};
+ghost use Rattle.al_stmts_text.specs.Parts.{all_alternatives, all_branches, body_inside, entered_walked, object_walked, opened_walked};
 ghost use Rattle.al_stmts_walked.specs.WalkedViews.{all_model, branching_model, choosing_model, inside_model, one_model, part_model};
 
 use al_base::{NoMemory, Place};
@@ -17,19 +18,20 @@ use al_base_fault::CheckResult;
 use al_stmts_loops::no_return_fault;
 use al_stmts_reader::Analyzer;
 use al_stmts_returns::has_return;
+use al_stmts_walk::BodyExtent;
 use al_stmts_walked::{
     Enclosing, WalkedAlternatives, WalkedBranches, WalkedInside, WalkedPart, WalkedStatement,
-    WalkedStatements, end_of,
+    WalkedStatements, end_of, end_of_named, named_extent, named_line, subprogram_extent,
 };
 use al_stmts_walker::{
     broken_loop, case_head, close_part, declared_item, enter_body, finish_block, finish_body,
-    for_head, item_not_yet, left_region, stub_item, subprogram_item, walk_assignment, walk_call,
-    walk_delay, walk_exit, walk_null, walk_return, while_head,
+    finish_object, for_head, left_region, object_item, stub_item, subprogram_item, task_item,
+    walk_assignment, walk_call, walk_delay, walk_exit, walk_null, walk_return, while_head,
 };
 use al_tree::{
     Alternative, BlockStatement, Branch, CaseStatement, DeclaredStatements, ElsifBranch,
-    Identifier, IfStatement, Item, LoopStatement, Specification, Statement, Statements,
-    SubprogramBody,
+    Expression, Identifier, IfStatement, Item, LoopStatement, NamedEnd, OperationBody,
+    Specification, Statement, Statements, SubprogramBody,
 };
 use al_view_typed::{LoopScheme, TypedDeclaration};
 use std::alloc::Global;
@@ -308,7 +310,7 @@ fn check_loop<R: Analyzer>(
                 enclosing,
                 statements,
                 name,
-                opening.line as usize,
+                named_line(name, *opening),
                 scheme,
                 &end.end_name,
             )
@@ -320,7 +322,7 @@ fn check_loop<R: Analyzer>(
                 enclosing,
                 statements,
                 name,
-                opening.line as usize,
+                named_line(name, *opening),
                 scheme,
                 &end.end_name,
             )
@@ -332,7 +334,7 @@ fn check_loop<R: Analyzer>(
                 enclosing,
                 statements,
                 name,
-                opening.line as usize,
+                named_line(name, *opening),
                 scheme,
                 &end.end_name,
             )
@@ -422,10 +424,16 @@ fn check_block<R: Analyzer>(
         BlockStatement::PlainBlock(opening, statements, end) => {
             let inner = check_statements(analyzer, enclosing, statements)?;
             let fault = end_of(name, &end.end_name);
-            inner.into_block(enclosing.alloc(), opening.line as usize, fault)
+            inner.into_block(enclosing.alloc(), named_line(name, *opening), fault)
         }
         BlockStatement::DeclareBlock(opening, declared) => {
-            check_declared(analyzer, enclosing, declared, name, opening.line as usize)
+            check_declared(
+                analyzer,
+                enclosing,
+                declared,
+                name,
+                named_line(name, *opening),
+            )
         }
     }
 }
@@ -528,14 +536,150 @@ fn check_item<R: Analyzer>(
             stub_item(analyzer, alloc, specification, *separate)
         }
         Item::BodyItem(specification, body) => check_body(analyzer, alloc, body, specification),
-        Item::TaskItem(_) => item_not_yet(analyzer, alloc),
-        Item::TaskBodyItem(_, _, _) => item_not_yet(analyzer, alloc),
-        Item::ProtectedItem(_, _) => item_not_yet(analyzer, alloc),
-        Item::ProtectedBodyItem(_, _, _, _) => item_not_yet(analyzer, alloc),
+        Item::TaskItem(task) => task_item(analyzer, alloc, task),
+        Item::TaskBodyItem(opening, name, inner) => {
+            check_task(analyzer, alloc, inner, *opening, name)
+        }
+        Item::ProtectedItem(opening, object) => object_item(analyzer, alloc, object, *opening),
+        Item::ProtectedBodyItem(opening, name, operations, end) => {
+            check_object(analyzer, alloc, operations, *opening, name, end)
+        }
     }
 }
 
-/// The body of a subprogram (ARM 6.3). Where its head is faulty nothing after that is looked at.
+/// The body of a protected object (ARM 9.4). Where what stands before its operations is faulty nothing after that is looked at.
+#[cycle(walk)]
+fn check_object<R: Analyzer>(
+    analyzer: &mut R,
+    alloc: Global,
+    operations: &[OperationBody],
+    opening: Place,
+    name: &Identifier,
+    end: &NamedEnd,
+) -> Result<WalkedPart, NoMemory>
+    ensures asked { R.asked analyzer.new ≡ R.asked analyzer.old }
+    ensures answered { IfOk result (λ done. FromAnswers (R.log analyzer.old) (R.log analyzer.new) (λ t. (R.env analyzer.new, part_model done) ≡ object_walked (R.reading t) (R.env analyzer.old) (place_label opening) (identifier_label name.now) operations.now (named_end_model end.now))) }
+{
+    let opened = analyzer.object_entered(opening, name, operations)?;
+    match opened {
+        Ok(effects) => check_opened(analyzer, alloc, operations, name, end, effects),
+        Err(fault) => Ok(WalkedPart::declared(alloc, Err(fault))),
+    }
+}
+
+/// The body of a protected object in the region of its operations, by what it does where it stands.
+#[cycle(walk)]
+fn check_opened<R: Analyzer>(
+    analyzer: &mut R,
+    alloc: Global,
+    operations: &[OperationBody],
+    name: &Identifier,
+    end: &NamedEnd,
+    effects: Vec<TypedDeclaration>,
+) -> Result<WalkedPart, NoMemory>
+    ensures asked { R.asked analyzer.new ≡ R.asked analyzer.old }
+    ensures answered { IfOk result (λ done. FromAnswers (R.log analyzer.old) (R.log analyzer.new) (λ t. (R.env analyzer.new, part_model done) ≡ opened_walked (R.reading t) (R.env analyzer.old) (identifier_label name.now) operations.now (named_end_model end.now) (effects_model effects))) }
+{
+    let mut part = WalkedPart::new(alloc);
+    check_operations(analyzer, alloc, operations, &mut part)?;
+    close_part(analyzer, &mut part, end.end)?;
+    let fault = end_of_named(name, &end.end_name);
+    finish_object(analyzer, effects, fault, part)
+}
+
+/// The bodies of a protected object's operations, one after another until the list of faults has ended.
+#[cycle(walk)]
+fn check_operations<R: Analyzer>(
+    analyzer: &mut R,
+    alloc: Global,
+    operations: &[OperationBody],
+    so_far: &mut WalkedPart,
+) -> Result<(), NoMemory>
+    ensures asked { R.asked analyzer.new ≡ R.asked analyzer.old }
+    ensures answered { OnOk result (FromAnswers (R.log analyzer.old) (R.log analyzer.new) (λ t. (R.env analyzer.new, part_model so_far.new) ≡ part_after (R.env analyzer.old, part_model so_far.old) (operations_walked (R.reading t) (R.env analyzer.old) (operation_bodies_of (map operation_body_model operations.now))))) }
+{
+    for operation in operations {
+        if so_far.is_ended() {
+            return Ok(());
+        }
+        let one = check_operation(analyzer, alloc, operation)?;
+        so_far.add(one)?;
+    }
+    Ok(())
+}
+
+/// The body of an operation of a protected object: a subprogram or an entry (ARM 9.4).
+#[cycle(walk)]
+fn check_operation<R: Analyzer>(
+    analyzer: &mut R,
+    alloc: Global,
+    operation: &OperationBody,
+) -> Result<WalkedPart, NoMemory>
+    ensures asked { R.asked analyzer.new ≡ R.asked analyzer.old }
+    ensures answered { IfOk result (λ done. FromAnswers (R.log analyzer.old) (R.log analyzer.new) (λ t. (R.env analyzer.new, part_model done) ≡ operation_walked (R.reading t) (R.env analyzer.old) (operation_body_model operation.now))) }
+{
+    match operation {
+        OperationBody::SubprogramOperation(specification, body) => {
+            check_body(analyzer, alloc, body, specification)
+        }
+        OperationBody::EntryOperation(opening, name, barrier, inner) => {
+            check_entry(analyzer, alloc, inner, *opening, name, barrier)
+        }
+    }
+}
+
+/// The body of a task (ARM 9.1).
+#[cycle(walk)]
+fn check_task<R: Analyzer>(
+    analyzer: &mut R,
+    alloc: Global,
+    inner: &DeclaredStatements,
+    opening: Place,
+    name: &Identifier,
+) -> Result<WalkedPart, NoMemory>
+    ensures asked { R.asked analyzer.new ≡ R.asked analyzer.old }
+    ensures answered { IfOk result (λ done. FromAnswers (R.log analyzer.old) (R.log analyzer.new) (λ t. (R.env analyzer.new, part_model done) ≡ task_walked (R.reading t) (R.env analyzer.old) (place_label opening) (identifier_label name.now) (handled_model inner.now))) }
+{
+    let head = analyzer.task_head(name)?;
+    let extent = named_extent(opening, name, &inner.end);
+    check_headed(
+        analyzer,
+        alloc,
+        &inner.items,
+        inner.begin,
+        &inner.statements,
+        head,
+        extent,
+    )
+}
+
+/// The body of an entry (ARM 9.5.2).
+#[cycle(walk)]
+fn check_entry<R: Analyzer>(
+    analyzer: &mut R,
+    alloc: Global,
+    inner: &DeclaredStatements,
+    opening: Place,
+    name: &Identifier,
+    barrier: &Expression,
+) -> Result<WalkedPart, NoMemory>
+    ensures asked { R.asked analyzer.new ≡ R.asked analyzer.old }
+    ensures answered { IfOk result (λ done. FromAnswers (R.log analyzer.old) (R.log analyzer.new) (λ t. (R.env analyzer.new, part_model done) ≡ entry_walked (R.reading t) (R.env analyzer.old) (place_label opening) (identifier_label name.now) (expression_model barrier.now) (handled_model inner.now))) }
+{
+    let head = analyzer.entry_head(name, barrier)?;
+    let extent = named_extent(opening, name, &inner.end);
+    check_headed(
+        analyzer,
+        alloc,
+        &inner.items,
+        inner.begin,
+        &inner.statements,
+        head,
+        extent,
+    )
+}
+
+/// The body of a subprogram (ARM 6.3).
 #[cycle(walk)]
 pub fn check_body<R: Analyzer>(
     analyzer: &mut R,
@@ -546,43 +690,59 @@ pub fn check_body<R: Analyzer>(
     ensures asked { R.asked analyzer.new ≡ R.asked analyzer.old }
     ensures answered { IfOk result (λ done. FromAnswers (R.log analyzer.old) (R.log analyzer.new) (λ t. (R.env analyzer.new, part_model done) ≡ body_walked (R.reading t) (R.env analyzer.old) (specification_model specification.now) (body_model body.now))) }
 {
+    let extent = subprogram_extent(alloc, specification, &body.end)?;
     let head = analyzer.head(specification)?;
-    match head {
-        Ok(effects) => check_headed(analyzer, alloc, body, specification, effects),
-        Err(fault) => Ok(WalkedPart::declared(alloc, Err(fault))),
-    }
+    check_headed(
+        analyzer,
+        alloc,
+        &body.items,
+        body.begin,
+        &body.statements,
+        head,
+        extent,
+    )
 }
 
-/// A body after its head, by what it does where it stands.
+/// Any body after its head: of a subprogram, a task or an entry. Where the head is faulty nothing after it is looked at.
 #[cycle(walk)]
 fn check_headed<R: Analyzer>(
     analyzer: &mut R,
     alloc: Global,
-    body: &SubprogramBody,
-    specification: &Specification,
-    effects: Vec<TypedDeclaration>,
+    items: &[Item],
+    begin: Place,
+    statements: &Statements,
+    head: CheckResult<Vec<TypedDeclaration>>,
+    extent: BodyExtent,
 ) -> Result<WalkedPart, NoMemory>
     ensures asked { R.asked analyzer.new ≡ R.asked analyzer.old }
-    ensures answered { IfOk result (λ done. FromAnswers (R.log analyzer.old) (R.log analyzer.new) (λ t. (R.env analyzer.new, part_model done) ≡ headed_walked (R.reading t) (R.env analyzer.old) (specification_model specification.now) (effects_model effects) body.now)) }
+    ensures answered { IfOk result (λ done. FromAnswers (R.log analyzer.old) (R.log analyzer.new) (λ t. (R.env analyzer.new, part_model done) ≡ walked_body (R.reading t) (R.env analyzer.old, map_ok effects_model head) extent (items_of (map item_model items.now)) (place_label begin) (statements_model statements.now))) }
 {
-    let mut enclosing = enter_body(analyzer, alloc, specification)?;
-    match check_inside(analyzer, &mut enclosing, body) {
+    match head {
+        Ok(effects) => { check_entered(analyzer, alloc, items, begin, statements, effects, extent) }
+        Err(fault) => Ok(WalkedPart::declared(alloc, Err(fault))),
+    }
+}
+
+/// A body whose head is right, by what it does where it stands.
+#[cycle(walk)]
+fn check_entered<R: Analyzer>(
+    analyzer: &mut R,
+    alloc: Global,
+    items: &[Item],
+    begin: Place,
+    statements: &Statements,
+    effects: Vec<TypedDeclaration>,
+    extent: BodyExtent,
+) -> Result<WalkedPart, NoMemory>
+    ensures asked { R.asked analyzer.new ≡ R.asked analyzer.old }
+    ensures answered { IfOk result (λ done. FromAnswers (R.log analyzer.old) (R.log analyzer.new) (λ t. (R.env analyzer.new, part_model done) ≡ entered_walked (R.reading t) (R.env analyzer.old) (effects_model effects) extent (items_of (map item_model items.now)) (place_label begin) (statements_model statements.now))) }
+{
+    let mut enclosing = enter_body(analyzer, alloc)?;
+    match check_inside(analyzer, &mut enclosing, items, begin, statements) {
         Ok(inside) => {
             let returns = enclosing.returns();
-            let no_return = no_return_fault(
-                body.end.end,
-                returns.body,
-                has_return(&body.statements),
-            );
-            finish_body(
-                analyzer,
-                alloc,
-                specification,
-                &body.end,
-                no_return,
-                effects,
-                inside,
-            )
+            let no_return = no_return_fault(extent.end, returns.body, has_return(statements));
+            finish_body(analyzer, alloc, effects, extent, no_return, inside)
         }
         Err(error) => Err(error),
     }
@@ -593,12 +753,14 @@ fn check_headed<R: Analyzer>(
 fn check_inside<R: Analyzer>(
     analyzer: &mut R,
     enclosing: &mut Enclosing,
-    body: &SubprogramBody,
+    items: &[Item],
+    begin: Place,
+    statements: &Statements,
 ) -> Result<WalkedInside, NoMemory>
     ensures asked { R.asked analyzer.new ≡ R.asked analyzer.old }
     ensures kept { enclosing.new ≡ enclosing.old }
-    ensures answered { IfOk result (λ done. FromAnswers (R.log analyzer.old) (R.log analyzer.new) (λ t. (R.env analyzer.new, inside_model done) ≡ body_inside (R.reading t) enclosing.old (R.env analyzer.old) body.now)) }
+    ensures answered { IfOk result (λ done. FromAnswers (R.log analyzer.old) (R.log analyzer.new) (λ t. (R.env analyzer.new, inside_model done) ≡ body_inside (R.reading t) enclosing.old (R.env analyzer.old) (items_of (map item_model items.now)) (place_label begin) (statements_model statements.now))) }
 {
-    let part = check_part(analyzer, enclosing.alloc(), &body.items, body.begin)?;
-    check_after(analyzer, enclosing, &body.statements, part)
+    let part = check_part(analyzer, enclosing.alloc(), items, begin)?;
+    check_after(analyzer, enclosing, statements, part)
 }

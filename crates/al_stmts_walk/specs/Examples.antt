@@ -1,5 +1,5 @@
 -- Short texts with what is wrong with them, over a reading that knows two things: `foo` is not visible anywhere, and a subprogram that is
--- declared waits until a body stands there. So the walk itself is held against lists that are known.
+-- declared waits until a body stands there, which none does. A body is entered with its head. So the walk itself is held against lists that are known.
 use Rattle.std.specs.Prelude.{◌≡◌, ◌+◌, ℕ, pos, false, List, [], ◌∷◌, Option, Some, None, Result, Ok, Err, codes, if◌then◌else◌}
 use Rattle.std.specs.Str.{bytes_eq}
 use Rattle.al_base.specs.declared.place.Place.{Place}
@@ -15,7 +15,7 @@ use Rattle.al_tree_syntax.specs.DeclarationTrees.ObjectTypeTree.{NamedType}
 use Rattle.al_tree_syntax.specs.DeclarationTrees.SpecificationTree.{FunctionSpecification, ProcedureSpecification}
 use Rattle.al_tree_syntax.specs.ExpressionTrees.{ExpressionTree}
 use Rattle.al_tree_syntax.specs.ExpressionTrees.ExpressionTree.{Name}
-use Rattle.al_tree_syntax.specs.StatementTrees.{ItemTree, ItemsTree, StatementTree, StatementsTree}
+use Rattle.al_tree_syntax.specs.StatementTrees.{HandledTree, ItemTree, ItemsTree, OperationBodyTree, StatementTree, StatementsTree}
 use Rattle.al_tree_syntax.specs.StatementTrees.AlternativeTree.{Alternative}
 use Rattle.al_tree_syntax.specs.StatementTrees.AlternativesTree.{NoAlternative}
 use Rattle.al_tree_syntax.specs.StatementTrees.BlockTree.{DeclareBlock}
@@ -25,10 +25,12 @@ use Rattle.al_tree_syntax.specs.StatementTrees.ChoiceTree.{OthersChoice}
 use Rattle.al_tree_syntax.specs.StatementTrees.ElseTree.{NoElse}
 use Rattle.al_tree_syntax.specs.StatementTrees.ElsifsTree.{NoElsif, MoreElsifs}
 use Rattle.al_tree_syntax.specs.StatementTrees.HandledTree.{Handled}
-use Rattle.al_tree_syntax.specs.StatementTrees.ItemTree.{CommonItem, SubprogramItem, BodyItem}
+use Rattle.al_tree_syntax.specs.StatementTrees.ItemTree.{CommonItem, SubprogramItem, BodyItem, TaskBodyItem, ProtectedBodyItem}
 use Rattle.al_tree_syntax.specs.StatementTrees.ItemsTree.{NoItem, MoreItems}
 use Rattle.al_tree_syntax.specs.StatementTrees.LoopTree.{PlainLoop, WhileLoop, ForLoop}
 use Rattle.al_tree_syntax.specs.StatementTrees.MoreStatementsTree.{NoStatement, MoreStatements}
+use Rattle.al_tree_syntax.specs.StatementTrees.OperationBodiesTree.{NoOperationBody, MoreOperationBodies}
+use Rattle.al_tree_syntax.specs.StatementTrees.OperationBodyTree.{SubprogramOperation, EntryOperation}
 use Rattle.al_tree_syntax.specs.StatementTrees.StatementTree.{NullStatement, Assignment, ReturnStatement, IfStatement, CaseStatement, LoopStatement, BlockStatement}
 use Rattle.al_tree_syntax.specs.StatementTrees.StatementsTree.{Statements}
 use Rattle.al_overload_keys.specs.Places.{first_place, place_of}
@@ -117,6 +119,16 @@ waiting (b ∷ bs) l = waiting_fault b.0 l
 abbrev pub in_procedure : ReturnContext
 in_procedure = record { body = bodies.Procedure; words = 0; bounds = None }
 
+abbrev pub in_task : ReturnContext
+in_task = record { body = bodies.Task; words = 0; bounds = None }
+
+abbrev pub in_entry : ReturnContext
+in_entry = record { body = bodies.Entry; words = 0; bounds = None }
+
+-- of the object foo an operation is never completed
+abbrev pub operations_missing : Label → List (List ℕ)
+operations_missing n = if bytes_eq n.text (codes "foo") then n.text ∷ [] else []
+
 abbrev pub innermost : Bodies → ReturnContext
 innermost [] = in_procedure
 innermost (b ∷ bs) = b.1
@@ -148,13 +160,18 @@ toy some_body = record {
   declared = λ h d. (h, declaration_found d);
   subprogram = λ h s. (with_waiting h (name_in s), Ok []);
   stub = λ h s l. (h, Ok []);
-  not_yet = λ h. fault_at (record { line = 1; col = 1 }) 700;
+  single_task = λ h t. (h, Ok []);
+  single_object = λ h l p. (h, Ok []);
   missing = waiting;
-  head = λ h s. (h, Ok []);
-  body_entered = λ h s. ([], context_of s) ∷ h;
+  head = λ h s. (([], context_of s) ∷ h, Ok []);
+  task_head = λ h n. (([], in_task) ∷ h, Ok []);
+  entry_head = λ h n barrier. (([], in_entry) ∷ h, Ok []);
+  body_entered = λ h. h;
   returns = innermost;
-  body = λ h s ds ss. some_body;
+  body = λ h extent ds ss. some_body;
   body_left = round_innermost;
+  object_entered = λ h l n os. ((operations_missing n, in_procedure) ∷ h, Ok []);
+  object_left = round_innermost;
   private_entered = λ h. h;
   statements_entered = λ h. h;
 }
@@ -277,3 +294,32 @@ abbrev pub FaultyDeclarationsEndTheList : Type 0
 FaultyDeclarationsEndTheList =
     (b : LabelledBody) → told_of_items b (MoreItems (body_of procedure_x (object_of (foo 50)) (one (wrong_at 66)) None) (object_of (foo 110)))
     ≡ fault 50 401 ∷ []
+
+-- ---- bodies of tasks and protected objects
+
+abbrev pub inside_of_task : ExpressionTree → Option Label → HandledTree
+inside_of_task e end_name = Handled NoItem (at 40) (one (ReturnStatement (at 50) (Some e))) (record { end = at 90; end_name = end_name })
+
+-- task body x is begin return x; end foo; a second item
+abbrev pub NoValueIsReturnedInATask : Type 0
+NoValueIsReturnedInATask =
+    (b : LabelledBody) → told_of_items b (MoreItems (TaskBodyItem (at 16) (x 26) (inside_of_task (Name (x 57)) (Some (foo 94)))) (object_of (foo 110)))
+    ≡ fault 50 501 ∷ fault 94 308 ∷ []
+
+abbrev pub wrong_operation : OperationBodyTree
+wrong_operation = SubprogramOperation procedure_x (Body NoItem (at 60) (one (wrong_at 66)) (record { end = at 80; end_name = None }))
+
+abbrev pub wrong_entry : OperationBodyTree
+wrong_entry = EntryOperation (at 100) (x 106) (Name (x 113)) (Handled NoItem (at 118) (one (wrong_at 124)) (record { end = at 138; end_name = None }))
+
+-- protected body foo is procedure x is begin foo := x; end; end x; where an operation has no body, a second item
+abbrev pub WhatIsMissingEndsAProtectedBody : Type 0
+WhatIsMissingEndsAProtectedBody =
+    (b : LabelledBody) → told_of_items b (MoreItems (ProtectedBodyItem (at 16) (foo 31) (MoreOperationBodies wrong_operation NoOperationBody) (record { end = at 90; end_name = Some (x 94) })) (object_of (foo 110)))
+    ≡ fault 66 401 ∷ fault 90 302 ∷ []
+
+-- protected body x is procedure x is begin foo := x; end; entry x when x is begin foo := x; end; end foo; a second item
+abbrev pub OperationsStandOneAfterAnother : Type 0
+OperationsStandOneAfterAnother =
+    (b : LabelledBody) → told_of_items b (MoreItems (ProtectedBodyItem (at 16) (x 31) (MoreOperationBodies wrong_operation (MoreOperationBodies wrong_entry NoOperationBody)) (record { end = at 150; end_name = Some (foo 154) })) (object_of (foo 170)))
+    ≡ fault 66 401 ∷ fault 124 401 ∷ fault 154 308 ∷ []

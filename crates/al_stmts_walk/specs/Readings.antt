@@ -4,9 +4,9 @@ use Rattle.std.specs.Prelude.{ℕ, Bool, List, Option, Result}
 use Rattle.al_view.specs.declared.types.Bounds.{Bounds}
 use Rattle.al_base_fault.specs.declared.fault.Fault.{Fault}
 use Rattle.al_tree_grammar.specs.Grammar.{Label}
-use Rattle.al_tree_syntax.specs.DeclarationTrees.{CommonTree, DiscreteRangeTree, SpecificationTree}
+use Rattle.al_tree_syntax.specs.DeclarationTrees.{CommonTree, DiscreteRangeTree, ProtectedTree, SpecificationTree, TaskTree}
 use Rattle.al_tree_syntax.specs.ExpressionTrees.{ExpressionTree}
-use Rattle.al_tree_syntax.specs.StatementTrees.{ChoiceTree}
+use Rattle.al_tree_syntax.specs.StatementTrees.{ChoiceTree, OperationBodiesTree}
 use Rattle.al_stmts_choices.specs.declared.choice.Choice.{Choice}
 use Rattle.al_stmts_choices.specs.declared.choice.Selector.{Selector}
 use Rattle.al_view_typed.specs.DeclarationTrees.{DeclarationTree}
@@ -16,6 +16,7 @@ use Rattle.al_view_typed.specs.UnitTrees.{BodyTree}
 use Rattle.al_stmts.specs.LoopForms.{RangeTree}
 use Rattle.al_stmts.specs.declared.loops.LoopWords.{LoopWords}
 use Rattle.al_stmts.specs.declared.simple.ReturnContext.{ReturnContext}
+use Rattle.al_stmts_walk.specs.declared.extent.BodyExtent.{BodyExtent}
 
 -- what the name of a statement that is a name alone denotes
 pub data CallEffect : Type 0 where
@@ -62,19 +63,27 @@ pub record Reading (H : Type 0) : Type 0 where
   pub declared : H → CommonTree → Read H (List DeclarationTree)
   pub subprogram : H → SpecificationTree → Read H (List DeclarationTree)
   pub stub : H → SpecificationTree → Label → Read H (List DeclarationTree)
-  -- what isn't compiled yet
-  pub not_yet : H → Fault
+  -- a task; a protected object, with the place of `protected` (ARM 9.1, 9.4)
+  pub single_task : H → TaskTree → Read H (List DeclarationTree)
+  pub single_object : H → Label → ProtectedTree → Read H (List DeclarationTree)
   -- what waits for its body at the end of a part
   pub missing : H → Label → Option Fault
-  -- ---- bodies: what stands before `is`, with what the body does where it stands
+  -- ---- bodies: what stands before `is`, with what the body does where it stands; of a subprogram, of a task by its name, of an entry by
+  -- its name and its barrier (ARM 6.3, 9.1, 9.5.2)
   pub head : H → SpecificationTree → Read H (List DeclarationTree)
-  -- its region with the formals, one deeper, where the words of the frame begin after theirs
-  pub body_entered : H → SpecificationTree → H
+  pub task_head : H → Label → Read H (List DeclarationTree)
+  pub entry_head : H → Label → ExpressionTree → Read H (List DeclarationTree)
+  -- after its head, the region of a body with its formals, one deeper, where the words of the frame begin after theirs
+  pub body_entered : H → H
   -- what its return statements stand in
   pub returns : H → ReturnContext
   -- after what stood inside: the body as it is labelled; and how far the check has come after it, in what stands round it
-  pub body : H → SpecificationTree → List DeclarationTree → List StatementTree → BodyTree
+  pub body : H → BodyExtent → List DeclarationTree → List StatementTree → BodyTree
   pub body_left : H → H
+  -- ---- protected bodies (ARM 9.4): by the place of `protected`, the name and the operations a region in which these wait for their
+  -- bodies, with what the body does where it stands; it is left again
+  pub object_entered : H → Label → Label → OperationBodiesTree → Read H (List DeclarationTree)
+  pub object_left : H → H
   -- ---- units
   -- from here on the ancestors' private parts are seen (ARM 8.2(5))
   pub private_entered : H → H

@@ -183,3 +183,8 @@ ended_by inside fault = record {
   statements = inside.statements;
   bodies = inside.bodies;
 }
+
+-- a protected body by what it does where it stands, with its operations' bodies and the fault of the name at its end, which counts as a
+-- declaration
+unfoldable pub object_of : List DeclarationTree → Option Fault → Part → Part
+object_of effects end operations = record { faults = followed operations.faults (of_declaration end); declarations = effects; bodies = operations.bodies }

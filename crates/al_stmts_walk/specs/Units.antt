@@ -1,6 +1,6 @@
 -- The walk over the item of a compilation unit, after its context clause (ARM 7.1, 7.2, 10.1.1, 10.1.3): what is elaborated with the unit, and
 -- the bodies in it.
-use Rattle.std.specs.Prelude.{List, [], ◌∷◌, Option, Some, None, Err}
+use Rattle.std.specs.Prelude.{List, [], ◌∷◌, Option, Some, None}
 use Rattle.al_tree_grammar.specs.Grammar.{Label}
 use Rattle.al_tree_syntax.specs.DeclarationTrees.{DeclarationTree as Basic}
 use Rattle.al_tree_syntax.specs.DeclarationTrees.DeclarationTree.{CommonDeclaration, SubprogramDeclaration, TaskDeclaration, ProtectedDeclaration}
@@ -18,8 +18,8 @@ without_statements p = (p.0, inside_of p.1 nothing)
 abbrev pub declaration_walked : {H : Type 0} → Reading H → H → Basic → H × Part
 declaration_walked R h (CommonDeclaration c) = declared_part (R.declared h c)
 declaration_walked R h (SubprogramDeclaration s) = declared_part (R.subprogram h s)
-declaration_walked R h (TaskDeclaration t) = declared_part (h, Err (R.not_yet h))
-declaration_walked R h (ProtectedDeclaration l p) = declared_part (h, Err (R.not_yet h))
+declaration_walked R h (TaskDeclaration t) = declared_part (R.single_task h t)
+declaration_walked R h (ProtectedDeclaration l p) = declared_part (R.single_object h l p)
 
 abbrev pub declarations_walked : {H : Type 0} → Reading H → H → List Basic → H × Part
 declarations_walked R h [] = (h, no_part)

@@ -11,7 +11,7 @@ use Rattle.al_tree_grammar.specs.Grammar.{Label}
 use Rattle.al_tree_syntax.specs.DeclarationTrees.{CompoundNameTree, DiscreteRangeTree, SpecificationTree}
 use Rattle.al_tree_syntax.specs.DeclarationTrees.SpecificationTree.{FunctionSpecification, ProcedureSpecification}
 use Rattle.al_tree_syntax.specs.ExpressionTrees.{ExpressionTree}
-use Rattle.al_tree_syntax.specs.StatementTrees.{AlternativeTree, AlternativesTree, BlockTree, BodyTree, BranchTree, CompoundEndTree, ElseTree, ElsifsTree, HandledTree, ItemTree, ItemsTree, LoopTree, MoreStatementsTree, StatementTree, StatementsTree}
+use Rattle.al_tree_syntax.specs.StatementTrees.{AlternativeTree, AlternativesTree, BlockTree, BodyTree, BranchTree, CompoundEndTree, ElseTree, ElsifsTree, HandledTree, ItemTree, ItemsTree, LoopTree, MoreStatementsTree, NamedEndTree, OperationBodiesTree, OperationBodyTree, StatementTree, StatementsTree}
 use Rattle.al_tree_syntax.specs.StatementTrees.StatementsTree.{Statements}
 use Rattle.al_tree_syntax.specs.StatementTrees.MoreStatementsTree.{NoStatement, MoreStatements}
 use Rattle.al_tree_syntax.specs.StatementTrees.StatementTree.{NullStatement, Assignment, CallStatement, ReturnStatement, ExitStatement, DelayStatement, IfStatement, CaseStatement, LoopStatement, BlockStatement}
@@ -26,6 +26,8 @@ use Rattle.al_tree_syntax.specs.StatementTrees.HandledTree.{Handled}
 use Rattle.al_tree_syntax.specs.StatementTrees.BodyTree.{Body}
 use Rattle.al_tree_syntax.specs.StatementTrees.ItemsTree.{NoItem, MoreItems}
 use Rattle.al_tree_syntax.specs.StatementTrees.ItemTree.{CommonItem, SubprogramItem, StubItem, BodyItem, TaskItem, TaskBodyItem, ProtectedItem, ProtectedBodyItem}
+use Rattle.al_tree_syntax.specs.StatementTrees.OperationBodiesTree.{NoOperationBody, MoreOperationBodies}
+use Rattle.al_tree_syntax.specs.StatementTrees.OperationBodyTree.{SubprogramOperation, EntryOperation}
 use Rattle.al_overload_keys.specs.Places.{first_place, place_of}
 use Rattle.al_stmts_choices.specs.declared.choice.Selector.{Selector}
 use Rattle.al_stmts_loops.specs.Ends.{end_fault}
@@ -44,7 +46,8 @@ use Rattle.al_stmts.specs.declared.loops.LoopWords.{LoopWords}
 use Rattle.al_stmts.specs.declared.simple.ReturnContext.{ReturnContext}
 use Rattle.al_stmts_returns.specs.Returning.{has_return}
 use Rattle.al_stmts_walk.specs.Readings.{CallEffect, Called, Put, Read, Reading}
-use Rattle.al_stmts_walk.specs.Steps.{Enclosing, Branching, Choosing, Inside, Part, Walked, alone_of, block_of, body_of, broken_by, case_of, choosing, closed_by, if_of, in_body, in_loop, inside_of, joined, loop_of, name_of, no_branching, no_part, nothing, one_alternative, one_branch, one_otherwise, part_of, parts_joined}
+use Rattle.al_stmts_walk.specs.declared.extent.BodyExtent.{BodyExtent}
+use Rattle.al_stmts_walk.specs.Steps.{Enclosing, Branching, Choosing, Inside, Part, Walked, alone_of, block_of, body_of, broken_by, case_of, choosing, closed_by, if_of, in_body, in_loop, inside_of, joined, loop_of, name_of, no_branching, no_part, nothing, object_of, one_alternative, one_branch, one_otherwise, part_of, parts_joined}
 
 -- a statement with nothing inside it
 abbrev pub alone_at : {H : Type 0} → H → Result Labelled Fault → H × Walked
@@ -156,6 +159,25 @@ end_of name end = end_fault (name_of name) (name_at_end end)
 abbrev pub end_of_compound : CompoundNameTree → Option CompoundNameTree → Option Fault
 end_of_compound n end = end_fault (Some (dotted n.first n.selectors)) (compound_at_end end)
 
+-- ---- from where to where
+
+-- the line of the first token of a loop or a block, which is its name where it has one
+abbrev pub named_line : Option Label → Label → ℕ
+named_line None l = l.line
+named_line (Some n) l = n.line
+
+abbrev pub first_line : SpecificationTree → ℕ
+first_line (ProcedureSpecification l n formals) = l.line
+first_line (FunctionSpecification l n formals r mark) = l.line
+
+-- a subprogram's body
+abbrev pub subprogram_extent : SpecificationTree → CompoundEndTree → BodyExtent
+subprogram_extent s e = record { line = first_line s; end = place_of e.end; name_fault = end_of_compound (specified_name s) e.end_name }
+
+-- a body with a name that is one identifier
+abbrev pub named_extent : Label → Label → NamedEndTree → BodyExtent
+named_extent l n e = record { line = l.line; end = place_of e.end; name_fault = end_of (Some n) e.end_name }
+
 -- ---- one text, and then what stands after it: nothing, where the list of faults has ended
 
 abbrev pub walked_after : {H : Type 0} → H × Walked → H × Walked → H × Walked
@@ -190,24 +212,39 @@ for_walked R h line (Ok scheme) end inner = region_left R (loop_walked line (Ok 
 for_walked R h line (Err f) end inner = region_left R (h, broken_by f)
 
 -- the region of a body, and what its statements stand in
-abbrev pub body_entered : {H : Type 0} → Reading H → H → SpecificationTree → H × Enclosing
-body_entered R h s = let inner = R.body_entered h s in (inner, in_body (R.returns inner))
+abbrev pub body_entered : {H : Type 0} → Reading H → H → H × Enclosing
+body_entered R h = let inner = R.body_entered h in (inner, in_body (R.returns inner))
 
--- a body after what stands inside it, by the faults at its end
-abbrev pub body_ended : {H : Type 0} → Reading H → SpecificationTree → List DeclarationTree → Option Fault → Option Fault → H × Inside → H × Part
-body_ended R s effects no_return end inside =
-    (R.body_left inside.0, body_of effects no_return end (R.body inside.0 s inside.1.declarations inside.1.statements) inside.1)
-
-abbrev pub body_made : {H : Type 0} → Reading H → SpecificationTree → List DeclarationTree → Option Fault → CompoundEndTree → H × Inside → H × Part
-body_made R s effects no_return end inside = body_ended R s effects no_return (end_of_compound (specified_name s) end.end_name) inside
+-- a body after what stands inside it, with E504 where a function has no return statement
+abbrev pub body_ended : {H : Type 0} → Reading H → List DeclarationTree → BodyExtent → Option Fault → H × Inside → H × Part
+body_ended R effects extent no_return inside =
+    (R.body_left inside.0, body_of effects no_return extent.name_fault (R.body inside.0 extent inside.1.declarations inside.1.statements) inside.1)
 
 -- after its head a body; where that is faulty nothing after it is looked at
-abbrev pub body_after : {H : Type 0} → Reading H → Read H (List DeclarationTree) → SpecificationTree → Option Fault → CompoundEndTree → H × Inside → H × Part
-body_after {H} R head s no_return end inside = made head.1
+abbrev pub body_after : {H : Type 0} → Reading H → Read H (List DeclarationTree) → BodyExtent → Option Fault → H × Inside → H × Part
+body_after {H} R head extent no_return inside = made head.1
   where
     made : Result (List DeclarationTree) Fault → H × Part
     made (Err f) = (head.0, part_of (Err f))
-    made (Ok effects) = body_made R s effects no_return end inside
+    made (Ok effects) = body_ended R effects extent no_return inside
+
+-- any body after its head, of a subprogram, a task or an entry, by the walks over its declarations, up to `begin`, and over its statements
+abbrev pub body_by : {H : Type 0} → Reading H → Read H (List DeclarationTree) → BodyExtent → (H → H × Part) → Label → Bool → (Enclosing → H → H × Walked) → H × Part
+body_by R head extent items begin has statements =
+    let inner = body_entered R head.0 in
+    let part = closed R (items inner.0) begin in
+    body_after R head extent (no_return_fault extent.end inner.1.returns.body has) (inside_after part (statements inner.1 part.0))
+
+-- a protected body with the bodies of its operations, whose region is left: E302 at its `end` where one is missing
+abbrev pub object_ended : {H : Type 0} → Reading H → List DeclarationTree → Option Fault → H × Part → H × Part
+object_ended R effects end operations = (R.object_left operations.0, object_of effects end operations.1)
+
+abbrev pub object_after : {H : Type 0} → Reading H → Read H (List DeclarationTree) → Label → NamedEndTree → H × Part → H × Part
+object_after {H} R opened n e operations = made opened.1
+  where
+    made : Result (List DeclarationTree) Fault → H × Part
+    made (Err f) = (opened.0, part_of (Err f))
+    made (Ok effects) = object_ended R effects (end_of (Some n) e.end_name) (closed R operations e.end)
 
 -- ---- the walk
 
@@ -257,16 +294,16 @@ abbrev mutual
       if is_some so_far.1.so_far.faults.end then so_far else alternatives_walked R r (alternative_walked R r so_far a) more
 
   pub inner_loop_walked : {H : Type 0} → Reading H → Enclosing → H → Option Label → LoopTree → H × Walked
-  inner_loop_walked R r h n (PlainLoop l ss e) = loop_walked l.line (Ok schemes.ForeverScheme) (end_of n e.end_name) (statements_walked R (in_loop r n) h ss)
+  inner_loop_walked R r h n (PlainLoop l ss e) = loop_walked (named_line n l) (Ok schemes.ForeverScheme) (end_of n e.end_name) (statements_walked R (in_loop r n) h ss)
   inner_loop_walked R r h n (WhileLoop w c l ss e) =
-      let head = while_walked (R.condition h c) in loop_walked w.line head.1 (end_of n e.end_name) (statements_walked R (in_loop r n) head.0 ss)
+      let head = while_walked (R.condition h c) in loop_walked (named_line n w) head.1 (end_of n e.end_name) (statements_walked R (in_loop r n) head.0 ss)
   inner_loop_walked R r h n (ForLoop f i is_reverse d l ss e) =
-      let head = for_head R h i is_reverse d in for_walked R head.0 f.line head.1 (end_of n e.end_name) (statements_walked R (in_loop r n) head.0 ss)
+      let head = for_head R h i is_reverse d in for_walked R head.0 (named_line n f) head.1 (end_of n e.end_name) (statements_walked R (in_loop r n) head.0 ss)
 
   pub inner_block_walked : {H : Type 0} → Reading H → Enclosing → H → Option Label → BlockTree → H × Walked
   inner_block_walked R r h n (PlainBlock l ss e) =
-      let inner = statements_walked R r h ss in (inner.0, block_of l.line (end_of n e.end_name) (inside_of no_part inner.1))
-  inner_block_walked R r h n (DeclareBlock l inner) = handled_walked R r h n l.line inner
+      let inner = statements_walked R r h ss in (inner.0, block_of (named_line n l) (end_of n e.end_name) (inside_of no_part inner.1))
+  inner_block_walked R r h n (DeclareBlock l inner) = handled_walked R r h n (named_line n l) inner
 
   pub handled_walked : {H : Type 0} → Reading H → Enclosing → H → Option Label → ℕ → HandledTree → H × Walked
   handled_walked R r h n line (Handled is b ss e) =
@@ -282,14 +319,32 @@ abbrev mutual
   item_walked R h (SubprogramItem s) = declared_part (R.subprogram h s)
   item_walked R h (StubItem s l) = declared_part (R.stub h s l)
   item_walked R h (BodyItem s b) = body_walked R h s b
-  item_walked R h (TaskItem t) = declared_part (h, Err (R.not_yet h))
-  item_walked R h (TaskBodyItem l n inner) = declared_part (h, Err (R.not_yet h))
-  item_walked R h (ProtectedItem l p) = declared_part (h, Err (R.not_yet h))
-  item_walked R h (ProtectedBodyItem l n os e) = declared_part (h, Err (R.not_yet h))
+  item_walked R h (TaskItem t) = declared_part (R.single_task h t)
+  item_walked R h (TaskBodyItem l n inner) = task_walked R h l n inner
+  item_walked R h (ProtectedItem l p) = declared_part (R.single_object h l p)
+  item_walked R h (ProtectedBodyItem l n os e) =
+      let opened = R.object_entered h l n os in object_after R opened n e (operations_walked R opened.0 os)
+
+  pub operations_walked : {H : Type 0} → Reading H → H → OperationBodiesTree → H × Part
+  operations_walked R h NoOperationBody = (h, no_part)
+  operations_walked R h (MoreOperationBodies o os) = let one = operation_walked R h o in part_after one (operations_walked R one.0 os)
+
+  pub operation_walked : {H : Type 0} → Reading H → H → OperationBodyTree → H × Part
+  operation_walked R h (SubprogramOperation s b) = body_walked R h s b
+  operation_walked R h (EntryOperation l n barrier inner) = entry_walked R h l n barrier inner
 
   pub body_walked : {H : Type 0} → Reading H → H → SpecificationTree → BodyTree → H × Part
   body_walked R h s (Body is l ss e) =
-      let head = R.head h s in
-      let inner = body_entered R head.0 s in
-      let part = closed R (items_walked R inner.0 is) l in
-      body_after R head s (no_return_fault (place_of e.end) inner.1.returns.body (has_return ss)) e (inside_after part (statements_walked R inner.1 part.0 ss))
+      body_by R (R.head h s) (subprogram_extent s e) (λ k. items_walked R k is) l (has_return ss) (λ r k. statements_walked R r k ss)
+
+  pub task_walked : {H : Type 0} → Reading H → H → Label → Label → HandledTree → H × Part
+  task_walked R h l n (Handled is b ss e) =
+      body_by R (R.task_head h n) (named_extent l n e) (λ k. items_walked R k is) b (has_return ss) (λ r k. statements_walked R r k ss)
+
+  pub entry_walked : {H : Type 0} → Reading H → H → Label → Label → ExpressionTree → HandledTree → H × Part
+  entry_walked R h l n barrier (Handled is b ss e) =
+      body_by R (R.entry_head h n barrier) (named_extent l n e) (λ k. items_walked R k is) b (has_return ss) (λ r k. statements_walked R r k ss)
+
+-- any body after its head
+abbrev pub walked_body : {H : Type 0} → Reading H → Read H (List DeclarationTree) → BodyExtent → ItemsTree → Label → StatementsTree → H × Part
+walked_body R head extent is begin ss = body_by R head extent (λ k. items_walked R k is) begin (has_return ss) (λ r k. statements_walked R r k ss)

@@ -1,5 +1,5 @@
 // The walk over short texts, of which it is known what is wrong with them.
-ghost use Rattle.al_stmts_walk.specs.Examples.{FaultsBeforeADeclarationStay, FaultyConditionsHideNothing, FaultyDeclarationsCutOffEnds, FaultyDeclarationsEndTheList, FaultyLoopRangesEndTheList, FaultyStatementsEndNoList, FunctionsReturn, NamesAtEndsAreOfTheLoop, OneFaultOfAllConditions, ReturnsAreOfTheInnermostBody, WhatWaitsEndsTheList};
+ghost use Rattle.al_stmts_walk.specs.Examples.{FaultsBeforeADeclarationStay, FaultyConditionsHideNothing, FaultyDeclarationsCutOffEnds, FaultyDeclarationsEndTheList, FaultyLoopRangesEndTheList, FaultyStatementsEndNoList, FunctionsReturn, NamesAtEndsAreOfTheLoop, NoValueIsReturnedInATask, OneFaultOfAllConditions, OperationsStandOneAfterAnother, ReturnsAreOfTheInnermostBody, WhatIsMissingEndsAProtectedBody, WhatWaitsEndsTheList};
 
 /// Faults of statements: each is told, in front of those of the statements inside it.
 pub fn faults_of_statements()
@@ -22,4 +22,11 @@ pub fn faults_of_bodies()
     ensures waits { WhatWaitsEndsTheList }
     ensures returns { FunctionsReturn }
     ensures innermost { ReturnsAreOfTheInnermostBody }
+{}
+
+/// Faults of the bodies of tasks, and of protected objects with their operations.
+pub fn faults_of_tasks()
+    ensures value { NoValueIsReturnedInATask }
+    ensures missing { WhatIsMissingEndsAProtectedBody }
+    ensures operations { OperationsStandOneAfterAnother }
 {}

@@ -1,16 +1,16 @@
 // Names at ends.
 ghost use Rattle.std.specs.Prelude.{◌≡◌, IfOk, OnOk, Some, fold, map, option_map};
 ghost use Rattle.al_stmts_loops.specs.Ends.{end_fault};
-ghost use Rattle.al_tree.specs.DeclarationViews.{compound_model, specification_model};
+ghost use Rattle.al_tree.specs.DeclarationViews.{compound_model};
 ghost use Rattle.al_tree.specs.Lexemes.{identifier_label};
 ghost use Rattle.al_stmts_walk.specs.Steps.{name_of};
 ghost use Rattle.al_stmts_walked.specs.Spelled.{with_selector};
-ghost use Rattle.al_stmts_walk.specs.Walking.{dotted, end_of, end_of_compound, specified_name};
+ghost use Rattle.al_stmts_walk.specs.Walking.{dotted, end_of, end_of_compound};
 
 use al_base::NoMemory;
 use al_base_fault::Fault;
 use al_stmts_loops::{NameAtEnd, end_fault};
-use al_tree::{CompoundName, Identifier, Specification};
+use al_tree::{CompoundName, Identifier};
 use std::alloc::Global;
 
 /// What is wrong with the name at the end of something that has this name, or none.
@@ -101,12 +101,19 @@ pub fn end_of_compound(
     }
 }
 
-/// The name of a subprogram.
-pub fn specified_name(specification: &Specification) -> &CompoundName
-    ensures { compound_model result.now ≡ specified_name (specification_model specification.now) }
+/// What is wrong with what stands after the `end` of something that has this name.
+pub fn end_of_named(name: &Identifier, end: &Option<Identifier>) -> Option<Fault>
+    ensures { result ≡ end_of (Some (identifier_label name.now)) (option_map identifier_label end.now) }
 {
-    match specification {
-        Specification::Procedure(_, name, _) => name,
-        Specification::Function(_, name, _, _, _) => name,
+    match end {
+        Some(identifier) => {
+            let place = identifier.place;
+            let spelled = identifier.name.as_slice();
+            end_fault(
+                Some(name.name.as_slice()),
+                Some(NameAtEnd { place, spelled }),
+            )
+        }
+        None => None,
     }
 }

@@ -4,7 +4,7 @@ ghost use Rattle.al_base_faults.specs.FaultLists.{followed};
 ghost use Rattle.al_base_fault.specs.Judging.{map_ok};
 ghost use Rattle.al_view_typed.specs.StatementViews.{statement_model};
 ghost use Rattle.al_view_typed.specs.UnitTrees.{body_model};
-ghost use Rattle.al_stmts_walk.specs.Steps.{body_faults, closed_by, inside_of, no_part, nothing, part_of, parts_joined};
+ghost use Rattle.al_stmts_walk.specs.Steps.{body_faults, closed_by, inside_of, no_part, nothing, object_of, part_of, parts_joined};
 ghost use Rattle.al_stmts_walk.specs.Views.{effects_model};
 ghost use Rattle.al_stmts_walked.specs.WalkedViews.{all_model, inside_model, part_model};
 
@@ -217,5 +217,24 @@ impl WalkedPart {
             bodies,
         };
         part.with_ends(no_return, end)
+    }
+
+    /// A protected body by what it does where it stands, by the bodies of its operations, and by what is wrong with the name at its end
+    /// (ARM 9.4).
+    #[tactic(auto, unfolding(crate::specs::WalkedViews::part_model, al_stmts_walk::specs::Steps::object_of))]
+    pub fn into_object(self, effects: Vec<TypedDeclaration>, end: Option<Fault>) -> Self
+        ensures { part_model result ≡ object_of (effects_model effects) end (part_model self) }
+    {
+        let WalkedPart {
+            mut faults,
+            declarations: _,
+            bodies,
+        } = self;
+        faults.add_declaration(end);
+        WalkedPart {
+            faults,
+            declarations: effects,
+            bodies,
+        }
     }
 }

@@ -1,7 +1,7 @@
 // Declarations without declarations or statements inside them.
-ghost use Rattle.std.specs.Prelude.{◌≡◌, Err, IfOk};
+ghost use Rattle.std.specs.Prelude.{◌≡◌, IfOk};
 ghost use Rattle.al_query.specs.Reads.{FromAnswers};
-ghost use Rattle.al_tree.specs.DeclarationViews.{common_model, specification_model};
+ghost use Rattle.al_tree.specs.DeclarationViews.{common_model, protected_model, specification_model, task_model};
 ghost use Rattle.al_tree.specs.Lexemes.{place_label};
 ghost use Rattle.al_stmts_walk.specs.Walking.{declared_part};
 ghost use Rattle.al_stmts_walked.specs.WalkedViews.{part_model};
@@ -9,7 +9,7 @@ ghost use Rattle.al_stmts_walked.specs.WalkedViews.{part_model};
 use al_base::{NoMemory, Place};
 use al_stmts_reader::Analyzer;
 use al_stmts_walked::WalkedPart;
-use al_tree::{CommonDeclaration, Specification};
+use al_tree::{CommonDeclaration, ProtectedDefinition, Specification, TaskDeclaration};
 use std::alloc::Global;
 
 /// A declaration, a pragma or a use clause.
@@ -52,11 +52,29 @@ pub fn stub_item<R: Analyzer>(
     Ok(WalkedPart::declared(alloc, checked))
 }
 
-/// What isn't compiled yet.
-pub fn item_not_yet<R: Analyzer>(analyzer: &mut R, alloc: Global) -> Result<WalkedPart, NoMemory>
+/// A task (ARM 9.1).
+pub fn task_item<R: Analyzer>(
+    analyzer: &mut R,
+    alloc: Global,
+    task: &TaskDeclaration,
+) -> Result<WalkedPart, NoMemory>
     ensures asked { R.asked analyzer.new ≡ R.asked analyzer.old }
-    ensures answered { IfOk result (λ done. FromAnswers (R.log analyzer.old) (R.log analyzer.new) (λ t. (R.env analyzer.new, part_model done) ≡ declared_part (R.env analyzer.old, Err ((R.reading t).not_yet (R.env analyzer.old))))) }
+    ensures answered { IfOk result (λ done. FromAnswers (R.log analyzer.old) (R.log analyzer.new) (λ t. (R.env analyzer.new, part_model done) ≡ declared_part ((R.reading t).single_task (R.env analyzer.old) (task_model task.now)))) }
 {
-    let fault = analyzer.not_yet()?;
-    Ok(WalkedPart::declared(alloc, Err(fault)))
+    let checked = analyzer.single_task(task)?;
+    Ok(WalkedPart::declared(alloc, checked))
+}
+
+/// A protected object, with the place of `protected` (ARM 9.4).
+pub fn object_item<R: Analyzer>(
+    analyzer: &mut R,
+    alloc: Global,
+    object: &ProtectedDefinition,
+    opening: Place,
+) -> Result<WalkedPart, NoMemory>
+    ensures asked { R.asked analyzer.new ≡ R.asked analyzer.old }
+    ensures answered { IfOk result (λ done. FromAnswers (R.log analyzer.old) (R.log analyzer.new) (λ t. (R.env analyzer.new, part_model done) ≡ declared_part ((R.reading t).single_object (R.env analyzer.old) (place_label opening) (protected_model object.now)))) }
+{
+    let checked = analyzer.single_object(opening, object)?;
+    Ok(WalkedPart::declared(alloc, checked))
 }

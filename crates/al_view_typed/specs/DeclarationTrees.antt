@@ -9,9 +9,9 @@ use Rattle.al_view_typed.specs.declared.declaration.DeclarationForm.{Declaration
 use Rattle.al_view_typed.specs.declared.declaration.DeclarationForm.TheVariants as declared
 use Rattle.al_view_typed.specs.declared.declaration.TypedDeclaration.{TypedDeclaration}
 
--- the value of a component of a protected object, of so many words from this word of it on
+-- the value of components of a protected object that are declared together, each of so many words from one of these words of it on
 pub record ComponentValueTree : Type 0 where
-  pub word : ℕ
+  pub places : List ℕ
   pub words : ℕ
   pub value : ValueTree
 
@@ -33,7 +33,7 @@ pub record DeclarationTree : Type 0 where
   pub form : DeclarationFormTree
 
 abbrev pub component_value_model : ComponentValue → ComponentValueTree
-component_value_model c = record { word = c.word; words = c.words; value = value_model c.value }
+component_value_model c = record { places = c.places; words = c.words; value = value_model c.value }
 
 abbrev pub form_model : DeclarationForm → DeclarationFormTree
 form_model (declared.Objects places words value) = Objects places words (option_map value_model value)

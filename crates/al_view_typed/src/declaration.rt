@@ -18,9 +18,10 @@ impl Drop for TypedDeclaration {
     }
 }
 
-/// The value of a component of a protected object (ARM 9.4), which has so many words from this word of its components on.
+/// The value of components of a protected object that are declared together (ARM 9.4, 3.3.1(7)): each begins at one of these words
+/// of the object and has so many words.
 pub struct ComponentValue {
-    pub word: u32,
+    pub places: Seq<u32>,
     pub words: u32,
     pub value: CheckedValue,
 }
@@ -28,7 +29,7 @@ pub struct ComponentValue {
 impl Drop for ComponentValue {
     fn drop(self) {
         let ComponentValue {
-            word: _,
+            places: _,
             words: _,
             value: _,
         } = self;

@@ -1,8 +1,8 @@
-use Rattle.std.proofs.Common.{◌≡◌, ℕ, List, None, ap, ◌∙◌}
+use Rattle.std.proofs.Common.{◌≡◌, None, ap, ◌∙◌}
 use Rattle.std.specs.Coded.{Unit-prop}
 use Rattle.std.specs.Global.{Global}
 use Rattle.al_overload_heads.specs.declared.everywhere.Predefined.{Predefined}
-use Rattle.al_check_made.specs.Constants.{predefined, the_memory}
+use Rattle.al_check_made.specs.Constants.{the_memory}
 use Rattle.al_check_here.specs.declared.state.UnitText.{UnitText}
 use Rattle.al_check.proofs.start.text_of.Goals as goal
 
@@ -11,7 +11,5 @@ one_memory alloc = ap (λ (u : Unit {0}). let g : Global = record { memory = rec
 
 pub returns : goal.returns
 returns c =
-    let make = λ (alloc : Global) (p : Predefined) (ends : List ℕ). let text : UnitText = record { labeller = record { alloc = alloc; predefined = p; own = None }; packages = c.args.packages; own = c.args.own; ends = ends } in text in
-    ap (λ (a : Global). make a c.in_ok-predefined.predefined c.in_ok-ends.ends) (one_memory c.args.alloc)
-    ∙ ap (λ (p : Predefined). make the_memory p c.in_ok-ends.ends) c.in_ok-predefined.ensures
-    ∙ ap (make the_memory predefined) c.in_ok-ends.ensures
+    let make = λ (alloc : Global) (p : Predefined). let text : UnitText = record { labeller = record { alloc = alloc; predefined = p; own = None }; packages = c.args.packages; own = c.args.own } in text in
+    ap (λ (a : Global). make a c.in_ok-predefined.predefined) (one_memory c.args.alloc) ∙ ap (λ (p : Predefined). make the_memory p) c.in_ok-predefined.ensures

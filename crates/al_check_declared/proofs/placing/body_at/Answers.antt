@@ -1,4 +1,4 @@
-use Rattle.std.proofs.Common.{is_some, ap, ◌∙◌}
+use Rattle.std.proofs.Common.{true, is_some, ap, ◌∙◌}
 use Rattle.al_decl_completes.proofs.Found.{completing-is}
 use Rattle.al_decl_subprogram.specs.Placing.{body_placed, head_duplicate}
 use Rattle.al_decl_profile.specs.Profiles.{specification_of}
@@ -12,6 +12,6 @@ returns-clause-answered g c =
     if_ok c.place_body.result _ _
     (λ checked answered t h.
     let placed = answered t h in
-    let found = completing-is env.uncompleted head.name (specification_of head) (is_some (head_duplicate t env head)) placed.1.0 placed.1.1 in
+    let found = completing-is env.uncompleted head.name (specification_of head) true (is_some (head_duplicate t env head)) placed.1.0 placed.1.1 in
     (placed.0, placed.1.2 ∙ ap (body_placed env c.args.line c.args.stub head) found))
     c.place_body.ensures.answered

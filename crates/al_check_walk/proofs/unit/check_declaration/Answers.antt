@@ -7,7 +7,7 @@ pub returns-in-Subprogram-clause-answered : goal.returns-in-Subprogram-clause-an
 returns-in-Subprogram-clause-answered g c = rw c.in-Subprogram.is c.subprogram_item.ensures.answered
 
 pub returns-in-Task-clause-answered : goal.returns-in-Task-clause-answered
-returns-in-Task-clause-answered g c = rw c.in-Task.is c.item_not_yet.ensures.answered
+returns-in-Task-clause-answered g c = rw c.in-Task.is c.task_item.ensures.answered
 
 pub returns-in-Protected-clause-answered : goal.returns-in-Protected-clause-answered
-returns-in-Protected-clause-answered g c = rw c.in-Protected.is c.item_not_yet-in-Protected.ensures.answered
+returns-in-Protected-clause-answered g c = rw c.in-Protected.is c.object_item.ensures.answered

@@ -24,5 +24,5 @@ returns-in-Some-clause-completing c =
     let same = one_specification c.in_ok-head.head c.specification_in.result.now s c.specification_in.ensures c.in_ok-head.ensures in
     let first = subst (λ (x : List ℕ). IsFirst (Completes x c.in_ok-head.head) c.args.uncompleted.now c.in-Some.at) c.as_slice.ensures c.in-Some.ensures in
     if_ok c.completed_subprogram.result _ _
-    (λ m completed. (completes_first c.args.uncompleted.now n c.in_ok-head.head s c.args.has_homograph c.in-Some.at c.at.result.now view m c.in_ok-head.ensures first c.at.ensures (sym c.kind.ensures ∙ c.subprogram_in-subprogram.ensures) (subst (λ (x : Specification). IsCompletedAt n.place x c.in-Some.at view m) same completed)).0)
+    (λ m completed. (completes_first c.args.uncompleted.now n c.in_ok-head.head s c.args.may_declare c.args.has_homograph c.in-Some.at c.at.result.now view m c.in_ok-head.ensures first c.at.ensures (sym c.kind.ensures ∙ c.subprogram_in-subprogram.ensures) (subst (λ (x : Specification). IsCompletedAt n.place x c.in-Some.at view m) same completed)).0)
     c.completed_subprogram.ensures

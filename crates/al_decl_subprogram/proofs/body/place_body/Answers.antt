@@ -15,7 +15,7 @@ returns-clause-answered g c =
       homograph.0,
       (
         c.in_ok-completes.completes,
-        subst (λ (b : Bool). IsCompleting h.uncompleted head.name (specification_of head) b c.in_ok-completes.completes) (c.is_some.ensures ∙ ap (λ (d : Option Fault). is_some d) homograph.1) c.in_ok-completes.ensures.completing,
+        subst (λ (b : Bool). IsCompleting h.uncompleted head.name (specification_of head) c.args.may_declare b c.in_ok-completes.completes) (c.is_some.ensures ∙ ap (λ (d : Option Fault). is_some d) homograph.1) c.in_ok-completes.ensures.completing,
         made,
       ),
     ))

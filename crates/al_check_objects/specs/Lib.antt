@@ -1,0 +1,3 @@
+pub mod ObjectRegions
+pub mod Barriers
+pub mod OpenObjects

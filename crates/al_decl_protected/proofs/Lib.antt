@@ -1,0 +1,4 @@
+pub mod Inner
+pub mod Lists
+pub mod Named
+pub mod Outcomes

@@ -1,0 +1,5 @@
+with Lights;
+procedure Crossing is
+begin
+   null;
+end Crossing;

@@ -1,0 +1,5 @@
+with Executive;
+procedure Cyclic_Executive is
+begin
+   null;
+end Cyclic_Executive;

@@ -1,0 +1,5 @@
+with Drifting;
+procedure Drift is
+begin
+   null;
+end Drift;

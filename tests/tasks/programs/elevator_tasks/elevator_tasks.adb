@@ -1,0 +1,5 @@
+with Lift;
+procedure Elevator_Tasks is
+begin
+   null;
+end Elevator_Tasks;

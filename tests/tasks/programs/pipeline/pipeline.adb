@@ -1,0 +1,5 @@
+with Stages;
+procedure Pipeline is
+begin
+   null;
+end Pipeline;

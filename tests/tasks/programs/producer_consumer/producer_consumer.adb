@@ -1,0 +1,5 @@
+with Workers;
+procedure Producer_Consumer is
+begin
+   null;
+end Producer_Consumer;

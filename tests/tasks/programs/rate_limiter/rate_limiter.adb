@@ -1,0 +1,5 @@
+with Limits;
+procedure Rate_Limiter is
+begin
+   null;
+end Rate_Limiter;

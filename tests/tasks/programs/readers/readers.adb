@@ -1,0 +1,5 @@
+with Weather;
+procedure Readers is
+begin
+   null;
+end Readers;

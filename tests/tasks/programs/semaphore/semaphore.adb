@@ -1,0 +1,5 @@
+with Account;
+procedure Semaphore is
+begin
+   null;
+end Semaphore;

@@ -1,0 +1,5 @@
+with Dog;
+procedure Watchdog is
+begin
+   null;
+end Watchdog;
