@@ -34,11 +34,11 @@ use Rattle.al_code_output.proofs.Writing.{size_cons}
 use Rattle.al_code_expr.specs.Pieces.{guarded, unless_zero}
 use Rattle.al_code_expr.specs.Templates.{call_code, checked_code, routine_code}
 use Rattle.al_code.specs.declared.routine.Routine.{Routine}
-use Rattle.al_code.specs.Declarations.{component_code, declaration_code, declaration_form_code, declarations_code, elaborated_code, object_code, subprogram_code}
+use Rattle.al_code.specs.Declarations.{component_code, declaration_code, declaration_form_code, declarations_code, elaborated_code, object_code, seed_code, subprogram_code}
 use Rattle.al_code.specs.Images.{emit_code, piece_code}
 use Rattle.al_code.specs.Loops.{leave_code, round_code}
 use Rattle.al_code.specs.LineLaws.{TreesTellCode}
-use Rattle.al_code.specs.Marks.{declaration_has_code, flag_has_code, has_branch, has_code, is_some_of, mark_of, statement_has_code, statements_have_code}
+use Rattle.al_code.specs.Marks.{component_has_code, declaration_has_code, flag_has_code, has_branch, has_code, is_some_of, mark_of, statement_has_code, statements_have_code}
 use Rattle.al_code.specs.Statements.{branch_code, branches_code, return_code, statement_code, statement_form_code, statements_code}
 
 -- ---- whether a piece that has bytes is among some
@@ -160,21 +160,31 @@ elaborated_coded : (depth : ℕ) (flag : ObjectPlace) → Coded (elaborated_code
 unfolding elaborated_code
 elaborated_coded depth flag = record { is = refl }
 
-component_coded : (depth : ℕ) (symbol : Symbol) (c : ComponentValueTree) → Coded (component_code depth symbol c)
-component_coded depth symbol c =
-    let h : Coded (Using (instr.Seed c.word c.words) (link Data symbol) ∷ []) = record { is = refl } in
-    last (checked_code depth c.value) h
+seed_coded : (depth : ℕ) (symbol : Symbol) (words : ℕ) (value : ValueTree) (word : ℕ) → Coded (seed_code depth symbol words value word)
+seed_coded depth symbol words value word =
+    let h : Coded (Using (instr.Seed word words) (link Data symbol) ∷ []) = record { is = refl } in
+    last (checked_code depth value) h
 
 each_solid : {A : Type 0} (f : A → List Piece) → ((x : A) → Coded (f x)) → (xs : List A) → is_some_of xs ≡ solid (flat_map f xs)
 each_solid f h [] = refl
 each_solid f h (x ∷ xs) = let c : Coded (f x ++ flat_map f xs) = first _ (h x) in sym c.is
+
+component_solid : (depth : ℕ) (symbol : Symbol) (c : ComponentValueTree) → component_has_code c ≡ solid (component_code depth symbol c)
+component_solid depth symbol c = each_solid (seed_code depth symbol c.words c.value) (λ w. seed_coded depth symbol c.words c.value w) c.places
+
+components_solid : (depth : ℕ) (symbol : Symbol) (cs : List ComponentValueTree) → list_any component_has_code cs ≡ solid (flat_map (component_code depth symbol) cs)
+components_solid depth symbol [] = refl
+components_solid depth symbol (c ∷ cs) =
+    ap (λ (b : Bool). b || list_any component_has_code cs) (component_solid depth symbol c)
+    ∙ ap (λ (b : Bool). solid (component_code depth symbol c) || b) (components_solid depth symbol cs)
+    ∙ sym (solid_append (component_code depth symbol c) (flat_map (component_code depth symbol) cs))
 
 declaration_solid : (depth : ℕ) (f : DeclarationFormTree) → declaration_has_code f ≡ solid (declaration_form_code depth f)
 declaration_solid depth (Objects objects words value) = each_solid (object_code depth words value) (λ o. object_coded depth words value o) objects
 declaration_solid depth (Subprogram flag) = subprogram_solid depth flag
 declaration_solid depth (Elaborated flag) = let c : Coded (elaborated_code depth flag) = elaborated_coded depth flag in sym c.is
 declaration_solid depth (SingleTask symbol priority) = refl
-declaration_solid depth (SingleProtected symbol values) = each_solid (component_code depth symbol) (λ v. component_coded depth symbol v) values
+declaration_solid depth (SingleProtected symbol values) = components_solid depth symbol values
 
 declarations_solid : (depth : ℕ) (ds : List DeclarationTree) → list_any (λ d. declaration_has_code d.form) ds ≡ solid (declarations_code depth ds)
 declarations_solid depth [] = refl

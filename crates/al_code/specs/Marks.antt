@@ -3,7 +3,7 @@ use Rattle.std.specs.Prelude.{ℕ, Bool, true, false, ◌||◌, List, [], ◌∷
 use Rattle.std.specs.List.{list_any}
 use Rattle.al_view.specs.declared.view.ObjectPlace.{ObjectPlace}
 use Rattle.al_view.specs.declared.view.ObjectPlace.TheVariants as places
-use Rattle.al_view_typed.specs.DeclarationTrees.{DeclarationFormTree, Objects, Subprogram, Elaborated, SingleTask, SingleProtected}
+use Rattle.al_view_typed.specs.DeclarationTrees.{ComponentValueTree, DeclarationFormTree, Objects, Subprogram, Elaborated, SingleTask, SingleProtected}
 use Rattle.al_view_typed.specs.StatementTrees.{StatementTree, StatementsTree, StatementFormTree, BranchesTree}
 use Rattle.al_view_typed.specs.StatementTrees.BranchesTree.{NoBranch, MoreBranches}
 use Rattle.al_view_typed.specs.StatementTrees.StatementTree.{Numbered}
@@ -26,13 +26,17 @@ abbrev pub flag_has_code : ObjectPlace → Bool
 flag_has_code (places.Frame d word) = true
 flag_has_code (places.Static symbol word) = false
 
+-- whether there is code where components that are declared together have a value: for each of them
+abbrev pub component_has_code : ComponentValueTree → Bool
+component_has_code c = is_some_of c.places
+
 -- whether there is code where a declaration stands
 abbrev pub declaration_has_code : DeclarationFormTree → Bool
 declaration_has_code (Objects objects words value) = is_some_of objects
 declaration_has_code (Subprogram flag) = flag_has_code flag
 declaration_has_code (Elaborated flag) = true
 declaration_has_code (SingleTask symbol priority) = true
-declaration_has_code (SingleProtected symbol values) = is_some_of values
+declaration_has_code (SingleProtected symbol values) = list_any component_has_code values
 
 abbrev pub has_branch : BranchesTree → Bool
 has_branch NoBranch = false

@@ -8,7 +8,7 @@ ghost use Rattle.al_view_typed.specs.DeclarationTrees.{component_value_model, de
 ghost use Rattle.al_view_typed.specs.ExpressionViews.{value_model};
 ghost use Rattle.al_code_output.specs.Pieces.Piece.{Using};
 ghost use Rattle.al_code_output.specs.Written.{written};
-ghost use Rattle.al_code.specs.Marks.{declaration_has_code, flag_has_code};
+ghost use Rattle.al_code.specs.Marks.{component_has_code, declaration_has_code, flag_has_code, is_some_of};
 ghost use Rattle.al_code.specs.Declarations.{declaration_code, component_code, declaration_form_code, declarations_code, elaborated_code, object_code, seed_code, subprogram_code};
 
 use crate::marks::emit_mark;
@@ -28,6 +28,25 @@ fn is_flag_in_frame(place: &ObjectPlace) -> bool
     }
 }
 
+/// Whether there is code where components that are declared together have a value.
+fn has_components(component: &ComponentValue) -> bool
+    ensures { result ≡ is_some_of component.now.places }
+{
+    !component.places.as_slice().is_empty()
+}
+
+/// Whether there is code where components of a protected object have values.
+fn components_have_code(values: &[ComponentValue]) -> bool
+    ensures { result ≡ list_any component_has_code (map component_value_model values.now) }
+{
+    for value in values {
+        if has_components(value) {
+            return true;
+        }
+    }
+    false
+}
+
 /// Whether there is code where a declaration stands.
 fn has_code(form: &DeclarationForm) -> bool
     ensures { result ≡ declaration_has_code (form_model form.now) }
@@ -37,7 +56,7 @@ fn has_code(form: &DeclarationForm) -> bool
         DeclarationForm::Subprogram(flag) => is_flag_in_frame(flag),
         DeclarationForm::Elaborated(_) => true,
         DeclarationForm::Task { .. } => true,
-        DeclarationForm::Protected { values, .. } => !values.is_empty(),
+        DeclarationForm::Protected { values, .. } => components_have_code(values),
     }
 }
 
