@@ -1,5 +1,5 @@
 #!/usr/bin/env python3
-"""timings.py PROGRAM [ada | units | names | edits]: times sessions of growing size (with a word that part alone). Each line is the least of three runs, in milliseconds; that of a text of Ada of twelve.
+"""timings.py PROGRAM [ada | units | names | edits | tasks]: times sessions of growing size (with a word that part alone). Each line is the least of three runs, in milliseconds; that of a text of Ada of twelve.
 
 Where an effort is linear, each doubling doubles the time beyond that of the empty session.
 """
@@ -232,9 +232,41 @@ def dotted_names(program):
             print(f"{'':<54} {peak_of(program, edited):>10.1f} MiB at most")
 
 
+TASK = b"task T%d with Priority => 3;", b"task body T%d is begin null; end T%d;"
+OBJECT = (
+    b"protected O%d is procedure Put (N : Integer); function Get return Integer; entry Wait; private V : Integer := 0; Open : Boolean := False; end O%d;",
+    b"protected body O%d is procedure Put (N : Integer) is begin V := N; Open := True; end Put; function Get return Integer is begin return V; end Get; "
+    b"entry Wait when Open is begin Open := False; end Wait; end O%d;",
+)
+
+
+def numbered(text, number):
+    return text.replace(b"%d", b"%d" % number)
+
+
+def package(name, numbers, declaration, body):
+    """A package of so many tasks or protected objects, with its body."""
+    one, other = (b" ".join(numbered(text, it) for it in numbers) for text in (declaration, body))
+    texts = (b"ads", b"package %s is %s end %s;" % (name, one, name)), (b"adb", b"package body %s is %s end %s;" % (name, other, name))
+    return b"".join(put(name.lower() + b"." + ending, text) for ending, text in texts)
+
+
+def tasks_and_objects(program):
+    """Tasks and protected objects that are put and built, in one package or in a package each. (An image has at most 63 tasks, so with more of
+    them the build ends with `image too large`, once all units are checked.)"""
+    main = put(b"m.adb", b"with P0; procedure M is begin null; end M;")
+    for what, texts in (("tasks", TASK), ("protected objects", OBJECT)):
+        for count in (250, 500, 1000, 2000):
+            in_one = package(b"P0", range(count), *texts)
+            in_many = b"".join(package(b"P%d" % it, [it], *texts) for it in range(count))
+            for where, stream in (("one package", in_one), ("a package each", in_many)):
+                spent = processor(program, stream + main + b"build m\n")
+                print(f"{f'{what} in {where}: put and build':<56} {count:>6} {spent:>10.1f} ms")
+
+
 def main():
     program = str(pathlib.Path(sys.argv[1]).resolve())
-    parts = {"ada": texts_of_ada, "units": graphs_of_units, "names": dotted_names, "edits": edits_of_units}
+    parts = {"ada": texts_of_ada, "units": graphs_of_units, "names": dotted_names, "edits": edits_of_units, "tasks": tasks_and_objects}
     if sys.argv[2:]:
         parts[sys.argv[2]](program)
         return
@@ -253,6 +285,7 @@ def main():
     graphs_of_units(program)
     dotted_names(program)
     edits_of_units(program)
+    tasks_and_objects(program)
     for count in doubled(1024, 65536):
         row(program, "session of so many refused commands", count, b"report order\n" * count)
         row(program, "session of so many puts over one file", count, put(b"hello.adb", HELLO) * count)
