@@ -337,8 +337,7 @@ fn sees_all_parts(own: &OwnText) -> bool
 {
     own.is_private
         || matches!(own.unit.kind, UnitKind::Sub)
-        || (matches!(own.unit.kind, UnitKind::Body)
-            && (own.is_package || matches!(own.symbol.unit.kind, UnitKind::Decl)))
+        || (matches!(own.unit.kind, UnitKind::Body) && own.is_package)
 }
 
 /// Adds the declaration of a library unit's body. Of another unit it takes no memory.
