@@ -10,8 +10,8 @@ loop-component-preserved c =
     c.loop-component-test.true c.component-item.is (sym c.is_barrier.ensures ∙ c.if-is_barrier.false) c.word_after-after.ensures
     ∙ c.loop-component.invariant
 
-pub returns-in_ok-symbol-then-is_barrier : goal.returns-in_ok-symbol-then-is_barrier
-returns-in_ok-symbol-then-is_barrier c =
+pub returns-then-is_barrier : goal.returns-then-is_barrier
+returns-then-is_barrier c =
     ap (λ (s : Symbol). Some (Static s c.loop-component.word)) c.in_ok-symbol.ensures
     ∙ barrier_found c.args.object.now c.args.name.now c.args.of.now c.loop-component.word c.args.components.now c.loop-component.component-index c.component-item.result
     c.loop-component-test.true c.component-item.is (sym c.is_barrier.ensures ∙ c.if-is_barrier.true)

@@ -1,4 +1,5 @@
-use Rattle.std.proofs.Common.{sym}
+use Rattle.std.proofs.Common.{sym, get_or}
+use Rattle.std.proofs.lemmas.List.{get_or_default}
 use Rattle.al_view_typed.specs.ExpressionViews.{value_model}
 use Rattle.al_code.specs.Declarations.{seed_code}
 use Rattle.al_code_output.proofs.Writing.{written_nothing, written_more, written_all}
@@ -9,8 +10,11 @@ loop-word-init c = sym (written_nothing c.args.out.now)
 
 pub loop-word-preserved : goal.loop-word-preserved
 loop-word-preserved c =
-    written_more (seed_code c.args.depth c.args.symbol.now c.args.words (value_model c.args.value.now)) c.args.out.now c.loop-word.out c.emit_seeded.new.out c.args.places.now c.loop-word.word-index c.word-item.result
-    c.loop-word.invariant c.in_ok-emit_seeded.ensures c.word-item.is c.loop-word-test.true
+    let places = c.args.places.now in
+    let i = c.loop-word.word-index in
+    let word = get_or places i 0 in
+    written_more (seed_code c.args.depth c.args.symbol.now c.args.words (value_model c.args.value.now)) c.args.out.now c.loop-word.out c.emit_seeded.new.out places i word
+    c.loop-word.invariant c.in_ok-emit_seeded.ensures (get_or_default places i 0 word c.loop-word-test.true) c.loop-word-test.true
 
 pub returns : goal.returns
 returns c = written_all (seed_code c.args.depth c.args.symbol.now c.args.words (value_model c.args.value.now)) c.args.out.now c.loop-word.out c.args.places.now c.loop-word.word-index c.loop-word.invariant c.loop-word-test.false
