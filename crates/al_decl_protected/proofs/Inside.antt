@@ -1,5 +1,5 @@
 -- What stands inside a protected object, in steps.
-use Rattle.std.proofs.Common.{◌≡◌, List, Result, Ok, Err, refl, sym, ap, ◌∙◌}
+use Rattle.std.proofs.Common.{◌≡◌, List, Result, Ok, Err, refl, ap, ◌∙◌}
 use Rattle.al_base_fault.specs.Judging.{map_ok, next}
 use Rattle.al_base_fault.specs.declared.fault.Fault.{Fault}
 use Rattle.al_decl_here.specs.declared.env.Environment.{Environment}

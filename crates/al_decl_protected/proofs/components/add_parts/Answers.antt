@@ -1,6 +1,6 @@
 use Rattle.std.proofs.Common.{Option, Result, sym, ap, ◌∙◌}
 use Rattle.std.specs.Prelude.{option_map}
-use Rattle.al_base_fault.specs.Judging.{map_ok, unless}
+use Rattle.al_base_fault.specs.Judging.{map_ok}
 use Rattle.al_base_fault.specs.declared.fault.Fault.{Fault}
 use Rattle.al_view.specs.declared.view.SubtypeView.{SubtypeView}
 use Rattle.al_view_typed.specs.ExpressionTrees.{TypedTree}

@@ -1,4 +1,4 @@
-use Rattle.std.proofs.Common.{Option, Some, Result, ap, ◌∙◌}
+use Rattle.std.proofs.Common.{Some, Result, ap, ◌∙◌}
 use Rattle.al_base_fault.specs.Judging.{map_ok}
 use Rattle.al_base_fault.specs.declared.fault.Fault.{Fault}
 use Rattle.al_view_typed.specs.ExpressionTrees.{TypedTree}

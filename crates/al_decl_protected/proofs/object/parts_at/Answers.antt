@@ -1,5 +1,4 @@
-use Rattle.std.proofs.Common.{Result, sym, ap, ◌∙◌}
-use Rattle.al_base_fault.specs.declared.fault.Fault.{Fault}
+use Rattle.std.proofs.Common.{sym, ap, ◌∙◌}
 use Rattle.al_decl.specs.Checking.{with_scope}
 use Rattle.al_decl_here.specs.Inner.{in_region}
 use Rattle.al_tree.specs.DeclarationViews.{protected_model}

@@ -1,6 +1,5 @@
-use Rattle.std.proofs.Common.{ℕ, Result, ap, ◌∙◌}
+use Rattle.std.proofs.Common.{ℕ, ap, ◌∙◌}
 use Rattle.al_base_fault.specs.Judging.{map_ok}
-use Rattle.al_base_fault.specs.declared.fault.Fault.{Fault}
 use Rattle.al_decl.specs.Checking.{inside_one}
 use Rattle.al_decl_here.specs.declared.env.Environment.{Environment}
 use Rattle.al_tree.specs.DeclarationViews.{task_model}
