@@ -1,4 +1,10 @@
+pub mod Added
+pub mod Bodied
 pub mod Inner
+pub mod Inside
 pub mod Lists
 pub mod Named
 pub mod Outcomes
+pub mod Parts
+pub mod Placed
+pub mod Words

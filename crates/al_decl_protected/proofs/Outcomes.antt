@@ -8,3 +8,7 @@ on_ok (Err e) P Q f h = search rules
 pub if_ok : {A E : Type 0} (r : Result A E) (P Q : A → Type 0) → ((a : A) → P a → Q a) → IfOk r P → IfOk r Q
 if_ok (Ok a) P Q f h = f a h
 if_ok (Err e) P Q f h = search rules
+
+pub on_ok_both : {A E : Type 0} (r : Result A E) (P Q S : Type 0) → (P → Q → S) → OnOk r P → OnOk r Q → OnOk r S
+on_ok_both (Ok a) P Q S f h k = f h k
+on_ok_both (Err e) P Q S f h k = search rules

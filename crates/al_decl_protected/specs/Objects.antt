@@ -1,5 +1,5 @@
 -- Declarations of protected objects at a place (ARM 9.4).
-use Rattle.std.specs.Prelude.{ℕ, List, [], Option, Some, None, option_map, Result, Ok, Err}
+use Rattle.std.specs.Prelude.{ℕ, List, [], Option, Some, option_map, Result, Ok}
 use Rattle.al_base.specs.declared.place.Place.{Place as TextPlace}
 use Rattle.al_base_fault.specs.Judging.{map_ok, next, unless}
 use Rattle.al_base_fault.specs.declared.fault.Fault.{Fault}
@@ -13,7 +13,6 @@ use Rattle.al_decl_names.specs.Defining.{defined}
 use Rattle.al_decl_reader.specs.PartReadings.{PartReading}
 use Rattle.al_overload_keys.specs.Places.{place_of}
 use Rattle.al_query.specs.Reads.{Table}
-use Rattle.al_scope.specs.Places.{Place}
 use Rattle.al_stmts_loops.specs.Ends.{end_fault}
 use Rattle.al_tree_grammar.specs.Grammar.{Label}
 use Rattle.al_tree_syntax.specs.DeclarationTrees.{ProtectedTree}

@@ -1,5 +1,5 @@
 -- Operations of a protected object where they are declared (ARM 9.4, 9.5.2).
-use Rattle.std.specs.Prelude.{ℕ, Bool, true, false, ◌&&◌, List, [], ◌∷◌, ◌++◌, Option, Some, None, Result, Ok, Err, if◌then◌else◌}
+use Rattle.std.specs.Prelude.{Bool, true, false, ◌&&◌, List, [], ◌∷◌, ◌++◌, Option, Some, None, Result, Ok, if◌then◌else◌}
 use Rattle.std.specs.List.{list_any}
 use Rattle.al_base.specs.Rules.{number_of}
 use Rattle.al_base.specs.declared.place.Place.{Place as TextPlace}
@@ -13,7 +13,6 @@ use Rattle.al_decl_here.specs.Declaring.{in_innermost}
 use Rattle.al_decl_here.specs.declared.env.Environment.{Environment}
 use Rattle.al_decl_judged.specs.Progressing.{symbol_of, with_counted}
 use Rattle.al_decl_judged.specs.declared.names.DefiningName.{DefiningName}
-use Rattle.al_decl_judged.specs.declared.progress.Progress.{Progress}
 use Rattle.al_decl_names.specs.Defining.{defined}
 use Rattle.al_decl_profile.specs.Headings.{heading_fault}
 use Rattle.al_decl_profile.specs.Profiles.{profile_of, profile_types}

@@ -1,12 +1,11 @@
 -- Declarations of tasks at a place (ARM 9.1).
-use Rattle.std.specs.Prelude.{ℕ, List, Option, Result}
+use Rattle.std.specs.Prelude.{ℕ, Option, Result}
 use Rattle.al_base_fault.specs.Judging.{map_ok}
 use Rattle.al_base_fault.specs.declared.fault.Fault.{Fault}
 use Rattle.al_decl.specs.Checking.{inside_one, with_progress}
 use Rattle.al_decl_here.specs.declared.env.Environment.{Environment}
 use Rattle.al_decl_judged.specs.Progressing.{symbol_of, with_counted}
 use Rattle.al_decl_judged.specs.declared.names.DefiningName.{DefiningName}
-use Rattle.al_decl_judged.specs.declared.progress.Progress.{Progress}
 use Rattle.al_decl_names.specs.Defining.{defined}
 use Rattle.al_decl_reader.specs.PartReadings.{PartReading}
 use Rattle.al_query.specs.Reads.{Table}

@@ -130,6 +130,7 @@ fn complete(
     requires { at < length env.old.uncompleted }
     ensures env { OnOk result (env.new ≡ with_awaiting env.old (remove env.old.uncompleted at)) }
     ensures body { IfOk result (λ body. (c : Completion) → slice_get env.old.uncompleted at ≡ Some c → named_model body ≡ (body_effect line c.view, c.view)) }
+    ensures depth { length env.new.scope.regions ≡ length env.old.scope.regions }
 {
     let view = env.uncompleted.at(at).view.share()?;
     let effect = body_effect(alloc, line, &view)?;

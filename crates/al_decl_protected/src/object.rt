@@ -63,13 +63,14 @@ fn check_private<R: PartAnalyzer, A: Answers>(
     requires { 0 < length env.old.scope.regions }
     ensures asked { recorder.new.asked ≡ recorder.old.asked }
     ensures answered { IfOk result (λ checked. FromAnswers recorder.old.log recorder.new.log (λ t. so_far (private_model components.new) checked ≡ components_checked (R.reading analyzer.now t) t env.old.scope (private_model components.old) (private_list (option_map protected_private_model part.now)))) }
-    ensures rest { OnOk result (env.new ≡ with_scope env.old env.new.scope) }
+    ensures rest { env.new ≡ with_scope env.old env.new.scope }
     ensures outer { OnOk result (StaysInner env.old.scope env.new.scope) }
     ensures depth { length env.new.scope.regions ≡ length env.old.scope.regions }
 {
     match part {
         Some(part) => {
-            let (scope, texts) = (&mut env.scope, part.components.as_slice());
+            let scope = &mut env.scope;
+            let texts = part.components.as_slice();
             check_components(
                 alloc, standard, analyzer, scope, components, texts, recorder,
             )
@@ -96,7 +97,8 @@ fn check_parts<R: PartAnalyzer, A: Answers>(
     ensures outer { OnOk result (StaysInner env.old.scope env.new.scope) }
     ensures depth { OnOk result (length env.new.scope.regions ≡ length env.old.scope.regions) }
 {
-    let (operations, texts) = (&mut parts.operations, object.operations.as_slice());
+    let operations = &mut parts.operations;
+    let texts = object.operations.as_slice();
     match check_operations(
         alloc, standard, analyzer, env, symbol, operations, texts, recorder,
     )? {
@@ -219,7 +221,7 @@ fn place_object(
 }
 
 fn name_at_end(name: &Option<Identifier>) -> Option<NameAtEnd<'_>>
-    ensures { option_map (λ e. (e.place, e.spelled.now)) result.entry ≡ option_map named_end (option_map identifier_label name.now) }
+    ensures { option_map (λ e. (e.place, e.spelled.now)) result ≡ option_map named_end (option_map identifier_label name.now) }
 {
     match name {
         Some(name) => Some(NameAtEnd {

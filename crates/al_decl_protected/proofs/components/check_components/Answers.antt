@@ -1,4 +1,4 @@
-use Rattle.std.proofs.Common.{◌≡◌, Ok, Err, refl, sym, ap, ◌∙◌, arith}
+use Rattle.std.proofs.Common.{refl, sym, ap, ◌∙◌, arith}
 use Rattle.al_decl_names.specs.Defining.{defining_names}
 use Rattle.al_tree.specs.DeclarationViews.{protected_component_model}
 use Rattle.al_decl_protected.specs.Checks.{so_far}

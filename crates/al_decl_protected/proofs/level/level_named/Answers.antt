@@ -2,7 +2,6 @@ use Rattle.std.proofs.Common.{ℕ, Option, Result, ap, ◌∙◌}
 use Rattle.std.specs.Prelude.{option_map}
 use Rattle.al_base_fault.specs.Judging.{unless}
 use Rattle.al_base_fault.specs.declared.fault.Fault.{Fault}
-use Rattle.al_decl.specs.Checking.{with_scope}
 use Rattle.al_scope.specs.Places.{Place}
 use Rattle.al_tree.specs.DeclarationViews.{aspect_model}
 use Rattle.al_decl_protected.specs.Levels.{level_read, name_fault}

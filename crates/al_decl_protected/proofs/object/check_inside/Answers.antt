@@ -1,4 +1,4 @@
-use Rattle.std.proofs.Common.{◌≡◌, [], refl, subst, sym, ap, ◌∙◌}
+use Rattle.std.proofs.Common.{[], refl, subst, sym, ap, ◌∙◌}
 use Rattle.al_decl.specs.Checking.{with_progress, with_scope}
 use Rattle.al_decl_here.specs.declared.env.Environment.{Environment}
 use Rattle.al_scope.specs.Places.{Place, entered}
