@@ -41,11 +41,11 @@ module _ (object : ProtectedView) (name : List ℕ) (of : Symbol) (word : ℕ) (
 
   pub barrier_passed : (c : Component) (after : ℕ) → i < length cs → c ≡ get_or cs i c → is_barrier name of c ≡ false → after ≡ word_after object c word
       → barrier_among object name of after (drop (i + 1) cs) ≡ barrier_among object name of word (drop i cs)
-  barrier_passed c after h e no after_is =
-      rw add-one (ap (λ (w : ℕ). barrier_among object name of w (drop (suc i) cs)) after_is ∙ sym (at_component c h e false no))
+  barrier_passed c after h e fails after_is =
+      rw add-one (ap (λ (w : ℕ). barrier_among object name of w (drop (suc i) cs)) after_is ∙ sym (at_component c h e false fails))
 
   pub barrier_found : (c : Component) → i < length cs → c ≡ get_or cs i c → is_barrier name of c ≡ true → Some (Static object.symbol word) ≡ barrier_among object name of word (drop i cs)
-  barrier_found c h e yes = sym (at_component c h e true yes)
+  barrier_found c h e holds = sym (at_component c h e true holds)
 
   pub no_barrier : length cs ≤ i → None ≡ barrier_among object name of word (drop i cs)
   no_barrier h = sym (ap (barrier_among object name of word) (none_left cs i h))
@@ -57,10 +57,10 @@ module _ (os : List Operation) (i : ℕ) where
   at_operation o h e found is = ap entry_among (left os i o h e) ∙ ap (λ (f : Option Symbol). either f (entry_among (drop (suc i) os))) (sym is)
 
   pub entry_passed : (o : Operation) (found : Option Symbol) → i < length os → o ≡ get_or os i o → found ≡ own_entry o → is_some found ≡ false → entry_among (drop (i + 1) os) ≡ entry_among (drop i os)
-  entry_passed o found h e is no = rw add-one (sym (at_operation o h e found is ∙ the_later found (entry_among (drop (suc i) os)) no))
+  entry_passed o found h e is fails = rw add-one (sym (at_operation o h e found is ∙ the_later found (entry_among (drop (suc i) os)) fails))
 
   pub entry_found : (o : Operation) (found : Option Symbol) → i < length os → o ≡ get_or os i o → found ≡ own_entry o → is_some found ≡ true → found ≡ entry_among (drop i os)
-  entry_found o found h e is yes = sym (at_operation o h e found is ∙ the_first found (entry_among (drop (suc i) os)) yes)
+  entry_found o found h e is holds = sym (at_operation o h e found is ∙ the_first found (entry_among (drop (suc i) os)) holds)
 
   pub no_entry : length os ≤ i → None ≡ entry_among (drop i os)
   no_entry h = sym (ap entry_among (none_left os i h))
@@ -77,10 +77,10 @@ module _ (object : ProtectedView) (bs : List OperationBody) (i : ℕ) where
 
   pub body_passed : (b : OperationBody) (found : Option ObjectPlace) → i < length bs → b ≡ get_or bs i b → found ≡ own_barrier object (operation_body_model b) → is_some found ≡ false
       → barrier_in object (drop (i + 1) bs) ≡ barrier_in object (drop i bs)
-  body_passed b found h e is no = rw add-one (sym (at_body b h e found is ∙ the_later found (barrier_in object (drop (suc i) bs)) no))
+  body_passed b found h e is fails = rw add-one (sym (at_body b h e found is ∙ the_later found (barrier_in object (drop (suc i) bs)) fails))
 
   pub body_found : (b : OperationBody) (found : Option ObjectPlace) → i < length bs → b ≡ get_or bs i b → found ≡ own_barrier object (operation_body_model b) → is_some found ≡ true → found ≡ barrier_in object (drop i bs)
-  body_found b found h e is yes = sym (at_body b h e found is ∙ the_first found (barrier_in object (drop (suc i) bs)) yes)
+  body_found b found h e is holds = sym (at_body b h e found is ∙ the_first found (barrier_in object (drop (suc i) bs)) holds)
 
   pub no_body : length bs ≤ i → None ≡ barrier_in object (drop i bs)
   no_body h = sym (ap (barrier_in object) (none_left bs i h))

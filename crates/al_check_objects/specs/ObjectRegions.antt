@@ -1,5 +1,5 @@
 -- The region of a protected body: its operations and components are visible in it (ARM 8.1, 9.4, 9.5.1).
-use Rattle.std.specs.Prelude.{ℕ, Bool, List, [], ◌∷◌, ◌++◌, None, fold}
+use Rattle.std.specs.Prelude.{ℕ, Bool, [], ◌∷◌, ◌++◌, None, fold}
 use Rattle.al_decl_body.specs.Regions.{in_regions}
 use Rattle.al_decl_here.specs.Declaring.{with_declaration}
 use Rattle.al_decl_here.specs.declared.env.Environment.{Environment}

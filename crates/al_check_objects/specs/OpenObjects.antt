@@ -1,6 +1,5 @@
 -- Protected bodies are entered and left (ARM 9.4), and the region of their operations is entered anew for the body of each of them.
 use Rattle.std.specs.Prelude.{Bool, true, false, Option, Some, None}
-use Rattle.al_base_fault.specs.Judging.{unless}
 use Rattle.al_base_fault.specs.declared.fault.Fault.{Fault}
 use Rattle.al_check_here.specs.RegionsHere.{left_to, region_left}
 use Rattle.al_check_here.specs.Standings.{with_here}
