@@ -14,10 +14,10 @@ returns-clause-answered g c =
     (λ checked answered t h.
     let placed = answered t h in
     let has_homograph = is_some (head_duplicate t env head) in
-    let found = completing-is env.uncompleted head.name (specification_of head) (not c.has_right_marks.result) has_homograph placed.1.0 placed.1.1 in (
+    let found = completing-is env.uncompleted head.name (specification_of head) (not c.has_right_marks-may_declare.result) has_homograph placed.1.0 placed.1.1 in (
       placed.0,
       placed.1.2
           ∙ ap (body_placed env c.args.line None head) found
-          ∙ ap (λ (b : Bool). body_placed env c.args.line None head (completing_found env.uncompleted head.name (specification_of head) (not b) has_homograph)) c.has_right_marks.ensures,
+          ∙ ap (λ (b : Bool). body_placed env c.args.line None head (completing_found env.uncompleted head.name (specification_of head) (not b) has_homograph)) c.has_right_marks-may_declare.ensures,
     ))
     c.place_body.ensures.answered
