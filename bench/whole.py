@@ -1,23 +1,20 @@
 #!/usr/bin/env python3
-"""whole.py PROGRAM [packages | statements | programs]: times the whole chain, beside GNAT and Lua where these are there.
+"""whole.py PROGRAM [packages | statements]: times builds, beside GNAT where it is there.
 
 packages: 200 packages with their bodies and a main unit: the first build, and builds behind no edit, the edit of a body and
-that of a declaration; gnatmake does the same by turns, over files. statements: a unit of so many assignments. programs: three
-programs that are built and run (bench/programs), beside GNAT's executables and the same loops in Lua. Each figure is in
-milliseconds of the clock, with those of the processor in parentheses, the least of some runs. It is no test.
+that of a declaration; gnatmake does the same by turns, over files. statements: a unit of so many assignments. Each figure is in
+milliseconds of the clock, with those of the processor in parentheses, the least of some runs. Programs that are built and run are
+timed by bench/machine/run. It is no test.
 """
 import os
 import pathlib
 import shutil
-import subprocess
 import sys
 import tempfile
 
 from timings import doubled, procedure, put, spent_by
 
-BENCH = pathlib.Path(__file__).resolve().parent
 PACKAGES = 200
-LUA = {"sieve": "machine/sieve.lua", "queens": "programs/queens.lua", "collatz": "machine/hailstone.lua"}
 
 
 def least(run, runs=3):
@@ -114,26 +111,9 @@ def statements(program):
             tell(f"a unit of {count} statements", ("build", less(least(lambda: spent_by([program], stream + b"build p\n", folder)), plain)))
 
 
-def programs(program):
-    with tempfile.TemporaryDirectory() as folder:
-        for name, lua in LUA.items():
-            source = BENCH / "programs" / f"{name}.adb"
-            built = put(f"{name}.adb".encode(), source.read_bytes()) + f"build {name}\n".encode()
-            figures = [
-                ("build", least(lambda: spent_by([program], built, folder))),
-                ("build and run", least(lambda: spent_by([program], built + b"run 1000000000\n", folder))),
-            ]
-            if shutil.which("lua5.4"):
-                figures.append(("lua", least(lambda: spent_by(["lua5.4", BENCH / lua], b"", folder))))
-            if shutil.which("gnatmake"):
-                subprocess.run(["gnatmake", "-q", source], cwd=folder, check=True)
-                figures.append(("gnat", least(lambda: spent_by([f"./{name}"], b"", folder))))
-            tell(name, *figures)
-
-
 def main():
     program = str(pathlib.Path(sys.argv[1]).resolve())
-    parts = {"packages": packages, "statements": statements, "programs": programs}
+    parts = {"packages": packages, "statements": statements}
     for part in sys.argv[2:] or parts:
         parts[part](program)
 

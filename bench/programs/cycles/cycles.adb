@@ -1,0 +1,5 @@
+with Rates;
+procedure Cycles is
+begin
+   null;
+end Cycles;
