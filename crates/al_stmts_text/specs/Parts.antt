@@ -1,17 +1,22 @@
 -- The walk over parts of the program's trees.
-use Rattle.std.specs.Prelude.{List, Some, map, option_map}
+use Rattle.std.specs.Prelude.{List, Result, Some, map, option_map}
+use Rattle.al_base_fault.specs.declared.fault.Fault.{Fault}
+use Rattle.al_stmts_walk.specs.Readings.{Read}
 use Rattle.al_tree_grammar.specs.Grammar.{Label}
 use Rattle.al_tree_syntax.specs.StatementTrees.{ItemsTree, NamedEndTree, OperationBodiesTree, StatementsTree}
-use Rattle.al_tree.specs.StatementViews.{alternative_model, alternatives_of, branch_model, elsif_model, elsifs_of, else_of, operation_bodies_of, operation_body_model, statements_model}
+use Rattle.al_tree.specs.StatementViews.{alternative_model, alternatives_of, branch_model, elsif_model, elsifs_of, else_of, item_model, items_of, operation_bodies_of, operation_body_model, statements_model}
 use Rattle.al_tree.specs.declared.statement.CaseStatement.{CaseStatement, out-CaseStatement}
 use Rattle.al_tree.specs.declared.statement.IfStatement.{IfStatement, out-IfStatement}
+use Rattle.al_tree.specs.declared.statement.DeclaredStatements.{DeclaredStatements, out-DeclaredStatements}
 use Rattle.al_tree.specs.declared.statement.OperationBody.{OperationBody}
+use Rattle.al_tree.specs.declared.statement.SubprogramBody.{SubprogramBody, out-SubprogramBody}
+use Rattle.al_tree.specs.Lexemes.{place_label}
 use Rattle.al_view_typed.specs.DeclarationTrees.{DeclarationTree}
 use Rattle.al_stmts_loops.specs.Returns.{no_return_fault}
 use Rattle.al_stmts_returns.specs.Returning.{has_return}
 use Rattle.al_stmts_walk.specs.Readings.{Reading}
 use Rattle.al_stmts_walk.specs.Steps.{Enclosing, Branching, Choosing, Inside, Part}
-use Rattle.al_stmts_walk.specs.Walking.{alternative_walked, alternatives_walked, body_ended, body_entered, branch_walked, closed, elsifs_walked, else_walked, end_of, inside_after, items_walked, object_after, object_ended, operations_walked, statements_walked}
+use Rattle.al_stmts_walk.specs.Walking.{alternative_walked, alternatives_walked, body_ended, body_entered, branch_walked, closed, elsifs_walked, else_walked, end_of, inside_after, items_walked, object_after, object_ended, operations_walked, statements_walked, walked_body}
 use Rattle.al_stmts_walk.specs.declared.extent.BodyExtent.{BodyExtent}
 
 -- the branches of an if statement
@@ -34,6 +39,26 @@ body_inside R r h is begin ss = let part = closed R (items_walked R h is) begin 
 abbrev pub entered_walked : {H : Type 0} → Reading H → H → List DeclarationTree → BodyExtent → ItemsTree → Label → StatementsTree → H × Part
 entered_walked R h effects extent is begin ss =
     let inner = body_entered R h in body_ended R effects extent (no_return_fault extent.end inner.1.returns.body (has_return ss)) (body_inside R inner.1 inner.0 is begin ss)
+
+-- the body of a subprogram, by its parts
+abbrev pub subprogram_headed : {H : Type 0} → Reading H → Read H (List DeclarationTree) → BodyExtent → SubprogramBody → H × Part
+subprogram_headed R head extent b = walked_body R head extent (items_of (map item_model (out-SubprogramBody b).items.items)) (place_label (out-SubprogramBody b).begin) (statements_model (out-SubprogramBody b).statements)
+
+abbrev pub subprogram_entered : {H : Type 0} → Reading H → H → List DeclarationTree → BodyExtent → SubprogramBody → H × Part
+subprogram_entered R h effects extent b = entered_walked R h effects extent (items_of (map item_model (out-SubprogramBody b).items.items)) (place_label (out-SubprogramBody b).begin) (statements_model (out-SubprogramBody b).statements)
+
+abbrev pub subprogram_inside : {H : Type 0} → Reading H → Enclosing → H → SubprogramBody → H × Inside
+subprogram_inside R r h b = body_inside R r h (items_of (map item_model (out-SubprogramBody b).items.items)) (place_label (out-SubprogramBody b).begin) (statements_model (out-SubprogramBody b).statements)
+
+-- the body of a task or an entry, by its parts
+abbrev pub declared_headed : {H : Type 0} → Reading H → Read H (List DeclarationTree) → BodyExtent → DeclaredStatements → H × Part
+declared_headed R head extent b = walked_body R head extent (items_of (map item_model (out-DeclaredStatements b).items.items)) (place_label (out-DeclaredStatements b).begin) (statements_model (out-DeclaredStatements b).statements)
+
+abbrev pub declared_entered : {H : Type 0} → Reading H → H → List DeclarationTree → BodyExtent → DeclaredStatements → H × Part
+declared_entered R h effects extent b = entered_walked R h effects extent (items_of (map item_model (out-DeclaredStatements b).items.items)) (place_label (out-DeclaredStatements b).begin) (statements_model (out-DeclaredStatements b).statements)
+
+abbrev pub declared_inside : {H : Type 0} → Reading H → Enclosing → H → DeclaredStatements → H × Inside
+declared_inside R r h b = body_inside R r h (items_of (map item_model (out-DeclaredStatements b).items.items)) (place_label (out-DeclaredStatements b).begin) (statements_model (out-DeclaredStatements b).statements)
 
 -- the bodies of a protected object's operations
 abbrev pub operation_trees : List OperationBody → OperationBodiesTree

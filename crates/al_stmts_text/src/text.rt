@@ -10,7 +10,7 @@ ghost use Rattle.al_view_typed.specs.StatementViews.{scheme_model};
 ghost use Rattle.al_stmts_walk.specs.Steps.{in_loop};
 ghost use Rattle.al_stmts_walk.specs.Views.{effects_model};
 ghost use Rattle.al_stmts_walk.specs.Walking.{alternative_walked, alternatives_walked, body_walked, branch_walked, closed, elsifs_walked, else_walked, end_of, entry_walked, for_walked, handled_walked, inner_block_walked, inner_loop_walked, inside_after, item_walked, items_walked, loop_walked, more_walked, operation_walked, operations_walked, part_after, statement_walked, statements_walked, task_walked, walked_after, walked_body};
-ghost use Rattle.al_stmts_text.specs.Parts.{all_alternatives, all_branches, body_inside, entered_walked, object_walked, opened_walked};
+ghost use Rattle.al_stmts_text.specs.Parts.{all_alternatives, all_branches, declared_entered, declared_headed, declared_inside, object_walked, opened_walked, subprogram_entered, subprogram_headed, subprogram_inside};
 ghost use Rattle.al_stmts_walked.specs.WalkedViews.{all_model, branching_model, choosing_model, inside_model, one_model, part_model};
 
 use al_base::{NoMemory, Place};
@@ -552,13 +552,13 @@ fn check_item<R: Analyzer>(
 fn check_object<R: Analyzer>(
     analyzer: &mut R,
     alloc: Global,
-    operations: &[OperationBody],
+    operations: &Vec<OperationBody>,
     opening: Place,
     name: &Identifier,
     end: &NamedEnd,
 ) -> Result<WalkedPart, NoMemory>
     ensures asked { R.asked analyzer.new ≡ R.asked analyzer.old }
-    ensures answered { IfOk result (λ done. FromAnswers (R.log analyzer.old) (R.log analyzer.new) (λ t. (R.env analyzer.new, part_model done) ≡ object_walked (R.reading t) (R.env analyzer.old) (place_label opening) (identifier_label name.now) operations.now (named_end_model end.now))) }
+    ensures answered { IfOk result (λ done. FromAnswers (R.log analyzer.old) (R.log analyzer.new) (λ t. (R.env analyzer.new, part_model done) ≡ object_walked (R.reading t) (R.env analyzer.old) (place_label opening) (identifier_label name.now) operations.now.items (named_end_model end.now))) }
 {
     let opened = analyzer.object_entered(opening, name, operations)?;
     match opened {
@@ -572,13 +572,13 @@ fn check_object<R: Analyzer>(
 fn check_opened<R: Analyzer>(
     analyzer: &mut R,
     alloc: Global,
-    operations: &[OperationBody],
+    operations: &Vec<OperationBody>,
     name: &Identifier,
     end: &NamedEnd,
     effects: Vec<TypedDeclaration>,
 ) -> Result<WalkedPart, NoMemory>
     ensures asked { R.asked analyzer.new ≡ R.asked analyzer.old }
-    ensures answered { IfOk result (λ done. FromAnswers (R.log analyzer.old) (R.log analyzer.new) (λ t. (R.env analyzer.new, part_model done) ≡ opened_walked (R.reading t) (R.env analyzer.old) (identifier_label name.now) operations.now (named_end_model end.now) (effects_model effects))) }
+    ensures answered { IfOk result (λ done. FromAnswers (R.log analyzer.old) (R.log analyzer.new) (λ t. (R.env analyzer.new, part_model done) ≡ opened_walked (R.reading t) (R.env analyzer.old) (identifier_label name.now) operations.now.items (named_end_model end.now) (effects_model effects))) }
 {
     let mut part = WalkedPart::new(alloc);
     check_operations(analyzer, alloc, operations, &mut part)?;
@@ -642,15 +642,7 @@ fn check_task<R: Analyzer>(
 {
     let head = analyzer.task_head(name)?;
     let extent = named_extent(opening, name, &inner.end);
-    check_headed(
-        analyzer,
-        alloc,
-        &inner.items,
-        inner.begin,
-        &inner.statements,
-        head,
-        extent,
-    )
+    headed_declared(analyzer, alloc, inner, head, extent)
 }
 
 /// The body of an entry (ARM 9.5.2).
@@ -668,15 +660,7 @@ fn check_entry<R: Analyzer>(
 {
     let head = analyzer.entry_head(name, barrier)?;
     let extent = named_extent(opening, name, &inner.end);
-    check_headed(
-        analyzer,
-        alloc,
-        &inner.items,
-        inner.begin,
-        &inner.statements,
-        head,
-        extent,
-    )
+    headed_declared(analyzer, alloc, inner, head, extent)
 }
 
 /// The body of a subprogram (ARM 6.3).
@@ -692,75 +676,121 @@ pub fn check_body<R: Analyzer>(
 {
     let extent = subprogram_extent(alloc, specification, &body.end)?;
     let head = analyzer.head(specification)?;
-    check_headed(
-        analyzer,
-        alloc,
-        &body.items,
-        body.begin,
-        &body.statements,
-        head,
-        extent,
-    )
+    headed_subprogram(analyzer, alloc, body, head, extent)
 }
 
-/// Any body after its head: of a subprogram, a task or an entry. Where the head is faulty nothing after it is looked at.
+/// The body of a subprogram after its head. Where the head is faulty nothing after it is looked at.
 #[cycle(walk)]
-fn check_headed<R: Analyzer>(
+fn headed_subprogram<R: Analyzer>(
     analyzer: &mut R,
     alloc: Global,
-    items: &[Item],
-    begin: Place,
-    statements: &Statements,
+    body: &SubprogramBody,
     head: CheckResult<Vec<TypedDeclaration>>,
     extent: BodyExtent,
 ) -> Result<WalkedPart, NoMemory>
     ensures asked { R.asked analyzer.new ≡ R.asked analyzer.old }
-    ensures answered { IfOk result (λ done. FromAnswers (R.log analyzer.old) (R.log analyzer.new) (λ t. (R.env analyzer.new, part_model done) ≡ walked_body (R.reading t) (R.env analyzer.old, map_ok effects_model head) extent (items_of (map item_model items.now)) (place_label begin) (statements_model statements.now))) }
+    ensures answered { IfOk result (λ done. FromAnswers (R.log analyzer.old) (R.log analyzer.new) (λ t. (R.env analyzer.new, part_model done) ≡ subprogram_headed (R.reading t) (R.env analyzer.old, map_ok effects_model head) extent body.now)) }
 {
     match head {
-        Ok(effects) => { check_entered(analyzer, alloc, items, begin, statements, effects, extent) }
+        Ok(effects) => { entered_subprogram(analyzer, alloc, body, effects, extent) }
         Err(fault) => Ok(WalkedPart::declared(alloc, Err(fault))),
     }
 }
 
-/// A body whose head is right, by what it does where it stands.
+/// The body of a subprogram whose head is right, by what it does where it stands.
 #[cycle(walk)]
-fn check_entered<R: Analyzer>(
+fn entered_subprogram<R: Analyzer>(
     analyzer: &mut R,
     alloc: Global,
-    items: &[Item],
-    begin: Place,
-    statements: &Statements,
+    body: &SubprogramBody,
     effects: Vec<TypedDeclaration>,
     extent: BodyExtent,
 ) -> Result<WalkedPart, NoMemory>
     ensures asked { R.asked analyzer.new ≡ R.asked analyzer.old }
-    ensures answered { IfOk result (λ done. FromAnswers (R.log analyzer.old) (R.log analyzer.new) (λ t. (R.env analyzer.new, part_model done) ≡ entered_walked (R.reading t) (R.env analyzer.old) (effects_model effects) extent (items_of (map item_model items.now)) (place_label begin) (statements_model statements.now))) }
+    ensures answered { IfOk result (λ done. FromAnswers (R.log analyzer.old) (R.log analyzer.new) (λ t. (R.env analyzer.new, part_model done) ≡ subprogram_entered (R.reading t) (R.env analyzer.old) (effects_model effects) extent body.now)) }
 {
     let mut enclosing = enter_body(analyzer, alloc)?;
-    match check_inside(analyzer, &mut enclosing, items, begin, statements) {
+    match inside_subprogram(analyzer, &mut enclosing, body) {
         Ok(inside) => {
             let returns = enclosing.returns();
-            let no_return = no_return_fault(extent.end, returns.body, has_return(statements));
+            let no_return = no_return_fault(extent.end, returns.body, has_return(&body.statements));
             finish_body(analyzer, alloc, effects, extent, no_return, inside)
         }
         Err(error) => Err(error),
     }
 }
 
-/// What stands inside a body.
+/// What stands inside the body of a subprogram.
 #[cycle(walk)]
-fn check_inside<R: Analyzer>(
+fn inside_subprogram<R: Analyzer>(
     analyzer: &mut R,
     enclosing: &mut Enclosing,
-    items: &[Item],
-    begin: Place,
-    statements: &Statements,
+    body: &SubprogramBody,
 ) -> Result<WalkedInside, NoMemory>
     ensures asked { R.asked analyzer.new ≡ R.asked analyzer.old }
     ensures kept { enclosing.new ≡ enclosing.old }
-    ensures answered { IfOk result (λ done. FromAnswers (R.log analyzer.old) (R.log analyzer.new) (λ t. (R.env analyzer.new, inside_model done) ≡ body_inside (R.reading t) enclosing.old (R.env analyzer.old) (items_of (map item_model items.now)) (place_label begin) (statements_model statements.now))) }
+    ensures answered { IfOk result (λ done. FromAnswers (R.log analyzer.old) (R.log analyzer.new) (λ t. (R.env analyzer.new, inside_model done) ≡ subprogram_inside (R.reading t) enclosing.old (R.env analyzer.old) body.now)) }
 {
-    let part = check_part(analyzer, enclosing.alloc(), items, begin)?;
-    check_after(analyzer, enclosing, statements, part)
+    let part = check_part(analyzer, enclosing.alloc(), &body.items, body.begin)?;
+    check_after(analyzer, enclosing, &body.statements, part)
+}
+
+/// The body of a task or an entry after its head. Where the head is faulty nothing after it is looked at.
+#[cycle(walk)]
+fn headed_declared<R: Analyzer>(
+    analyzer: &mut R,
+    alloc: Global,
+    inner: &DeclaredStatements,
+    head: CheckResult<Vec<TypedDeclaration>>,
+    extent: BodyExtent,
+) -> Result<WalkedPart, NoMemory>
+    ensures asked { R.asked analyzer.new ≡ R.asked analyzer.old }
+    ensures answered { IfOk result (λ done. FromAnswers (R.log analyzer.old) (R.log analyzer.new) (λ t. (R.env analyzer.new, part_model done) ≡ declared_headed (R.reading t) (R.env analyzer.old, map_ok effects_model head) extent inner.now)) }
+{
+    match head {
+        Ok(effects) => { entered_declared(analyzer, alloc, inner, effects, extent) }
+        Err(fault) => Ok(WalkedPart::declared(alloc, Err(fault))),
+    }
+}
+
+/// The body of a task or an entry whose head is right, by what it does where it stands.
+#[cycle(walk)]
+fn entered_declared<R: Analyzer>(
+    analyzer: &mut R,
+    alloc: Global,
+    inner: &DeclaredStatements,
+    effects: Vec<TypedDeclaration>,
+    extent: BodyExtent,
+) -> Result<WalkedPart, NoMemory>
+    ensures asked { R.asked analyzer.new ≡ R.asked analyzer.old }
+    ensures answered { IfOk result (λ done. FromAnswers (R.log analyzer.old) (R.log analyzer.new) (λ t. (R.env analyzer.new, part_model done) ≡ declared_entered (R.reading t) (R.env analyzer.old) (effects_model effects) extent inner.now)) }
+{
+    let mut enclosing = enter_body(analyzer, alloc)?;
+    match inside_declared(analyzer, &mut enclosing, inner) {
+        Ok(inside) => {
+            let returns = enclosing.returns();
+            let no_return = no_return_fault(
+                extent.end,
+                returns.body,
+                has_return(&inner.statements),
+            );
+            finish_body(analyzer, alloc, effects, extent, no_return, inside)
+        }
+        Err(error) => Err(error),
+    }
+}
+
+/// What stands inside the body of a task or an entry.
+#[cycle(walk)]
+fn inside_declared<R: Analyzer>(
+    analyzer: &mut R,
+    enclosing: &mut Enclosing,
+    inner: &DeclaredStatements,
+) -> Result<WalkedInside, NoMemory>
+    ensures asked { R.asked analyzer.new ≡ R.asked analyzer.old }
+    ensures kept { enclosing.new ≡ enclosing.old }
+    ensures answered { IfOk result (λ done. FromAnswers (R.log analyzer.old) (R.log analyzer.new) (λ t. (R.env analyzer.new, inside_model done) ≡ declared_inside (R.reading t) enclosing.old (R.env analyzer.old) inner.now)) }
+{
+    let part = check_part(analyzer, enclosing.alloc(), &inner.items, inner.begin)?;
+    check_after(analyzer, enclosing, &inner.statements, part)
 }

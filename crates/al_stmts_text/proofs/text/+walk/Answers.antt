@@ -7,6 +7,8 @@ use Rattle.al_tree.proofs.StatementsMade.{block_declare_block_model, block_plain
 use Rattle.al_tree.specs.DeclarationViews.{specification_model}
 use Rattle.al_tree.specs.ExpressionViews.{expression_model}
 use Rattle.al_tree.specs.Lexemes.{identifier_label, place_label}
+use Rattle.al_tree.specs.declared.statement.DeclaredStatements.{out-DeclaredStatements}
+use Rattle.al_tree.specs.declared.statement.SubprogramBody.{out-SubprogramBody}
 use Rattle.al_tree.specs.StatementViews.{item_model, items_of, named_end_model, statements_model}
 use Rattle.al_view_typed.specs.StatementTrees.{SchemeTree}
 use Rattle.al_view_typed.specs.StatementViews.{scheme_model}
@@ -355,71 +357,19 @@ check_otherwise-returns-in_ok-inner-in-Some-clause-answered g m c =
     (inner.0, otherwise_made (g.R.Analyzer.reading t) c.args.enclosing.now _ _ _ _ _ (statements_model c.in-Some.statements) (sym c.is_ended.ensures ∙ c.if-is_ended.false) inner.1 is))
     c.add_otherwise.ensures)
 
-pub check_inside-returns-clause-answered : goal.check_inside-returns-clause-answered
-check_inside-returns-clause-answered g m c =
-    if_ok c.check_after.result _ _
-    (λ done answered t h.
-    let inside = answered t h in
-    let part = c.in_ok-part.ensures.answered t inside.0 in
-    (part.0, inside_made (g.R.Analyzer.reading t) c.args.enclosing.now _ _ _ _ (items_of (map item_model c.args.items.now)) (place_label c.args.begin) (statements_model c.args.statements.now) part.1 inside.1))
-    c.check_after.ensures.answered
-
-pub check_body-returns-clause-answered : goal.check_body-returns-clause-answered
-check_body-returns-clause-answered g m c =
-    if_ok c.check_headed.result _ _
-    (λ done answered t h.
-    let body = (rw c.deref.ensures.value at answered) t h in
-    let head = c.in_ok-head.ensures.answered t body.0 in
-    (head.0, body_read (g.R.Analyzer.reading t) _ _ (specification_model c.args.specification.now) _ _ _ c.args.body.now c.in_ok-extent.ensures head.1 body.1))
-    c.check_headed.ensures.answered
-
-pub check_task-returns-clause-answered : goal.check_task-returns-clause-answered
-check_task-returns-clause-answered g m c =
-    if_ok c.check_headed.result _ _
-    (λ done answered t h.
-    let body = (rw c.deref.ensures.value at answered) t h in
-    let head = c.in_ok-head.ensures.answered t body.0 in
-    (head.0, task_read (g.R.Analyzer.reading t) _ _ (place_label c.args.opening) (identifier_label c.args.name.now) _ _ _ c.args.inner.now c.named_extent-extent.ensures head.1 body.1))
-    c.check_headed.ensures.answered
-
-pub check_entry-returns-clause-answered : goal.check_entry-returns-clause-answered
-check_entry-returns-clause-answered g m c =
-    if_ok c.check_headed.result _ _
-    (λ done answered t h.
-    let body = (rw c.deref.ensures.value at answered) t h in
-    let head = c.in_ok-head.ensures.answered t body.0 in
-    (head.0, entry_read (g.R.Analyzer.reading t) _ _ (place_label c.args.opening) (identifier_label c.args.name.now) (expression_model c.args.barrier.now) _ _ _ c.args.inner.now c.named_extent-extent.ensures head.1 body.1))
-    c.check_headed.ensures.answered
-
-pub check_headed-returns-in-Ok-clause-answered : goal.check_headed-returns-in-Ok-clause-answered
-check_headed-returns-in-Ok-clause-answered g m c = rw c.in-Ok.is c.check_entered.ensures.answered
-
-pub check_headed-returns-in-Err-clause-answered : goal.check_headed-returns-in-Err-clause-answered
-check_headed-returns-in-Err-clause-answered g m c = rw c.in-Err.is (λ t h. (h, as_made _ _ _ c.declared.ensures))
-
-pub check_entered-returns-in-Ok-clause-answered : goal.check_entered-returns-in-Ok-clause-answered
-check_entered-returns-in-Ok-clause-answered g m c =
-    if_ok c.finish_body.result _ _
-    (λ done answered t h.
-    let body = answered t h in
-    let inside = c.in-Ok.ensures.answered t body.0 in
-    let enclosing = c.in_ok-enclosing.ensures.answered t inside.0 in
-    (enclosing.0, entered_made (g.R.Analyzer.reading t) _ _ _ (effects_model c.args.effects) c.args.extent _ _ _ _ _ _ _ (items_of (map item_model c.args.items.now)) (place_label c.args.begin) (statements_model c.args.statements.now) enclosing.1 inside.1 c.check_inside.ensures.kept c.returns-returns.ensures c.has_return.ensures c.no_return_fault-no_return.ensures body.1))
-    c.finish_body.ensures.answered
-
 pub check_object-returns-in-Ok-clause-answered : goal.check_object-returns-in-Ok-clause-answered
 check_object-returns-in-Ok-clause-answered g m c =
     if_ok c.check_opened.result _ _
     (λ done answered t h.
     let whole = answered t h in
-    let opened = (rw c.in-Ok.is at c.in_ok-opened.ensures.answered) t whole.0 in
-    (opened.0, object_read (g.R.Analyzer.reading t) _ _ (place_label c.args.opening) (identifier_label c.args.name.now) c.args.operations.now (named_end_model c.args.end.now) _ _ opened.1 whole.1))
+    let opened = (rw c.in-Ok.is at (rw c.deref.ensures.value at c.in_ok-opened.ensures.answered)) t whole.0 in
+    (opened.0, object_read (g.R.Analyzer.reading t) _ _ (place_label c.args.opening) (identifier_label c.args.name.now) c.args.operations.now.items (named_end_model c.args.end.now) _ _ opened.1 whole.1))
     c.check_opened.ensures.answered
 
 pub check_object-returns-in-Err-clause-answered : goal.check_object-returns-in-Err-clause-answered
 check_object-returns-in-Err-clause-answered g m c = λ t h.
-    let opened = (rw c.in-Err.is at c.in_ok-opened.ensures.answered) t h in
-    (opened.0, object_refused (g.R.Analyzer.reading t) _ _ (place_label c.args.opening) (identifier_label c.args.name.now) c.args.operations.now (named_end_model c.args.end.now) _ _ opened.1 c.declared.ensures)
+    let opened = (rw c.in-Err.is at (rw c.deref.ensures.value at c.in_ok-opened.ensures.answered)) t h in
+    (opened.0, object_refused (g.R.Analyzer.reading t) _ _ (place_label c.args.opening) (identifier_label c.args.name.now) c.args.operations.now.items (named_end_model c.args.end.now) _ _ opened.1 c.declared.ensures)
 
 pub check_opened-returns-clause-answered : goal.check_opened-returns-clause-answered
 check_opened-returns-clause-answered g m c =
@@ -427,8 +377,8 @@ check_opened-returns-clause-answered g m c =
     (λ done answered t h.
     let finished = answered t h in
     let closed = c.in_ok-close_part.ensures.answered t finished.0 in
-    let all = c.in_ok-check_operations.ensures.answered t closed.0 in
-    (all.0, opened_made (g.R.Analyzer.reading t) _ _ _ _ _ _ _ (effects_model c.args.effects) (identifier_label c.args.name.now) c.args.operations.now (named_end_model c.args.end.now) _ c.new-part.ensures all.1 closed.1 c.end_of_named-fault.ensures finished.1))
+    let all = (rw c.deref.ensures.value at c.in_ok-check_operations.ensures.answered) t closed.0 in
+    (all.0, opened_made (g.R.Analyzer.reading t) _ _ _ _ _ _ _ (effects_model c.args.effects) (identifier_label c.args.name.now) c.args.operations.now.items (named_end_model c.args.end.now) _ c.new-part.ensures all.1 closed.1 c.end_of_named-fault.ensures finished.1))
     c.finish_object.ensures.answered
 
 pub check_operation-returns-in-SubprogramOperation-clause-answered : goal.check_operation-returns-in-SubprogramOperation-clause-answered
@@ -447,7 +397,7 @@ pub check_item-returns-in-ProtectedItem-clause-answered : goal.check_item-return
 check_item-returns-in-ProtectedItem-clause-answered g m c = rw (c.in-ProtectedItem.is, item_protected_model) c.object_item.ensures.answered
 
 pub check_item-returns-in-ProtectedBodyItem-clause-answered : goal.check_item-returns-in-ProtectedBodyItem-clause-answered
-check_item-returns-in-ProtectedBodyItem-clause-answered g m c = rw (c.in-ProtectedBodyItem.is, item_protected_body_model) (rw c.deref.ensures.value at c.check_object.ensures.answered)
+check_item-returns-in-ProtectedBodyItem-clause-answered g m c = rw (c.in-ProtectedBodyItem.is, item_protected_body_model) c.check_object.ensures.answered
 
 pub check_loop-returns-in-PlainLoop-clause-answered : goal.check_loop-returns-in-PlainLoop-clause-answered
 check_loop-returns-in-PlainLoop-clause-answered g m c = rw (c.in-PlainLoop.is, loop_plain_loop_model) (rw c.named_line.ensures at c.check_round.ensures.answered)
@@ -495,3 +445,80 @@ check_block-returns-in_ok-inner-in-PlainBlock-clause-answered g m c =
 
 pub check_block-returns-in-DeclareBlock-clause-answered : goal.check_block-returns-in-DeclareBlock-clause-answered
 check_block-returns-in-DeclareBlock-clause-answered g m c = rw (c.in-DeclareBlock.is, block_declare_block_model) (rw c.named_line-in-DeclareBlock.ensures at c.check_declared.ensures.answered)
+
+pub inside_subprogram-returns-clause-answered : goal.inside_subprogram-returns-clause-answered
+inside_subprogram-returns-clause-answered g m c =
+    if_ok c.check_after.result _ _
+    (λ done answered t h.
+    let inside = answered t h in
+    let part = (rw c.deref.ensures.value at c.in_ok-part.ensures.answered) t inside.0 in
+    (part.0, inside_made (g.R.Analyzer.reading t) c.args.enclosing.now _ _ _ _ (items_of (map item_model (out-SubprogramBody c.args.body.now).items.items)) (place_label (out-SubprogramBody c.args.body.now).begin) (statements_model (out-SubprogramBody c.args.body.now).statements) part.1 inside.1))
+    c.check_after.ensures.answered
+
+pub headed_subprogram-returns-in-Ok-clause-answered : goal.headed_subprogram-returns-in-Ok-clause-answered
+headed_subprogram-returns-in-Ok-clause-answered g m c = rw c.in-Ok.is c.entered_subprogram.ensures.answered
+
+pub headed_subprogram-returns-in-Err-clause-answered : goal.headed_subprogram-returns-in-Err-clause-answered
+headed_subprogram-returns-in-Err-clause-answered g m c = rw c.in-Err.is (λ t h. (h, as_made _ _ _ c.declared.ensures))
+
+pub entered_subprogram-returns-in-Ok-clause-answered : goal.entered_subprogram-returns-in-Ok-clause-answered
+entered_subprogram-returns-in-Ok-clause-answered g m c =
+    if_ok c.finish_body.result _ _
+    (λ done answered t h.
+    let body = answered t h in
+    let inside = c.in-Ok.ensures.answered t body.0 in
+    let enclosing = c.in_ok-enclosing.ensures.answered t inside.0 in
+    (enclosing.0, entered_made (g.R.Analyzer.reading t) _ _ _ (effects_model c.args.effects) c.args.extent _ _ _ _ _ _ _ (items_of (map item_model (out-SubprogramBody c.args.body.now).items.items)) (place_label (out-SubprogramBody c.args.body.now).begin) (statements_model (out-SubprogramBody c.args.body.now).statements) enclosing.1 inside.1 c.inside_subprogram.ensures.kept c.returns-returns.ensures c.has_return.ensures c.no_return_fault-no_return.ensures body.1))
+    c.finish_body.ensures.answered
+
+pub inside_declared-returns-clause-answered : goal.inside_declared-returns-clause-answered
+inside_declared-returns-clause-answered g m c =
+    if_ok c.check_after.result _ _
+    (λ done answered t h.
+    let inside = answered t h in
+    let part = (rw c.deref.ensures.value at c.in_ok-part.ensures.answered) t inside.0 in
+    (part.0, inside_made (g.R.Analyzer.reading t) c.args.enclosing.now _ _ _ _ (items_of (map item_model (out-DeclaredStatements c.args.inner.now).items.items)) (place_label (out-DeclaredStatements c.args.inner.now).begin) (statements_model (out-DeclaredStatements c.args.inner.now).statements) part.1 inside.1))
+    c.check_after.ensures.answered
+
+pub headed_declared-returns-in-Ok-clause-answered : goal.headed_declared-returns-in-Ok-clause-answered
+headed_declared-returns-in-Ok-clause-answered g m c = rw c.in-Ok.is c.entered_declared.ensures.answered
+
+pub headed_declared-returns-in-Err-clause-answered : goal.headed_declared-returns-in-Err-clause-answered
+headed_declared-returns-in-Err-clause-answered g m c = rw c.in-Err.is (λ t h. (h, as_made _ _ _ c.declared.ensures))
+
+pub entered_declared-returns-in-Ok-clause-answered : goal.entered_declared-returns-in-Ok-clause-answered
+entered_declared-returns-in-Ok-clause-answered g m c =
+    if_ok c.finish_body.result _ _
+    (λ done answered t h.
+    let body = answered t h in
+    let inside = c.in-Ok.ensures.answered t body.0 in
+    let enclosing = c.in_ok-enclosing.ensures.answered t inside.0 in
+    (enclosing.0, entered_made (g.R.Analyzer.reading t) _ _ _ (effects_model c.args.effects) c.args.extent _ _ _ _ _ _ _ (items_of (map item_model (out-DeclaredStatements c.args.inner.now).items.items)) (place_label (out-DeclaredStatements c.args.inner.now).begin) (statements_model (out-DeclaredStatements c.args.inner.now).statements) enclosing.1 inside.1 c.inside_declared.ensures.kept c.returns-returns.ensures c.has_return.ensures c.no_return_fault-no_return.ensures body.1))
+    c.finish_body.ensures.answered
+
+pub check_body-returns-clause-answered : goal.check_body-returns-clause-answered
+check_body-returns-clause-answered g m c =
+    if_ok c.headed_subprogram.result _ _
+    (λ done answered t h.
+    let body = answered t h in
+    let head = c.in_ok-head.ensures.answered t body.0 in
+    (head.0, body_read (g.R.Analyzer.reading t) _ _ (specification_model c.args.specification.now) _ _ _ c.args.body.now c.in_ok-extent.ensures head.1 body.1))
+    c.headed_subprogram.ensures.answered
+
+pub check_task-returns-clause-answered : goal.check_task-returns-clause-answered
+check_task-returns-clause-answered g m c =
+    if_ok c.headed_declared.result _ _
+    (λ done answered t h.
+    let body = answered t h in
+    let head = c.in_ok-head.ensures.answered t body.0 in
+    (head.0, task_read (g.R.Analyzer.reading t) _ _ (place_label c.args.opening) (identifier_label c.args.name.now) _ _ _ c.args.inner.now c.named_extent-extent.ensures head.1 body.1))
+    c.headed_declared.ensures.answered
+
+pub check_entry-returns-clause-answered : goal.check_entry-returns-clause-answered
+check_entry-returns-clause-answered g m c =
+    if_ok c.headed_declared.result _ _
+    (λ done answered t h.
+    let body = answered t h in
+    let head = c.in_ok-head.ensures.answered t body.0 in
+    (head.0, entry_read (g.R.Analyzer.reading t) _ _ (place_label c.args.opening) (identifier_label c.args.name.now) (expression_model c.args.barrier.now) _ _ _ c.args.inner.now c.named_extent-extent.ensures head.1 body.1))
+    c.headed_declared.ensures.answered
