@@ -19,6 +19,8 @@ use Rattle.al_engine_recheck.specs.Rechecks.{setting_of}
 use Rattle.al_engine_recheck.proofs.RecheckLemmas.{settled}
 use Rattle.al_engine_recheck.specs.UnitCache.{Kept}
 use Rattle.al_engine_graph.specs.declared.graph.UnitGraph.{UnitGraph}
+use Rattle.al_engine_batch.specs.Patches.{linked_in}
+use Rattle.al_engine_batch.proofs.PatchLemmas.{stays-patched}
 use Rattle.al_engine_rebuild.specs.Rebuilds.{IsRebuilt}
 use Rattle.al_engine_rebuild.specs.declared.rebuilding.Rebuilt.{Rebuilt}
 use Rattle.al_unit_map.specs.Units.{at_unit}
@@ -49,7 +51,7 @@ module _ (meaning : TextMeaning) (header : List ℕ → Header) (predefined : Qu
       ∙ ap (λ (o : Option Stored). or_else (is.made u) (if is_there lib u then o else None)) (sym (is.entries u))
 
   -- it checks nothing, gives the same, and leaves the entries as they are
-  rebuilt-again : IsRebuilt meaning header predefined lib main entries entries (record { compiled = rebuilt.compiled; checked = checked })
+  rebuilt-again : IsRebuilt meaning header predefined lib main entries entries (record { compiled = rebuilt.compiled; checked = checked; patched = 0 })
   rebuilt-again = record {
     made = is.made;
     rechecked = record {
@@ -68,17 +70,20 @@ module _ (meaning : TextMeaning) (header : List ℕ → Header) (predefined : Qu
     entries = staying-again;
   }
 
--- a build with other units as those that it checked
-abbrev with-checked : Built → List UnitKey → Built
-with-checked b checked = record { files = b.files; main = b.main; gave = record { compiled = b.gave.compiled; checked = checked } }
+-- a build with other units as those that it checked, and no unit patched
+abbrev pub gave_again : Rebuilt → List UnitKey → Rebuilt
+gave_again gave checked = record { compiled = gave.compiled; checked = checked; patched = 0 }
+
+abbrev again : Built → List UnitKey → Built
+again b checked = record { files = b.files; main = b.main; gave = gave_again b.gave checked }
 
 module _ (meaning : TextMeaning) (header : List ℕ → Header) (predefined : Query → AnswerKind) (library : Texts → Library) where
   settled-again : (entries : UnitKey → Option Stored) (b : Built) (checked : List UnitKey) → checked ≡ [] → IsSettledBy meaning header predefined library entries b
-      → IsRebuilt meaning header predefined (library b.files) b.main entries entries (with-checked b checked).gave
+      → IsRebuilt meaning header predefined (library b.files) b.main entries entries (gave_again b.gave checked)
   settled-again entries b checked none is = rebuilt-again meaning header predefined (library b.files) b.main is.before entries b.gave is.rebuilt checked none
 
-  right-some : (files : Texts) (entries : UnitKey → Option Stored) (is_edited : Bool) (graph : Option (Texts × UnitGraph)) (b : Built) (checked : List UnitKey) → checked ≡ [] → IsRight meaning header predefined library files entries is_edited graph (Some b)
-      → IsRight meaning header predefined library files entries is_edited graph (Some (with-checked b checked))
+  right-some : (files : Texts) (entries : UnitKey → Option Stored) (is_edited : Bool) (graph : Option (Texts × UnitGraph)) (b : Built) (checked : List UnitKey) → checked ≡ [] → IsRight meaning header predefined library files entries is_edited graph (Some b) b.gave.compiled
+      → IsRight meaning header predefined library files entries is_edited graph (Some (again b checked)) b.gave.compiled
   right-some files entries is_edited graph b checked none right = record {
     read = right.read;
     predefined_units = right.predefined_units;
@@ -86,38 +91,50 @@ module _ (meaning : TextMeaning) (header : List ℕ → Header) (predefined : Qu
     settled = record { before = entries; rebuilt = settled-again entries b checked none right.settled };
     unedited = right.unedited;
     keeps_graph = right.keeps_graph;
+    first = λ e. absurd (cc);
   }
 
   build-some : {C P : Type 0} (count : C → ℕ) (cache : Kept C) (pre : P) (files : Texts) (main : List ℕ) (b : Built) (checked : List UnitKey) → checked ≡ [] → IsSettledBy meaning header predefined library (at_unit cache.entries) b
       → count cache.checker < 2 ^ 64 → (b.files ≡ files) × (b.main ≡ main)
-      → IsBuild meaning header count predefined library main (record { cache = cache; predefined = pre; files = files; built = Some b }) (record { cache = cache; predefined = pre; files = files; built = Some (with-checked b checked) })
+      → IsBuild meaning header count predefined library main (record { cache = cache; predefined = pre; files = files; built = Some b }) (record { cache = cache; predefined = pre; files = files; built = Some (again b checked) })
   build-some count cache pre files main b checked none settled bound of-now =
       let entries = at_unit cache.entries in
       record {
-        last = with-checked b checked;
+        last = again b checked;
         is_last = refl;
         files_are = of-now.0;
         main_is = of-now.1;
         rebuilt =
-            subst (λ (f : Texts). IsRebuilt meaning header predefined (library f) main entries entries (with-checked b checked).gave) of-now.0
-            (subst (λ (m : List ℕ). IsRebuilt meaning header predefined (library b.files) m entries entries (with-checked b checked).gave) of-now.1 (settled-again entries b checked none settled));
+            subst (λ (f : Texts). IsRebuilt meaning header predefined (library f) main entries entries (gave_again b.gave checked)) of-now.0
+            (subst (λ (m : List ℕ). IsRebuilt meaning header predefined (library b.files) m entries entries (gave_again b.gave checked)) of-now.1 (settled-again entries b checked none settled));
+        patched = stays-patched (linked_in b.gave.compiled);
         counted = raised-none (count cache.checker) bound ∙ ap (λ (us : List UnitKey). raised (count cache.checker) (length us)) (sym none);
       }
 
--- the last build is there, and is made once more with no unit checked
-module _ (meaning : TextMeaning) (header : List ℕ → Header) (library : Texts → Library) {X : Type 0} (last : Option X) (x : X) (there : last ≡ Some x) (kept : X → Texts × UnitGraph) (model : X → Built) (checked : List UnitKey) (none : checked ≡ []) (files : Texts) (is_edited : Bool) where
-  pub right-again : (predefined : Query → AnswerKind) (entries : UnitKey → Option Stored) → IsRight meaning header predefined library files entries is_edited (option_map kept last) (option_map model last)
-      → IsRight meaning header predefined library files entries is_edited (Some (kept x)) (Some (with-checked (model x) checked))
-  right-again predefined entries right =
-      right-some meaning header predefined library files entries is_edited (Some (kept x)) (model x) checked none (subst (λ (o : Option X). IsRight meaning header predefined library files entries is_edited (option_map kept o) (option_map model o)) there right)
+-- the last build is made once more with no unit checked
+module _ (meaning : TextMeaning) (header : List ℕ → Header) (library : Texts → Library) {X : Type 0} (kept : X → Texts × UnitGraph) (files_of : X → Texts) (main_of : X → List ℕ) (gave : Rebuilt) (checked : List UnitKey) (none : checked ≡ []) (files : Texts) (is_edited : Bool) where
+  abbrev pub built_of : Rebuilt → Option X → Option Built
+  built_of g last = option_map (λ x. record { files = files_of x; main = main_of x; gave = g }) last
 
-  pub build-again : {C P : Type 0} (count : C → ℕ) (table : P → Query → AnswerKind) (cache : Kept C) (pre : P) (old : Held C P) → (record { cache = cache; predefined = pre; files = files; built = option_map model last }) ≡ old
-      → IsRight meaning header (table pre) library files (at_unit cache.entries) is_edited (option_map kept last) (option_map model last) → count cache.checker < 2 ^ 64 → (main : List ℕ) → IsOfNow old.files main old.built
-      → IsBuild meaning header count (table old.predefined) library main old (record { cache = cache; predefined = pre; files = files; built = Some (with-checked (model x) checked) })
-  build-again {C} {P} count table cache pre old view right bound main of-now =
-      let new : Held C P = record { cache = cache; predefined = pre; files = files; built = Some (with-checked (model x) checked) } in
-      let is : record { cache = cache; predefined = pre; files = files; built = Some (model x) } ≡ old =
-      subst (λ (o : Option X). (record { cache = cache; predefined = pre; files = files; built = option_map model o }) ≡ old) there view in
-      let right_now = subst (λ (o : Option X). IsRight meaning header (table pre) library files (at_unit cache.entries) is_edited (option_map kept o) (option_map model o)) there right in
-      subst (λ (h : Held C P). IsBuild meaning header count (table h.predefined) library main h new) is
-      (build-some meaning header (table pre) library count cache pre files main (model x) checked none right_now.settled bound (subst (λ (h : Held C P). IsOfNow h.files main h.built) (sym is) of-now))
+  pub right-again : (last : Option X) (predefined : Query → AnswerKind) (entries : UnitKey → Option Stored) → IsRight meaning header predefined library files entries is_edited (option_map kept last) (built_of gave last) gave.compiled
+      → IsRight meaning header predefined library files entries is_edited (option_map kept last) (built_of (gave_again gave checked) last) gave.compiled
+  right-again None predefined entries right = right
+  right-again (Some x) predefined entries right =
+      right-some meaning header predefined library files entries is_edited (Some (kept x)) (record { files = files_of x; main = main_of x; gave = gave }) checked none right
+
+  module _ {C P : Type 0} (count : C → ℕ) (table : P → Query → AnswerKind) (cache : Kept C) (pre : P) (bound : count cache.checker < 2 ^ 64) (main : List ℕ) where
+    abbrev pub held : Rebuilt → Option X → Held C P
+    held g last = record { cache = cache; predefined = pre; files = files; built = built_of g last }
+
+    of-held : (last : Option X) → IsRight meaning header (table pre) library files (at_unit cache.entries) is_edited (option_map kept last) (built_of gave last) gave.compiled → IsOfNow files main (built_of gave last)
+        → IsBuild meaning header count (table pre) library main (held gave last) (held (gave_again gave checked) last)
+    of-held None right of-now = absurd of-now
+    of-held (Some x) right of-now =
+        build-some meaning header (table pre) library count cache pre files main (record { files = files_of x; main = main_of x; gave = gave }) checked none right.settled bound of-now
+
+    pub build-again : (last : Option X) (old : Held C P) → held gave last ≡ old
+        → IsRight meaning header (table pre) library files (at_unit cache.entries) is_edited (option_map kept last) (built_of gave last) gave.compiled → IsOfNow old.files main old.built
+        → IsBuild meaning header count (table old.predefined) library main old (held (gave_again gave checked) last)
+    build-again last old view right of-now =
+        subst (λ (h : Held C P). IsBuild meaning header count (table h.predefined) library main h (held (gave_again gave checked) last)) view
+        (of-held last right (subst (λ (h : Held C P). IsOfNow h.files main h.built) (sym view) of-now))

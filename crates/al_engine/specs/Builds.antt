@@ -7,8 +7,9 @@ use Rattle.al_query.specs.declared.answer.AnswerKind.{AnswerKind}
 use Rattle.al_query.specs.declared.query.Query.{Query}
 use Rattle.al_engine_refresh.specs.Builds.{raised}
 use Rattle.al_entries.specs.EntryLaw.{TextMeaning}
+use Rattle.al_engine_batch.specs.Patches.{IsPatched, linked_in}
 use Rattle.al_engine_rebuild.specs.Rebuilds.{IsRebuilt}
-use Rattle.al_engine.specs.States.{Built, Held}
+use Rattle.al_engine.specs.States.{Built, Held, linked_last}
 
 -- the last build is of the files as they are and this main unit, over what was kept of the units; so many checks more were made
 pub record IsBuild {C P : Type 0} (meaning : TextMeaning) (header : List ℕ → Header) (count : C → ℕ) (predefined : Query → AnswerKind) (library : Texts → Library) (main : List ℕ) (old new : Held C P) : Type 0 where
@@ -17,4 +18,6 @@ pub record IsBuild {C P : Type 0} (meaning : TextMeaning) (header : List ℕ →
   pub files_are : last.files ≡ old.files
   pub main_is : last.main ≡ main
   pub rebuilt : IsRebuilt meaning header predefined (library old.files) main (at_unit old.cache.entries) (at_unit new.cache.entries) last.gave
+  -- so many units of its image were written into that of the build before
+  pub patched : IsPatched (linked_last old.built) (linked_in last.gave.compiled) last.gave.patched
   pub counted : count new.cache.checker ≡ raised (count old.cache.checker) (length last.gave.checked)

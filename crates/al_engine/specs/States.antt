@@ -13,7 +13,10 @@ use Rattle.al_entries.specs.EntryLaw.{TextMeaning}
 use Rattle.al_entries.specs.Stored.{Stored}
 use Rattle.al_engine_recheck.specs.UnitCache.{Kept}
 use Rattle.al_engine_recheck.specs.Rechecks.{setting_of}
+use Rattle.al_link.specs.Relinking.{LinkedImage}
 use Rattle.al_engine_batch.specs.Batches.{IsCompiled}
+use Rattle.al_engine_batch.specs.Patches.{linked_in}
+use Rattle.al_engine_batch.specs.declared.compiled.Compiled.{Compiled}
 use Rattle.al_engine_graph.specs.declared.graph.UnitGraph.{UnitGraph}
 use Rattle.al_engine.specs.Graphs.{KeepsGraph}
 use Rattle.al_engine_rebuild.specs.Rebuilds.{IsRebuilt}
@@ -54,7 +57,7 @@ IsOfNow files main None = ⊥
 IsOfNow files main (Some b) = (b.files ≡ files) × (b.main ≡ main)
 
 -- what every library keeps, beside the law of its entries
-pub record IsRight (meaning : TextMeaning) (header : List ℕ → Header) (predefined : Query → AnswerKind) (library : Texts → Library) (files : Texts) (entries : UnitKey → Option Stored) (is_edited : Bool) (graph : Option (Texts × UnitGraph)) (built : Option Built) : Type 0 where
+pub record IsRight (meaning : TextMeaning) (header : List ℕ → Header) (predefined : Query → AnswerKind) (library : Texts → Library) (files : Texts) (entries : UnitKey → Option Stored) (is_edited : Bool) (graph : Option (Texts × UnitGraph)) (built : Option Built) (gave : Compiled) : Type 0 where
   pub read : AreReadFor header library
   pub predefined_units : ArePredefined predefined
   pub built_right : IsBuiltRight meaning header predefined library built
@@ -63,7 +66,18 @@ pub record IsRight (meaning : TextMeaning) (header : List ℕ → Header) (prede
   pub unedited : is_edited ≡ false → IfSome built (λ b. b.files ≡ files)
   -- the graph that is kept is that of the files of the last build
   pub keeps_graph : KeepsGraph library graph
+  -- before the first build there is no image
+  pub first : built ≡ None → linked_in gave ≡ None
 
 -- the units that the last build checked
 abbrev pub last_checked : Option Built → List UnitKey
 last_checked built = option_map_or (λ b. b.gave.checked) built []
+
+-- of how many units the last build wrote code into the image of the one before
+abbrev pub patched_last : Option Built → ℕ
+patched_last built = option_map_or (λ b. b.gave.patched) built 0
+
+-- the image that the last build gave, if it gave one
+abbrev pub linked_last : Option Built → Option LinkedImage
+linked_last None = None
+linked_last (Some b) = linked_in b.gave.compiled

@@ -7,7 +7,7 @@ ghost use Rattle.al_unit_map.specs.Units.{at_unit};
 ghost use Rattle.al_entries.specs.EntryLaw.{AllKeepLaw};
 ghost use Rattle.al_engine_setting.specs.Settings.{ArePredefined};
 ghost use Rattle.al_engine_reported.specs.Gave.{order_of, program_of};
-ghost use Rattle.al_engine.specs.States.{AreReadFor, IsBuiltRight, IsOfNow, last_checked};
+ghost use Rattle.al_engine.specs.States.{AreReadFor, IsBuiltRight, IsOfNow, last_checked, patched_last};
 ghost use Rattle.al_engine.specs.Builds.{IsBuild};
 ghost use Rattle.al_engine.specs.Reports.{found_last, gave_last, obsolete_refusal, obsolete_since, reported};
 ghost use Rattle.al_engine.specs.Runs.{AnswersRun};
@@ -17,6 +17,7 @@ use crate::last_build::LastBuild;
 use crate::read_files::ReadFiles;
 use al_base::{Diagnostic, Files, Name, NoMemory, Refusal, UnitKey};
 use al_engine_batch::{Compiled, Program};
+use al_engine_rebuild::Rebuilt;
 use al_engine_recheck::UnitCache;
 use al_engine_reported::{diagnostics_of, order_of, program_of};
 use al_query::Answers;
@@ -35,6 +36,8 @@ pub struct Engine<R: ReadFiles, C: UnitCheck, P: Answers> {
     predefined: P,
     files: Files,
     last: Option<LastBuild<R>>,
+    /// What the last build gave.
+    gave: Rebuilt,
     /// Whether a file was edited since the last build.
     is_edited: bool,
 }
@@ -51,9 +54,9 @@ impl<R: ReadFiles, C: UnitCheck, P: Answers> Model for Engine<R, C, P> {
 
     ghost coded = { Prim.hlevel (codes, expression.the_row.coded, statement.the_row.coded) };
 
-    ghost view = { λ e. record { cache = e.cache; predefined = e.predefined; files = e.files; built = option_map (λ b. record { files = R.files b.read; main = b.main; gave = b.gave }) e.last } };
+    ghost view = { λ e. record { cache = e.cache; predefined = e.predefined; files = e.files; built = option_map (λ b. record { files = R.files b.read; main = b.main; gave = e.gave }) e.last } };
 
-    ghost invariant = { λ e. IsRight C.meaning C.header (P.table e.predefined) R.library e.files (at_unit e.cache.entries) e.is_edited (option_map (λ b. (R.files b.read, b.graph.value)) e.last) (option_map (λ b. record { files = R.files b.read; main = b.main; gave = b.gave }) e.last) };
+    ghost invariant = { λ e. IsRight C.meaning C.header (P.table e.predefined) R.library e.files (at_unit e.cache.entries) e.is_edited (option_map (λ b. (R.files b.read, b.graph.value)) e.last) (option_map (λ b. record { files = R.files b.read; main = b.main; gave = e.gave }) e.last) e.gave.compiled };
 }
 
 impl<R: ReadFiles, C: UnitCheck, P: Answers> Engine<R, C, P> {
@@ -70,6 +73,7 @@ impl<R: ReadFiles, C: UnitCheck, P: Answers> Engine<R, C, P> {
             predefined,
             files: Files::new(alloc),
             last: None,
+            gave: Rebuilt::nothing(alloc),
             is_edited: false,
         }
     }
@@ -155,10 +159,8 @@ impl<R: ReadFiles, C: UnitCheck, P: Answers> Engine<R, C, P> {
         ensures built { (main : List ℕ) → IsOfNow self.old.files main self.old.built → IsBuild C.meaning C.header C.count (P.table self.old.predefined) R.library main self.old self.new }
     {
         let _before = self.cache.checks();
-        let Some(last) = &mut self.last else {
-            return;
-        };
-        last.gave.checked = Seq::empty(self.alloc);
+        self.gave.checked = Seq::empty(self.alloc);
+        self.gave.patched = 0;
     }
 
     /// Compiles the files, with this main unit in lower case, and checks again what an edit reached. The last build is this one then,
@@ -183,6 +185,7 @@ impl<R: ReadFiles, C: UnitCheck, P: Answers> Engine<R, C, P> {
             &mut self.cache,
             &self.predefined,
             &self.last,
+            &mut self.gave,
             read,
             main,
         )?;
@@ -196,7 +199,7 @@ impl<R: ReadFiles, C: UnitCheck, P: Answers> Engine<R, C, P> {
         ensures { option_map (λ b. (b.0.now, b.1.now)) result ≡ option_map gave_last self.now.built }
     {
         match &self.last {
-            Some(last) => Some((last.main.as_slice(), &last.gave.compiled)),
+            Some(last) => Some((last.main.as_slice(), &self.gave.compiled)),
             None => None,
         }
     }
@@ -206,8 +209,20 @@ impl<R: ReadFiles, C: UnitCheck, P: Answers> Engine<R, C, P> {
         ensures { result.now ≡ last_checked self.now.built }
     {
         match &self.last {
-            Some(last) => last.gave.checked.as_slice(),
+            Some(_) => self.gave.checked.as_slice(),
             None => &[],
+        }
+    }
+
+    /// Of how many units the last build wrote code into the image of the build before: where that had one with the same main
+    /// subprogram and the same units, by their lengths, counts, symbols and lines, so many as have other code, else all. 0
+    /// where there was no image before or is none now, or nothing was edited. It takes no memory.
+    pub fn patched(&self) -> usize
+        ensures { result ≡ patched_last self.now.built }
+    {
+        match &self.last {
+            Some(_) => self.gave.patched,
+            None => 0,
         }
     }
 
@@ -227,7 +242,7 @@ impl<R: ReadFiles, C: UnitCheck, P: Answers> Engine<R, C, P> {
         ensures { MatchResult result (λ found. found_last self.now.built ≡ Ok found.now) (λ e. found_last self.now.built ≡ Err e) }
     {
         match &self.last {
-            Some(last) => Ok(diagnostics_of(&last.gave.compiled)),
+            Some(_) => Ok(diagnostics_of(&self.gave.compiled)),
             None => Err(Refusal::NotBuilt),
         }
     }
@@ -240,10 +255,10 @@ impl<R: ReadFiles, C: UnitCheck, P: Answers> Engine<R, C, P> {
     pub fn order(&self) -> Result<&[UnitKey], Refusal>
         ensures { MatchResult result (λ order. reported order_of self.now.built ≡ Ok order.now) (λ e. reported order_of self.now.built ≡ Err e) }
     {
-        let Some(build) = &self.last else {
+        let Some(_build) = &self.last else {
             return Err(Refusal::NotBuilt);
         };
-        match order_of(&build.gave.compiled) {
+        match order_of(&self.gave.compiled) {
             Some(order) => Ok(order),
             None => Err(Refusal::NoImage),
         }
@@ -257,10 +272,10 @@ impl<R: ReadFiles, C: UnitCheck, P: Answers> Engine<R, C, P> {
     pub fn image(&self) -> Result<&Program, Refusal>
         ensures { MatchResult result (λ program. reported program_of self.now.built ≡ Ok program.now) (λ e. reported program_of self.now.built ≡ Err e) }
     {
-        let Some(last) = &self.last else {
+        let Some(_) = &self.last else {
             return Err(Refusal::NotBuilt);
         };
-        match program_of(&last.gave.compiled) {
+        match program_of(&self.gave.compiled) {
             Some(program) => Ok(program),
             None => Err(Refusal::NoImage),
         }
@@ -278,7 +293,7 @@ impl<R: ReadFiles, C: UnitCheck, P: Answers> Engine<R, C, P> {
         let _last = &self.last;
         let alloc = self.alloc;
         match self.image() {
-            Ok(program) => match run(alloc, &program.image, tick, steps) {
+            Ok(program) => match run(alloc, program.image(), tick, steps) {
                 Ok(ran) => Ok(ran),
                 Err(NoMemory) => Err(Refusal::NoMemory),
             },
@@ -311,7 +326,7 @@ impl<R: ReadFiles, C: UnitCheck, P: Answers> Engine<R, C, P> {
         let Some(last) = &self.last else {
             return Err(Refusal::NotBuilt);
         };
-        match obsolete_since(self.alloc, last, &self.files) {
+        match obsolete_since(self.alloc, last, &self.gave.compiled, &self.files) {
             Ok(units) => Ok(units),
             Err(NoMemory) => Err(Refusal::NoMemory),
         }

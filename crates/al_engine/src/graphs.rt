@@ -11,6 +11,7 @@ use crate::read_files::ReadFiles;
 use al_base::{NoMemory, UnitKey};
 use al_engine_graph::laws::graphs_go_by_headers;
 use al_engine_graph::{UnitGraph, have_same_headers};
+use al_engine_rebuild::Rebuilt;
 use al_engine_reported::order_of;
 use std::alloc::Global;
 use std::rc::Rc;
@@ -55,9 +56,10 @@ pub(crate) fn graph_now<R: ReadFiles>(
 pub(crate) fn order_now<'a, R: ReadFiles>(
     main: &[u8],
     read: &R,
-    alike: Option<&'a LastBuild<R>>,
+    alike: Option<&LastBuild<R>>,
+    gave: &'a Rebuilt,
 ) -> Option<&'a [UnitKey]>
-    requires { IfSome alike (λ b. IsOrdered (R.library (R.files b.now.read)) b.now.main b.now.gave.compiled × HaveSameHeaders (R.library (R.files b.now.read)) (R.library (R.files read.now))) }
+    requires { IfSome alike (λ b. IsOrdered (R.library (R.files b.now.read)) b.now.main gave.now.compiled × HaveSameHeaders (R.library (R.files b.now.read)) (R.library (R.files read.now))) }
     ensures { IfSome result (λ order. IsElaboration (R.library (R.files read.now)) main.now (map key_of order.now)) }
 {
     graphs_go_by_headers();
@@ -66,7 +68,7 @@ pub(crate) fn order_now<'a, R: ReadFiles>(
         return None;
     };
     if build.main.as_slice() == main {
-        order_of(&build.gave.compiled)
+        order_of(&gave.compiled)
     } else {
         None
     }

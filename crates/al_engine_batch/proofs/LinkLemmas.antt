@@ -14,14 +14,22 @@ use Rattle.al_link_image.specs.Images.{IsUnitName, is_name_byte}
 use Rattle.al_query_outcome.specs.Equations.{unit_named}
 use Rattle.al_view.specs.declared.link.LinkSymbol.{LinkSymbol}
 use Rattle.al_link.specs.Images.{image_of}
-use Rattle.al_link_image.specs.Images.{Image, image_bytes}
+use Rattle.al_link.specs.Relinking.{LinkedImage}
 use Rattle.al_unit_graph.specs.Headers.{Library}
 use Rattle.al_bind.specs.Binding.{IsElaboration}
 use Rattle.al_link_placed.specs.Placed.{ArePlaced}
 use Rattle.al_query_outcome.specs.Results.{Outcome}
 use Rattle.al_engine_batch.specs.Objects.{IsLinkable, WithObject, is_unit_name, last_identifier, linked_units, main_symbol, objects_at, with_byte}
-use Rattle.al_engine_batch.specs.ObjectsSeen.{IsLinkedAs, left_model}
-use Rattle.al_engine_batch.specs.Partitions.{IsProgram, IsTooLarge}
+use Rattle.al_engine_found.specs.Found.{findings_of}
+use Rattle.al_engine_batch.specs.Batches.{IsBatch}
+use Rattle.al_engine_batch.specs.Links.{IsLinkedAs}
+use Rattle.al_engine_batch.specs.ObjectsSeen.{left_model, object_model}
+use Rattle.al_engine_batch.specs.Partitions.{IsPartition}
+use Rattle.al_engine_batch.specs.Plans.{IsPlanned}
+use Rattle.al_engine_batch.specs.declared.compiled.Compiled.{Compiled}
+use Rattle.al_engine_batch.specs.declared.compiled.Compiled.TheVariants.{Faulty, Unbound, TooLarge, Made}
+use Rattle.al_engine_batch.specs.declared.planned.Partition.{Partition}
+use Rattle.al_engine_batch.specs.declared.planned.Planned.TheVariants.{Linkable}
 
 pub unit-name : (name : List ℕ) → is_unit_name name ≡ true → IsUnitName name
 unit-name name is =
@@ -69,27 +77,44 @@ named-keys (u ∷ us) = ap (λ (l : List UnitKey). u ∷ l) (named-keys us)
 pub last-more : (name : List ℕ) (b : ℕ) → last_identifier (name ++ b ∷ []) ≡ with_byte (last_identifier name) b
 last-more name b = fold-append with_byte [] name (b ∷ [])
 
-module _ (lib : Library) (f : UnitKey → Option Outcome) (main : List ℕ) (order : List Key) (units : List UnitKey) (us : List WithObject) (ordered : IsElaboration lib main order) (placed : ArePlaced lib order (map key_of units)) (are : us ≡ objects_at f units) where
-  same-objects : objects_at f (map unit_named (map key_of units)) ≡ us
-  same-objects = ap (objects_at f) (named-keys units) ∙ sym are
+-- what linking a partition gives is what compiling gives
+module _ (lib : Library) (f : UnitKey → Option Outcome) (main : List ℕ) (p : Partition) (none : findings_of lib f ≡ []) (is : IsPartition lib f main (map key_of p.order.items) p.main (map object_model p.objects.items)) where
+  abbrev us : List WithObject
+  us = map object_model p.objects.items
 
-  pub too-large : (IsLinkable us → ⊥) → IsTooLarge lib f main order
-  too-large passes = record { ordered = ordered; placed = map key_of units; are_placed = placed; passes = λ is. passes (subst IsLinkable same-objects is) }
+  ordered : (order : List UnitKey) → order ≡ p.order.items → IsElaboration lib main (map key_of order)
+  ordered order same = subst (λ (l : List UnitKey). IsElaboration lib main (map key_of l)) (sym same) is.ordered
 
-  pub is-program : (symbol : LinkSymbol) (image : Image) (bytes : List ℕ) → symbol ≡ main_symbol lib main → IsLinkable us → image ≡ image_of symbol (linked_units us) → bytes ≡ image_bytes image → IsProgram lib f main order image bytes
-  is-program symbol image bytes is linkable made bytes_are = record {
-    ordered = ordered;
-    placed = map key_of units;
-    are_placed = placed;
-    linkable = subst IsLinkable (sym same-objects) linkable;
-    image_is = made ∙ ap (λ (x : LinkSymbol). image_of x (linked_units us)) is ∙ ap (λ (l : List WithObject). image_of (main_symbol lib main) (linked_units l)) (sym same-objects);
-    bytes_are = bytes_are;
-  }
+  are_placed : (order : List UnitKey) → order ≡ p.order.items → ArePlaced lib (map key_of order) is.placed
+  are_placed order same = subst (λ (l : List UnitKey). ArePlaced lib (map key_of l) is.placed) (sym same) is.are_placed
 
--- what a look for an image gave
-pub found-none : (symbol : LinkSymbol) (us : List WithObject) (found : Option Image) → IsLinkedAs symbol us found → found ≡ None → IsLinkable us → ⊥
-found-none symbol us None linked is = linked
-found-none symbol us (Some image) linked is = absurd (cc)
+  linked-batch : (compiled : Compiled) → IsLinkedAs p.main us p.order.items compiled → IsBatch lib f main compiled
+  linked-batch (Faulty diagnostics) linked = absurd linked
+  linked-batch (Unbound fault) linked = absurd linked
+  linked-batch (TooLarge order) linked = (
+    none,
+    record {
+      ordered = ordered order.items linked.0;
+      placed = is.placed;
+      are_placed = are_placed order.items linked.0;
+      passes = λ fits. linked.1 (subst IsLinkable (sym is.objects_are) fits);
+    },
+  )
+  linked-batch (Made program) linked =
+      let l : LinkedImage = program.linked in
+      let symbol : l.main ≡ main_symbol lib main = linked.1.1 ∙ is.symbol_is in
+      let units : l.units ≡ linked_units (objects_at f (map unit_named is.placed)) = linked.1.2 ∙ ap linked_units is.objects_are in (
+        none,
+        record {
+          ordered = ordered program.order.items linked.0;
+          placed = is.placed;
+          are_placed = are_placed program.order.items linked.0;
+          linkable = subst IsLinkable is.objects_are linked.1.0;
+          image_is = ap (λ (x : LinkSymbol). image_of x l.units) symbol ∙ ap (image_of (main_symbol lib main)) units;
+          bytes_are = refl;
+        },
+      )
 
-pub found-some : (symbol : LinkSymbol) (us : List WithObject) (found : Option Image) (image : Image) → IsLinkedAs symbol us found → found ≡ Some image → IsLinkable us × (image ≡ image_of symbol (linked_units us))
-found-some symbol us found image linked is = subst (λ (o : Option Image). IsLinkedAs symbol us o) is linked
+pub partition-batch : (lib : Library) (f : UnitKey → Option Outcome) (main : List ℕ) (p : Partition) (compiled : Compiled)
+    → IsPlanned lib f main (Linkable p) → IsLinkedAs p.main (map object_model p.objects.items) p.order.items compiled → IsBatch lib f main compiled
+partition-batch lib f main p compiled planned linked = linked-batch lib f main p planned.0 planned.1 compiled linked

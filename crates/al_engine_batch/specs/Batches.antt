@@ -11,6 +11,7 @@ use Rattle.al_entries.specs.EntryLaw.{TextMeaning}
 use Rattle.al_engine_refresh.specs.Builds.{with_texts}
 use Rattle.al_engine_found.specs.Found.{findings_of}
 use Rattle.al_engine_batch.specs.Partitions.{IsProgram, IsTooLarge}
+use Rattle.al_engine_batch.specs.Programs.{bytes_in, image_in}
 use Rattle.al_engine_batch.specs.declared.compiled.Compiled.{Compiled}
 use Rattle.al_engine_batch.specs.declared.compiled.Compiled.TheVariants.{Faulty, Unbound, TooLarge, Made}
 
@@ -20,7 +21,7 @@ abbrev pub IsBatch : Library → (UnitKey → Option Outcome) → List ℕ → C
 IsBatch lib f main (Faulty diagnostics) = (map finding_of diagnostics.items ≡ findings_of lib f) × (0 < length diagnostics.items)
 IsBatch lib f main (Unbound fault) = (findings_of lib f ≡ []) × IsBindFault lib main fault
 IsBatch lib f main (TooLarge order) = (findings_of lib f ≡ []) × IsTooLarge lib f main (map key_of order.items)
-IsBatch lib f main (Made program) = (findings_of lib f ≡ []) × IsProgram lib f main (map key_of program.order.items) program.image program.bytes.items
+IsBatch lib f main (Made program) = (findings_of lib f ≡ []) × IsProgram lib f main (map key_of program.order.items) (image_in program) (bytes_in program)
 
 -- Compiling from nothing: the outcomes are the one map that solves the equations of the library for a checker.
 pub record IsCompiled (meaning : TextMeaning) (s : Setting) (main : List ℕ) (compiled : Compiled) : Type 0 where

@@ -1,5 +1,8 @@
 pub mod Objects
+pub mod Programs
 pub mod Partitions
 pub mod Batches
 pub mod ObjectsSeen
-pub mod PartitionsSeen
+pub mod Plans
+pub mod Patches
+pub mod Links

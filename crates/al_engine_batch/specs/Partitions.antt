@@ -1,17 +1,26 @@
--- The image of a main unit's partition.
+-- A main unit's partition and its image.
 use Rattle.std.specs.Prelude.{ℕ, ◌≡◌, List, map, Option}
 use Rattle.al_base.specs.Batch.{Key}
 use Rattle.al_base.specs.declared.unit_key.UnitKey.{UnitKey}
 use Rattle.al_unit_graph.specs.Headers.{Library}
 use Rattle.al_bind.specs.Binding.{IsElaboration}
+use Rattle.al_view.specs.declared.link.LinkSymbol.{LinkSymbol}
 use Rattle.al_link_placed.specs.Placed.{ArePlaced}
 use Rattle.al_link.specs.Images.{image_of}
 use Rattle.al_link_image.specs.Images.{Image, image_bytes}
 use Rattle.al_query_outcome.specs.Equations.{unit_named}
 use Rattle.al_query_outcome.specs.Results.{Outcome}
-use Rattle.al_engine_batch.specs.Objects.{IsLinkable, linked_units, main_symbol, objects_at}
+use Rattle.al_engine_batch.specs.Objects.{IsLinkable, WithObject, linked_units, main_symbol, objects_at}
 
--- the objects of the items in the order of their elaboration, those of a body's subunits after it, would pass a limit of images
+-- the objects of the items in the order of their elaboration, those of a body's subunits after it, and the main subprogram's symbol
+pub record IsPartition (lib : Library) (f : UnitKey → Option Outcome) (main : List ℕ) (order : List Key) (symbol : LinkSymbol) (us : List WithObject) : Type 0 where
+  pub ordered : IsElaboration lib main order
+  pub placed : List Key
+  pub are_placed : ArePlaced lib order placed
+  pub symbol_is : symbol ≡ main_symbol lib main
+  pub objects_are : us ≡ objects_at f (map unit_named placed)
+
+-- these objects would pass a limit of images
 pub record IsTooLarge (lib : Library) (f : UnitKey → Option Outcome) (main : List ℕ) (order : List Key) : Type 0 where
   pub ordered : IsElaboration lib main order
   pub placed : List Key

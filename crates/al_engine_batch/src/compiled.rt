@@ -1,22 +1,40 @@
 // What compiling gives.
+ghost use Rattle.std.specs.Prelude.{◌≡◌};
+ghost use Rattle.al_engine_batch.specs.Programs.{bytes_in, image_in};
+
 use al_base::{Diagnostic, UnitKey};
 use al_bind::BindFault;
+use al_link::Linked;
 use al_link_image::Image;
 
-/// The order in which the items of a partition are elaborated, its image and the image's bytes.
+/// The order in which the items of a partition are elaborated, and its image, which a later build links again in its place.
 pub struct Program {
     pub order: Vec<UnitKey>,
-    pub image: Image,
-    pub bytes: Vec<u8>,
+    pub linked: Linked,
 }
 
 impl Drop for Program {
     fn drop(self) {
         let Program {
             order: _,
-            image: _,
-            bytes: _,
+            linked: _,
         } = self;
+    }
+}
+
+impl Program {
+    /// The image. It takes no memory.
+    pub fn image(&self) -> &Image
+        ensures { result.now ≡ image_in self.now }
+    {
+        self.linked.image()
+    }
+
+    /// The image's bytes. It takes no memory.
+    pub fn bytes(&self) -> &[u8]
+        ensures { result.now ≡ bytes_in self.now }
+    {
+        self.linked.bytes()
     }
 }
 

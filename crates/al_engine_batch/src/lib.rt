@@ -1,12 +1,16 @@
 //! What compiling the files of a library gives for a main unit, where the outcomes of its units are known: what is wrong; or what the
-//! partition lacks; or its order of elaboration, and its image.
+//! partition lacks; or its order of elaboration, and its image. It takes two calls: what is to be linked, and its image in the place of
+//! the one of before.
 #![tactic(auto)]
 
 mod compiled;
-mod compiling;
 mod linking;
 mod names;
 mod objects;
+mod planned;
+mod planning;
 
 pub use compiled::{Compiled, Program};
-pub use compiling::compile;
+pub use linking::link;
+pub use planned::{Partition, Planned};
+pub use planning::plan;

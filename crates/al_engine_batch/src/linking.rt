@@ -1,26 +1,23 @@
-// The image of a partition whose order is known.
-ghost use Rattle.std.specs.Prelude.{◌≡◌, true, map, IfOk};
+// The image of a partition.
+ghost use Rattle.std.specs.Prelude.{◌≡◌, ℕ, List, Option, None, true, map, IfOk, OnErr, OnOk};
 ghost use Rattle.std.specs.List.{list_all};
-ghost use Rattle.al_base.specs.Batch.{key_of};
-ghost use Rattle.al_unit_map.specs.Units.{at_unit};
-ghost use Rattle.al_bind.specs.Binding.{IsElaboration};
-ghost use Rattle.al_link.specs.Images.{image_of};
-ghost use Rattle.al_link_image.specs.Images.{image_bytes};
-ghost use Rattle.al_engine_refresh.specs.Builds.{results_of};
-ghost use Rattle.al_engine_batch.specs.Objects.{AreCoded, is_unit_name};
-ghost use Rattle.al_engine_batch.specs.ObjectsSeen.{IsLinkedAs, left_model, object_model};
-ghost use Rattle.al_engine_batch.specs.PartitionsSeen.{IsLinked};
+ghost use Rattle.al_base.specs.declared.unit_key.UnitKey.{UnitKey};
+ghost use Rattle.al_unit_graph.specs.Headers.{Library};
+ghost use Rattle.al_query_outcome.specs.Results.{Outcome};
+ghost use Rattle.al_engine_batch.specs.Batches.{IsBatch};
+ghost use Rattle.al_engine_batch.specs.Objects.{is_unit_name};
+ghost use Rattle.al_engine_batch.specs.ObjectsSeen.{left_model, object_model};
+ghost use Rattle.al_engine_batch.specs.Patches.{IsPatched, linked_in};
+ghost use Rattle.al_engine_batch.specs.Plans.{IsPlanned};
+ghost use Rattle.al_engine_batch.specs.Links.{IsLinkedAgain, IsLinkedAnew, IsLinkedAs};
 
 use crate::compiled::{Compiled, Program};
-use crate::names::{is_unit_name, main_symbol};
-use crate::objects::{UnitObject, objects_at};
+use crate::names::is_unit_name;
+use crate::objects::UnitObject;
+use crate::planned::{Partition, Planned};
 use al_base::{NoMemory, UnitKey};
-use al_entries::Entry;
-use al_link::{CompiledUnit, link};
-use al_link_image::{Image, LinkFault};
-use al_link_placed::placed;
-use al_unit_graph::Sources;
-use al_unit_map::UnitMap;
+use al_link::{CompiledUnit, Linked};
+use al_link_image::LinkFault;
 use al_view::LinkSymbol;
 use std::alloc::Global;
 
@@ -51,62 +48,129 @@ fn left<'a>(alloc: Global, objects: &'a [UnitObject]) -> Result<Vec<CompiledUnit
 }
 
 /// The image of units that an image can name, with this main subprogram; none where it would pass a limit.
-fn image_of_named(
+fn linked_anew(
     alloc: Global,
     main: &LinkSymbol,
     objects: &[UnitObject],
-) -> Result<Option<Image>, NoMemory>
+) -> Result<Option<Linked>, NoMemory>
     requires { list_all (λ u. is_unit_name u.0.name) (map object_model objects.now) ≡ true }
-    ensures { IfOk result (λ image. IsLinkedAs main.now (map object_model objects.now) image) }
+    ensures { IfOk result (IsLinkedAnew main.now (map object_model objects.now)) }
 {
     let left = left(alloc, objects)?;
-    match link(alloc, main, left.as_slice()) {
-        Ok(image) => Ok(Some(image)),
+    match Linked::new(alloc, main, left.as_slice()) {
+        Ok(linked) => Ok(Some(linked)),
         Err(LinkFault::TooLarge) => Ok(None),
         Err(LinkFault::NoMemory) => Err(NoMemory),
         Err(LinkFault::Damaged) => unreachable!(),
     }
 }
 
-/// The image of these units with this main subprogram; none where it would pass a limit.
-fn image_of(
+/// Links units that an image can name in the place of others: whether that passes no limit. The image comes last of all that takes
+/// memory, and where it finds none, all is as before.
+fn linked_again(
     alloc: Global,
+    linked: &mut Linked,
     main: &LinkSymbol,
     objects: &[UnitObject],
-) -> Result<Option<Image>, NoMemory>
-    ensures { IfOk result (λ image. IsLinkedAs main.now (map object_model objects.now) image) }
+) -> Result<bool, NoMemory>
+    requires { list_all (λ u. is_unit_name u.0.name) (map object_model objects.now) ≡ true }
+    ensures again { IfOk result (IsLinkedAgain main.now (map object_model objects.now) linked.old linked.new) }
+    ensures err { OnErr result (linked.new ≡ linked.old) }
 {
-    if are_named(objects) {
-        image_of_named(alloc, main, objects)
-    } else {
-        Ok(None)
+    let left = left(alloc, objects)?;
+    match linked.relink(main, left.as_slice()) {
+        Ok(()) => Ok(true),
+        Err(LinkFault::TooLarge) => Ok(false),
+        Err(LinkFault::NoMemory) => Err(NoMemory),
+        Err(LinkFault::Damaged) => unreachable!(),
     }
 }
 
-/// The program of a main unit whose items are elaborated in this order, or the order alone where its image would pass a limit.
-pub(crate) fn linked(
+/// The program of a partition where compiling gave none before.
+fn program_anew(
     alloc: Global,
-    sources: &Sources,
-    entries: &UnitMap<Entry>,
-    main: &[u8],
-    order: Vec<UnitKey>,
-) -> Result<Compiled, NoMemory>
-    requires ordered { IsElaboration sources.now main.now (map key_of order.items) }
-    requires coded { AreCoded (at_unit entries.now) }
-    ensures { IfOk result (IsLinked sources.now (results_of (at_unit entries.now)) main.now) }
+    partition: Partition,
+    compiled: &mut Compiled,
+) -> Result<usize, NoMemory>
+    requires named { list_all (λ u. is_unit_name u.0.name) (map object_model partition.objects.items) ≡ true }
+    requires none { linked_in compiled.old ≡ None }
+    ensures linked { OnOk result (IsLinkedAs partition.main (map object_model partition.objects.items) partition.order.items compiled.new) }
+    ensures patched { IfOk result (IsPatched (linked_in compiled.old) (linked_in compiled.new)) }
+    ensures err { OnErr result (compiled.new ≡ compiled.old) }
 {
-    let units = placed(alloc, sources, order.as_slice())?;
-    let objects = objects_at(alloc, entries, units.as_slice())?;
-    let main = main_symbol(alloc, sources, main)?;
-    match image_of(alloc, &main, objects.as_slice())? {
-        None => Ok(Compiled::TooLarge(order)),
-        Some(image) => {
-            let bytes = image.bytes(alloc)?;
-            Ok(Compiled::Made(Program {
-                order,
-                image,
-                bytes,
-            }))
+    let linked = linked_anew(alloc, &partition.main, partition.objects.as_slice())?;
+    let order = partition.into_order();
+    match linked {
+        Some(linked) => *compiled = Compiled::Made(Program { order, linked }),
+        None => *compiled = Compiled::TooLarge(order),
+    }
+    Ok(0)
+}
+
+/// The program of a partition whose units an image can name, in the place of that of before, if compiling gave one.
+fn program_of(
+    alloc: Global,
+    partition: Partition,
+    compiled: &mut Compiled,
+) -> Result<usize, NoMemory>
+    requires named { list_all (λ u. is_unit_name u.0.name) (map object_model partition.objects.items) ≡ true }
+    ensures linked { OnOk result (IsLinkedAs partition.main (map object_model partition.objects.items) partition.order.items compiled.new) }
+    ensures patched { IfOk result (IsPatched (linked_in compiled.old) (linked_in compiled.new)) }
+    ensures err { OnErr result (compiled.new ≡ compiled.old) }
+{
+    let Compiled::Made(program) = compiled else {
+        return program_anew(alloc, partition, compiled);
+    };
+    let objects = partition.objects.as_slice();
+    let fits = linked_again(alloc, &mut program.linked, &partition.main, objects)?;
+    let order = partition.into_order();
+    if fits {
+        program.order = order;
+        return Ok(program.linked.patched());
+    }
+    *compiled = Compiled::TooLarge(order);
+    Ok(0)
+}
+
+/// The program of a partition, or its order alone where its image would pass a limit.
+fn link_partition(
+    alloc: Global,
+    partition: Partition,
+    compiled: &mut Compiled,
+) -> Result<usize, NoMemory>
+    ensures linked { OnOk result (IsLinkedAs partition.main (map object_model partition.objects.items) partition.order.items compiled.new) }
+    ensures patched { IfOk result (IsPatched (linked_in compiled.old) (linked_in compiled.new)) }
+    ensures err { OnErr result (compiled.new ≡ compiled.old) }
+{
+    if are_named(partition.objects.as_slice()) {
+        return program_of(alloc, partition, compiled);
+    }
+    let order = partition.into_order();
+    *compiled = Compiled::TooLarge(order);
+    Ok(0)
+}
+
+/// Makes of what compiling gave before what it gives now. Where it gave an image and gives one, the image is linked again in its place:
+/// where the units and their lengths, counts, symbols and lines are as before, only what differs is written. Of how many units
+/// code was written: so many as differ where all is as before but for bytes, else all; 0 where there was no image or is none.
+///
+/// # Errors
+///
+/// `NoMemory` where memory was wanted and not given: all is as before.
+pub fn link(alloc: Global, planned: Planned, compiled: &mut Compiled) -> Result<usize, NoMemory>
+    ensures batch { OnOk result ((lib : Library) (f : UnitKey → Option Outcome) (main : List ℕ) → IsPlanned lib f main planned → IsBatch lib f main compiled.new) }
+    ensures patched { IfOk result (IsPatched (linked_in compiled.old) (linked_in compiled.new)) }
+    ensures err { OnErr result (compiled.new ≡ compiled.old) }
+{
+    match planned {
+        Planned::Faulty(found) => {
+            *compiled = Compiled::Faulty(found);
+            Ok(0)
         }
+        Planned::Unbound(fault) => {
+            *compiled = Compiled::Unbound(fault);
+            Ok(0)
+        }
+        Planned::Linkable(partition) => link_partition(alloc, partition, compiled),
     }
 }

@@ -19,6 +19,7 @@ use Rattle.al_engine_found.specs.Found.{findings_of}
 use Rattle.al_engine_batch.specs.Batches.{IsBatch}
 use Rattle.al_engine_batch.specs.Objects.{IsLinkable, linked_units, main_symbol, objects_at}
 use Rattle.al_engine_batch.specs.Partitions.{IsProgram, IsTooLarge}
+use Rattle.al_engine_batch.specs.Programs.{bytes_in, image_in}
 use Rattle.al_engine_batch.specs.declared.compiled.Compiled.{Compiled}
 use Rattle.al_engine_batch.specs.declared.compiled.Compiled.TheVariants as compiled
 use Rattle.al_engine_batch_laws.specs.Replies.{Reply, ReplyIsOne, Faulty, Unbound, TooLarge, Made, reply_of}
@@ -79,10 +80,10 @@ reply_is_one lib f main (compiled.Unbound a) (compiled.Made b) x y = absurd (ord
 reply_is_one lib f main (compiled.TooLarge a) (compiled.Faulty b) x y = absurd (found_some b.items (findings_of lib f) y.0 y.1 x.0)
 reply_is_one lib f main (compiled.TooLarge a) (compiled.Unbound b) x y = absurd (order_or_fault lib main (map key_of a.items) b x.1.ordered y.1)
 reply_is_one lib f main (compiled.TooLarge a) (compiled.TooLarge b) x y = ap TooLarge (one_elaboration lib main (map key_of a.items) (map key_of b.items) x.1.ordered y.1.ordered)
-reply_is_one lib f main (compiled.TooLarge a) (compiled.Made b) x y = absurd (too_large_or_made lib f main (map key_of a.items) (map key_of b.order.items) b.image b.bytes.items x.1 y.1)
+reply_is_one lib f main (compiled.TooLarge a) (compiled.Made b) x y = absurd (too_large_or_made lib f main (map key_of a.items) (map key_of b.order.items) (image_in b) (bytes_in b) x.1 y.1)
 reply_is_one lib f main (compiled.Made a) (compiled.Faulty b) x y = absurd (found_some b.items (findings_of lib f) y.0 y.1 x.0)
 reply_is_one lib f main (compiled.Made a) (compiled.Unbound b) x y = absurd (order_or_fault lib main (map key_of a.order.items) b x.1.ordered y.1)
-reply_is_one lib f main (compiled.Made a) (compiled.TooLarge b) x y = absurd (too_large_or_made lib f main (map key_of b.items) (map key_of a.order.items) a.image a.bytes.items y.1 x.1)
+reply_is_one lib f main (compiled.Made a) (compiled.TooLarge b) x y = absurd (too_large_or_made lib f main (map key_of b.items) (map key_of a.order.items) (image_in a) (bytes_in a) y.1 x.1)
 reply_is_one lib f main (compiled.Made a) (compiled.Made b) x y =
-    let same = one_program lib f main (map key_of a.order.items) (map key_of b.order.items) a.image b.image a.bytes.items b.bytes.items x.1 y.1 in
-    ap (λ (o : List Key). Made o a.bytes.items) same.0 ∙ ap (λ (bs : List ℕ). Made (map key_of b.order.items) bs) same.1
+    let same = one_program lib f main (map key_of a.order.items) (map key_of b.order.items) (image_in a) (image_in b) (bytes_in a) (bytes_in b) x.1 y.1 in
+    ap (λ (o : List Key). Made o (bytes_in a)) same.0 ∙ ap (λ (bs : List ℕ). Made (map key_of b.order.items) bs) same.1

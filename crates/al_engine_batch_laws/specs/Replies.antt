@@ -8,6 +8,7 @@ use Rattle.al_bind.specs.declared.lacking.MissingItem.{MissingItem}
 use Rattle.al_bind_laws.specs.Bound.{fault_model}
 use Rattle.al_query_outcome.specs.Results.{Outcome}
 use Rattle.al_engine_batch.specs.Batches.{IsBatch}
+use Rattle.al_engine_batch.specs.Programs.{bytes_in}
 use Rattle.al_engine_batch.specs.declared.compiled.Compiled.{Compiled}
 use Rattle.al_engine_batch.specs.declared.compiled.Compiled.TheVariants as compiled
 
@@ -22,7 +23,7 @@ abbrev pub reply_of : Compiled → Reply
 reply_of (compiled.Faulty diagnostics) = Faulty (map finding_of diagnostics.items)
 reply_of (compiled.Unbound fault) = Unbound (fault_model fault)
 reply_of (compiled.TooLarge order) = TooLarge (map key_of order.items)
-reply_of (compiled.Made program) = Made (map key_of program.order.items) program.bytes.items
+reply_of (compiled.Made program) = Made (map key_of program.order.items) (bytes_in program)
 
 -- where the units have these outcomes, compiling tells one thing
 abbrev pub ReplyIsOne : Type 0

@@ -74,7 +74,8 @@ impl Library {
             graph.faults.as_slice(),
         )?;
         let printed = printed(self.alloc, found.as_slice(), given.checked.as_slice(), more)?;
-        self.kept.settle(&sources, given.entries)?;
+        let entries = self.kept.staying(&sources, given.entries)?;
+        self.kept.take_over(entries);
         Ok(printed)
     }
 }

@@ -1,22 +1,32 @@
 // A build of a library's units over what is kept of them.
-ghost use Rattle.std.specs.Prelude.{◌≡◌, IfOk, IfSome, OnErr, length, map};
+ghost use Rattle.std.specs.Prelude.{ℕ, ◌≡◌, List, Option, IfOk, IfSome, None, OnErr, OnOk, length, map};
 ghost use Rattle.al_base.specs.Batch.{key_of};
+ghost use Rattle.al_base.specs.declared.unit_key.UnitKey.{UnitKey};
 ghost use Rattle.al_bind.specs.Binding.{IsElaboration};
+ghost use Rattle.al_unit_graph.specs.Headers.{Header, Library};
 ghost use Rattle.al_unit_map.specs.Units.{at_unit};
 ghost use Rattle.al_unit_order.specs.Read.{AreHeaded, NameParentBodies};
+ghost use Rattle.al_query.specs.declared.answer.AnswerKind.{AnswerKind};
+ghost use Rattle.al_query.specs.declared.query.Query.{Query};
+ghost use Rattle.al_entries.specs.EntryLaw.{AllKeepLaw, TextMeaning};
+ghost use Rattle.al_entries.specs.Stored.{Stored};
 ghost use Rattle.al_engine_graph.specs.Kept.{IsGraphOf};
 ghost use Rattle.al_engine_setting.specs.Settings.{ArePredefined};
 ghost use Rattle.al_engine_refresh.specs.Builds.{raised};
+ghost use Rattle.al_engine_batch.specs.Patches.{IsPatched, linked_in};
+ghost use Rattle.al_engine_rebuild.specs.Prepared.{IsPrepared};
 ghost use Rattle.al_engine_rebuild.specs.Rebuilds.{IsRebuilt};
 
 use al_base::{NoMemory, UnitKey};
-use al_engine_batch::{Compiled, compile};
+use al_engine_batch::{Compiled, Planned, link, plan};
 use al_engine_check::{CheckedLibrary, check_library};
 use al_engine_graph::UnitGraph;
 use al_engine_recheck::UnitCache;
+use al_entries::Entry;
 use al_query::Answers;
 use al_query_check::UnitCheck;
 use al_unit_graph::Sources;
+use al_unit_map::UnitMap;
 use al_view::Seq;
 use std::alloc::Global;
 
@@ -26,6 +36,8 @@ pub struct Rebuilt {
     pub compiled: Compiled,
     /// The units that were checked, by unit and kind.
     pub checked: Seq<UnitKey>,
+    /// Of how many units code was written into the image of the build before.
+    pub patched: usize,
 }
 
 impl Drop for Rebuilt {
@@ -33,21 +45,52 @@ impl Drop for Rebuilt {
         let Rebuilt {
             compiled: _,
             checked: _,
+            patched: _,
         } = self;
     }
 }
 
-/// Builds a main unit of a library: each unit is checked that is reached and has no entry for its text, or one with an answer that
-/// differs now, and what all units give then is compiled. The entries that were made and those that stay are kept, whether
-/// something is wrong with the files or not. The library's graph is given, and the order of elaboration where it is known.
-/// - `rebuilt`: which units were checked, what compiling gives, which entries there are then.
+impl Rebuilt {
+    /// What stands before the first build: no image. It takes no memory.
+    pub fn nothing(alloc: Global) -> Rebuilt
+        ensures { linked_in result.compiled ≡ None }
+    {
+        Rebuilt {
+            compiled: Compiled::Faulty(Vec::new(alloc)),
+            checked: Seq::empty(alloc),
+            patched: 0,
+        }
+    }
+}
+
+/// A build that is done but for the image: what is to be linked, the entries that there will be, and the units that were checked, by
+/// unit and kind.
+pub struct PreparedBuild {
+    pub planned: Planned,
+    pub entries: UnitMap<Entry>,
+    pub checked: Vec<UnitKey>,
+}
+
+impl Drop for PreparedBuild {
+    fn drop(self) {
+        let PreparedBuild {
+            planned: _,
+            entries: _,
+            checked: _,
+        } = self;
+    }
+}
+
+/// Does all of a build of a main unit but for its image: each unit is checked that is reached and has no entry for its text, or one with
+/// an answer that differs now, and what all units give then is compiled. The library's graph is given, and the order of elaboration
+/// where it is known. What is kept of the units stays as it is.
+/// - `prepared`: which units were checked, what compiling gives up to the image, which entries there will be.
 /// - `counted`: so many checks were made.
-/// - `err`: the entries are as before.
 ///
 /// # Errors
 ///
 /// `NoMemory` where memory was wanted and not given. Only the count of checks may have risen.
-pub fn rebuild<C: UnitCheck, P: Answers>(
+pub fn prepare<C: UnitCheck, P: Answers>(
     alloc: Global,
     cache: &mut UnitCache<C>,
     predefined: &P,
@@ -55,23 +98,58 @@ pub fn rebuild<C: UnitCheck, P: Answers>(
     main: &[u8],
     graph: &UnitGraph,
     known: Option<&[UnitKey]>,
-) -> Result<Rebuilt, NoMemory>
+) -> Result<PreparedBuild, NoMemory>
     requires headed { AreHeaded C.header sources.now }
     requires bodies { NameParentBodies sources.now }
     requires predefined { ArePredefined (P.table predefined.now) }
     requires graph { IsGraphOf sources.now graph.now }
     requires known { IfSome known (λ order. IsElaboration sources.now main.now (map key_of order.now)) }
-    ensures rebuilt { IfOk result (λ r. IsRebuilt C.meaning C.header (P.table predefined.now) sources.now main.now (at_unit cache.old.entries) (at_unit cache.new.entries) r) }
-    ensures counted { IfOk result (λ r. C.count cache.new.checker ≡ raised (C.count cache.old.checker) (length r.checked)) }
-    ensures err { OnErr result (cache.new.entries ≡ cache.old.entries) }
+    ensures prepared { IfOk result (λ p. IsPrepared C.meaning C.header (P.table predefined.now) sources.now main.now (at_unit cache.old.entries) p.planned (at_unit p.entries) p.checked.items) }
+    ensures counted { IfOk result (λ p. C.count cache.new.checker ≡ raised (C.count cache.old.checker) (length p.checked.items)) }
+    ensures entries { cache.new.entries ≡ cache.old.entries }
 {
     let given = check_library(cache, predefined, sources, graph)?;
     let CheckedLibrary { entries, checked } = given;
     let faults = graph.faults.as_slice();
-    let compiled = compile(alloc, sources, &entries, faults, main, known)?;
-    cache.settle(sources, entries)?;
-    Ok(Rebuilt {
-        compiled,
-        checked: Seq::new(checked),
+    let planned = plan(alloc, sources, &entries, faults, main, known)?;
+    let entries = cache.staying(sources, entries)?;
+    Ok(PreparedBuild {
+        planned,
+        entries,
+        checked,
     })
+}
+
+impl PreparedBuild {
+    /// Ends a build. The image comes last of all that takes memory: it is linked in the place of the last build's, where that gave one.
+    /// Then the entries are taken over, whether something is wrong with the files or not.
+    /// - `rebuilt`: which units were checked, what compiling gives, which entries there are then.
+    /// - `patched`: of how many units code was written into the image.
+    ///
+    /// # Errors
+    ///
+    /// `NoMemory` where memory was wanted and not given. What the last build gave and the entries are as before.
+    pub fn finish<C: UnitCheck>(
+        self,
+        alloc: Global,
+        cache: &mut UnitCache<C>,
+        gave: &mut Rebuilt,
+    ) -> Result<(), NoMemory>
+        requires { AllKeepLaw C.meaning C.header (at_unit self.entries) }
+        ensures rebuilt { OnOk result ((header : List ℕ → Header) (predefined : Query → AnswerKind) (lib : Library) (main : List ℕ) (old : UnitKey → Option Stored) → IsPrepared C.meaning header predefined lib main old self.planned (at_unit self.entries) self.checked.items → IsRebuilt C.meaning header predefined lib main old (at_unit cache.new.entries) gave.new) }
+        ensures patched { OnOk result (IsPatched (linked_in gave.old.compiled) (linked_in gave.new.compiled) gave.new.patched) }
+        ensures checked { OnOk result (gave.new.checked ≡ self.checked.items) }
+        ensures checker { cache.new.checker ≡ cache.old.checker }
+        ensures err { OnErr result ((cache.new.entries ≡ cache.old.entries) × (gave.new ≡ gave.old)) }
+    {
+        let PreparedBuild {
+            planned,
+            entries,
+            checked,
+        } = self;
+        gave.patched = link(alloc, planned, &mut gave.compiled)?;
+        gave.checked = Seq::new(checked);
+        cache.take_over(entries);
+        Ok(())
+    }
 }

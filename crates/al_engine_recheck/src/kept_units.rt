@@ -1,5 +1,5 @@
 // What is kept from build to build.
-ghost use Rattle.std.specs.Prelude.{◌≡◌, [], IfOk, OnOk, OnErr, length};
+ghost use Rattle.std.specs.Prelude.{◌≡◌, [], IfOk, length};
 ghost use Rattle.al_base.specs.declared.unit_key.UnitKey.{UnitKey};
 ghost use Rattle.al_unit_map.specs.Units.{at_unit};
 ghost use Rattle.al_entries.specs.EntryLaw.{AllKeepLaw};
@@ -71,7 +71,7 @@ impl<C: UnitCheck> UnitCache<C> {
         self.checker.checks()
     }
 
-    /// What a build of a library makes, in an order of dependence of its units. What is kept stays as it is until [`Self::settle`].
+    /// What a build of a library makes, in an order of dependence of its units. What is kept stays as it is until [`Self::take_over`].
     ///
     /// # Errors
     ///
@@ -97,21 +97,32 @@ impl<C: UnitCheck> UnitCache<C> {
         )
     }
 
-    /// Takes over the entries that a build made of a library, and those of before that stay.
+    /// The entries of a library's units after a build that made these: with those of before that stay.
     ///
     /// # Errors
     ///
-    /// `NoMemory` where memory was wanted and not given. The entries are as before.
-    pub fn settle(&mut self, sources: &Sources, made: UnitMap<Entry>) -> Result<(), NoMemory>
+    /// `NoMemory` where memory was wanted and not given.
+    pub fn staying(
+        &self,
+        sources: &Sources,
+        made: UnitMap<Entry>,
+    ) -> Result<UnitMap<Entry>, NoMemory>
         requires { AllKeepLaw C.meaning C.header (at_unit made) }
-        ensures checker { self.new.checker ≡ self.old.checker }
-        ensures ok { OnOk result ((u : UnitKey) → at_unit self.new.entries u ≡ staying sources.now (at_unit self.old.entries) (at_unit made) u) }
-        ensures err { OnErr result (self.new.entries ≡ self.old.entries) }
+        ensures law { IfOk result (λ entries. AllKeepLaw C.meaning C.header (at_unit entries)) }
+        ensures entries { IfOk result (λ entries. (u : UnitKey) → at_unit entries u ≡ staying sources.now (at_unit self.now.entries) (at_unit made) u) }
     {
         staying_keep_the_law();
-        let mut made = made;
-        keep(self.alloc, sources, &self.entries, &mut made)?;
-        self.entries = made;
-        Ok(())
+        let mut entries = made;
+        keep(self.alloc, sources, &self.entries, &mut entries)?;
+        Ok(entries)
+    }
+
+    /// Has these entries from here on, in the place of those of before. It takes no memory.
+    pub fn take_over(&mut self, entries: UnitMap<Entry>)
+        requires { AllKeepLaw C.meaning C.header (at_unit entries) }
+        ensures checker { self.new.checker ≡ self.old.checker }
+        ensures entries { self.new.entries ≡ entries }
+    {
+        self.entries = entries;
     }
 }

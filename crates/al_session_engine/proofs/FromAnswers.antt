@@ -7,6 +7,7 @@ use Rattle.al_query.specs.declared.query.Query.{Query}
 use Rattle.al_entries.specs.EntryLaw.{TextMeaning}
 use Rattle.al_engine_batch.specs.declared.compiled.Compiled.{Compiled}
 use Rattle.al_engine_batch.specs.declared.compiled.Compiled.TheVariants.{Faulty, Unbound, TooLarge, Made}
+use Rattle.al_engine_batch.specs.Programs.{image_in}
 use Rattle.al_engine_batch.specs.declared.compiled.Program.{Program}
 use Rattle.al_engine_reported.specs.Gave.{program_of}
 use Rattle.al_tasks_run.specs.Runs as images
@@ -41,19 +42,19 @@ made_program (Made made) program is = let same : made ≡ program = cc in ap Mad
 
 module _ (meaning : TextMeaning) (header : List ℕ → Header) (predefined : Query → AnswerKind) (library : Texts → Library) where
   the_run : (files : Texts) (main : List ℕ) (compiled : Compiled) (program : Program) (tick steps : ℕ) (run : adds.Run)
-      → CompilesTo meaning header predefined library files main compiled → or_no_image (program_of compiled) ≡ Ok program → run ≡ run_told (images.run_of program.image tick steps) → Runs meaning header predefined library files main tick steps run
+      → CompilesTo meaning header predefined library files main compiled → or_no_image (program_of compiled) ≡ Ok program → run ≡ run_told (images.run_of (image_in program) tick steps) → Runs meaning header predefined library files main tick steps run
   the_run files main compiled program tick steps run compiles is ran =
       record { program = program; compiles = subst (λ (c : Compiled). CompilesTo meaning header predefined library files main c) (made_program compiled program is) compiles; run_is = ran }
 
   -- the image of the last build is the one that its files give
-  run_of_last : (built : Option Built) (program : Program) (tick steps : ℕ) (run : adds.Run) → IsLastOnly meaning header predefined library built → reported program_of built ≡ Ok program → run ≡ run_told (images.run_of program.image tick steps) → IsRunOf (Runs meaning header predefined library) tick steps (option_map last_model built) run
+  run_of_last : (built : Option Built) (program : Program) (tick steps : ℕ) (run : adds.Run) → IsLastOnly meaning header predefined library built → reported program_of built ≡ Ok program → run ≡ run_told (images.run_of (image_in program) tick steps) → IsRunOf (Runs meaning header predefined library) tick steps (option_map last_model built) run
   run_of_last None program tick steps run right is ran = cc
   run_of_last (Some b) program tick steps run right is ran = the_run b.files b.main b.gave.compiled program tick steps run right is ran
 
   -- where the library answers with a run, so does the session
   pub run_answers : (files : Texts) (built : Option Built) (state : State) (tick steps : ℕ) (ran : image_ran.RunReport) (ended : ends.RunEnd)
       → state_of files built ≡ state → IsLastOnly meaning header predefined library built → ended ≡ end_of ran.ended
-      → (program : Program) → reported program_of built ≡ Ok program → images.run_model ran ≡ images.run_of program.image tick steps
+      → (program : Program) → reported program_of built ≡ Ok program → images.run_model ran ≡ images.run_of (image_in program) tick steps
       → (run_refusal state.built ≡ None) × IsRunOf (Runs meaning header predefined library) tick steps state.built (record { output = ran.output.items; ended = ended })
   run_answers files built state tick steps ran ended view right same program there is =
       let run : adds.Run = record { output = ran.output.items; ended = ended } in

@@ -17,6 +17,7 @@ use Rattle.al_query_outcome.specs.Equations.{Solves}
 use Rattle.al_query_outcome.specs.Results.{Outcome}
 use Rattle.al_engine_recheck.specs.Rechecks.{setting_of}
 use Rattle.al_engine_batch.specs.Batches.{IsBatch}
+use Rattle.al_engine_batch.specs.Programs.{image_in}
 use Rattle.al_engine_batch.specs.declared.compiled.Compiled.{Compiled}
 use Rattle.al_engine_batch.specs.declared.compiled.Compiled.TheVariants.{Made}
 use Rattle.al_engine_batch.specs.declared.compiled.Program.{Program}
@@ -44,7 +45,7 @@ module _ (meaning : TextMeaning) (header : List ℕ → Header) (predefined : Qu
   pub record Runs (files : Texts) (main : List ℕ) (tick steps : ℕ) (run : adds.Run) : Type 0 where
     pub program : Program
     pub compiles : CompilesTo files main (Made program)
-    pub run_is : run ≡ run_told (run_of program.image tick steps)
+    pub run_is : run ≡ run_told (run_of (image_in program) tick steps)
 
 -- the files of which a build told something, in the order of the names
 abbrev pub files_reported : adds.BuildResult → List (List ℕ)

@@ -5,6 +5,7 @@ use Rattle.al_bind.specs.Binding.{line_model}
 use Rattle.al_bind.specs.declared.binding.BindFault.{BindFault}
 use Rattle.al_bind.specs.declared.binding.BindFault.TheVariants.{Lacks, Cycle}
 use Rattle.al_bind.specs.declared.lacking.MissingItem.TheVariants.{Main, Body, Subunit}
+use Rattle.al_engine_batch.specs.Programs.{bytes_in}
 use Rattle.al_engine_batch.specs.declared.compiled.Compiled.{Compiled}
 use Rattle.al_engine_batch.specs.declared.compiled.Compiled.TheVariants.{Faulty, Unbound, TooLarge, Made}
 use Rattle.al_machine.specs.declared.instruction.Exception as raising
@@ -30,7 +31,7 @@ abbrev pub result_of : Compiled → adds.BuildResult
 result_of (Faulty diagnostics) = adds.Faulty (map finding_of diagnostics.items)
 result_of (Unbound fault) = fault_result fault
 result_of (TooLarge order) = adds.TooLarge (map key_of order.items)
-result_of (Made program) = adds.Made (map key_of program.order.items) program.bytes.items
+result_of (Made program) = adds.Made (map key_of program.order.items) (bytes_in program)
 
 abbrev pub exception_of : raising.Exception → exceptions.Exception
 exception_of Constraint = exception.Constraint

@@ -16,6 +16,7 @@ use Rattle.al_engine_batch.specs.declared.compiled.Compiled.TheVariants as compi
 use Rattle.al_engine_batch.specs.declared.compiled.Program.{Program}
 use Rattle.al_engine_batch.specs.Objects.{linked_units, main_symbol, objects_at}
 use Rattle.al_engine_batch.specs.Partitions.{IsProgram}
+use Rattle.al_engine_batch.specs.Programs.{image_in}
 use Rattle.al_engine_batch_laws.specs.Replies as replies
 use Rattle.al_engine_batch_laws.proofs.Replies.{one_placed, reply_is_one}
 use Rattle.al_bind_laws.proofs.Bound.{one_elaboration}
@@ -64,12 +65,12 @@ module _ (meaning : TextMeaning) (header : List ℕ → Header) (predefined : Qu
       let there : IsBatch (library files) y.outcomes main one = subst (λ (f : UnitKey → Option Outcome). IsBatch (library files) f main one) same x.is_batch in
       sym (from_reply_of one) ∙ ap from_reply (reply_is_one (library files) y.outcomes main one two there y.is_batch) ∙ from_reply_of two
 
-  one_image : (files : Texts) (main : List ℕ) (one two : Program) → CompilesTo meaning header predefined library files main (compiled.Made one) → CompilesTo meaning header predefined library files main (compiled.Made two) → one.image ≡ two.image
+  one_image : (files : Texts) (main : List ℕ) (one two : Program) → CompilesTo meaning header predefined library files main (compiled.Made one) → CompilesTo meaning header predefined library files main (compiled.Made two) → image_in one ≡ image_in two
   one_image files main one two x y =
       let each : (u : UnitKey) → x.outcomes u ≡ y.outcomes u = y.only x.outcomes x.solves in
       let same : x.outcomes ≡ y.outcomes = λ i. λ u. each u i in
       let there : IsBatch (library files) y.outcomes main (compiled.Made one) = subst (λ (f : UnitKey → Option Outcome). IsBatch (library files) f main (compiled.Made one)) same x.is_batch in
-      same_image (library files) y.outcomes main _ _ one.image two.image _ _ there.1 y.is_batch.1
+      same_image (library files) y.outcomes main _ _ (image_in one) (image_in two) _ _ there.1 y.is_batch.1
 
   pub is_settled : IsSettled (meaning_of meaning header predefined library)
   is_settled = record {

@@ -17,9 +17,7 @@ pub(crate) fn outcome_of(compiled: &Compiled) -> Outcome<'_>
         Compiled::Faulty(diagnostics) => Outcome::Faulty(diagnostics.as_slice()),
         Compiled::Unbound(fault) => fault_of(fault),
         Compiled::TooLarge(order) => Outcome::TooLarge(order.as_slice()),
-        Compiled::Made(program) => {
-            Outcome::Made(program.order.as_slice(), program.bytes.as_slice())
-        }
+        Compiled::Made(program) => { Outcome::Made(program.order.as_slice(), program.bytes()) }
     }
 }
 

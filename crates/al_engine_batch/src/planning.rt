@@ -1,4 +1,4 @@
-// Compiling the files of a library whose units are checked.
+// Compiling the files of a library whose units are checked, as far as to what is linked.
 ghost use Rattle.std.specs.Prelude.{◌≡◌, map, IfOk, IfSome, MatchResult};
 ghost use Rattle.std.specs.Map.{keys_of};
 ghost use Rattle.al_base.specs.Batch.{key_of};
@@ -7,15 +7,19 @@ ghost use Rattle.al_unit_faults.specs.FilesSeen.{file_faults_model};
 ghost use Rattle.al_unit_faults.specs.GraphFaults.{file_faults};
 ghost use Rattle.al_unit_map.specs.Units.{at_unit};
 ghost use Rattle.al_engine_refresh.specs.Builds.{results_of};
-ghost use Rattle.al_engine_batch.specs.Batches.{IsBatch};
 ghost use Rattle.al_engine_batch.specs.Objects.{AreCoded};
+ghost use Rattle.al_engine_batch.specs.ObjectsSeen.{object_model};
+ghost use Rattle.al_engine_batch.specs.Partitions.{IsPartition};
+ghost use Rattle.al_engine_batch.specs.Plans.{IsPlanned};
 
-use crate::compiled::Compiled;
-use crate::linking::linked;
+use crate::names::main_symbol;
+use crate::objects::objects_at;
+use crate::planned::{Partition, Planned};
 use al_base::{NoMemory, UnitKey};
 use al_bind::{BindFault, bind};
 use al_engine_found::findings_of;
 use al_entries::Entry;
+use al_link_placed::placed;
 use al_unit_faults::FileFaults;
 use al_unit_graph::Sources;
 use al_unit_map::UnitMap;
@@ -49,31 +53,56 @@ fn bound(
     }
 }
 
-/// What compiling the files gives for a main unit, where the units have these entries. An order of elaboration that is known isn't
-/// looked for again.
+/// The partition of a main unit whose items are elaborated in this order.
+fn partition_of(
+    alloc: Global,
+    sources: &Sources,
+    entries: &UnitMap<Entry>,
+    main: &[u8],
+    order: Vec<UnitKey>,
+) -> Result<Partition, NoMemory>
+    requires ordered { IsElaboration sources.now main.now (map key_of order.items) }
+    requires coded { AreCoded (at_unit entries.now) }
+    ensures { IfOk result (λ p. IsPartition sources.now (results_of (at_unit entries.now)) main.now (map key_of p.order.items) p.main (map object_model p.objects.items)) }
+{
+    let units = placed(alloc, sources, order.as_slice())?;
+    let objects = objects_at(alloc, entries, units.as_slice())?;
+    let main = main_symbol(alloc, sources, main)?;
+    Ok(Partition {
+        order,
+        main,
+        objects,
+    })
+}
+
+/// What compiling the files gives for a main unit, where the units have these entries, up to the image. An order of elaboration that
+/// is known isn't looked for again.
 ///
 /// # Errors
 ///
 /// `NoMemory` where memory was wanted and not given. What is wrong with the files is no error.
-pub fn compile(
+pub fn plan(
     alloc: Global,
     sources: &Sources,
     entries: &UnitMap<Entry>,
     faults: &[FileFaults],
     main: &[u8],
     known: Option<&[UnitKey]>,
-) -> Result<Compiled, NoMemory>
+) -> Result<Planned, NoMemory>
     requires faults { map file_faults_model faults.now ≡ map (λ file. (file, file_faults sources.now file)) (keys_of sources.now) }
     requires coded { AreCoded (at_unit entries.now) }
     requires known { IfSome known (λ order. IsElaboration sources.now main.now (map key_of order.now)) }
-    ensures { IfOk result (IsBatch sources.now (results_of (at_unit entries.now)) main.now) }
+    ensures { IfOk result (IsPlanned sources.now (results_of (at_unit entries.now)) main.now) }
 {
     let found = findings_of(alloc, sources, entries, faults)?;
     if !found.is_empty() {
-        return Ok(Compiled::Faulty(found));
+        return Ok(Planned::Faulty(found));
     }
     match bound(alloc, sources, main, known)? {
-        Ok(order) => linked(alloc, sources, entries, main, order),
-        Err(fault) => Ok(Compiled::Unbound(fault)),
+        Ok(order) => {
+            let partition = partition_of(alloc, sources, entries, main, order)?;
+            Ok(Planned::Linkable(partition))
+        }
+        Err(fault) => Ok(Planned::Unbound(fault)),
     }
 }

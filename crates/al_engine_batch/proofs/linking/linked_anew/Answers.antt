@@ -1,13 +1,12 @@
 use Rattle.std.proofs.Common.{◌≡◌, map, ap, subst, ◌∙◌}
-use Rattle.al_link.specs.Images.{image_of}
 use Rattle.al_link.specs.Partitions.{IsFaultOf}
 use Rattle.al_link_image.specs.declared.fault.LinkFault.{LinkFault}
 use Rattle.al_engine_batch.specs.ObjectsSeen.{left_model, object_model}
 use Rattle.al_engine_batch.proofs.LinkLemmas.{linkable-of, linkable-to, named-left, units-are}
-use Rattle.al_engine_batch.proofs.linking.image_of_named.Goals as goal
+use Rattle.al_engine_batch.proofs.linking.linked_anew.Goals as goal
 
-pub link-requires : goal.link-requires
-link-requires c =
+pub new-requires : goal.new-requires
+new-requires c =
     named-left c.as_slice.result.now (map object_model c.args.objects.now) (ap (map left_model) c.as_slice.ensures.value ∙ c.in_ok-left.ensures) c.requires
 
 pub returns-in-Ok : goal.returns-in-Ok
@@ -16,7 +15,8 @@ returns-in-Ok c =
     let us = map object_model c.args.objects.now in
     let same : map left_model left ≡ us = ap (map left_model) c.as_slice.ensures.value ∙ c.in_ok-left.ensures in (
       linkable-of left us same c.requires c.in-Ok.ensures.within,
-      c.in-Ok.ensures.image ∙ ap (image_of c.args.main.now) (units-are left us same),
+      ap (λ l. l.main) c.in-Ok.ensures.linked,
+      ap (λ l. l.units) c.in-Ok.ensures.linked ∙ units-are left us same,
     )
 
 pub returns-in-Err-TooLarge : goal.returns-in-Err-TooLarge

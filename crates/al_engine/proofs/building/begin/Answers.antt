@@ -1,0 +1,48 @@
+use Rattle.std.proofs.Common.{ℕ, List, IfSome, map, sym, subst}
+use Rattle.al_base.specs.Batch.{key_of}
+use Rattle.al_bind.specs.Binding.{IsElaboration}
+use Rattle.al_unit_graph.specs.Headers.{Library}
+use Rattle.al_unit_order.specs.Read.{AreHeaded, NameParentBodies}
+use Rattle.al_unit_map.specs.Units.{at_unit}
+use Rattle.al_engine_rebuild.specs.Prepared.{IsPrepared}
+use Rattle.al_engine_graph.specs.Graphs.{HaveSameHeaders}
+use Rattle.al_engine_graph.specs.Kept.{IsGraphOf}
+use Rattle.al_engine_graph.specs.declared.graph.UnitGraph.{UnitGraph}
+use Rattle.al_engine.specs.Graphs.{IsOrdered}
+use Rattle.al_engine.proofs.Taken.{first_of, second_of}
+use Rattle.al_engine.proofs.building.begin.Goals as goal
+
+pub graph_now-requires : goal.graph_now-requires
+graph_now-requires g c =
+    let library = g.R.ReadFiles.library in
+    let files = g.R.ReadFiles.files in
+    first_of c.args.last.now (λ b. b.now) (λ b. IsGraphOf (library (files b.read)) b.graph.value) (λ b. IsOrdered (library (files b.read)) b.main c.args.gave.now.compiled)
+    (λ b. HaveSameHeaders (library (files b.now.read)) (library (files c.args.read.now))) c.in_ok-same.same c.in_ok-same.ensures c.requires.last
+
+pub order_now-order-requires : goal.order_now-order-requires
+order_now-order-requires g c =
+    let library = g.R.ReadFiles.library in
+    let files = g.R.ReadFiles.files in
+    second_of c.args.last.now (λ b. b.now) (λ b. IsGraphOf (library (files b.read)) b.graph.value) (λ b. IsOrdered (library (files b.read)) b.main c.args.gave.now.compiled)
+    (λ b. HaveSameHeaders (library (files b.now.read)) (library (files c.args.read.now))) c.in_ok-same.same c.in_ok-same.ensures c.requires.last
+
+pub prepare-requires-clause-headed : goal.prepare-requires-clause-headed
+prepare-requires-clause-headed g c = subst (λ (l : Library). AreHeaded g.C.UnitCheck.header l) (sym c.sources-sources.ensures) (c.requires.reading.headed (g.R.ReadFiles.files c.args.read.now))
+
+pub prepare-requires-clause-bodies : goal.prepare-requires-clause-bodies
+prepare-requires-clause-bodies g c = subst (λ (l : Library). NameParentBodies l) (sym c.sources-sources.ensures) (c.requires.reading.bodies (g.R.ReadFiles.files c.args.read.now))
+
+pub prepare-requires-clause-graph : goal.prepare-requires-clause-graph
+prepare-requires-clause-graph g c =
+    subst (λ (l : Library). IsGraphOf l c.deref.result.now) (sym c.sources-sources.ensures)
+    (subst (λ (graph : UnitGraph). IsGraphOf (g.R.ReadFiles.library (g.R.ReadFiles.files c.args.read.now)) graph) (sym c.deref.ensures) c.in_ok-graph.ensures)
+
+pub prepare-requires-clause-known : goal.prepare-requires-clause-known
+prepare-requires-clause-known g c =
+    subst (λ (l : Library). IfSome c.order_now-order.result (λ order. IsElaboration l c.args.main.now (map key_of order.now))) (sym c.sources-sources.ensures) c.order_now-order.ensures
+
+pub returns-clause-prepared : goal.returns-clause-prepared
+returns-clause-prepared g c =
+    let p = c.in_ok-prepared.prepared in
+    subst (λ (l : Library). IsPrepared g.C.UnitCheck.meaning g.C.UnitCheck.header (g.P.Answers.table c.args.predefined.now) l c.args.main.now (at_unit c.args.cache.now.entries) p.planned (at_unit p.entries) p.checked.items)
+    c.sources-sources.ensures c.in_ok-prepared.ensures.prepared

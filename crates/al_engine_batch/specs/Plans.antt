@@ -1,0 +1,18 @@
+-- What compiling gives before anything is linked.
+use Rattle.std.specs.Prelude.{ℕ, ◌≡◌, ◌<◌, List, [], length, map, Option}
+use Rattle.al_base.specs.Batch.{finding_of, key_of}
+use Rattle.al_base.specs.declared.unit_key.UnitKey.{UnitKey}
+use Rattle.al_unit_graph.specs.Headers.{Library}
+use Rattle.al_bind.specs.Binding.{IsBindFault}
+use Rattle.al_query_outcome.specs.Results.{Outcome}
+use Rattle.al_engine_found.specs.Found.{findings_of}
+use Rattle.al_engine_batch.specs.ObjectsSeen.{object_model}
+use Rattle.al_engine_batch.specs.Partitions.{IsPartition}
+use Rattle.al_engine_batch.specs.declared.planned.Planned.{Planned}
+use Rattle.al_engine_batch.specs.declared.planned.Planned.TheVariants.{Faulty, Unbound, Linkable}
+
+-- what is wrong with the files; where nothing is, why there is no order of elaboration; or else what is to be linked
+abbrev pub IsPlanned : Library → (UnitKey → Option Outcome) → List ℕ → Planned → Type 0
+IsPlanned lib f main (Faulty diagnostics) = (map finding_of diagnostics.items ≡ findings_of lib f) × (0 < length diagnostics.items)
+IsPlanned lib f main (Unbound fault) = (findings_of lib f ≡ []) × IsBindFault lib main fault
+IsPlanned lib f main (Linkable p) = (findings_of lib f ≡ []) × IsPartition lib f main (map key_of p.order.items) p.main (map object_model p.objects.items)
