@@ -9,7 +9,7 @@ use Rattle.al_query.specs.declared.answer.AnswerKind.{AnswerKind}
 use Rattle.al_query.specs.declared.query.Query.{Query}
 use Rattle.al_unit_graph.specs.Headers.{Header}
 use Rattle.al_query_outcome.specs.Equations.{unit_named}
-use Rattle.al_query_outcome.specs.ReadsLaw.{one_more}
+use Rattle.al_base_shortage.specs.Counts.{one_more}
 use Rattle.al_entries.specs.EntryLaw.{HasCurrent, IsCurrent, KeepsLaw, TextMeaning}
 use Rattle.al_entries.specs.Stored.{Stored}
 use Rattle.al_engine_refresh.specs.Handling.{Becomes, Handled, passed, used, rechecked, SoFar}
