@@ -169,6 +169,7 @@ fn list_obsolete<R: Files + AllocGlobal + Clone + Drop>(
         return Ok(());
     }
     match watched.library.obsolete() {
+        Ok(units) if units.is_empty() => screen.tell(b"no unit is obsolete\n"),
         Ok(units) => print_parts(screen, units.as_slice()),
         Err(al_base::Refusal::NotBuilt) => screen.tell(b"nothing was built\n"),
         Err(_) => Err(Failure::Memory),
