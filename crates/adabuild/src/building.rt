@@ -1,0 +1,95 @@
+// One build, and what is done with the program.
+use crate::failure::Failure;
+use crate::image_files::save;
+use crate::library::{Library, bring, new_library};
+use crate::reading::{Sources, read_folders};
+use crate::request::Request;
+use crate::running::run_image;
+use crate::screen::Screen;
+use crate::telling::{print_parts, tell_build};
+use al_engine_batch::Program;
+use al_folder_told::Ending;
+use std::rt::Files;
+
+/// What is done with a program that was built.
+#[derive(Clone, Copy)]
+pub struct Uses {
+    pub order: bool,
+    pub run: bool,
+}
+
+/// Builds the folders once, and does what is asked for.
+pub fn build_once<R: Files + AllocGlobal + Clone + Drop>(
+    rt: &R,
+    screen: &Screen,
+    request: &Request<'_>,
+) -> Result<Ending, Failure> {
+    let alloc = rt.alloc();
+    let sources = read_folders(rt, screen, request.folders.as_slice(), true)?;
+    if !sources.are_whole {
+        return Ok(Ending::NotBuilt);
+    }
+    let mut library = new_library(alloc)?;
+    let none = al_base::Files::new(alloc);
+    bring(alloc, &mut library, &none, &sources.texts)?;
+    let ending = build(rt, screen, request, &mut library, &sources);
+    // The system takes the memory back at the end of the process; to let go of all that is kept would only take time.
+    std::mem::forget(library);
+    ending
+}
+
+// Builds, tells what it gave, and does with the program what is asked for.
+fn build<R: Files + AllocGlobal>(
+    rt: &R,
+    screen: &Screen,
+    request: &Request<'_>,
+    library: &mut Library,
+    sources: &Sources,
+) -> Result<Ending, Failure> {
+    library.build(request.unit.as_slice())?;
+    let uses = Uses {
+        order: request.order,
+        run: request.run,
+    };
+    finish_build(rt, screen, request, library, sources, uses)
+}
+
+/// Tells what the last build gave, and uses the program.
+pub fn finish_build<R: Files + AllocGlobal>(
+    rt: &R,
+    screen: &Screen,
+    request: &Request<'_>,
+    library: &Library,
+    sources: &Sources,
+    uses: Uses,
+) -> Result<Ending, Failure> {
+    if !tell_build(screen, library, sources, request.plain)? {
+        return Ok(Ending::NotBuilt);
+    }
+    match library.image() {
+        Ok(program) => use_program(rt, screen, request, program, uses),
+        Err(_) => Ok(Ending::NotBuilt),
+    }
+}
+
+// Prints the order, writes the image and runs the program, as is asked for.
+fn use_program<R: Files + AllocGlobal>(
+    rt: &R,
+    screen: &Screen,
+    request: &Request<'_>,
+    program: &Program,
+    uses: Uses,
+) -> Result<Ending, Failure> {
+    if uses.order {
+        print_parts(screen, program.order.as_slice())?;
+    }
+    if let Some(file) = request.image {
+        if !save(rt, screen, file, program.bytes())? {
+            return Ok(Ending::NotBuilt);
+        }
+    }
+    if uses.run {
+        return run_image(rt.alloc(), screen, program.image(), request.pace);
+    }
+    Ok(Ending::Done)
+}

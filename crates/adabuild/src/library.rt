@@ -1,0 +1,83 @@
+// The library, and what is handed to it.
+use crate::failure::Failure;
+use al_base::{Files, NoMemory, Refusal};
+use al_check::{AdaCheck, ada_check};
+use al_check_bounded::laws::headers_are_read;
+use al_engine::Engine;
+use al_engine_batch::Compiled;
+use al_engine_files::AdaFiles;
+use al_query_predefined::PredefinedUnits;
+use al_query_predefined::laws::units_are_predefined;
+use std::alloc::Global;
+
+/// A library of Ada units.
+pub type Library = Engine<AdaFiles, AdaCheck, PredefinedUnits>;
+
+/// A library with no file and no build.
+pub fn new_library(alloc: Global) -> Result<Library, NoMemory> {
+    headers_are_read();
+    AdaFiles::are_read();
+    units_are_predefined();
+    let predefined = PredefinedUnits::new(alloc)?;
+    Ok(Engine::new(alloc, ada_check(), predefined))
+}
+
+/// Brings a library with these files to those: what is gone is deleted, and what is new or has another text is put.
+pub fn bring(
+    alloc: Global,
+    library: &mut Library,
+    before: &Files,
+    now: &Files,
+) -> Result<(), Failure> {
+    delete_gone(library, before, now)?;
+    put_changed(alloc, library, before, now)
+}
+
+// Deletes what is gone.
+fn delete_gone(library: &mut Library, before: &Files, now: &Files) -> Result<(), Failure> {
+    for (name, _text) in before.list()? {
+        if now.get(name).is_none() {
+            taken(library.delete(name))?;
+        }
+    }
+    Ok(())
+}
+
+// Puts what is new or has another text.
+fn put_changed(
+    alloc: Global,
+    library: &mut Library,
+    before: &Files,
+    now: &Files,
+) -> Result<(), Failure> {
+    for (name, text) in now.list()? {
+        if !has_text(before, name, text) {
+            taken(library.put(name, Vec::from_slice(alloc, text)?))?;
+        }
+    }
+    Ok(())
+}
+
+// Whether a file has this text.
+fn has_text(files: &Files, name: &[u8], text: &[u8]) -> bool {
+    match files.get(name) {
+        Some(found) => found == text,
+        None => false,
+    }
+}
+
+// A library takes what these files take, so that it can only find no memory.
+fn taken(answer: Result<(), Refusal>) -> Result<(), Failure> {
+    match answer {
+        Ok(()) => Ok(()),
+        Err(_) => Err(Failure::Memory),
+    }
+}
+
+/// Whether the last build gave an image, and of how many units.
+pub fn image_units(library: &Library) -> Option<usize> {
+    match library.last() {
+        Some((_main, Compiled::Made(program))) => Some(program.order.len()),
+        _ => None,
+    }
+}

@@ -1,0 +1,129 @@
+// A line with a caret under a place of it.
+ghost use Rattle.std.specs.Prelude.{◌≡◌, ◌∷◌, [], ◌-◌, ◌^◌, ◌<◌, ◌≤◌, ◌+◌, IsOk, length, map, drop, take, nat_lt};
+ghost use Rattle.al_session_stream.specs.Output.{Adds};
+ghost use Rattle.al_folder.specs.Excerpts.{left_out, where_left, shown, blank_for, caret, excerpt};
+
+use al_session_stream::{Device, Sink, emit};
+
+/// How many bytes of a line are shown at most.
+pub const WIDTH: usize = 120;
+
+/// How many bytes of a long line are shown before the place.
+pub const BEFORE: usize = 80;
+
+/// How many bytes are left out in front of what is shown of a line of so many bytes.
+fn left_out(len: usize, place: usize) -> usize
+    ensures value { result ≡ left_out len place }
+    ensures within { result ≤ len }
+{
+    if len <= WIDTH {
+        0
+    } else {
+        place.saturating_sub(BEFORE).min(len - WIDTH)
+    }
+}
+
+/// At most so many bytes from the front.
+fn front_of(most: usize, bytes: &[u8]) -> &[u8]
+    ensures { result.now ≡ take most bytes.now }
+{
+    if bytes.len() <= most {
+        bytes
+    } else {
+        &bytes[..most]
+    }
+}
+
+/// What is left behind so many bytes.
+fn behind(front: usize, line: &[u8]) -> &[u8]
+    requires { front ≤ length line.now }
+    ensures { result.now ≡ drop front line.now }
+{
+    &line[front..]
+}
+
+/// A mark where something is left out.
+fn where_left(is_left: bool, mark: &[u8]) -> &[u8]
+    ensures { result.now ≡ where_left is_left mark.now }
+{
+    if is_left { mark } else { &[] }
+}
+
+/// Writes what is shown of a line of which so many bytes are left out in front.
+fn emit_shown<K: Sink>(
+    so_far: Result<(), Device>,
+    writer: &mut K,
+    front: usize,
+    line: &[u8],
+) -> Result<(), Device>
+    requires room { IsOk so_far → K.faults writer.old < 2 ^ 64 - 1 }
+    requires front { front ≤ length line.now }
+    ensures faults { IsOk result → IsOk so_far × (K.faults writer.new ≡ K.faults writer.old) }
+    ensures adds { Adds K.written K.faults K.waits writer.old writer.new so_far result (shown front line.now) }
+{
+    let rest = behind(front, line);
+    let so_far = emit(so_far, writer, where_left(front > 0, b"..."));
+    let so_far = emit(so_far, writer, front_of(WIDTH, rest));
+    emit(so_far, writer, where_left(rest.len() > WIDTH, b"..."))
+}
+
+/// A tab for a tab, so that what is below it stands below it, however wide tabs are, and else a blank.
+fn blank_for(byte: u8) -> &'static [u8]
+    ensures { result.now ≡ map blank_for (byte ∷ []) }
+{
+    if byte == b'\t' { b"\t" } else { b" " }
+}
+
+/// Writes blanks as wide as these bytes.
+fn emit_blanks<K: Sink>(
+    mut so_far: Result<(), Device>,
+    writer: &mut K,
+    bytes: &[u8],
+) -> Result<(), Device>
+    requires { IsOk so_far → K.faults writer.old < 2 ^ 64 - 1 }
+    ensures faults { IsOk result → IsOk so_far × (K.faults writer.new ≡ K.faults writer.old) }
+    ensures adds { Adds K.written K.faults K.waits writer.old writer.new so_far result (map blank_for bytes.now) }
+{
+    for byte in bytes {
+        so_far = emit(so_far, writer, blank_for(*byte));
+    }
+    so_far
+}
+
+/// Writes the caret below the byte before which so many bytes of the line stand.
+fn emit_caret<K: Sink>(
+    so_far: Result<(), Device>,
+    writer: &mut K,
+    front: usize,
+    place: usize,
+    line: &[u8],
+) -> Result<(), Device>
+    requires room { IsOk so_far → K.faults writer.old < 2 ^ 64 - 1 }
+    requires front { front ≤ length line.now }
+    ensures faults { IsOk result → IsOk so_far × (K.faults writer.new ≡ K.faults writer.old) }
+    ensures adds { Adds K.written K.faults K.waits writer.old writer.new so_far result (caret front place line.now) }
+{
+    let rest = behind(front, line);
+    let before = front_of(place.saturating_sub(front), rest);
+    let so_far = emit(so_far, writer, where_left(front > 0, b"   "));
+    let so_far = emit_blanks(so_far, writer, before);
+    emit(so_far, writer, b"^")
+}
+
+/// Writes a line, at most [`WIDTH`] bytes of it, and below it a caret under the byte before which so many bytes of the line stand.
+pub fn emit_excerpt<K: Sink>(
+    so_far: Result<(), Device>,
+    writer: &mut K,
+    place: usize,
+    line: &[u8],
+) -> Result<(), Device>
+    requires { IsOk so_far → K.faults writer.old < 2 ^ 64 - 1 }
+    ensures faults { IsOk result → IsOk so_far × (K.faults writer.new ≡ K.faults writer.old) }
+    ensures adds { Adds K.written K.faults K.waits writer.old writer.new so_far result (excerpt place line.now) }
+{
+    let front = left_out(line.len(), place);
+    let so_far = emit_shown(so_far, writer, front, line);
+    let so_far = emit(so_far, writer, b"\n");
+    let so_far = emit_caret(so_far, writer, front, place, line);
+    emit(so_far, writer, b"\n")
+}

@@ -1,0 +1,7 @@
+pub mod Diagnostics
+pub mod Parts
+pub mod Faults
+pub mod Runs
+pub mod Progress
+pub mod Status
+pub mod Words

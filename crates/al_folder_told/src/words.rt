@@ -1,0 +1,34 @@
+// What a line of the standard input asks for.
+ghost use Rattle.std.specs.Prelude.{◌≡◌};
+ghost use Rattle.al_folder_told.specs.Words.{watch_word};
+
+/// What a line of the standard input asks for.
+#[derive(Clone, Copy)]
+pub enum WatchWord {
+    /// A build.
+    Build,
+    /// A build, and its run.
+    Run,
+    /// A build, and its order of elaboration.
+    Order,
+    /// The units that are obsolete since the last build.
+    Obsolete,
+    /// The end.
+    Quit,
+    /// No word.
+    Unknown,
+}
+
+/// What the line asks for; an empty one for a build.
+pub fn watch_word(line: &[u8]) -> WatchWord
+    ensures { result ≡ watch_word line.now }
+{
+    match line {
+        b"" => WatchWord::Build,
+        b"run" => WatchWord::Run,
+        b"order" => WatchWord::Order,
+        b"obsolete" => WatchWord::Obsolete,
+        b"quit" => WatchWord::Quit,
+        _ => WatchWord::Unknown,
+    }
+}
