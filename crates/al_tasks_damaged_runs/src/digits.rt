@@ -1,4 +1,6 @@
 // Bytes that are written as hexadecimal digits.
+ghost use Rattle.std.specs.Prelude.{◌<◌};
+
 use al_base::NoMemory;
 use std::alloc::Global;
 

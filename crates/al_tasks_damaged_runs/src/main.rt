@@ -11,8 +11,6 @@ mod numbers;
 mod trial;
 mod worlds;
 
-ghost use Rattle.std.specs.Prelude.{◌<◌};
-
 use crate::damages::{damage, try_all};
 use crate::digits::bytes_of;
 use crate::images::try_bytes;
