@@ -31,15 +31,23 @@ fn valued<'a>(alloc: Global, name: &'a str) -> Arg<'a> {
 fn with_flags(alloc: Global) -> Result<Command<'static>, AllocError> {
     let command = Command::new(alloc, "adabuild").disable_help_flag(true);
     let command = command.arg(flag(alloc, "help"))?.arg(flag(alloc, "run"))?;
-    let command = command.arg(flag(alloc, "order"))?.arg(flag(alloc, "plain"))?;
+    let command = command
+        .arg(flag(alloc, "order"))?
+        .arg(flag(alloc, "plain"))?;
     command.arg(flag(alloc, "watch"))
 }
 
 fn command(alloc: Global) -> Result<Command<'static>, AllocError> {
     let command = with_flags(alloc)?;
-    let command = command.arg(valued(alloc, "steps"))?.arg(valued(alloc, "tick"))?;
-    let command = command.arg(valued(alloc, "image"))?.arg(valued(alloc, "load"))?;
-    let names = Arg::new(alloc, "names").action(ArgAction::Append).num_args(0..);
+    let command = command
+        .arg(valued(alloc, "steps"))?
+        .arg(valued(alloc, "tick"))?;
+    let command = command
+        .arg(valued(alloc, "image"))?
+        .arg(valued(alloc, "load"))?;
+    let names = Arg::new(alloc, "names")
+        .action(ArgAction::Append)
+        .num_args(0..);
     command.arg(names)
 }
 

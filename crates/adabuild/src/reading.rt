@@ -122,13 +122,10 @@ fn read_names<R: Files + AllocGlobal>(
 }
 
 // Tells that a file is left out.
-fn tell_left_out(
-    alloc: Global,
-    screen: &Screen,
-    folder: &str,
-    name: &str,
-) -> Result<(), Failure> {
-    let told = format!(in alloc; "warning: {folder}/{name} is left out: a source's name is one or more of a-z 0-9 _ ~ - and then .ads or .adb\n")?;
+fn tell_left_out(alloc: Global, screen: &Screen, folder: &str, name: &str) -> Result<(), Failure> {
+    let told = format!(in alloc;
+        "warning: {folder}/{name} is left out: a source's name is one or more of a-z 0-9 _ ~ - and then .ads or .adb\n"
+    )?;
     screen.tell(told.as_bytes())
 }
 
@@ -143,7 +140,9 @@ fn read_source<R: Files + AllocGlobal>(
     let alloc = rt.alloc();
     if let Some(other) = sources.folders.get(name.as_bytes()) {
         let other = String::from_utf8_lossy(alloc, other)?;
-        let told = format!(in alloc; "error: {name} stands in two folders, {other} and {folder}\n")?;
+        let told = format!(in alloc;
+            "error: {name} stands in two folders, {other} and {folder}\n"
+        )?;
         return sources.spoil(screen, &told);
     }
     match text_in(rt, folder, name) {

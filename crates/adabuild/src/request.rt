@@ -5,12 +5,14 @@ use al_base::Name;
 use al_folder::{number_of, unit_of};
 use std::alloc::Global;
 
-pub const USAGE: &str = "usage: adabuild [--run] [--steps N] [--tick N] [--order] [--plain] [--image FILE] [--watch] UNIT [FOLDER ..]
+pub const USAGE: &str =
+    "usage: adabuild [--run] [--steps N] [--tick N] [--order] [--plain] [--image FILE] [--watch] UNIT [FOLDER ..]
        adabuild --load FILE [--steps N] [--tick N]
        adabuild --help
 ";
 
-pub const HELP: &str = "usage: adabuild [--run] [--steps N] [--tick N] [--order] [--plain] [--image FILE] [--watch] UNIT [FOLDER ..]
+pub const HELP: &str =
+    "usage: adabuild [--run] [--steps N] [--tick N] [--order] [--plain] [--image FILE] [--watch] UNIT [FOLDER ..]
        adabuild --load FILE [--steps N] [--tick N]
        adabuild --help
 

@@ -6,10 +6,9 @@ use crate::request::Pace;
 use crate::screen::Screen;
 use crate::telling::tell_end;
 use al_base::{Name, NoMemory, UnitKey};
-use al_folder_told::{Ending, ending_of};
+use al_folder_told::{Ending, RunEnd, ending_of};
 use al_link_image::{Image, ImageObject};
-use al_machine::Exception as Raising;
-use al_session_served::{Exception, RunEnd};
+use al_machine::Exception;
 use al_tasks::World;
 use al_tasks_world::Status;
 use std::alloc::Global;
@@ -78,18 +77,10 @@ fn show(screen: &Screen, output: &[u8], shown: usize) -> Result<usize, Failure> 
     }
 }
 
-fn exception_of(exception: Raising) -> Exception {
-    match exception {
-        Raising::Constraint => Exception::Constraint,
-        Raising::Program => Exception::Program,
-        Raising::Storage => Exception::Storage,
-    }
-}
-
 // The end of a run in which an exception was raised in the code of this unit.
 fn raised_in(
     alloc: Global,
-    exception: Raising,
+    exception: Exception,
     object: Option<&ImageObject>,
     line: Option<u32>,
 ) -> Result<RunEnd, NoMemory> {
@@ -102,7 +93,7 @@ fn raised_in(
         kind: object.kind,
     };
     Ok(RunEnd::Raised {
-        exception: exception_of(exception),
+        exception,
         unit,
         line,
     })

@@ -7,10 +7,9 @@ use al_base::{Diagnostic, UnitKey};
 use al_bind::{BindFault, Line, MissingItem};
 use al_engine_batch::Compiled;
 use al_folder_told::{
-    ImageChange, emit_cycle, emit_diagnostics, emit_end, emit_no_body, emit_no_main,
+    ImageChange, RunEnd, emit_cycle, emit_diagnostics, emit_end, emit_no_body, emit_no_main,
     emit_no_subunit, emit_parts, emit_progress, emit_too_large,
 };
-use al_session_served::RunEnd;
 use al_session_stream::finish;
 
 /// Tells why the last build gave no image, if it gave none; whether it gave one.
@@ -51,7 +50,14 @@ fn tell_diagnostics(
 ) -> Result<(), Failure> {
     let mut writer = screen.telling()?;
     let folders = &sources.folders;
-    let told = emit_diagnostics(Ok(()), &mut writer, folders, &sources.texts, is_plain, found);
+    let told = emit_diagnostics(
+        Ok(()),
+        &mut writer,
+        folders,
+        &sources.texts,
+        is_plain,
+        found,
+    );
     finish(told, &mut writer)?;
     Ok(())
 }

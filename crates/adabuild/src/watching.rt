@@ -79,7 +79,9 @@ fn serve_line<R: Files + Clock + AllocGlobal + Clone + Drop>(
         }
         WatchWord::Quit => return Ok(false),
         WatchWord::Unknown => {
-            screen.tell(b"the words are run, order, obsolete and quit, and an empty line builds\n")?;
+            screen.tell(
+                b"the words are run, order, obsolete and quit, and an empty line builds\n",
+            )?;
             return Ok(true);
         }
     }
@@ -125,7 +127,14 @@ fn build_again<R: Files + Clock + AllocGlobal + Clone + Drop>(
     let change = rebuild(&mut watched.library, request.unit.as_slice())?;
     let millis = millis_since(rt, start)?;
     tell_rebuilt(screen, watched, change, millis)?;
-    finish_build(rt, screen, request, &watched.library, &watched.sources, uses)
+    finish_build(
+        rt,
+        screen,
+        request,
+        &watched.library,
+        &watched.sources,
+        uses,
+    )
 }
 
 // Builds; what that did to the image.

@@ -2,9 +2,15 @@
 use Rattle.std.specs.Prelude.{ℕ, ◌++◌, nat_lt, List, [], length, codes, decimal, Option, Some, None, if◌then◌else◌}
 use Rattle.al_base.specs.Batch.{Key, key_of}
 use Rattle.al_base.specs.FileNames.{file_name_of}
-use Rattle.al_session_served.specs.Replies.{exception_word}
-use Rattle.al_session_served.specs.declared.run.RunEnd.{RunEnd}
-use Rattle.al_session_served.specs.declared.run.RunEnd.TheVariants.{Finished, Idle, Spent, Stuck, Raised}
+use Rattle.al_machine.specs.declared.instruction.Exception.{Exception}
+use Rattle.al_machine.specs.declared.instruction.Exception.TheVariants.{Constraint, Program, Storage}
+use Rattle.al_folder_told.specs.declared.runs.RunEnd.{RunEnd}
+use Rattle.al_folder_told.specs.declared.runs.RunEnd.TheVariants.{Finished, Idle, Spent, Stuck, Raised}
+
+abbrev pub exception_word : Exception → List ℕ
+exception_word Constraint = codes "constraint_error"
+exception_word Program = codes "program_error"
+exception_word Storage = codes "storage_error"
 
 -- the file that holds the unit; the unit's name where that file's would be longer than any
 abbrev pub file_words : Key → List ℕ

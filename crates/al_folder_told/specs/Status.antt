@@ -1,7 +1,7 @@
 -- Exit statuses.
 use Rattle.std.specs.Prelude.{ℕ}
-use Rattle.al_session_served.specs.declared.run.RunEnd.{RunEnd}
-use Rattle.al_session_served.specs.declared.run.RunEnd.TheVariants.{Finished, Idle, Spent, Stuck, Raised}
+use Rattle.al_folder_told.specs.declared.runs.RunEnd.{RunEnd}
+use Rattle.al_folder_told.specs.declared.runs.RunEnd.TheVariants.{Finished, Idle, Spent, Stuck, Raised}
 use Rattle.al_folder_told.specs.declared.status.Ending.{Ending}
 use Rattle.al_folder_told.specs.declared.status.Ending.TheVariants.{Done, NotBuilt, Usage, ByException}
 

@@ -3,8 +3,7 @@ ghost use Rattle.std.specs.Prelude.{◌≡◌, ◌-◌, ◌^◌, ◌<◌, IsOk, 
 ghost use Rattle.std.specs.List.{flat_map};
 ghost use Rattle.al_base.specs.Batch.{finding_of};
 ghost use Rattle.al_session_stream.specs.Output.{Adds};
-ghost use Rattle.al_session_served.specs.Replies.{message_of};
-ghost use Rattle.al_folder_told.specs.Diagnostics.{elsewhere, folder_words, diagnostic_line, source_lines, diagnostic_text, folder_of, text_shown, told_text, errors_word, count_line, diagnostics_text};
+ghost use Rattle.al_folder_told.specs.Diagnostics.{message_of, elsewhere, folder_words, diagnostic_line, source_lines, diagnostic_text, folder_of, text_shown, told_text, errors_word, count_line, diagnostics_text};
 
 use al_base::{Diagnostic, Files, Place, Rule};
 use al_folder::{emit_excerpt, line_at};
@@ -24,7 +23,11 @@ fn message_of(code: u16) -> &'static [u8]
 fn elsewhere<'a>(folder: &[u8], bytes: &'a [u8]) -> &'a [u8]
     ensures { result.now ≡ elsewhere folder.now bytes.now }
 {
-    if folder == b".".as_slice() { &[] } else { bytes }
+    if folder == b".".as_slice() {
+        &[]
+    } else {
+        bytes
+    }
 }
 
 /// Writes what stands before the name of a file of the folder.
@@ -156,7 +159,11 @@ fn emit_each<K: Sink>(
 fn errors_word(count: usize) -> &'static [u8]
     ensures { result.now ≡ errors_word count }
 {
-    if count == 1 { b" error\n" } else { b" errors\n" }
+    if count == 1 {
+        b" error\n"
+    } else {
+        b" errors\n"
+    }
 }
 
 /// Writes how many errors there are.

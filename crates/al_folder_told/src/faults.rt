@@ -22,7 +22,11 @@ pub fn emit_no_main<K: Sink>(
 {
     let so_far = emit(so_far, writer, b"error: ");
     let so_far = emit(so_far, writer, name);
-    emit(so_far, writer, b" is no procedure of the library without parameters\n")
+    emit(
+        so_far,
+        writer,
+        b" is no procedure of the library without parameters\n",
+    )
 }
 
 /// Writes that a body is missing.
@@ -75,11 +79,7 @@ fn reason_words(reason: Reason) -> &'static [u8]
 }
 
 /// Writes one step of a cycle.
-fn emit_step<K: Sink>(
-    so_far: Result<(), Device>,
-    writer: &mut K,
-    line: &Line,
-) -> Result<(), Device>
+fn emit_step<K: Sink>(so_far: Result<(), Device>, writer: &mut K, line: &Line) -> Result<(), Device>
     requires { IsOk so_far → K.faults writer.old < 2 ^ 64 - 1 }
     ensures faults { IsOk result → IsOk so_far × (K.faults writer.new ≡ K.faults writer.old) }
     ensures adds { Adds K.written K.faults K.waits writer.old writer.new so_far result (step_line (line_model line.now)) }

@@ -2,13 +2,46 @@
 ghost use Rattle.std.specs.Prelude.{◌≡◌, ◌-◌, ◌^◌, ◌<◌, IsOk};
 ghost use Rattle.al_base.specs.Batch.{key_of};
 ghost use Rattle.al_session_stream.specs.Output.{Adds};
-ghost use Rattle.al_session_served.specs.Replies.{exception_word};
-ghost use Rattle.al_session_served.specs.declared.run.RunEnd.TheVariants.{Raised};
-ghost use Rattle.al_folder_told.specs.Runs.{file_words, line_words, end_text};
+ghost use Rattle.al_folder_told.specs.declared.runs.RunEnd.TheVariants.{Raised};
+ghost use Rattle.al_folder_told.specs.Runs.{exception_word, file_words, line_words, end_text};
 
 use al_base::{FileKey, UnitKey};
-use al_session_served::{Exception, RunEnd};
+use al_machine::Exception;
 use al_session_stream::{Device, Sink, emit, emit_number};
+
+/// How a run ended.
+pub enum RunEnd {
+    /// All tasks have ended.
+    Finished,
+    /// No task is ready or delayed.
+    Idle,
+    /// The steps that were allowed are spent.
+    Spent,
+    /// The image is damaged.
+    Stuck,
+    /// An exception was raised in the code of this unit, on this line of its text where that is known.
+    Raised {
+        exception: Exception,
+        unit: UnitKey,
+        line: Option<u32>,
+    },
+}
+
+impl Drop for RunEnd {
+    fn drop(self) {
+        match self {
+            RunEnd::Finished => {}
+            RunEnd::Idle => {}
+            RunEnd::Spent => {}
+            RunEnd::Stuck => {}
+            RunEnd::Raised {
+                exception: _,
+                unit: _,
+                line: _,
+            } => {}
+        }
+    }
+}
 
 fn exception_word(exception: Exception) -> &'static [u8]
     ensures { result.now ≡ exception_word exception }

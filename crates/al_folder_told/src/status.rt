@@ -3,7 +3,7 @@ ghost use Rattle.std.specs.Prelude.{◌≡◌};
 ghost use Rattle.std.specs.Process.{exit_status};
 ghost use Rattle.al_folder_told.specs.Status.{status_of, ending_of};
 
-use al_session_served::RunEnd;
+use crate::runs::RunEnd;
 use std::process::ExitCode;
 
 /// How the program ended.

@@ -1,5 +1,5 @@
 use Rattle.std.proofs.Common.{append_assoc}
-use Rattle.al_session_served.specs.Replies.{exception_word}
+use Rattle.al_folder_told.specs.Runs.{exception_word}
 use Rattle.al_folder_told.proofs.runs.emit_raised.Goals as goal
 
 pub returns-clause-adds : goal.returns-clause-adds
