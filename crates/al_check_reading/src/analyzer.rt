@@ -14,8 +14,8 @@ use al_check_objects::leave_object;
 use al_query::{Answers, Recorder};
 use al_stmts::{LoopRange, LoopWords, ReturnContext};
 use al_stmts_choices::{Choice, Selector};
-use al_stmts_text::{Analyzer, CallEffect};
 use al_stmts_right_choices::are_right;
+use al_stmts_text::{Analyzer, CallEffect};
 use al_stmts_walk::BodyExtent;
 use al_tree::{
     Choice as ChoiceOfText, CommonDeclaration, DiscreteRange, Expression, Identifier,

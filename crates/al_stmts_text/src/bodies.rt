@@ -6,9 +6,9 @@ ghost use Rattle.al_stmts_walk.specs.Readings.{giving};
 ghost use Rattle.al_stmts_walk.specs.Walking.{body_ended, body_entered, object_ended};
 ghost use Rattle.al_stmts_walked.specs.WalkedViews.{inside_model, part_model};
 
+use crate::analyzer::Analyzer;
 use al_base::NoMemory;
 use al_base_fault::Fault;
-use crate::analyzer::Analyzer;
 use al_stmts_walk::BodyExtent;
 use al_stmts_walked::{Enclosing, WalkedInside, WalkedPart};
 use al_view_typed::TypedDeclaration;

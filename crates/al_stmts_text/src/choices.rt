@@ -10,10 +10,10 @@ ghost use Rattle.al_stmts_walk.specs.Readings.{giving};
 ghost use Rattle.al_stmts_walk.specs.Walking.{all_choices, choices_walked, more_choices, right_choices};
 ghost use Rattle.al_stmts_text.specs.Chosen.{choices_of, with_chosen};
 
+use crate::analyzer::Analyzer;
 use al_base::NoMemory;
 use al_base_fault::CheckResult;
 use al_stmts::{AlternativeChoices, CaseChoices, selector_of};
-use crate::analyzer::Analyzer;
 use al_tree::{Alternative, Choice, Expression};
 use al_view_typed::Typed;
 use std::alloc::Global;

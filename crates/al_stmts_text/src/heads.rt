@@ -14,11 +14,11 @@ ghost use Rattle.al_stmts_walk.specs.Readings.{giving};
 ghost use Rattle.al_stmts_walk.specs.Walking.{case_after, case_head, for_head, loop_words, parameter_declared, while_walked};
 ghost use Rattle.al_stmts_walked.specs.WalkedViews.{choosing_model};
 
+use crate::analyzer::Analyzer;
 use crate::choices::{all_choices, right_choices};
 use al_base::{NoMemory, Place};
 use al_base_fault::CheckResult;
 use al_stmts::{CaseChoices, LoopRange, LoopWords, for_scheme, while_scheme};
-use crate::analyzer::Analyzer;
 use al_stmts_walked::WalkedAlternatives;
 use al_tree::{Alternative, DiscreteRange, Expression, Identifier};
 use al_view_typed::{LoopScheme, Typed};

@@ -6,8 +6,8 @@ ghost use Rattle.al_tree.specs.Lexemes.{place_label};
 ghost use Rattle.al_stmts_walk.specs.Walking.{declared_part};
 ghost use Rattle.al_stmts_walked.specs.WalkedViews.{part_model};
 
-use al_base::{NoMemory, Place};
 use crate::analyzer::Analyzer;
+use al_base::{NoMemory, Place};
 use al_stmts_walked::WalkedPart;
 use al_tree::{CommonDeclaration, ProtectedDefinition, Specification, TaskDeclaration};
 use std::alloc::Global;

@@ -6,9 +6,9 @@ ghost use Rattle.al_stmts_walk.specs.Steps.{block_of, broken_by};
 ghost use Rattle.al_stmts_walk.specs.Walking.{closed, region_left};
 ghost use Rattle.al_stmts_walked.specs.WalkedViews.{inside_model, one_model, part_model};
 
+use crate::analyzer::Analyzer;
 use al_base::{NoMemory, Place};
 use al_base_fault::Fault;
-use crate::analyzer::Analyzer;
 use al_stmts_walked::{WalkedInside, WalkedPart, WalkedStatement};
 use std::alloc::Global;
 
