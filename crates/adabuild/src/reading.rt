@@ -79,7 +79,12 @@ fn names_in<R: Files + AllocGlobal + Clone + Drop>(
     let mut names = Vec::new(rt.alloc());
     let entries: ReadDir<R> = std::fs::read_dir(rt, folder)?;
     for entry in entries {
-        add_name(rt.alloc(), &mut names, &entry?)?;
+        match entry {
+            Ok(entry) => add_name(rt.alloc(), &mut names, &entry)?,
+            // a name that isn't UTF-8, and so no source's
+            Err(e) if e.kind() == io::ErrorKind::InvalidFilename => {}
+            Err(e) => return Err(e),
+        }
     }
     names.sort()?;
     Ok(names)

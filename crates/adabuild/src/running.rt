@@ -50,7 +50,7 @@ fn run_world(screen: &Screen, world: &mut World, pace: Pace) -> Result<(), Failu
 // never waits has each tick where it would have it in one part.
 fn part_of(tick: u32, left: Option<u32>) -> u64 {
     let turn = u64::from(tick) + 1;
-    let whole = PART / turn * turn;
+    let whole = PART.saturating_sub(PART % turn).max(turn);
     match left {
         Some(left) => whole.min(u64::from(left)),
         None => whole,

@@ -21,12 +21,6 @@ impl Drop for Screen {
     }
 }
 
-/// A writer that keeps what it is given until it is finished.
-pub type Telling<'a> = Counted<BufWriter<&'a Stderr>>;
-
-/// .. to the standard output.
-pub type Putting<'a> = Counted<BufWriter<&'a Stdout>>;
-
 impl Screen {
     pub fn new(alloc: Global, output: Stdout, error: Stderr) -> Screen {
         Screen {
@@ -52,13 +46,13 @@ impl Screen {
         Ok(())
     }
 
-    /// A writer of what is told.
-    pub fn telling(&self) -> Result<Telling<'_>, Failure> {
-        Ok(Counted::new(BufWriter::new(self.alloc, &self.error)?))
+    /// The standard error, which gets what is told in one piece.
+    pub fn telling(&self) -> Result<BufWriter<&Stderr>, Failure> {
+        Ok(BufWriter::new(self.alloc, &self.error)?)
     }
 
-    /// A writer of what is put out.
-    pub fn putting(&self) -> Result<Putting<'_>, Failure> {
-        Ok(Counted::new(BufWriter::new(self.alloc, &self.output)?))
+    /// The standard output, which gets what is put out in one piece.
+    pub fn putting(&self) -> Result<BufWriter<&Stdout>, Failure> {
+        Ok(BufWriter::new(self.alloc, &self.output)?)
     }
 }

@@ -10,7 +10,7 @@ use al_folder_told::{
     ImageChange, RunEnd, emit_cycle, emit_diagnostics, emit_end, emit_no_body, emit_no_main,
     emit_no_subunit, emit_parts, emit_progress, emit_too_large,
 };
-use al_session_stream::finish;
+use al_session_stream::{Counted, finish};
 
 /// Tells why the last build gave no image, if it gave none; whether it gave one.
 pub fn tell_build(
@@ -48,7 +48,7 @@ fn tell_diagnostics(
     is_plain: bool,
     found: &[Diagnostic],
 ) -> Result<(), Failure> {
-    let mut writer = screen.telling()?;
+    let mut writer = Counted::new(screen.telling()?);
     let folders = &sources.folders;
     let told = emit_diagnostics(
         Ok(()),
@@ -71,7 +71,7 @@ fn tell_fault(screen: &Screen, main: &[u8], fault: &BindFault) -> Result<(), Fai
 }
 
 fn tell_missing(screen: &Screen, main: &[u8], item: &MissingItem) -> Result<(), Failure> {
-    let mut writer = screen.telling()?;
+    let mut writer = Counted::new(screen.telling()?);
     let told = match item {
         MissingItem::Main => emit_no_main(Ok(()), &mut writer, main),
         MissingItem::Body(name) => emit_no_body(Ok(()), &mut writer, name.as_slice()),
@@ -82,14 +82,14 @@ fn tell_missing(screen: &Screen, main: &[u8], item: &MissingItem) -> Result<(), 
 }
 
 fn tell_cycle(screen: &Screen, lines: &[Line]) -> Result<(), Failure> {
-    let mut writer = screen.telling()?;
+    let mut writer = Counted::new(screen.telling()?);
     let told = emit_cycle(Ok(()), &mut writer, lines);
     finish(told, &mut writer)?;
     Ok(())
 }
 
 fn tell_too_large(screen: &Screen) -> Result<(), Failure> {
-    let mut writer = screen.telling()?;
+    let mut writer = Counted::new(screen.telling()?);
     let told = emit_too_large(Ok(()), &mut writer);
     finish(told, &mut writer)?;
     Ok(())
@@ -97,7 +97,7 @@ fn tell_too_large(screen: &Screen) -> Result<(), Failure> {
 
 /// Tells how a run ended.
 pub fn tell_end(screen: &Screen, end: &RunEnd) -> Result<(), Failure> {
-    let mut writer = screen.telling()?;
+    let mut writer = Counted::new(screen.telling()?);
     let told = emit_end(Ok(()), &mut writer, end);
     finish(told, &mut writer)?;
     Ok(())
@@ -111,7 +111,7 @@ pub fn tell_progress(
     change: ImageChange,
     millis: usize,
 ) -> Result<(), Failure> {
-    let mut writer = screen.telling()?;
+    let mut writer = Counted::new(screen.telling()?);
     let told = emit_progress(Ok(()), &mut writer, checked, units, change, millis);
     finish(told, &mut writer)?;
     Ok(())
@@ -119,7 +119,7 @@ pub fn tell_progress(
 
 /// Prints a line for each part of a unit.
 pub fn print_parts(screen: &Screen, keys: &[UnitKey]) -> Result<(), Failure> {
-    let mut writer = screen.putting()?;
+    let mut writer = Counted::new(screen.putting()?);
     let put = emit_parts(Ok(()), &mut writer, keys);
     finish(put, &mut writer)?;
     Ok(())

@@ -23,12 +23,20 @@ pub enum WatchWord {
 pub fn watch_word(line: &[u8]) -> WatchWord
     ensures { result ≡ watch_word line.now }
 {
-    match line {
-        b"" => WatchWord::Build,
-        b"run" => WatchWord::Run,
-        b"order" => WatchWord::Order,
-        b"obsolete" => WatchWord::Obsolete,
-        b"quit" => WatchWord::Quit,
-        _ => WatchWord::Unknown,
+    if line == b"".as_slice() {
+        return WatchWord::Build;
     }
+    if line == b"run".as_slice() {
+        return WatchWord::Run;
+    }
+    if line == b"order".as_slice() {
+        return WatchWord::Order;
+    }
+    if line == b"obsolete".as_slice() {
+        return WatchWord::Obsolete;
+    }
+    if line == b"quit".as_slice() {
+        return WatchWord::Quit;
+    }
+    WatchWord::Unknown
 }

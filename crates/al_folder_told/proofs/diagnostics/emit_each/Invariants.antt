@@ -8,6 +8,6 @@ use Rattle.al_folder_told.proofs.diagnostics.emit_each.Given as goal
 abbrev pub invariant-loop-diagnostic : goal.invariant-loop-diagnostic
 invariant-loop-diagnostic g l = record {
   adds : Adds g.K.Sink.written g.K.Sink.faults g.K.Sink.waits l.fn.writer l.writer l.fn.so_far l.so_far
-      (flat_map (told_text l.folders.now l.texts.now l.is_plain) (map finding_of (take l.diagnostic-index l.diagnostics)));
+      (flat_map (told_text l.folders l.texts l.is_plain) (map finding_of (take l.diagnostic-index l.diagnostics)));
   room : IsOk l.so_far → IsOk l.fn.so_far × (g.K.Sink.faults l.writer ≡ g.K.Sink.faults l.fn.writer);
 }

@@ -5,4 +5,4 @@ returns-in_default-clause-adds g c = λ start before wrote. rw c.in_default.is (
 
 pub returns-clause-adds : goal.returns-clause-adds
 returns-clause-adds g c = λ start before wrote.
-    rw c.in-Some.is (rw c.line_at-line.ensures at (c.emit_excerpt.ensures.adds start before wrote))
+    rw c.in-Some.is (rw (c.line_at-line.ensures, c.saturating_sub.ensures) at (c.emit_excerpt.ensures.adds start before wrote))
