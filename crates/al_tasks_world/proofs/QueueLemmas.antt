@@ -7,7 +7,7 @@ use Rattle.al_machine.specs.Memory.{is_entered}
 use Rattle.al_tasks_world.specs.declared.event.Pause.{Pause}
 use Rattle.al_tasks_world.specs.Task.{Task}
 use Rattle.al_tasks_world.specs.World.{at_head, at_tail, by_number, passing, failing, all_at_tail, inside, outside}
-use Rattle.al_tasks_world.specs.Exclusion.{Each, EachAfter, Apart, Above}
+use Rattle.al_tasks_world.specs.Exclusion.{Each, EachAfter, Apart, Above, Descends}
 
 -- the priority now is the ceiling of the object entered last, and the one before was no higher; at the bottom it is the task's own
 abbrev pub HeldOk : List Region → ℕ → ℕ → List Entered → Type 0
@@ -16,9 +16,6 @@ HeldOk cs base active (h ∷ hs) = ((o : Region) × (slice_get cs h.object ≡ S
 
 abbrev pub TaskOk : List Region → Task → Type 0
 TaskOk cs t = HeldOk cs t.base t.active t.held
-
-abbrev pub Descends : Task → Task → Type 0
-Descends y x = x.active ≤ y.active
 
 abbrev pub Away : Task → Type 0
 Away t = (t.held ≡ []) × (t.active ≡ t.base)

@@ -21,6 +21,10 @@ abbrev pub EachAfter : (Task → Task → Type 0) → List Task → Type 0
 EachAfter R [] = ⊤
 EachAfter R (t ∷ ts) = Each (R t) ts × EachAfter R ts
 
+-- y's priority is no lower than x's
+abbrev pub Descends : Task → Task → Type 0
+Descends y x = x.active ≤ y.active
+
 -- the two are not inside one object
 abbrev pub Apart : Task → Task → Type 0
 Apart y x = (o : ℕ) → is_entered y.held o ≡ true → is_entered x.held o ≡ true → ⊥

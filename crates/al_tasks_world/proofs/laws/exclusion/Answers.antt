@@ -25,6 +25,9 @@ returns-clause-nothing c image events =
 pub returns-clause-above : goal.returns-clause-above
 returns-clause-above c image events = let p = program_of image in let k = keeps-after p (load p) events (keeps-load p) in k.above
 
+pub returns-clause-levels : goal.returns-clause-levels
+returns-clause-levels c image events = let p = program_of image in let k = keeps-after p (load p) events (keeps-load p) in k.levels
+
 pub returns-clause-words : goal.returns-clause-words
 returns-clause-words c image events is = words_are_kept (program_of image) (laid_out image is) events
 
