@@ -7,13 +7,14 @@ use Rattle.std.proofs.lemmas.List.Folds.{length-flat_map-take}
 use Rattle.al_base.specs.Batch.{Key}
 use Rattle.al_base.specs.declared.unit_key.UnitKind.TheVariants.{Decl, Body, Sub}
 use Rattle.al_base_order.specs.declared.edge.Edge.{Edge}
+use Rattle.al_base_order.specs.declared.edge.Reason.{Reason}
 use Rattle.al_base_order.proofs.PlacingLemmas.{place_in}
 use Rattle.al_base_order.proofs.RelationLemmas.{stands_before}
 use Rattle.al_unit_graph.specs.Headers.{Library}
 use Rattle.al_unit_graph.proofs.Lists.{into_filter}
-use Rattle.al_bind.specs.Binding.{items_at, items_of, key_at}
-use Rattle.al_bind.specs.Elaboration.{is_pair, node_of}
-use Rattle.al_bind.specs.Laws.{IsWhole, OrderObeys, PairsStayTogether, StandsBefore}
+use Rattle.al_bind.specs.Binding.{IsElaboration, items_at, items_of, key_at}
+use Rattle.al_bind.specs.Elaboration.{Carries, IsItem, is_pair, node_of}
+use Rattle.al_bind.specs.Laws.{PairsStayTogether, StandsBefore}
 use Rattle.al_unit_graph.specs.Needed.{ListsUnits, Needed}
 use Rattle.al_bind.specs.Numbers.{ComesAfter, IsAt, TellsEdge, is_node, nodes_among}
 
@@ -26,6 +27,10 @@ nodes_are_nodes : (lib : Library) (x : Key) → (x.1 ≡ Sub → ⊥) → is_nod
 nodes_are_nodes lib (name, Decl) item = refl
 nodes_are_nodes lib (name, Body) item = is_node_by lib name (is_pair lib name) refl
 nodes_are_nodes lib (name, Sub) item = absurd (item refl)
+
+-- an item of the partition whose node is one too
+abbrev pub IsWhole : Library → List ℕ → Key → Type 0
+IsWhole lib main x = IsItem lib main x × IsItem lib main (node_of lib x)
 
 -- where a needed item's node stands
 node_place : (lib : Library) (main : List ℕ) (keys : List Key) → ListsUnits lib keys (Needed lib main) → (x : Key) → IsWhole lib main x → Contains (nodes_among lib keys) (node_of lib x)
@@ -94,8 +99,9 @@ module _ (lib : Library) (nodes : List Key) (order : List ℕ) where
         before = pieces_before piece order b a 0 j k less (omega (arith, within)) j_in;
       }
 
-pub order_obeys : OrderObeys
-order_obeys lib main items is reason x y whole_x whole_y carries =
+-- where an edge leads from the node of x to that of y, y stands before x
+pub whole_items_obey : (lib : Library) (main : List ℕ) (items : List Key) → IsElaboration lib main items → (reason : Reason) (x y : Key) → IsWhole lib main x → IsWhole lib main y → Carries lib main reason x y → StandsBefore items y x
+whole_items_obey lib main items is reason x y whole_x whole_y carries =
     let nodes = nodes_among lib is.keys in
     let (n, n_in, n_is) = node_place lib main is.keys is.lists x whole_x in
     let (m, m_in, m_is) = node_place lib main is.keys is.lists y whole_y in

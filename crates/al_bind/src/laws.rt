@@ -9,7 +9,7 @@ ghost use Rattle.al_unit_graph.specs.Headers.{Header, Library};
 ghost use Rattle.al_unit_graph.specs.Library.{unit_at};
 ghost use Rattle.al_unit_graph.specs.Needed.{Needed};
 ghost use Rattle.al_bind.specs.Elaboration.{Carries, IsItem, is_pair, node_of};
-ghost use Rattle.al_bind.specs.Laws.{OrderExcludesCycle, OrderObeys, PairsStayTogether};
+ghost use Rattle.al_bind.specs.Laws.{OrderExcludesCycle, PairsStayTogether};
 
 /// The two parts of a pair under Elaborate_Body are one node, and no edge is between them: so nothing is elaborated between them.
 pub fn pair_is_one_node()
@@ -20,12 +20,6 @@ pub fn pair_is_one_node()
 /// An item whose unit names Q in Elaborate_All comes after every needed item that Q's declaration needs, of another node.
 pub fn all_needed_come_before()
     ensures { (lib : Library) (main q : List ℕ) (x y : Key) (h : Header) → IsItem lib main x → IsItem lib main y → unit_at lib x ≡ Some h → Contains h.elaborate_all q → Needed lib q y → node_of lib x ≢ node_of lib y → Carries lib main ElaborateAll x y }
-{}
-
-/// The order obeys every dependence and every pragma: where x is elaborated after y for any reason, and the two are no pair, y stands
-/// before x (ARM 10.2(9), 10.2.1(17)).
-pub fn order_obeys()
-    ensures { OrderObeys }
 {}
 
 /// In the order the body of a pair under Elaborate_Body comes right after its declaration (ARM 10.2.1(26)).

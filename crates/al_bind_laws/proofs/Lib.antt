@@ -1,3 +1,4 @@
 pub mod Orders
 pub mod Cycles
 pub mod Bound
+pub mod Obeys

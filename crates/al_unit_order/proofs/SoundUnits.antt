@@ -56,7 +56,7 @@ body_file : (n : List ℕ) → file_name_of (n, Sub) ≡ file_name_of (n, Body)
 unfolding file_name_of
 body_file n = refl
 
--- a unit of the library that breaks no rule
+-- a unit of the library
 pub record Stands (lib : Library) (key : Key) : Type 0 where
   pub unit : Header
   pub at : unit_at lib key ≡ Some unit
@@ -66,20 +66,23 @@ pub record Stands (lib : Library) (key : Key) : Type 0 where
   pub headed : source.contents ≡ Headed unit
   pub free : is_reserved key.0 ≡ false
 
-pub stands : (lib : Library) (key : Key) → is_faultless lib key ≡ true → Stands lib key
-stands lib key is =
-    let s = from_faultless lib key is in
-    let r = at_key lib key s.unit s.at in
-    let held = in_file lib (file_name_of key) s.unit r.0 in
+pub stands_at : (lib : Library) (key : Key) (h : Header) → unit_at lib key ≡ Some h → Stands lib key
+stands_at lib key h at =
+    let r = at_key lib key h at in
+    let held = in_file lib (file_name_of key) h r.0 in
     record {
-      unit = s.unit;
-      at = s.at;
+      unit = h;
+      at = at;
       key_is = r.1;
       source = held.source;
       there = held.there;
       headed = held.headed;
       free = ap is_reserved (sym (ap (λ (k : Key). k.0) r.1)) ∙ held.free;
     }
+
+-- one that breaks no rule
+pub stands : (lib : Library) (key : Key) → is_faultless lib key ≡ true → Stands lib key
+stands lib key is = let s = from_faultless lib key is in stands_at lib key s.unit s.at
 
 pub reserved_is_not : (lib : Library) (key : Key) → is_reserved key.0 ≡ true → is_faultless lib key ≡ false
 reserved_is_not lib key reserved = by (is_faultless lib key) refl
@@ -89,14 +92,13 @@ reserved_is_not lib key reserved = by (is_faultless lib key) refl
     by false is = refl
 
 module _ (lib : Library) (n : List ℕ) where
-  declaration_file : is_faultless lib (n, Decl) ≡ true → has_declaration_file lib n ≡ true
-  declaration_file is =
-      let s = stands lib (n, Decl) is in
+  declaration_file : Stands lib (n, Decl) → has_declaration_file lib n ≡ true
+  declaration_file s =
       and (not (is_without_file n)) (is_there lib (file_name_of (n, Decl))) (true_not (is_without_file n) (has_file n s.free)) (ap is_some s.there)
 
   pub declared : is_faultless lib (n, Decl) ≡ true → declaration_of lib n ≡ Some (n, Decl)
   unfolding declaration_of
-  declared is = let file = declaration_file is in rw file refl
+  declared is = let file = declaration_file (stands lib (n, Decl) is) in rw file refl
 
   -- a body's form
   body_form : (f : UnitForm) → kind_of f ≡ Body → (is_package_body f ≡ true) ⊎ (is_subprogram_body f ≡ true)
@@ -133,10 +135,10 @@ module _ (lib : Library) (n : List ℕ) where
   none_there None is = refl
   none_there (Some m) is = absurd (cc)
 
-  pub completes : NameParentBodies lib → is_faultless lib (n, Body) ≡ true → is_faultless lib (n, Decl) ≡ true → Contains (direct lib (n, Body)) (n, Decl)
+  -- a body depends on the declaration that it completes
+  pub completed : NameParentBodies lib → Stands lib (n, Body) → Stands lib (n, Decl) → Contains (direct lib (n, Body)) (n, Decl)
   unfolding dependences
-  completes named is declaration =
-      let s = stands lib (n, Body) is in
+  completed named s declaration =
       let at = s.at in
       let h = s.unit in
       let form = library_body h.form (ap (λ (k : Key). k.1) s.key_is) in
@@ -151,6 +153,9 @@ module _ (lib : Library) (n : List ℕ) where
       let parents : Contains (parent_dependences lib h h.parent_body) (n, Decl) = subst (λ o. Contains (parent_dependences lib h o) (n, Decl)) (sym parent) (Contains-append_right (parent_declaration lib h.name) (own_declaration lib h) (n, Decl) own) in
       let all : Contains (dependences lib h) (n, Decl) = Contains-append_left (parent_dependences lib h h.parent_body) (flat_map (mention_dependences lib) h.mentions) (n, Decl) parents in
       subst (λ o. Contains (option_map_or (dependences lib) o []) (n, Decl)) (sym at) all
+
+  pub completes : NameParentBodies lib → is_faultless lib (n, Body) ≡ true → is_faultless lib (n, Decl) ≡ true → Contains (direct lib (n, Body)) (n, Decl)
+  completes named is declaration = completed named (stands lib (n, Body) is) (stands lib (n, Decl) declaration)
 
   has_body : (source : Source) → is_reserved n ≡ false → source_at lib (file_name_of (n, Body)) ≡ Some source → has_body_file lib n ≡ true
   has_body source free there =
