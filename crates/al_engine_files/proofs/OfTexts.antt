@@ -2,8 +2,8 @@
 use Rattle.std.proofs.Common.{◌≡◌, sym, ap, ◌∙◌}
 use Rattle.al_base.specs.Files.{Texts}
 use Rattle.al_unit_graph.specs.Headers.{Library}
-use Rattle.al_unit.specs.Catalogs.{library_of, texts_of}
-use Rattle.al_unit.proofs.CatalogLemmas.{texts_of-library_of}
+use Rattle.al_unit.specs.Libraries.{library_of, texts_of}
+use Rattle.al_unit.proofs.LibraryLemmas.{texts_of-library_of}
 use Rattle.al_engine_files.specs.AdaFiles.{AreOfTexts}
 
 -- a library of texts is that of its own texts

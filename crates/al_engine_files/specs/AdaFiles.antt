@@ -1,7 +1,7 @@
 -- Ada files, by what their texts are read as.
 use Rattle.std.specs.Prelude.{◌≡◌, ℕ, List}
 use Rattle.al_unit_graph.specs.Headers.{Header, Library}
-use Rattle.al_unit.specs.Catalogs.{library_of, texts_of}
+use Rattle.al_unit.specs.Libraries.{library_of, texts_of}
 use Rattle.al_unit_headers.specs.Headed.{ReadsHeaders}
 use Rattle.al_engine.specs.States.{AreReadFor}
 

@@ -1,5 +1,5 @@
 // Ada files with what they are read as.
-ghost use Rattle.al_unit.specs.Catalogs.{library_of};
+ghost use Rattle.al_unit.specs.Libraries.{library_of};
 ghost use Rattle.al_engine_files.specs.AdaFiles.{FilesAreRead};
 
 use crate::sources::sources_after;
@@ -24,7 +24,7 @@ impl Drop for AdaFiles {
 
 impl Model for AdaFiles {
     ghost use Rattle.al_base.specs.Files.{Texts};
-    ghost use Rattle.al_unit.specs.Catalogs.{texts_of};
+    ghost use Rattle.al_unit.specs.Libraries.{texts_of};
     ghost use Rattle.al_engine_files.specs.AdaFiles.{AreOfTexts};
 
     ghost Value = { Texts };

@@ -3,7 +3,7 @@ ghost use Rattle.std.specs.Prelude.{◌≡◌, ◌≤◌, IfOk, IfSome, OnOk, le
 ghost use Rattle.std.specs.BTreeMap.{insert_entry};
 ghost use Rattle.al_base.specs.Files.{name_cmp};
 ghost use Rattle.al_unit_graph.specs.Views.{contents_model, source_model};
-ghost use Rattle.al_unit.specs.Catalogs.{contents_of, library_of, source_of};
+ghost use Rattle.al_unit.specs.Libraries.{contents_of, library_of, source_of};
 ghost use Rattle.al_unit.specs.ReadingSeen.{reading_model};
 ghost use Rattle.al_engine_files.specs.AdaFiles.{AreOfTexts};
 

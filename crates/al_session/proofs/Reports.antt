@@ -10,8 +10,8 @@ use Rattle.al_bind.specs.declared.binding.BindFault.TheVariants.{Lacks, Cycle}
 use Rattle.al_bind.specs.declared.lacking.MissingItem.TheVariants.{Main, Body, Subunit}
 use Rattle.al_unit_graph.specs.Headers.{Header}
 use Rattle.al_unit_faults.specs.Orders.{finding_cmp}
-use Rattle.al_unit.specs.Catalogs.{library_of}
-use Rattle.al_unit.proofs.CatalogLemmas.{names_of-library_of}
+use Rattle.al_unit.specs.Libraries.{library_of}
+use Rattle.al_unit.proofs.LibraryLemmas.{names_of-library_of}
 use Rattle.al_entries.specs.EntryLaw.{TextMeaning}
 use Rattle.al_engine_found.specs.Found.{findings_of}
 use Rattle.al_engine_found_laws.specs.Ascending.{FindingsAscend}

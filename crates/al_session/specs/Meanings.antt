@@ -1,7 +1,7 @@
 -- What the files of a library of Ada units mean, for a checker of units.
 use Rattle.std.specs.Prelude.{ℕ, List}
 use Rattle.al_unit_graph.specs.Headers.{Header}
-use Rattle.al_unit.specs.Catalogs.{library_of}
+use Rattle.al_unit.specs.Libraries.{library_of}
 use Rattle.al_entries.specs.EntryLaw.{TextMeaning}
 use Rattle.al_session_served.specs.Library.{LibraryMeaning}
 use Rattle.al_query_predefined.specs.PredefinedUnits.{predefined_answer}

@@ -1,5 +1,4 @@
 pub mod Faults
 pub mod ReadingLaws
-pub mod ReadingLemmas
 pub mod Ascending
-pub mod CatalogLemmas
+pub mod LibraryLemmas

@@ -11,7 +11,7 @@ use Rattle.al_tree_syntax.specs.UnitTrees.{CompilationUnitTree, tokens_of}
 use Rattle.al_tree_syntax.specs.Nesting.{nesting}
 use Rattle.al_tree.specs.Lexemes.{lexemes}
 use Rattle.al_unit_graph.specs.Traces.{AreReadAlike}
-use Rattle.al_unit.specs.Catalogs.{library_of}
+use Rattle.al_unit.specs.Libraries.{library_of}
 use Rattle.al_unit.specs.Readings.{Reading, reading_of, token_place}
 use Rattle.al_unit.specs.Readings.Reading.{Sentence, Fails}
 

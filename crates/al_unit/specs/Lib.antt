@@ -1,5 +1,4 @@
 pub mod Readings
 pub mod ReadingSeen
 pub mod Laws
-pub mod Catalogs
-pub mod CatalogSeen
+pub mod Libraries

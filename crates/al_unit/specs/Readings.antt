@@ -15,10 +15,6 @@ pub data Reading : Type 0 where
   Sentence : CompilationUnitTree → Reading
   Fails : Place → ℕ → Reading
 
-abbrev pub sentence_of : Reading → Option CompilationUnitTree
-sentence_of (Sentence unit) = Some unit
-sentence_of (Fails place code) = None
-
 -- where a token stands; after the last one, the end of the text
 abbrev pub token_place : List ℕ → List Token → ℕ → Place
 token_place text tokens n = unwrap_or (option_map (λ t. t.span.place) (slice_get tokens n)) (end_place_of text)

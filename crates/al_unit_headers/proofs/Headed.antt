@@ -10,7 +10,7 @@ use Rattle.al_tree_syntax.specs.UnitTrees.LibraryItemTree.{LibrarySubprogram, Li
 use Rattle.al_unit_header.specs.Units.{form_of, header_of, mention_of, parent_body_name}
 use Rattle.al_unit_graph.specs.Headers.{Header, Headed, Source, kind_of}
 use Rattle.al_unit_graph.specs.Library.{is_kind, source_at}
-use Rattle.al_unit.specs.Catalogs.{contents_of, library_of, source_of}
+use Rattle.al_unit.specs.Libraries.{contents_of, library_of, source_of}
 use Rattle.al_unit.specs.Readings.{Reading, reading_of}
 use Rattle.al_unit.specs.Readings.Reading.{Sentence, Fails}
 use Rattle.al_unit_headers.specs.Headed.{ReadsHeaders, TextsAreHeaded}

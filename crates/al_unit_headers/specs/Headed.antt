@@ -4,7 +4,7 @@ use Rattle.al_base.specs.Files.{Texts}
 use Rattle.al_tree_syntax.specs.UnitTrees.{CompilationUnitTree}
 use Rattle.al_unit_header.specs.Units.{header_of}
 use Rattle.al_unit_graph.specs.Headers.{Header}
-use Rattle.al_unit.specs.Catalogs.{library_of}
+use Rattle.al_unit.specs.Libraries.{library_of}
 use Rattle.al_unit.specs.Readings.{reading_of}
 use Rattle.al_unit.specs.Readings.Reading.{Sentence}
 use Rattle.al_unit_order.specs.Read.{AreHeaded, NameParentBodies}

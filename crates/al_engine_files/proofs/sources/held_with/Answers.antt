@@ -2,8 +2,8 @@ use Rattle.std.proofs.Common.{◌≡◌, true, sym, ap, subst, ◌∙◌, arith}
 use Rattle.std.proofs.lemmas.Slice.Eq.{bytes_eq-Decides}
 use Rattle.std.specs.Str.{bytes_eq}
 use Rattle.al_unit_graph.specs.Views.{source_model}
-use Rattle.al_unit.specs.Catalogs.{source_of}
-use Rattle.al_unit.proofs.CatalogLemmas.{source_of_its_text}
+use Rattle.al_unit.specs.Libraries.{source_of}
+use Rattle.al_unit.proofs.LibraryLemmas.{source_of_its_text}
 use Rattle.al_engine_files.proofs.sources.held_with.Goals as goal
 
 pub returns : goal.returns

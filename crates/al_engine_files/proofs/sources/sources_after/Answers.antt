@@ -5,8 +5,8 @@ use Rattle.std.specs.List.{AllByRecursion}
 use Rattle.al_base.specs.FileLaws.{Ascend}
 use Rattle.al_base.specs.Files.{IsFile, name_cmp}
 use Rattle.al_base.proofs.HeldFiles.{short_name, held_at}
-use Rattle.al_unit.specs.Catalogs.{library_of, source_of}
-use Rattle.al_unit.proofs.CatalogLemmas.{next_source, no_library}
+use Rattle.al_unit.specs.Libraries.{library_of, source_of}
+use Rattle.al_unit.proofs.LibraryLemmas.{next_source, no_library}
 use Rattle.al_engine_files.proofs.sources.sources_after.Goals as goal
 
 pub loop-name-init : goal.loop-name-init

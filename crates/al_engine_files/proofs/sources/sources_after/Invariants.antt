@@ -1,5 +1,5 @@
 use Rattle.std.proofs.Common.{◌≡◌, map, take}
-use Rattle.al_unit.specs.Catalogs.{library_of}
+use Rattle.al_unit.specs.Libraries.{library_of}
 use Rattle.al_engine_files.proofs.sources.sources_after.Given as goal
 
 abbrev pub invariant-loop-name : goal.invariant-loop-name

@@ -1,7 +1,7 @@
 use Rattle.std.proofs.Common.{subst}
 use Rattle.std.specs.Prelude.{IfSome}
 use Rattle.al_base.specs.FileLaws.{Ascend}
-use Rattle.al_unit.specs.Catalogs.{library_of}
+use Rattle.al_unit.specs.Libraries.{library_of}
 use Rattle.al_query_predefined.specs.PredefinedUnits.{predefined_answer}
 use Rattle.al_session_engine.specs.Meanings.{Compiles}
 use Rattle.al_session.proofs.Reports.{gave_ascend}

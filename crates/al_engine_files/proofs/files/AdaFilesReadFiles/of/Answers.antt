@@ -1,5 +1,5 @@
 use Rattle.std.proofs.Common.{[], sym, ◌∙◌}
-use Rattle.al_unit.proofs.CatalogLemmas.{no_library}
+use Rattle.al_unit.proofs.LibraryLemmas.{no_library}
 use Rattle.al_engine_files.proofs.OfTexts.{are_of_texts, files_are}
 use Rattle.al_engine_files.proofs.files.AdaFilesReadFiles.of.Goals as goal
 

@@ -1,9 +1,0 @@
-use Rattle.std.proofs.Common.{◌≡◌, map, take}
-use Rattle.al_unit.specs.Catalogs.{library_of, readings_of}
-use Rattle.al_unit.specs.ReadingSeen.{readings_model}
-use Rattle.al_unit.proofs.catalog.Catalog.after.Given as goal
-
-abbrev pub invariant-loop-name : goal.invariant-loop-name
-invariant-loop-name l =
-    (l.sources ≡ library_of (map (λ f. (f.0.now, f.1.now.value.items)) (take l.name-index l.name-items)))
-    × (readings_model l.readings.entries ≡ readings_of (map (λ f. (f.0.now, f.1.now.value.items)) (take l.name-index l.name-items)))
