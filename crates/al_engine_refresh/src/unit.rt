@@ -63,12 +63,7 @@ pub(crate) struct Done {
 }
 
 /// Adds the entry of a unit.
-fn add_entry(
-    alloc: Global,
-    unit: &UnitKey,
-    entry: Entry,
-    done: &mut Done,
-) -> Result<(), NoMemory>
+fn add_entry(alloc: Global, unit: &UnitKey, entry: Entry, done: &mut Done) -> Result<(), NoMemory>
     ensures entries { OnOk result (Becomes (at_unit done.old.entries) unit.now entry (at_unit done.new.entries)) }
     ensures checked { done.new.checked ≡ done.old.checked }
 {
@@ -77,12 +72,7 @@ fn add_entry(
 }
 
 /// Adds the entry of a unit that was checked.
-fn add_checked(
-    alloc: Global,
-    unit: &UnitKey,
-    entry: Entry,
-    done: &mut Done,
-) -> Result<(), NoMemory>
+fn add_checked(alloc: Global, unit: &UnitKey, entry: Entry, done: &mut Done) -> Result<(), NoMemory>
     ensures { OnOk result (Becomes (at_unit done.old.entries) unit.now entry (at_unit done.new.entries) × (done.new.checked ≡ done.old.checked ++ unit.now ∷ [])) }
 {
     add_entry(alloc, unit, entry, done)?;
