@@ -1,4 +1,6 @@
 // The library, and what is handed to it.
+ghost use Rattle.al_unit_headers.specs.Headed.{ReadsHeaders};
+
 use crate::failure::Failure;
 use al_base::{Files, NoMemory, Refusal};
 use al_check::{AdaCheck, ada_check};
@@ -6,6 +8,7 @@ use al_check_bounded::laws::headers_are_read;
 use al_engine::Engine;
 use al_engine_batch::Compiled;
 use al_engine_files::AdaFiles;
+use al_query_check::UnitCheck;
 use al_query_predefined::PredefinedUnits;
 use al_query_predefined::laws::units_are_predefined;
 use std::alloc::Global;
@@ -13,13 +16,28 @@ use std::alloc::Global;
 /// A library of Ada units.
 pub type Library = Engine<AdaFiles, AdaCheck, PredefinedUnits>;
 
+// A library with no file and no build, for a checker.
+fn library_for<C: UnitCheck + Drop>(
+    alloc: Global,
+    checker: C,
+) -> Result<Engine<AdaFiles, C, PredefinedUnits>, NoMemory>
+    requires { ReadsHeaders C.header }
+{
+    AdaFiles::are_read();
+    units_are_predefined();
+    match PredefinedUnits::new(alloc) {
+        Ok(predefined) => Ok(Engine::new(alloc, checker, predefined)),
+        Err(NoMemory) => {
+            drop(checker);
+            Err(NoMemory)
+        }
+    }
+}
+
 /// A library with no file and no build.
 pub fn new_library(alloc: Global) -> Result<Library, NoMemory> {
     headers_are_read();
-    AdaFiles::are_read();
-    units_are_predefined();
-    let predefined = PredefinedUnits::new(alloc)?;
-    Ok(Engine::new(alloc, ada_check(), predefined))
+    library_for(alloc, ada_check())
 }
 
 /// Brings a library with these files to those: what is gone is deleted, and what is new or has another text is put.

@@ -22,7 +22,7 @@ mod watching;
 use crate::building::build_once;
 use crate::failure::Failure;
 use crate::image_files::load;
-use crate::request::{Asked, HELP, USAGE, asked};
+use crate::request::{Asked, HELP, USAGE, read_words};
 use crate::screen::Screen;
 use crate::watching::watch;
 use al_folder_told::{Ending, exit_code};
@@ -51,7 +51,7 @@ fn outcome_of<R: Env + Files + Input + Clock + AllocGlobal + Clone + Drop>(
     let Some(words) = words_of(rt)? else {
         return usage(screen);
     };
-    match asked(alloc, words.as_slice())? {
+    match read_words(alloc, words.as_slice())? {
         Some(Asked::Help) => {
             screen.put(HELP.as_bytes())?;
             Ok(Ending::Done)

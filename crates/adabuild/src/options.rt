@@ -28,7 +28,7 @@ fn valued<'a>(alloc: Global, name: &'a str) -> Arg<'a> {
     Arg::new(alloc, name).long(name).action(ArgAction::Set)
 }
 
-fn with_flags(alloc: Global) -> Result<Command<'static>, AllocError> {
+fn with_flags<'a>(alloc: Global) -> Result<Command<'a>, AllocError> {
     let command = Command::new(alloc, "adabuild").disable_help_flag(true);
     let command = command.arg(flag(alloc, "help"))?.arg(flag(alloc, "run"))?;
     let command = command
@@ -37,7 +37,7 @@ fn with_flags(alloc: Global) -> Result<Command<'static>, AllocError> {
     command.arg(flag(alloc, "watch"))
 }
 
-fn command(alloc: Global) -> Result<Command<'static>, AllocError> {
+fn command<'a>(alloc: Global) -> Result<Command<'a>, AllocError> {
     let command = with_flags(alloc)?;
     let command = command
         .arg(valued(alloc, "steps"))?

@@ -81,7 +81,7 @@ pub enum Asked<'a> {
 }
 
 /// What the words ask for, the program's own word in front; none where they are of another form.
-pub fn asked<'a>(alloc: Global, words: &'a [String]) -> Result<Option<Asked<'a>>, Failure> {
+pub fn read_words<'a>(alloc: Global, words: &'a [String]) -> Result<Option<Asked<'a>>, Failure> {
     let Some(options) = Options::of(alloc, words)? else {
         return Ok(None);
     };

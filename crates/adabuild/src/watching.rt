@@ -6,6 +6,7 @@ use crate::reading::{Sources, read_folders};
 use crate::request::Request;
 use crate::screen::Screen;
 use crate::telling::{print_parts, tell_progress};
+use al_base::{Refusal, UnitKey};
 use al_folder_told::{Ending, ImageChange, WatchWord, image_change, watch_word};
 use std::alloc::Global;
 use std::rt::{Clock, Files};
@@ -178,9 +179,15 @@ fn list_obsolete<R: Files + AllocGlobal + Clone + Drop>(
         return Ok(());
     }
     match watched.library.obsolete() {
-        Ok(units) if units.is_empty() => screen.tell(b"no unit is obsolete\n"),
-        Ok(units) => print_parts(screen, units.as_slice()),
-        Err(al_base::Refusal::NotBuilt) => screen.tell(b"nothing was built\n"),
+        Ok(units) => print_obsolete(screen, units.as_slice()),
+        Err(Refusal::NotBuilt) => screen.tell(b"nothing was built\n"),
         Err(_) => Err(Failure::Memory),
     }
+}
+
+fn print_obsolete(screen: &Screen, units: &[UnitKey]) -> Result<(), Failure> {
+    if units.is_empty() {
+        return screen.tell(b"no unit is obsolete\n");
+    }
+    print_parts(screen, units)
 }
