@@ -7,7 +7,7 @@ use Rattle.al_check_here.specs.Stacks.{is_bare}
 use Rattle.al_check_here.specs.Standings.{is_nowhere, with_here}
 use Rattle.al_check_here.specs.declared.state.CheckState.{CheckState}
 use Rattle.al_decl_ada.specs.AdaPartReading.{parts_read}
-use Rattle.al_check_values.specs.ValuesHere.{not_yet_fault}
+use Rattle.al_check_declared.specs.Nowhere.{not_yet_fault}
 use Rattle.al_base.specs.declared.unit_key.UnitKind.TheVariants.{Decl}
 use Rattle.al_decl_body.specs.Regions.{in_regions}
 use Rattle.al_decl_item.specs.Items.{object_checked, subtype_item_checked, type_checked}

@@ -1,3 +1,4 @@
+pub mod Nowhere
 pub mod DeclarationsHere
 pub mod HeadsHere
 pub mod WholeHere

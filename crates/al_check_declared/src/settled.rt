@@ -16,13 +16,13 @@ ghost use Rattle.al_decl_protected.specs.Bodies.{named_model};
 ghost use Rattle.al_tree.specs.StatementViews.{operation_bodies_of, operation_body_model};
 ghost use Rattle.al_check_declared.specs.WholeHere.{own_mentioned, own_settled, whole_kept, whole_settled, with_own};
 
+use crate::nowhere::not_yet_fault;
 use al_base::{Name, NoMemory};
 use al_base_fault::{CheckResult, Fault};
 use al_check_here::{
     AnalyzedHeading, BodyRole, CheckState, add_stub, add_uses, effect_list, end_list,
 };
 use al_check_objects::open_object;
-use al_check_values::not_yet_fault;
 use al_decl_judged::{Declared, DefiningName};
 use al_decl_profile::{Heading, NewBody};
 use al_decl_protected::{NamedBody, bare_head};

@@ -1,1 +1,2 @@
 pub mod Ada
+pub mod ValuesHere

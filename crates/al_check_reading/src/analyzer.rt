@@ -1,4 +1,5 @@
 // Who reads Ada texts for the walk over a unit.
+use crate::{choices, ranges, values};
 use al_base::{NoMemory, Place};
 use al_base_fault::{CheckResult, Fault};
 use al_check_declared::{
@@ -10,12 +11,11 @@ use al_check_here::{
     leave_block, leave_innermost, returns_in,
 };
 use al_check_objects::leave_object;
-use al_check_values as values;
 use al_query::{Answers, Recorder};
 use al_stmts::{LoopRange, LoopWords, ReturnContext};
 use al_stmts_choices::{Choice, Selector};
-use al_stmts_reader::{Analyzer, CallEffect};
 use al_stmts_right_choices::are_right;
+use al_stmts_text::{Analyzer, CallEffect};
 use al_stmts_walk::BodyExtent;
 use al_tree::{
     Choice as ChoiceOfText, CommonDeclaration, DiscreteRange, Expression, Identifier,
@@ -97,7 +97,7 @@ impl<A: Answers> Analyzer for AdaAnalyzer<A> {
     }
 
     fn whole(&mut self, selector: &Expression) -> Result<Bounds, NoMemory> {
-        values::whole(&self.state, selector, &mut self.recorder)
+        choices::whole(&self.state, selector, &mut self.recorder)
     }
 
     fn choice(
@@ -105,7 +105,7 @@ impl<A: Answers> Analyzer for AdaAnalyzer<A> {
         selector: &Expression,
         choice: &ChoiceOfText,
     ) -> Result<CheckResult<Choice>, NoMemory> {
-        values::choice(&self.state, selector, choice, &mut self.recorder)
+        choices::choice(&self.state, selector, choice, &mut self.recorder)
     }
 
     fn are_right(
@@ -130,7 +130,7 @@ impl<A: Answers> Analyzer for AdaAnalyzer<A> {
     }
 
     fn loop_range(&mut self, range: &DiscreteRange) -> Result<CheckResult<LoopRange>, NoMemory> {
-        values::loop_range(&mut self.state, range, &mut self.recorder)
+        ranges::loop_range(&mut self.state, range, &mut self.recorder)
     }
 
     fn with_parameter(

@@ -2,5 +2,8 @@
 #![tactic(auto)]
 
 mod analyzer;
+mod choices;
+mod ranges;
+mod values;
 
 pub use analyzer::AdaAnalyzer;

@@ -8,6 +8,7 @@ use Rattle.al_base.specs.declared.unit_key.UnitKey.{UnitKey}
 use Rattle.al_scope_context.specs.Contexts.{all_mentioned, context_at, mentioned, packaged}
 use Rattle.al_scope_context.specs.declared.context.Context.{Context}
 use Rattle.al_decl_judged.specs.declared.progress.Progress.{Progress}
+use Rattle.al_decl_type.specs.Homonyms.{Counts, with_name}
 use Rattle.al_scope_context.specs.ContextPragmas.{full_name}
 use Rattle.al_unit_header.specs.Units.{is_private, item_name, place_of}
 use Rattle.al_base_fault.specs.Faults.{fault_at}
@@ -127,8 +128,18 @@ abbrev pub depth_of : LibraryItemTree → Option ViewKind → ℕ
 depth_of (Subunit l o n s b) (Some (OfSubprogram s')) = call_depth s'.call
 depth_of _ _ = 0
 
-abbrev pub progress_at : UnitKey → ℕ → Progress
-progress_at unit depth = record { unit = unit; depth = depth; words = record { frame = 3; «data» = 0 }; homonyms = []; objects = []; flags = []; protected_objects = [] }
+-- A library package is a declaration of its name: the first in its text, so that a subprogram of that name in it is another one, and hides it as
+-- a prefix (ARM 8.3(15)).
+abbrev pub homonyms_at : UnitKey → LibraryItemTree → Counts
+homonyms_at unit (LibraryPackage p l k) = with_name [] (last_of unit.name)
+homonyms_at unit (LibrarySubprogram p s) = []
+homonyms_at unit (LibraryBody s b) = []
+homonyms_at unit (LibraryPackageBody l k) = []
+homonyms_at unit (Subunit l o n s b) = []
+
+abbrev pub progress_at : UnitKey → LibraryItemTree → ℕ → Progress
+progress_at unit item depth =
+    record { unit = unit; depth = depth; words = record { frame = 3; «data» = 0 }; homonyms = homonyms_at unit item; objects = []; flags = []; protected_objects = [] }
 
 -- ---- its name
 
@@ -160,7 +171,7 @@ abbrev pub start_with : Table → UnitKey → LibraryItemTree → Context → Co
 start_with t unit item context completed =
     let own = own_text unit item context completed.view completed.stubs in
     let place = place_at t own (own_view unit item) in
-    record { own = own; scope = place.0; packages = place.1; progress = progress_at unit (depth_of item completed.view); uncompleted = waiting t unit item completed.view; parent = completed.parent; view = completed.view }
+    record { own = own; scope = place.0; packages = place.1; progress = progress_at unit item (depth_of item completed.view); uncompleted = waiting t unit item completed.view; parent = completed.parent; view = completed.view }
 
 abbrev pub start_after : Table → UnitKey → LibraryItemTree → Context → Result UnitStart Fault
 start_after t unit item context =

@@ -5,7 +5,7 @@ ghost use Rattle.al_query.specs.Reads.{FromAnswers};
 ghost use Rattle.al_query.specs.declared.query.Property.TheVariants.{Completions};
 ghost use Rattle.al_query.specs.declared.query.Query.TheVariants.{Of};
 ghost use Rattle.al_tree.specs.UnitViews.{library_item_model};
-ghost use Rattle.al_check_start.specs.UnitsAt.{call_depth, completion, depth_of, progress_at, waiting};
+ghost use Rattle.al_check_start.specs.UnitsAt.{call_depth, completion, depth_of, homonyms_at, progress_at, waiting};
 
 use crate::names::last_of;
 use al_base::{Name, NoMemory, UnitKey, UnitKind};
@@ -99,6 +99,23 @@ fn depth_of(item: &LibraryItem, view: &Option<View>) -> u32
     }
 }
 
+/// The declarations of a unit's text that stand at its start: a library package's own name.
+fn homonyms_at(alloc: Global, unit: &UnitKey, item: &LibraryItem) -> Result<Homonyms, NoMemory>
+    ensures { IfOk result (λ homonyms. homonyms ≡ homonyms_at unit.now (library_item_model item.now)) }
+{
+    let mut homonyms = Homonyms::new(alloc);
+    match item {
+        LibraryItem::Package(_, _, _) => {
+            homonyms.number(last_of(unit.name.as_slice()))?;
+            Ok(homonyms)
+        }
+        LibraryItem::Subprogram(_, _) => Ok(homonyms),
+        LibraryItem::Body(_, _) => Ok(homonyms),
+        LibraryItem::PackageBody(_, _) => Ok(homonyms),
+        LibraryItem::Subunit(_, _, _, _, _) => Ok(homonyms),
+    }
+}
+
 /// How far the check has come at the start.
 pub(crate) fn progress_at(
     alloc: Global,
@@ -106,15 +123,16 @@ pub(crate) fn progress_at(
     item: &LibraryItem,
     view: &Option<View>,
 ) -> Result<Progress, NoMemory>
-    ensures { IfOk result (λ progress. progress ≡ progress_at unit.now (depth_of (library_item_model item.now) view.now)) }
+    ensures { IfOk result (λ progress. progress ≡ progress_at unit.now (library_item_model item.now) (depth_of (library_item_model item.now) view.now)) }
 {
+    let homonyms = homonyms_at(alloc, unit, item)?;
     let unit = copied_unit(alloc, unit)?;
     let depth = depth_of(item, view);
     Ok(Progress {
         unit,
         depth,
         words: Words { frame: 3, data: 0 },
-        homonyms: Homonyms::new(alloc),
+        homonyms,
         objects: Seq::empty(alloc),
         flags: Seq::empty(alloc),
         protected_objects: Seq::empty(alloc),

@@ -12,8 +12,8 @@ use Rattle.al_stmts_walk.specs.Steps.{Inside, Part, ended_by, no_part, parts_joi
 use Rattle.al_stmts_walk.specs.Units.{enclosing_package, declaration_walked, declarations_walked, package_body_walked, package_inside, parts_walked, private_walked}
 use Rattle.al_stmts_walk.specs.Walking.{closed, end_of_compound, inside_after, items_walked, part_after, statements_walked}
 use Rattle.al_stmts_walk.proofs.Behind.{last_part}
-use Rattle.al_stmts_walker.proofs.Loops.{stops}
-use Rattle.al_stmts_walker.proofs.Read.{goes_on, made_of}
+use Rattle.al_stmts_text.proofs.Loops.{stops}
+use Rattle.al_stmts_text.proofs.Read.{goes_on, made_of}
 
 abbrev pub declaration_step : {H : Type 0} → Reading H → H × Part → Declaration → H × Part
 declaration_step R s d = part_after s (declaration_walked R s.0 (declaration_model d))

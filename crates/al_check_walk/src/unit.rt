@@ -13,10 +13,11 @@ ghost use Rattle.al_stmts_walked.specs.WalkedViews.{inside_model, part_model};
 use al_base::{NoMemory, Place};
 use al_stmts::ReturnContext;
 use al_stmts_loops::EnclosingBody;
-use al_stmts_reader::Analyzer;
-use al_stmts_text::{check_after, check_body, check_items};
+use al_stmts_text::{
+    Analyzer, check_after, check_body, check_items, close_part, declared_item, object_item,
+    subprogram_item, task_item,
+};
 use al_stmts_walked::{Enclosing, WalkedInside, WalkedPart, end_of_compound};
-use al_stmts_walker::{close_part, declared_item, object_item, subprogram_item, task_item};
 use al_tree::{
     CompoundEnd, CompoundName, Declaration, LibraryItem, PackageBody, PackageDeclaration,
     PackageStatements, PrivatePart,

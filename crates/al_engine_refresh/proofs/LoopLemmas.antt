@@ -5,7 +5,7 @@ use Rattle.al_base.specs.declared.unit_key.UnitKey.{UnitKey}
 use Rattle.al_query.specs.declared.answer.AnswerKind.{AnswerKind}
 use Rattle.al_query.specs.declared.query.Query.{Query}
 use Rattle.al_unit_graph.specs.Headers.{Header}
-use Rattle.al_query_outcome.specs.ReadsLaw.{one_more}
+use Rattle.al_base_shortage.specs.Counts.{one_more}
 use Rattle.al_entries.specs.EntryLaw.{TextMeaning}
 use Rattle.al_entries.specs.Stored.{Stored}
 use Rattle.std.proofs.Math.ListN.{drop_of_length-le}

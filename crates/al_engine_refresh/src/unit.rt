@@ -1,11 +1,11 @@
 // One unit of a build.
-ghost use Rattle.std.specs.Prelude.{◌≡◌, [], IfOk, OnOk, MatchOption, Some};
+ghost use Rattle.std.specs.Prelude.{◌≡◌, ◌∷◌, ◌++◌, [], IfOk, OnOk, MatchOption, Some};
 ghost use Rattle.al_query.specs.Reads.{Agrees};
 ghost use Rattle.al_unit_map.specs.Units.{at_unit};
 ghost use Rattle.al_base_shortage.specs.Counts.{one_more};
 ghost use Rattle.al_entries.specs.EntryLaw.{HasCurrent, IsCurrent, KeepsLaw};
 ghost use Rattle.al_engine_refresh.specs.Builds.{has_sound_dependences, present, results_of, text_of};
-ghost use Rattle.al_engine_refresh.specs.Handling.{Handled};
+ghost use Rattle.al_engine_refresh.specs.Handling.{Becomes, Handled};
 
 use crate::present::{Present, rests_on_sound, text_of};
 use al_base::{NoMemory, UnitKey};
@@ -62,6 +62,24 @@ pub(crate) struct Done {
     pub checked: Seq<UnitKey>,
 }
 
+/// Adds the entry of a unit.
+fn add_entry(alloc: Global, unit: &UnitKey, entry: Entry, done: &mut Done) -> Result<(), NoMemory>
+    ensures entries { OnOk result (Becomes (at_unit done.old.entries) unit.now entry (at_unit done.new.entries)) }
+    ensures checked { done.new.checked ≡ done.old.checked }
+{
+    done.entries.insert(copied_unit(alloc, unit)?, entry)?;
+    Ok(())
+}
+
+/// Adds the entry of a unit that was checked.
+fn add_checked(alloc: Global, unit: &UnitKey, entry: Entry, done: &mut Done) -> Result<(), NoMemory>
+    ensures { OnOk result (Becomes (at_unit done.old.entries) unit.now entry (at_unit done.new.entries) × (done.new.checked ≡ done.old.checked ++ unit.now ∷ [])) }
+{
+    add_entry(alloc, unit, entry, done)?;
+    done.checked.push(copied_unit(alloc, unit)?)?;
+    Ok(())
+}
+
 /// Brings one unit up to date, where all on which it depends is sound.
 pub(crate) fn refresh_unit<C: UnitCheck, P: Answers>(
     alloc: Global,
@@ -84,11 +102,8 @@ pub(crate) fn refresh_unit<C: UnitCheck, P: Answers>(
         entries: &done.entries,
     };
     if let Some(entry) = current_entry(old, unit, &text, &present)? {
-        done.entries.insert(copied_unit(alloc, unit)?, entry)?;
-        return Ok(());
+        return add_entry(alloc, unit, entry, done);
     }
     let entry = check_unit(alloc, checker, unit, text, present)?;
-    done.entries.insert(copied_unit(alloc, unit)?, entry)?;
-    done.checked.push(copied_unit(alloc, unit)?)?;
-    Ok(())
+    add_checked(alloc, unit, entry, done)
 }

@@ -3,7 +3,7 @@ use Rattle.std.specs.Prelude.{ℕ, List, [], ◌∷◌, ◌++◌, Bool, true, fa
 use Rattle.std.specs.List.{flat_map, list_any}
 use Rattle.std.specs.Str.{bytes_eq}
 use Rattle.al_base.specs.declared.unit_key.UnitKey.{UnitKey}
-use Rattle.al_base.specs.declared.unit_key.UnitKind.TheVariants.{Body, Sub}
+use Rattle.al_base.specs.declared.unit_key.UnitKind.TheVariants.{Body, Decl, Sub}
 use Rattle.al_unit_graph.specs.Names.{ancestors, lineage}
 use Rattle.al_view.specs.declared.part.Part.{Part}
 use Rattle.al_view.specs.declared.part.Part.TheVariants as part
@@ -123,10 +123,15 @@ own_parts unit is_package = if is_body unit && is_package then declaration_parts
 abbrev pub own_uses : UnitKey → Bool → List UnitPart
 own_uses unit is_package = if is_body unit then declaration_parts (package_unit unit.name) is_package else []
 
--- whether the place sees the ancestors' private parts, whatever these are: in a package body or a subunit, in a private unit, and in
--- the body of a private one. The profile of a library subprogram is its visible part, in its body too (ARM 8.2).
+-- whether it completes a declaration in another text
+abbrev pub has_declaration : OwnText → Bool
+has_declaration own = same_kind own.symbol.unit.kind Decl
+
+-- whether the place sees the ancestors' private parts, whatever these are: in a package body or a subunit, in a private unit, in the body of
+-- a private one, and in a subprogram body that completes a declaration, its profile included. The profile of a body that acts as a
+-- declaration is its visible part (ARM 8.2, 10.1.4(4)).
 abbrev pub sees_all : OwnText → Bool
-sees_all own = own.is_private || (is_subunit own.unit || (is_body own.unit && own.is_package))
+sees_all own = own.is_private || (is_subunit own.unit || (is_body own.unit && (own.is_package || has_declaration own)))
 
 abbrev pub sees_at : Table → OwnText → Bool
 sees_at t own = sees_all own || some_private t (own_declaration own.unit)
@@ -185,7 +190,7 @@ with_part_of (Some s) p rs = with_part s p rs
 abbrev pub opened : Table → UnitKey → List Region → List Region
 opened t a rs = with_clauses (part_uses t (part_of a part.Private)) (with_part_of (symbol_at t a) (part_of a part.Private) rs)
 
--- where the private part of a package's declaration begins, or the declarative part of a library subprogram's body: the private
+-- where the private part of a package's declaration begins, or the declarative part of a subprogram body that acts as one: the private
 -- parts of the ancestors that weren't seen before are seen, the farthest first (ARM 8.2(5))
 abbrev pub outward_opened : Table → Bool → List UnitKey → List Region → List Region
 outward_opened t sees [] rs = rs

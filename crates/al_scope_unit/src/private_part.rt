@@ -1,4 +1,4 @@
-// Where the private part of a package's declaration begins, or the declarative part of a library subprogram's body.
+// Where the private part of a package's declaration begins, or the declarative part of a subprogram body that acts as one.
 ghost use Rattle.std.specs.Prelude.{◌≡◌, ◌<◌, [], ◌∷◌, ◌||◌, IfOk, None, is_ok, length, true, if◌then◌else◌};
 ghost use Rattle.al_view.specs.declared.part.Part.TheVariants.{Private};
 ghost use Rattle.al_query.specs.Asked.{AsksOf, by_property};
@@ -113,7 +113,7 @@ fn open_each<A: Answers>(
 }
 
 /// From here on the private parts of the ancestors are seen, with the use clauses that stand in them: where the private part of a
-/// package's declaration begins, and after the profile of a library subprogram's body (ARM 8.2(5), 8.4(7)). The place is in the
+/// package's declaration begins, and after the profile of a subprogram body that acts as one (ARM 8.2(5), 8.4(7)). The place is in the
 /// unit's own region. Where there are no ancestors it takes no memory, but for the body of a library unit.
 pub fn enter_private_part<A: Answers>(
     alloc: Global,

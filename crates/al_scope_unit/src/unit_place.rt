@@ -337,7 +337,8 @@ fn sees_all_parts(own: &OwnText) -> bool
 {
     own.is_private
         || matches!(own.unit.kind, UnitKind::Sub)
-        || (matches!(own.unit.kind, UnitKind::Body) && own.is_package)
+        || (matches!(own.unit.kind, UnitKind::Body)
+            && (own.is_package || matches!(own.symbol.unit.kind, UnitKind::Decl)))
 }
 
 /// Adds the declaration of a library unit's body. Of another unit it takes no memory.

@@ -7,7 +7,7 @@ ghost use Rattle.al_overload_put.specs.Puts.{call_effect};
 ghost use Rattle.al_overload_put.specs.Seen.{performed_model as put_model};
 ghost use Rattle.al_query.specs.Asked.{AsksOf, by_name};
 ghost use Rattle.al_query.specs.Reads.{FromAnswers};
-ghost use Rattle.al_stmts_reader.specs.PerformedViews.{performed_model};
+ghost use Rattle.al_stmts_text.specs.PerformedViews.{performed_model};
 ghost use Rattle.al_overload_terms_at.specs.TermsAt.{text_names};
 ghost use Rattle.al_tree.specs.ExpressionViews.{expression_model};
 ghost use Rattle.al_overload_values.specs.Surroundings.{site_model, site_units};
@@ -21,7 +21,7 @@ use al_overload_slots::{number_call, number_pieces};
 use al_overload_term::Term;
 use al_overload_values::Site;
 use al_query::{Answers, Recorder};
-use al_stmts_reader::CallEffect;
+use al_stmts_text::CallEffect;
 use al_tree::Expression;
 
 fn number(call_effect: &mut CallEffect, word: u32) -> u32

@@ -16,8 +16,8 @@ use Rattle.al_stmts_walk.specs.Steps.{Enclosing, Branching, Choosing, Part, Walk
 use Rattle.al_stmts_walk.specs.Walking.{alternative_walked, alternatives_walked, branch_walked, elsifs_walked, item_walked, items_walked, more_walked, operation_walked, operations_walked, part_after, statement_walked, walked_after}
 use Rattle.al_stmts_returns.proofs.Layers.{elsif_layers}
 use Rattle.al_stmts_walk.proofs.Behind.{last, last_part, parted, parts_parted}
-use Rattle.al_stmts_walker.proofs.Loops.{stops}
-use Rattle.al_stmts_walker.proofs.Read.{goes_on}
+use Rattle.al_stmts_text.proofs.Loops.{stops}
+use Rattle.al_stmts_text.proofs.Read.{goes_on}
 
 -- ---- statements
 

@@ -1,3 +1,11 @@
+pub mod BodySteps
+pub mod ChoiceFolds
+pub mod ChoosingSteps
 pub mod Folds
+pub mod HeadSteps
 pub mod Layers
+pub mod Loops
 pub mod Made
+pub mod MadeOfRead
+pub mod Read
+pub mod Steps

@@ -29,7 +29,7 @@ use Rattle.al_stmts_walk.specs.Readings.{Reading, giving}
 use Rattle.al_stmts_walk.specs.Steps.{Enclosing, Branching, Choosing, Inside, Part, Walked, block_of, case_of, if_of, inside_of, no_branching, no_part, nothing, one_alternative, one_branch, one_otherwise, part_of, parts_joined}
 use Rattle.al_stmts_walk.specs.Walking.{alternative_walked, alternatives_walked, body_ended, body_entered, body_walked, branch_walked, case_head, closed, elsifs_walked, else_walked, end_of, entry_walked, handled_walked, inside_after, items_walked, more_walked, named_extent, object_ended, operations_walked, part_after, region_left, statement_walked, statements_walked, subprogram_extent, task_walked, walked_after, walked_body}
 use Rattle.al_stmts_walk.specs.declared.extent.BodyExtent.{BodyExtent}
-use Rattle.al_stmts_walker.proofs.Read.{goes_on, made_of}
+use Rattle.al_stmts_text.proofs.Read.{goes_on, made_of}
 
 pub statements_made : {H : Type 0} (R : Reading H) (r env : Enclosing) (h after : H) (first so_far : Walked) (done : H × Walked) (s : Statements)
     → env ≡ r

@@ -13,20 +13,23 @@ ghost use Rattle.al_stmts_walk.specs.Walking.{alternative_walked, alternatives_w
 ghost use Rattle.al_stmts_text.specs.Parts.{all_alternatives, all_branches, declared_entered, declared_headed, declared_inside, object_walked, opened_walked, subprogram_entered, subprogram_headed, subprogram_inside};
 ghost use Rattle.al_stmts_walked.specs.WalkedViews.{all_model, branching_model, choosing_model, inside_model, one_model, part_model};
 
+use crate::analyzer::Analyzer;
+use crate::assignments::walk_assignment;
+use crate::bodies::{enter_body, finish_body, finish_object};
+use crate::calls::walk_call;
+use crate::heads::{case_head, for_head, while_head};
+use crate::items::{declared_item, object_item, stub_item, subprogram_item, task_item};
+use crate::plain::{walk_delay, walk_exit, walk_null};
+use crate::regions::{broken_loop, close_part, finish_block, left_region};
+use crate::returns::walk_return;
 use al_base::{NoMemory, Place};
 use al_base_fault::CheckResult;
 use al_stmts_loops::no_return_fault;
-use al_stmts_reader::Analyzer;
 use al_stmts_returns::has_return;
 use al_stmts_walk::BodyExtent;
 use al_stmts_walked::{
     Enclosing, WalkedAlternatives, WalkedBranches, WalkedInside, WalkedPart, WalkedStatement,
     WalkedStatements, end_of, end_of_named, named_extent, named_line, subprogram_extent,
-};
-use al_stmts_walker::{
-    broken_loop, case_head, close_part, declared_item, enter_body, finish_block, finish_body,
-    finish_object, for_head, left_region, object_item, stub_item, subprogram_item, task_item,
-    walk_assignment, walk_call, walk_delay, walk_exit, walk_null, walk_return, while_head,
 };
 use al_tree::{
     Alternative, BlockStatement, Branch, CaseStatement, DeclaredStatements, ElsifBranch,

@@ -1,210 +1,102 @@
-//! Runs damaged images under pseudo-random events, two worlds of each alike: the first line of the input says how many events in all, each
-//! other one has a name, a number that isn't used and an image by its hexadecimal digits.
+//! Runs damaged images, two worlds of each alike under pseudo-random events, and two more by whole runs and one event after the other. The
+//! first line of the input says how many pseudo-random events in all come to images that are damaged at random. Each other line has a name, a
+//! number and an image by its hexadecimal digits: where the number is 0, one to four of its bytes are changed, again and again; else each front
+//! of it, the image with one byte more and with each change of one byte are read, and so many events come to each of these that is an image.
 #![tactic(auto)]
 
-ghost use Rattle.std.specs.Prelude.{◌<◌};
+mod damages;
+mod digits;
+mod images;
+mod numbers;
+mod trial;
+mod worlds;
 
-use al_link_image::Image;
-use al_tasks::World;
-use al_tasks_world::{Event, Status};
+use crate::damages::{damage, try_all};
+use crate::digits::bytes_of;
+use crate::images::try_bytes;
+use crate::trial::{Events, Trial};
+use al_base::NoMemory;
 use std::alloc::{AllocError, Global};
 use std::io;
 
-// A generator of numbers that look random (a xorshift of 64 bits).
-#[derive(Drop)]
-struct Numbers {
-    state: u64,
+// The number of a line.
+fn number_of(line: &str) -> u64 {
+    let (front, _) = line.rsplit_once(' ').unwrap_or(("", ""));
+    let (_, number) = front.rsplit_once(' ').unwrap_or(("", ""));
+    number.parse::<u64>().unwrap_or(0)
 }
 
-impl Numbers {
-    fn next(&mut self) -> u64 {
-        let mut x = self.state;
-        x ^= x << 13;
-        x ^= x >> 7;
-        x ^= x << 17;
-        self.state = x;
-        x
-    }
+// The bytes of a line's image.
+fn image_of(alloc: Global, line: &str) -> Result<Vec<u8>, NoMemory> {
+    let (_, digits) = line.rsplit_once(' ').unwrap_or(("", ""));
+    bytes_of(alloc, digits.as_bytes())
+}
 
-    fn below(&mut self, bound: usize) -> usize {
-        let number = self.next() as usize;
-        number.checked_rem(bound).unwrap_or(0)
-    }
+// The image of a line, damaged at random.
+fn try_damaged(alloc: Global, line: &str, trial: &mut Trial) -> Result<(), NoMemory> {
+    let mut bytes = image_of(alloc, line)?;
+    damage(&mut bytes, trial.numbers());
+    try_bytes(alloc, bytes.as_slice(), trial)
+}
 
-    // An instruction mostly, and else a tick.
-    fn event(&mut self) -> Event {
-        if self.below(8) == 0 {
-            Event::Tick
-        } else {
-            Event::Instr
+// Each image that is to be damaged at random, once.
+fn try_lines(alloc: Global, lines: &str, trial: &mut Trial) -> Result<(), NoMemory> {
+    for line in lines.lines() {
+        if number_of(line) == 0 {
+            try_damaged(alloc, line, trial)?;
         }
     }
-}
-
-// What was seen.
-#[derive(Drop)]
-struct Seen {
-    events: u64,
-    images: u64,
-    refused: u64,
-    stuck: u64,
-    raised: u64,
-    ended: u64,
-    differ: u64,
-}
-
-// The image with one to four of its bytes changed.
-fn damaged(alloc: Global, bytes: &[u8], numbers: &mut Numbers) -> Result<Vec<u8>, AllocError> {
-    let mut other = Vec::from_slice(alloc, bytes)?;
-    let count = numbers.below(4);
-    for _ in 0..=count {
-        let place = numbers.below(other.len());
-        let flipped = numbers.next().to_be_bytes()[3];
-        if place < other.len() {
-            other[place] ^= flipped;
-        }
-    }
-    Ok(other)
-}
-
-// Whether the two are alike, as far as can be seen.
-fn are_alike(one: &World, two: &World) -> bool {
-    one.status() == two.status() && one.output() == two.output()
-}
-
-fn count_end(seen: &mut Seen, status: Status) {
-    match status {
-        Status::Stuck => seen.stuck = seen.stuck.wrapping_add(1),
-        Status::Raised { .. } => seen.raised = seen.raised.wrapping_add(1),
-        Status::Finished | Status::Idle => seen.ended = seen.ended.wrapping_add(1),
-        Status::Going => {}
-    }
-}
-
-fn load(alloc: Global, image: &Image) -> Result<World, AllocError> {
-    match World::load(alloc, image) {
-        Ok(world) => Ok(world),
-        Err(_) => Err(AllocError),
-    }
-}
-
-fn step(world: &mut World, event: Event) -> Result<(), AllocError> {
-    match world.step(event) {
-        Ok(()) => Ok(()),
-        Err(_) => Err(AllocError),
-    }
-}
-
-// The same events on two worlds of one image.
-fn events_on(
-    alloc: Global,
-    image: &Image,
-    numbers: &mut Numbers,
-    seen: &mut Seen,
-) -> Result<(), AllocError> {
-    let mut one = load(alloc, image)?;
-    let mut two = load(alloc, image)?;
-    for _ in 0..3000 {
-        let before = one.status();
-        let len = one.output().len();
-        let event = numbers.event();
-        step(&mut one, event)?;
-        step(&mut two, event)?;
-        seen.events = seen.events.wrapping_add(1);
-        let stays = before == Status::Going || one.status() == before;
-        if !are_alike(&one, &two) || !stays || one.output().len() < len {
-            seen.differ = seen.differ.wrapping_add(1);
-        }
-        if before != Status::Going && numbers.below(4) == 0 {
-            break;
-        }
-    }
-    count_end(seen, one.status());
     Ok(())
 }
 
-fn damage(
-    alloc: Global,
-    bytes: &[u8],
-    numbers: &mut Numbers,
-    seen: &mut Seen,
-) -> Result<(), AllocError> {
-    let other = damaged(alloc, bytes, numbers)?;
-    match Image::read(alloc, other.as_slice()) {
-        Ok(image) => {
-            seen.images = seen.images.wrapping_add(1);
-            events_on(alloc, &image, numbers, seen)
+// Images damaged at random, until so many events came.
+fn random_damage(alloc: Global, lines: &str, most: u64) -> Result<Trial, NoMemory> {
+    let mut trial = Trial::new(Events::Random);
+    for _ in 0..1_000_000 {
+        if trial.events() >= most {
+            break;
         }
-        Err(_) => {
-            seen.refused = seen.refused.wrapping_add(1);
-            Ok(())
+        try_lines(alloc, lines, &mut trial)?;
+    }
+    Ok(trial)
+}
+
+// Each damage of one byte of the image of a line.
+fn each_damage(alloc: Global, line: &str) -> Result<Trial, NoMemory> {
+    let mut trial = Trial::new(Events::Run(number_of(line)));
+    let mut bytes = image_of(alloc, line)?;
+    try_all(alloc, &mut bytes, &mut trial)?;
+    Ok(trial)
+}
+
+fn append(alloc: Global, trial: &Trial, told: &mut String) -> Result<(), NoMemory> {
+    let line = trial.told(alloc)?;
+    told.push_str(line.as_str())?;
+    Ok(())
+}
+
+fn tell_all(alloc: Global, text: &str, told: &mut String) -> Result<(), NoMemory> {
+    let (first, lines) = text.split_once('\n').unwrap_or(("0", ""));
+    let most = first.parse::<u64>().unwrap_or(0);
+    append(alloc, &random_damage(alloc, lines, most)?, told)?;
+    for line in lines.lines() {
+        if number_of(line) > 0 {
+            append(alloc, &each_damage(alloc, line)?, told)?;
         }
     }
+    Ok(())
+}
+
+fn told_of(alloc: Global, text: &str) -> Result<String, NoMemory> {
+    let mut told = String::new(alloc);
+    tell_all(alloc, text, &mut told)?;
+    Ok(told)
 }
 
 fn main(rt: HostRuntime) -> io::Result<()> {
     let text = io::read_to_string(rt.alloc(), rt.reader())?;
-    let (first, rest) = text.as_str().split_once('\n').unwrap_or(("0", ""));
-    let most = first.parse::<u64>().unwrap_or(0);
-    let mut numbers = Numbers { state: 2_026 };
-    let mut seen = Seen {
-        events: 0,
-        images: 0,
-        refused: 0,
-        stuck: 0,
-        raised: 0,
-        ended: 0,
-        differ: 0,
-    };
-    for _ in 0..1_000_000 {
-        if seen.events >= most {
-            break;
-        }
-        for line in rest.lines() {
-            let (_, digits) = line.rsplit_once(' ').unwrap_or(("", ""));
-            let bytes = bytes_of(rt.alloc(), digits.as_bytes())?;
-            damage(rt.alloc(), bytes.as_slice(), &mut numbers, &mut seen)?;
-        }
-    }
-    let Seen {
-        events,
-        images,
-        refused,
-        stuck,
-        raised,
-        ended,
-        differ,
-    } = seen;
-    let text = format!(in rt.alloc();
-        "{events} events on {images} images, {refused} refused; {stuck} stuck, {raised} raised, {ended} ended, {differ} differ\n"
-    )?;
-    rt.print(text)
-}
-
-// The bytes of hexadecimal digits, two each.
-fn bytes_of(alloc: Global, digits: &[u8]) -> Result<Vec<u8>, AllocError> {
-    let mut bytes = Vec::new(alloc);
-    let mut high = None;
-    for digit in digits {
-        let value = value_of(*digit);
-        match high {
-            None => high = Some(value),
-            Some(first) => {
-                bytes.push((first << 4) | value)?;
-                high = None;
-            }
-        }
-    }
-    Ok(bytes)
-}
-
-// What a hexadecimal digit stands for.
-fn value_of(digit: u8) -> u8
-    ensures { result < 16 }
-{
-    match digit {
-        b'0'..=b'9' => digit - b'0',
-        b'a'..=b'f' => digit - b'a' + 10,
-        _ => 0,
+    match told_of(rt.alloc(), text.as_str()) {
+        Ok(told) => rt.print(told),
+        Err(NoMemory) => Err(AllocError)?,
     }
 }

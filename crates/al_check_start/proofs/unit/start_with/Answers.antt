@@ -19,7 +19,7 @@ returns-clause-answered g c t h =
     let own = own_text unit item c.args.context done.view done.stubs in
     let view = own_view unit item in
     let placed = place.1 ∙ ap (λ (o : OwnText). place_at t o c.in_ok-seen.seen) c.in_ok-own.ensures ∙ ap (place_at t own) c.in_ok-seen.ensures in
-    let progress = progress_at unit (depth_of item done.view) in
+    let progress = progress_at unit item (depth_of item done.view) in
     let make = λ (o : OwnText) (x : Place × List UnitKey) (p : Progress) (a : List Completion). let s : UnitStart = record { own = o; scope = x.0; packages = x.1; progress = p; uncompleted = a; parent = done.parent; view = done.view } in s in (
       place.0,
       ap (λ (o : OwnText). make o (c.in_ok-scope.scope, c.place_at.new.packages) c.in_ok-progress.progress c.in_ok-uncompleted.uncompleted) c.in_ok-own.ensures

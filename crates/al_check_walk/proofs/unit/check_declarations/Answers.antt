@@ -1,6 +1,6 @@
 use Rattle.std.proofs.Common.{drop, refl, sym, ◌∙◌}
 use Rattle.al_stmts_walked.specs.WalkedViews.{part_model}
-use Rattle.al_stmts_walker.proofs.Loops.{ends, step}
+use Rattle.al_stmts_text.proofs.Loops.{ends, step}
 use Rattle.al_check_walk.proofs.Units.{declaration_added, declaration_step, declarations_folded, declarations_stop}
 use Rattle.al_check_walk.proofs.unit.check_declarations.Goals as goal
 

@@ -1,5 +1,5 @@
 use Rattle.al_tree.specs.UnitViews.{package_body_model}
-use Rattle.al_stmts_walker.proofs.Read.{if_ok}
+use Rattle.al_stmts_text.proofs.Read.{if_ok}
 use Rattle.al_check_walk.proofs.Units.{package_body_made}
 use Rattle.al_check_walk.proofs.unit.check_package_body.Goals as goal
 

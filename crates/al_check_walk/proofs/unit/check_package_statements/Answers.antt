@@ -1,6 +1,6 @@
 use Rattle.al_tree.specs.Lexemes.{place_label}
 use Rattle.al_tree.specs.UnitViews.{package_statements_model}
-use Rattle.al_stmts_walker.proofs.Read.{if_ok}
+use Rattle.al_stmts_text.proofs.Read.{if_ok}
 use Rattle.al_check_walk.proofs.Units.{statements_made}
 use Rattle.al_check_walk.proofs.unit.check_package_statements.Goals as goal
 

@@ -1,6 +1,6 @@
 use Rattle.std.proofs.Common.{sym, ◌∙◌}
 use Rattle.al_tree.specs.UnitViews.{private_part_model}
-use Rattle.al_stmts_walker.proofs.Read.{on_ok}
+use Rattle.al_stmts_text.proofs.Read.{on_ok}
 use Rattle.al_check_walk.proofs.Units.{no_private, private_made}
 use Rattle.al_check_walk.proofs.unit.check_private.Goals as goal
 

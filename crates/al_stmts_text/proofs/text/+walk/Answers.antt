@@ -18,8 +18,8 @@ use Rattle.al_stmts_walk.specs.Walking.{end_of, for_walked, loop_walked, named_l
 use Rattle.al_stmts_walked.specs.WalkedViews.{all_model, branching_model, choosing_model, part_model}
 use Rattle.al_stmts_text.proofs.Folds.{alternative_added, alternative_step, alternatives_folded, alternatives_stop, branch_added, branch_step, branches_folded, branches_stop, item_added, item_step, items_folded, items_stop, operation_added, operation_step, operations_folded, operations_stop, statement_added, statement_step, statements_folded, statements_stop}
 use Rattle.al_stmts_text.proofs.Made.{alternative_made, alternatives_all, after_made, after_stops, body_read, branch_made, branches_all, case_made, entered_made, entry_read, handled_made, if_made, inside_made, object_read, object_refused, opened_made, otherwise_made, part_made, statements_made, task_read}
-use Rattle.al_stmts_walker.proofs.Loops.{ends, step}
-use Rattle.al_stmts_walker.proofs.Read.{as_made, goes_on, if_ok, made_of, on_ok}
+use Rattle.al_stmts_text.proofs.Loops.{ends, step}
+use Rattle.al_stmts_text.proofs.Read.{as_made, goes_on, if_ok, made_of, on_ok}
 use Rattle.al_stmts_text.proofs.text.+walk.Goals as goal
 
 pub check_statements-returns-in-Ok-clause-answered : goal.check_statements-returns-in-Ok-clause-answered

@@ -1,0 +1,183 @@
+// Expressions where the check of a unit stands.
+ghost use Rattle.std.specs.Prelude.{◌≡◌, IfOk};
+ghost use Rattle.std.specs.Option.{option_copied};
+ghost use Rattle.al_base_fault.specs.Judging.{map_ok};
+ghost use Rattle.al_query.specs.Reads.{FromAnswers};
+ghost use Rattle.al_stmts_text.specs.PerformedViews.{performed_model};
+ghost use Rattle.al_tree.specs.ExpressionViews.{expression_model};
+ghost use Rattle.al_view_typed.specs.ExpressionViews.{typed_model};
+ghost use Rattle.al_overload_label.specs.RangesSeen.{found_model};
+ghost use Rattle.al_check_here.specs.Stacks.{innermost};
+ghost use Rattle.al_check_reading.specs.ValuesHere.{condition_here, moment_here, call_effect_here, result_from, result_here, result_of, selector_here, source_here, surroundings, target_here, value_found};
+ghost use Rattle.al_overload_values.specs.Surroundings.{site_model};
+
+use al_base::NoMemory;
+use al_base_fault::CheckResult;
+use al_check_declared::not_yet_fault;
+use al_check_here::CheckState;
+use al_overload_label::DeterminedValue;
+use al_overload_values::{
+    Site, condition_at, moment_at, result_at, selector_at, source_at, target_at,
+};
+use al_query::{Answers, Recorder};
+use al_stmts_calls::call_effect_at;
+use al_stmts_text::CallEffect;
+use al_tree::Expression;
+use al_view::SubtypeView;
+use al_view_typed::Typed;
+
+/// What expressions know there.
+pub(crate) fn site(state: &CheckState) -> Site<'_>
+    ensures { site_model result ≡ surroundings state.now }
+{
+    Site {
+        labeller: &state.unit.labeller,
+        scope: &state.env.scope,
+        packages: state.unit.packages.as_slice(),
+    }
+}
+
+/// A condition (ARM 5.3, 5.5, 5.7).
+pub fn condition<A: Answers>(
+    state: &mut CheckState,
+    expression: &Expression,
+    recorder: &mut Recorder<A>,
+) -> Result<CheckResult<Typed>, NoMemory>
+    ensures asked { recorder.new.asked ≡ recorder.old.asked }
+    ensures answered { IfOk result (λ checked. FromAnswers recorder.old.log recorder.new.log (λ t. (state.new, map_ok typed_model checked) ≡ condition_here t state.old (expression_model expression.now))) }
+{
+    let mut word = state.word();
+    let checked = condition_at(&site(state), expression, &mut word, recorder)?;
+    state.set_word(word);
+    Ok(checked)
+}
+
+/// The moment of a `delay until` (ARM 9.6).
+pub fn moment<A: Answers>(
+    state: &mut CheckState,
+    expression: &Expression,
+    recorder: &mut Recorder<A>,
+) -> Result<CheckResult<Typed>, NoMemory>
+    ensures asked { recorder.new.asked ≡ recorder.old.asked }
+    ensures answered { IfOk result (λ checked. FromAnswers recorder.old.log recorder.new.log (λ t. (state.new, map_ok typed_model checked) ≡ moment_here t state.old (expression_model expression.now))) }
+{
+    let mut word = state.word();
+    let checked = moment_at(&site(state), expression, &mut word, recorder)?;
+    state.set_word(word);
+    Ok(checked)
+}
+
+/// What is assigned to (ARM 5.2).
+pub fn target<A: Answers>(
+    state: &mut CheckState,
+    expression: &Expression,
+    recorder: &mut Recorder<A>,
+) -> Result<CheckResult<Typed>, NoMemory>
+    ensures asked { recorder.new.asked ≡ recorder.old.asked }
+    ensures answered { IfOk result (λ checked. FromAnswers recorder.old.log recorder.new.log (λ t. (state.new, map_ok typed_model checked) ≡ target_here t state.old (expression_model expression.now))) }
+{
+    let mut word = state.word();
+    let checked = target_at(&site(state), expression, &mut word, recorder)?;
+    state.set_word(word);
+    Ok(checked)
+}
+
+/// The value that is assigned to a target that is right.
+pub fn source<A: Answers>(
+    state: &mut CheckState,
+    target: &Expression,
+    value: &Expression,
+    recorder: &mut Recorder<A>,
+) -> Result<CheckResult<Typed>, NoMemory>
+    ensures asked { recorder.new.asked ≡ recorder.old.asked }
+    ensures answered { IfOk result (λ checked. FromAnswers recorder.old.log recorder.new.log (λ t. (state.new, map_ok typed_model checked) ≡ source_here t state.old (expression_model target.now) (expression_model value.now))) }
+{
+    let mut word = state.word();
+    let checked = source_at(&site(state), target, value, &mut word, recorder)?;
+    state.set_word(word);
+    Ok(checked)
+}
+
+/// What a name alone does (ARM 6.4, 9.5.3).
+pub fn call_effect<A: Answers>(
+    state: &mut CheckState,
+    expression: &Expression,
+    recorder: &mut Recorder<A>,
+) -> Result<CheckResult<CallEffect>, NoMemory>
+    ensures asked { recorder.new.asked ≡ recorder.old.asked }
+    ensures answered { IfOk result (λ checked. FromAnswers recorder.old.log recorder.new.log (λ t. (state.new, map_ok performed_model checked) ≡ call_effect_here t state.old (expression_model expression.now))) }
+{
+    let mut word = state.word();
+    let checked = call_effect_at(&site(state), expression, &mut word, recorder)?;
+    state.set_word(word);
+    Ok(checked)
+}
+
+/// The subtype of the result of the innermost body.
+fn result_subtype(state: &CheckState) -> Option<&SubtypeView>
+    ensures { option_copied result ≡ result_of (innermost state.now.bodies) }
+{
+    match state.bodies.innermost() {
+        Some(body) => body.result.as_ref(),
+        None => None,
+    }
+}
+
+/// A value of this subtype, with the next word after it.
+fn returned<A: Answers>(
+    state: &CheckState,
+    expression: &Expression,
+    word: &mut u32,
+    recorder: &mut Recorder<A>,
+) -> Result<CheckResult<Typed>, NoMemory>
+    ensures asked { recorder.new.asked ≡ recorder.old.asked }
+    ensures answered { IfOk result (λ checked. FromAnswers recorder.old.log recorder.new.log (λ t. (word.new, map_ok typed_model checked) ≡ result_from t state.now (expression_model expression.now) word.old (result_of (innermost state.now.bodies)))) }
+{
+    match result_subtype(state) {
+        Some(of) => result_at(&site(state), of, expression, word, recorder),
+        None => Ok(Err(not_yet_fault())),
+    }
+}
+
+/// The value that the innermost function returns (ARM 6.5).
+pub fn result_value<A: Answers>(
+    state: &mut CheckState,
+    expression: &Expression,
+    recorder: &mut Recorder<A>,
+) -> Result<CheckResult<Typed>, NoMemory>
+    ensures asked { recorder.new.asked ≡ recorder.old.asked }
+    ensures answered { IfOk result (λ checked. FromAnswers recorder.old.log recorder.new.log (λ t. (state.new, map_ok typed_model checked) ≡ result_here t state.old (expression_model expression.now))) }
+{
+    let mut word = state.word();
+    let checked = returned(state, expression, &mut word, recorder)?;
+    state.set_word(word);
+    Ok(checked)
+}
+
+/// The value of a selector that was found with its type.
+fn value_of(found: CheckResult<DeterminedValue>) -> CheckResult<Typed>
+    ensures { map_ok typed_model result ≡ map_ok value_found (map_ok found_model found) }
+{
+    match found {
+        Ok(found) => {
+            let DeterminedValue { value, .. } = found;
+            Ok(value)
+        }
+        Err(fault) => Err(fault),
+    }
+}
+
+/// The selector of a case statement (ARM 5.4).
+pub fn selector<A: Answers>(
+    state: &mut CheckState,
+    expression: &Expression,
+    recorder: &mut Recorder<A>,
+) -> Result<CheckResult<Typed>, NoMemory>
+    ensures asked { recorder.new.asked ≡ recorder.old.asked }
+    ensures answered { IfOk result (λ checked. FromAnswers recorder.old.log recorder.new.log (λ t. (state.new, map_ok typed_model checked) ≡ selector_here t state.old (expression_model expression.now))) }
+{
+    let mut word = state.word();
+    let found = selector_at(&site(state), expression, &mut word, recorder)?;
+    state.set_word(word);
+    Ok(value_of(found))
+}

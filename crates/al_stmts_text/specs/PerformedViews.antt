@@ -1,0 +1,11 @@
+-- What the program's performed statements are as plain data.
+use Rattle.std.specs.Prelude.{map}
+use Rattle.al_view_typed.specs.ExpressionViews.{call_model}
+use Rattle.al_view_typed.specs.StatementViews.{piece_model}
+use Rattle.al_stmts_text.specs.declared.analyzer.CallEffect.{CallEffect}
+use Rattle.al_stmts_text.specs.declared.analyzer.CallEffect.TheVariants as call_effect
+use Rattle.al_stmts_walk.specs.Readings.{CallEffect as PerformedTree, Called, Put}
+
+abbrev pub performed_model : CallEffect → PerformedTree
+performed_model (call_effect.Called call) = Called (call_model call)
+performed_model (call_effect.Put pieces ends_line) = Put (map piece_model pieces.items) ends_line
