@@ -59,11 +59,16 @@ def settled(text):
     return re.sub(rb"\b\d+ ms\b", b"0 ms", text)
 
 
+def heed_interrupts():
+    """A program that is started in the background would be deaf to them."""
+    signal.signal(signal.SIGINT, signal.SIG_DFL)
+
+
 class Talk:
     """A program whose output is read as it comes."""
 
     def __init__(self, words, folder):
-        self.process = subprocess.Popen(words, stdin=subprocess.PIPE, stdout=subprocess.PIPE, stderr=subprocess.STDOUT, cwd=folder, bufsize=0)
+        self.process = subprocess.Popen(words, stdin=subprocess.PIPE, stdout=subprocess.PIPE, stderr=subprocess.STDOUT, cwd=folder, bufsize=0, preexec_fn=heed_interrupts)
         self.waiting = b""
 
     def say(self, line):
