@@ -2,8 +2,8 @@
 use Rattle.al_session_served.specs.Library.{LibraryMeaning}
 use Rattle.al_session.specs.Meanings.{library_meaning}
 use Rattle.al_check_bounded.specs.Meanings.{header_in, text_meaning}
-use Rattle.al_check.specs.Ada.{ada_units, ada_verdict}
+use Rattle.al_check.specs.Ada.{ada_names, ada_units, ada_verdict}
 
 -- compiling from nothing, with the check that asks these units for a unit and finds this in its text
 abbrev pub ada_meaning : LibraryMeaning
-ada_meaning = library_meaning (text_meaning ada_units ada_verdict) header_in
+ada_meaning = library_meaning (text_meaning ada_units ada_names ada_verdict) header_in

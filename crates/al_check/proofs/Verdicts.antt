@@ -12,7 +12,10 @@ use Rattle.al_query_outcome.specs.declared.interface.UnitInterface.{UnitInterfac
 use Rattle.al_stmts_walk.specs.Steps.{Inside}
 use Rattle.al_check_within.specs.Verdicts.{Verdict}
 use Rattle.al_check_within.specs.Verdicts.Verdict.{Wrong, Right}
-use Rattle.al_check_here.specs.Ends.{ends_of}
+use Rattle.al_check_here.specs.Ends.{ends_told, hidden_by}
+use Rattle.al_check_here.specs.declared.state.CheckState.{CheckState}
+use Rattle.al_view.specs.declared.part.Part.{Part}
+use Rattle.al_view.specs.declared.part.Part.TheVariants as part
 use Rattle.al_check_start.specs.UnitsAt.{unit_at}
 use Rattle.al_check_start.specs.declared.unit.UnitStart.{UnitStart}
 use Rattle.al_check_made.specs.Ended.{ended, right_at, viewed}
@@ -59,7 +62,7 @@ module _ (r : UnitFacts) (e : EndedText) (x : Inside) where
 right_in : (t : Table) (unit : UnitKey) (tree : CompilationUnitTree) (start : Result UnitStart Fault) (i : UnitInterface) (made : UnitTree) → verdict_from t unit tree start ≡ Right i made
     → (s : UnitStart) × (start ≡ Ok s) × (all_faults (item_faults t tree s) ≡ [])
 right_in t unit tree (Err f) i made h = absurd (cc)
-right_in t unit tree (Ok s) i made h = (s, refl, ended_right (round_of tree s) (ended_text (ends_of (item_walked t tree s).0)) (item_walked t tree s).1 i made h)
+right_in t unit tree (Ok s) i made h = (s, refl, ended_right (round_of tree s) (ended_text (ends_told (item_walked t tree s).0)) (item_walked t tree s).1 i made h)
 
 started : (unit : UnitKey) (text : List ℕ) (tree : CompilationUnitTree) (t : Table) (start : Result UnitStart Fault) → unit_at t unit tree ≡ start → ada_verdict unit text tree t ≡ verdict_from t unit tree start
 unfolding ada_verdict
@@ -68,9 +71,18 @@ started unit text tree t start h = ap (verdict_from t unit tree) h
 pub start_told : StartFaultsAreReported
 start_told unit text tree t f h = started unit text tree t (Err f) h
 
+-- what is hidden of a part leaves the unit as it is
+same_unit_hidden : (p : Part) (h : CheckState) → (hidden_by p h).env.progress.unit ≡ h.env.progress.unit
+same_unit_hidden part.Visible h = refl
+same_unit_hidden part.Private h = refl
+same_unit_hidden part.Body h = refl
+same_unit_hidden (part.Stub _) h = refl
+
 pub item_told : ItemFaultsAreReported
 item_told unit text tree t s h some =
-    started unit text tree t (Ok s) h ∙ ended_wrong (round_of tree s) (ended_text (ends_of (item_walked t tree s).0)) (item_walked t tree s).1 some
+    let walked = (item_walked t tree s).0 in
+    started unit text tree t (Ok s) h ∙ ended_wrong (round_of tree s) (ended_text (ends_told walked)) (item_walked t tree s).1 some
+    ∙ ap (λ (u : UnitKey). Wrong (faults_in u (item_faults t tree s))) (same_unit_hidden walked.part walked)
 
 pub sound_faultless : SoundUnitsHaveNoFault
 unfolding ada_verdict

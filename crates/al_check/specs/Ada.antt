@@ -1,21 +1,26 @@
 -- What is found in the text of an Ada unit, under a table of answers.
-use Rattle.std.specs.Prelude.{ℕ, List, [], ◌∷◌, None, Result, Ok, Err}
+use Rattle.std.specs.Prelude.{ℕ, List, [], ◌∷◌, not, None, Result, Ok, Err, if◌then◌else◌}
 use Rattle.al_base.specs.declared.unit_key.UnitKey.{UnitKey}
 use Rattle.al_tree_syntax.specs.UnitTrees.{CompilationUnitTree}
+use Rattle.al_unit_header.specs.PrivateTypes.{private_types}
 use Rattle.al_unit_header.specs.Units.{header_of}
 use Rattle.al_unit_graph.specs.Headers.{Header}
 use Rattle.al_query.specs.Reads.{Table}
 use Rattle.al_base_fault.specs.declared.fault.Fault.{Fault}
 use Rattle.al_base_faults.specs.declared.fault_list.FaultList.{FaultList}
+use Rattle.al_scope_seen.specs.declared.hiding.PrivateName.{PrivateName}
 use Rattle.al_scope_unit.specs.declared.own.OwnText.{OwnText}
+use Rattle.al_view.specs.Named.{Declarations}
 use Rattle.al_stmts_walk.specs.Steps.{Inside}
 use Rattle.al_stmts_walk.specs.Units.{unit_walked}
 use Rattle.al_check_within.specs.Verdicts.{Verdict}
 use Rattle.al_check_within.specs.Verdicts.Verdict.{Wrong}
+use Rattle.al_check_known.specs.PrivateNames.{names_known}
 use Rattle.al_check_known.specs.Starts.{units_known}
 use Rattle.al_check_start.specs.UnitsAt.{unit_at}
 use Rattle.al_check_start.specs.declared.unit.UnitStart.{UnitStart}
-use Rattle.al_check_here.specs.Ends.{ends_of}
+use Rattle.al_check_here.specs.Ends.{ends_of, ends_told}
+use Rattle.al_check_here.specs.Stacks.{is_bare}
 use Rattle.al_check_here.specs.Standings.{begun_at}
 use Rattle.al_check_here.specs.declared.ends.Ends.{Ends}
 use Rattle.al_check_here.specs.declared.state.CheckState.{CheckState}
@@ -30,16 +35,23 @@ use Rattle.al_check_made.specs.declared.after.UnitFacts.{UnitFacts}
 
 -- ---- where the item of a unit begins that starts so
 
--- what stays the same in its text: what every unit has, the packages that are mentioned, and what the text says of its place
-abbrev pub text_of : List UnitKey → OwnText → UnitText
-text_of packages own = record { labeller = record { alloc = the_memory; predefined = predefined; own = None }; packages = packages; own = own }
+-- what stays the same in its text: what every unit has, the packages that are mentioned, what the text says of its place, the private types that
+-- it hides, and what its private part was found to declare
+abbrev pub text_of : List UnitKey → OwnText → List PrivateName → Declarations → UnitText
+text_of packages own hidden private_part = record {
+  labeller = record { alloc = the_memory; predefined = predefined; own = None };
+  packages = packages;
+  own = own;
+  hidden = hidden;
+  private_part = private_part;
+}
 
-abbrev pub standing_of : CompilationUnitTree → UnitStart → CheckState
-standing_of tree s = begun_at (text_of s.packages s.own) s.scope s.progress s.uncompleted
+abbrev pub standing_of : Declarations → CompilationUnitTree → UnitStart → CheckState
+standing_of private_part tree s = begun_at (text_of s.packages s.own s.hidden private_part) s.scope s.progress s.uncompleted
 
 -- what is known of it before its item is walked
 abbrev pub round_of : CompilationUnitTree → UnitStart → UnitFacts
-round_of tree s = record { needs_body = (header_of tree).needs_body; line = item_line tree.item; parent = s.parent; view = s.view }
+round_of tree s = record { needs_body = (header_of tree).needs_body; line = item_line tree.item; parent = s.parent; view = s.view; private_types = private_types tree.item }
 
 -- ---- what is found in it
 
@@ -49,11 +61,27 @@ ended_text e = record { own = e.unit.own; progress = e.progress; completions = e
 
 -- after the end of the item: all its faults; or, where it has none, what the unit answers to others, with its labelled tree
 abbrev pub ended_after : UnitFacts → CheckState × Inside → Verdict
-ended_after r walked = ended r (ended_text (ends_of walked.0)) walked.1
+ended_after r walked = ended r (ended_text (ends_told walked.0)) walked.1
 
 -- the walk over the item of a unit that starts so, by the reading of Ada texts
+abbrev pub item_walked_with : Table → Declarations → CompilationUnitTree → UnitStart → CheckState × Inside
+item_walked_with t private_part tree s = unit_walked (ada t) (standing_of private_part tree s) tree.item
+
+-- what its private part declares, which is walked for before it is known what it declares
+abbrev pub private_part_found : Table → CompilationUnitTree → UnitStart → Declarations
+private_part_found t tree s = (ends_of (item_walked_with t [] tree s).0).parts.private_part
+
+abbrev pub private_part_at : Table → CompilationUnitTree → Result UnitStart Fault → Declarations
+private_part_at t tree (Err f) = []
+private_part_at t tree (Ok s) = private_part_found t tree s
+
+-- it is wanted where the visible part has private types: the words of their values are those of their full declarations, which stand behind what may
+-- use them
+abbrev pub private_part_of : Table → CompilationUnitTree → Result UnitStart Fault → Declarations
+private_part_of t tree start = if not (is_bare (private_types tree.item)) then private_part_at t tree start else []
+
 abbrev pub item_walked : Table → CompilationUnitTree → UnitStart → CheckState × Inside
-item_walked t tree s = unit_walked (ada t) (standing_of tree s) tree.item
+item_walked t tree s = item_walked_with t (private_part_of t tree (Ok s)) tree s
 
 -- what is found in it
 abbrev pub item_verdict : Table → CompilationUnitTree → UnitStart → Verdict
@@ -67,15 +95,22 @@ abbrev pub unit_after : Table → CompilationUnitTree → UnitStart → UnitKey
 unit_after t tree s = (item_walked t tree s).0.env.progress.unit
 
 -- after its start: a fault of the context clause, or else of the defining name, is told alone, as the item isn't looked at then
+abbrev pub verdict_with : Table → Declarations → UnitKey → CompilationUnitTree → Result UnitStart Fault → Verdict
+verdict_with t private_part unit tree (Err f) = Wrong (fault_in unit f ∷ [])
+verdict_with t private_part unit tree (Ok s) = ended_after (round_of tree s) (item_walked_with t private_part tree s)
+
 abbrev pub verdict_from : Table → UnitKey → CompilationUnitTree → Result UnitStart Fault → Verdict
-verdict_from t unit tree (Err f) = Wrong (fault_in unit f ∷ [])
-verdict_from t unit tree (Ok s) = item_verdict t tree s
+verdict_from t unit tree start = verdict_with t (private_part_of t tree start) unit tree start
 
 -- ---- of a unit
 
 -- which units may be asked for it
 abbrev pub ada_units : UnitKey → Header → Table → List UnitKey
 ada_units unit h t = units_known t unit h
+
+-- by which names beside the words of its text: the private types of the units round it
+abbrev pub ada_names : UnitKey → Header → Table → List (List ℕ)
+ada_names unit h t = names_known t unit h
 
 -- what is found in its text
 unfoldable pub ada_verdict : UnitKey → List ℕ → CompilationUnitTree → Table → Verdict

@@ -1,25 +1,28 @@
 // Who finds what the text of an Ada unit says.
-ghost use Rattle.std.specs.Prelude.{◌≡◌, ◌∷◌, [], IfOk};
+ghost use Rattle.std.specs.Prelude.{◌≡◌, ◌∷◌, [], IfOk, if◌then◌else◌, not};
 ghost use Rattle.al_tree.specs.UnitViews.{unit_model};
 ghost use Rattle.al_query.specs.Reads.{Agrees, FromAnswers};
 ghost use Rattle.al_check_within.specs.Verdicts.{verdict_of};
 ghost use Rattle.al_check_within.specs.Verdicts.Verdict.{Wrong};
 ghost use Rattle.al_check_start.specs.UnitsAt as starts;
 ghost use Rattle.al_check_made.specs.Made.{fault_in};
-ghost use Rattle.al_check.specs.Ada.{verdict_from};
+ghost use Rattle.al_check.specs.Ada.{private_part_at, private_part_of, verdict_from, verdict_with};
+ghost use Rattle.al_check_here.specs.Stacks.{is_bare};
+ghost use Rattle.al_unit_header.specs.PrivateTypes.{private_types};
 
-use crate::walk::walk_from;
-use al_base::{NoMemory, UnitKey};
+use crate::walk::{private_part_found, walk_from};
+use al_base::{Name, NoMemory, UnitKey};
 use al_base_fault::{CheckResult, Fault};
 use al_check_bounded::BoundedCheck;
-use al_check_known::units_known;
+use al_check_known::{names_known, units_known};
 use al_check_made::diagnostic;
 use al_check_start::{UnitStart, unit_at};
 use al_check_within::{UnitFinder, UnitResult, UnitVerdict};
 use al_query::{Answers, Recorder};
 use al_tree::CompilationUnit;
 use al_unit_graph::Header;
-use al_view::Seq;
+use al_unit_header::private_types;
+use al_view::{Interface, Seq};
 use std::alloc::Global;
 
 /// The fault of a unit's start.
@@ -55,20 +58,129 @@ fn faulty<A: Answers + Drop>(
     }
 }
 
-/// What is found in the text of a unit that starts so, or whose start has that fault.
+/// What is found in the text of a unit that starts so, or whose start has that fault, where its private part was found to declare this.
 fn find_from<A: Answers + Drop>(
     alloc: Global,
     unit: &UnitKey,
     tree: &CompilationUnit,
     start: CheckResult<UnitStart>,
+    private_part: Interface,
     recorder: Recorder<A>,
 ) -> Result<UnitResult, NoMemory>
     ensures agrees { IfOk result (λ found. Agrees (A.table recorder.asked) found.log) }
-    ensures answered { IfOk result (λ found. FromAnswers recorder.log found.log (λ t. verdict_of found.finding ≡ verdict_from t unit.now (unit_model tree.now) start)) }
+    ensures answered { IfOk result (λ found. FromAnswers recorder.log found.log (λ t. verdict_of found.finding ≡ verdict_with t private_part unit.now (unit_model tree.now) start)) }
 {
     match start {
-        Ok(start) => walk_from(alloc, tree, start, recorder),
-        Err(fault) => faulty(alloc, unit, &fault, recorder),
+        Ok(start) => walk_from(alloc, tree, start, private_part, recorder),
+        Err(fault) => {
+            drop(private_part);
+            faulty(alloc, unit, &fault, recorder)
+        }
+    }
+}
+
+/// Whether the visible part of a unit declares private types.
+#[tactic(auto, unfolding(al_tree::specs::UnitViews::unit_model))]
+fn has_private_types(alloc: Global, tree: &CompilationUnit) -> Result<bool, NoMemory>
+    ensures { IfOk result (λ has. has ≡ not (is_bare (private_types (unit_model tree.now).item))) }
+{
+    let types = private_types(alloc, &tree.item)?;
+    let has = !types.is_empty();
+    drop(types);
+    Ok(has)
+}
+
+/// What the private part of a unit declares that starts so, where its start has no fault.
+fn private_part_after<A: Answers + Drop>(
+    alloc: Global,
+    tree: &CompilationUnit,
+    start: CheckResult<UnitStart>,
+    recorder: Recorder<A>,
+) -> Result<(Interface, Recorder<A>), NoMemory>
+    ensures asked { IfOk result (λ found. found.1.asked ≡ recorder.asked) }
+    ensures answered { IfOk result (λ found. FromAnswers recorder.log found.1.log (λ t. found.0 ≡ private_part_at t (unit_model tree.now) start)) }
+{
+    match start {
+        Ok(start) => private_part_found(alloc, tree, start, recorder),
+        Err(_) => Ok((Interface::new(alloc), recorder)),
+    }
+}
+
+/// What the private part of a unit declares, where its start has no fault.
+fn private_part_at<A: Answers + Drop>(
+    alloc: Global,
+    unit: &UnitKey,
+    tree: &CompilationUnit,
+    recorder: Recorder<A>,
+) -> Result<(Interface, Recorder<A>), NoMemory>
+    ensures asked { IfOk result (λ found. found.1.asked ≡ recorder.asked) }
+    ensures answered { IfOk result (λ found. FromAnswers recorder.log found.1.log (λ t. found.0 ≡ private_part_at t (unit_model tree.now) (starts.unit_at t unit.now (unit_model tree.now)))) }
+{
+    let mut recorder = recorder;
+    match unit_at(alloc, unit, tree, &mut recorder) {
+        Ok(start) => private_part_after(alloc, tree, start, recorder),
+        Err(error) => {
+            drop(recorder);
+            Err(error)
+        }
+    }
+}
+
+/// The same where it is wanted.
+fn private_part_where<A: Answers + Drop>(
+    alloc: Global,
+    unit: &UnitKey,
+    tree: &CompilationUnit,
+    wanted: bool,
+    recorder: Recorder<A>,
+) -> Result<(Interface, Recorder<A>), NoMemory>
+    ensures asked { IfOk result (λ found. found.1.asked ≡ recorder.asked) }
+    ensures answered { IfOk result (λ found. FromAnswers recorder.log found.1.log (λ t. found.0 ≡ (if wanted then private_part_at t (unit_model tree.now) (starts.unit_at t unit.now (unit_model tree.now)) else []))) }
+{
+    if wanted {
+        return private_part_at(alloc, unit, tree, recorder);
+    }
+    Ok((Interface::new(alloc), recorder))
+}
+
+/// The same where its visible part has private types: the words of their values are told by their full declarations, which stand behind what may use them.
+fn private_part_if<A: Answers + Drop>(
+    alloc: Global,
+    unit: &UnitKey,
+    tree: &CompilationUnit,
+    recorder: Recorder<A>,
+) -> Result<(Interface, Recorder<A>), NoMemory>
+    ensures asked { IfOk result (λ found. found.1.asked ≡ recorder.asked) }
+    ensures answered { IfOk result (λ found. FromAnswers recorder.log found.1.log (λ t. found.0 ≡ private_part_of t (unit_model tree.now) (starts.unit_at t unit.now (unit_model tree.now)))) }
+{
+    match has_private_types(alloc, tree) {
+        Ok(wanted) => private_part_where(alloc, unit, tree, wanted, recorder),
+        Err(error) => {
+            drop(recorder);
+            Err(error)
+        }
+    }
+}
+
+/// What is found in the text of a unit whose private part was found to declare this.
+fn find_with<A: Answers + Drop>(
+    alloc: Global,
+    unit: &UnitKey,
+    tree: &CompilationUnit,
+    private_part: Interface,
+    recorder: Recorder<A>,
+) -> Result<UnitResult, NoMemory>
+    ensures agrees { IfOk result (λ found. Agrees (A.table recorder.asked) found.log) }
+    ensures answered { IfOk result (λ found. FromAnswers recorder.log found.log (λ t. verdict_of found.finding ≡ verdict_with t private_part unit.now (unit_model tree.now) (starts.unit_at t unit.now (unit_model tree.now)))) }
+{
+    let mut recorder = recorder;
+    match unit_at(alloc, unit, tree, &mut recorder) {
+        Ok(start) => find_from(alloc, unit, tree, start, private_part, recorder),
+        Err(error) => {
+            drop(private_part);
+            drop(recorder);
+            Err(error)
+        }
     }
 }
 
@@ -82,13 +194,9 @@ fn find_in<A: Answers + Drop>(
     ensures agrees { IfOk result (λ found. Agrees (A.table recorder.asked) found.log) }
     ensures answered { IfOk result (λ found. FromAnswers recorder.log found.log (λ t. verdict_of found.finding ≡ verdict_from t unit.now (unit_model tree.now) (starts.unit_at t unit.now (unit_model tree.now)))) }
 {
-    let mut recorder = recorder;
-    match unit_at(alloc, unit, tree, &mut recorder) {
-        Ok(start) => find_from(alloc, unit, tree, start, recorder),
-        Err(error) => {
-            drop(recorder);
-            Err(error)
-        }
+    match private_part_if(alloc, unit, tree, recorder) {
+        Ok((private_part, recorder)) => find_with(alloc, unit, tree, private_part, recorder),
+        Err(error) => Err(error),
     }
 }
 
@@ -97,9 +205,11 @@ fn find_in<A: Answers + Drop>(
 pub struct AdaFinder;
 
 impl UnitFinder for AdaFinder {
-    ghost use Rattle.al_check.specs.Ada.{ada_units, ada_verdict};
+    ghost use Rattle.al_check.specs.Ada.{ada_names, ada_units, ada_verdict};
 
     ghost units = { ada_units };
+
+    ghost names = { ada_names };
 
     ghost verdict = { ada_verdict };
 
@@ -111,6 +221,16 @@ impl UnitFinder for AdaFinder {
         recorder: &mut Recorder<A>,
     ) -> Result<Vec<UnitKey>, NoMemory> {
         units_known(alloc, unit, header, recorder)
+    }
+
+    fn names_known<A: Answers>(
+        &self,
+        alloc: Global,
+        unit: &UnitKey,
+        header: &Header,
+        recorder: &mut Recorder<A>,
+    ) -> Result<Vec<Name>, NoMemory> {
+        names_known(alloc, unit, header, recorder)
     }
 
     fn find<A: Answers + Drop>(

@@ -9,15 +9,22 @@ use al_check_here::{CheckState, UnitText};
 use al_check_made::{UnitFacts, item_line, predefined_everywhere};
 use al_check_start::UnitStart;
 use al_overload_nodes::Labeller;
+use al_scope_seen::PrivateName;
 use al_scope_unit::OwnText;
 use al_tree::CompilationUnit;
-use al_unit_header::header_of;
-use al_view::Seq;
+use al_unit_header::{header_of, private_types};
+use al_view::{Interface, Seq};
 use std::alloc::Global;
 
 /// What stays the same in the text of a unit.
-fn text_of(alloc: Global, packages: Seq<UnitKey>, own: OwnText) -> Result<UnitText, NoMemory>
-    ensures { IfOk result (λ text. text ≡ text_of packages own) }
+fn text_of(
+    alloc: Global,
+    packages: Seq<UnitKey>,
+    own: OwnText,
+    hidden: Seq<PrivateName>,
+    private_part: Interface,
+) -> Result<UnitText, NoMemory>
+    ensures { IfOk result (λ text. text ≡ text_of packages own hidden private_part) }
 {
     let predefined = predefined_everywhere(alloc)?;
     let labeller = Labeller {
@@ -29,6 +36,8 @@ fn text_of(alloc: Global, packages: Seq<UnitKey>, own: OwnText) -> Result<UnitTe
         labeller,
         packages,
         own,
+        hidden,
+        private_part,
     })
 }
 
@@ -48,17 +57,19 @@ pub(crate) struct Begun {
     pub(crate) state: CheckState,
 }
 
-/// Where the item of a unit begins that starts so.
+/// Where the item of a unit begins that starts so, where its private part was found to declare this.
 #[tactic(auto, unfolding(al_tree::specs::UnitViews::unit_model))]
 pub(crate) fn begun_at(
     alloc: Global,
     tree: &CompilationUnit,
     start: UnitStart,
+    private_part: Interface,
 ) -> Result<Begun, NoMemory>
     ensures unit_facts { IfOk result (λ begun. begun.unit_facts ≡ round_of (unit_model tree.now) start) }
-    ensures state { IfOk result (λ begun. begun.state ≡ standing_of (unit_model tree.now) start) }
+    ensures state { IfOk result (λ begun. begun.state ≡ standing_of private_part (unit_model tree.now) start) }
 {
     let needs_body = needs_body(alloc, tree)?;
+    let private_types = Seq::new(private_types(alloc, &tree.item)?);
     let UnitStart {
         own,
         scope,
@@ -67,14 +78,16 @@ pub(crate) fn begun_at(
         uncompleted,
         parent,
         view,
+        hidden,
     } = start;
-    let text = text_of(alloc, packages, own)?;
+    let text = text_of(alloc, packages, own, hidden, private_part)?;
     let line = item_line(&tree.item);
     let unit_facts = UnitFacts {
         needs_body,
         line,
         parent,
         view,
+        private_types,
     };
     let state = CheckState::new(text, scope, progress, uncompleted);
     Ok(Begun { unit_facts, state })

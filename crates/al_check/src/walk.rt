@@ -7,11 +7,11 @@ ghost use Rattle.al_stmts_walked.specs.WalkedViews.{inside_model};
 ghost use Rattle.al_check_within.specs.Verdicts.{verdict_of};
 ghost use Rattle.al_check_here.specs.Ends.{ends_of};
 ghost use Rattle.al_check_reading.specs.Ada.{ada};
-ghost use Rattle.al_check.specs.Ada.{ended_after, ended_text, item_verdict};
+ghost use Rattle.al_check.specs.Ada.{ended_after, ended_text, item_walked_with, private_part_found, round_of};
 
 use crate::start::{Begun, begun_at};
 use al_base::NoMemory;
-use al_check_here::{CheckState, Ends, UnitText, into_ends};
+use al_check_here::{CheckState, Ends, UnitText, into_ends, into_private_part};
 use al_check_made::{EndedText, UnitFacts, found_after};
 use al_check_reading::AdaAnalyzer;
 use al_check_start::UnitStart;
@@ -20,6 +20,7 @@ use al_check_within::{UnitResult, UnitVerdict};
 use al_query::{Answers, Recorder};
 use al_stmts_walked::WalkedInside;
 use al_tree::{CompilationUnit, LibraryItem};
+use al_view::Interface;
 use std::alloc::Global;
 
 /// What the walk left, without what it stood on.
@@ -108,18 +109,67 @@ fn walk<A: Answers + Drop>(
     }
 }
 
-/// What is found in the item of a unit that starts so.
+/// What the private part of an item declares, from that place on.
+fn private_part_from<A: Answers + Drop>(
+    alloc: Global,
+    state: CheckState,
+    item: &LibraryItem,
+    recorder: Recorder<A>,
+) -> Result<(Interface, Recorder<A>), NoMemory>
+    ensures asked { IfOk result (λ found. found.1.asked ≡ recorder.asked) }
+    ensures answered { IfOk result (λ found. FromAnswers recorder.log found.1.log (λ t. found.0 ≡ (ends_of (unit_walked (ada t) state (library_item_model item.now)).0).parts.private_part)) }
+{
+    let mut analyzer = AdaAnalyzer { state, recorder };
+    match check_unit(&mut analyzer, alloc, item) {
+        Ok(inside) => {
+            drop(inside);
+            let AdaAnalyzer { state, recorder } = analyzer;
+            Ok((into_private_part(alloc, state), recorder))
+        }
+        Err(error) => {
+            drop(analyzer);
+            Err(error)
+        }
+    }
+}
+
+/// What the private part of a unit declares that starts so.
+#[tactic(auto, unfolding(al_tree::specs::UnitViews::unit_model))]
+pub(crate) fn private_part_found<A: Answers + Drop>(
+    alloc: Global,
+    tree: &CompilationUnit,
+    start: UnitStart,
+    recorder: Recorder<A>,
+) -> Result<(Interface, Recorder<A>), NoMemory>
+    ensures asked { IfOk result (λ found. found.1.asked ≡ recorder.asked) }
+    ensures answered { IfOk result (λ found. FromAnswers recorder.log found.1.log (λ t. found.0 ≡ private_part_found t (unit_model tree.now) start)) }
+{
+    match begun_at(alloc, tree, start, Interface::new(alloc)) {
+        Ok(begun) => {
+            let Begun { unit_facts, state } = begun;
+            drop(unit_facts);
+            private_part_from(alloc, state, &tree.item, recorder)
+        }
+        Err(error) => {
+            drop(recorder);
+            Err(error)
+        }
+    }
+}
+
+/// What is found in the item of a unit that starts so, where its private part was found to declare this.
 #[tactic(auto, unfolding(al_tree::specs::UnitViews::unit_model))]
 pub(crate) fn walk_from<A: Answers + Drop>(
     alloc: Global,
     tree: &CompilationUnit,
     start: UnitStart,
+    private_part: Interface,
     recorder: Recorder<A>,
 ) -> Result<UnitResult, NoMemory>
     ensures agrees { IfOk result (λ found. Agrees (A.table recorder.asked) found.log) }
-    ensures answered { IfOk result (λ found. FromAnswers recorder.log found.log (λ t. verdict_of found.finding ≡ item_verdict t (unit_model tree.now) start)) }
+    ensures answered { IfOk result (λ found. FromAnswers recorder.log found.log (λ t. verdict_of found.finding ≡ ended_after (round_of (unit_model tree.now) start) (item_walked_with t private_part (unit_model tree.now) start))) }
 {
-    match begun_at(alloc, tree, start) {
+    match begun_at(alloc, tree, start, private_part) {
         Ok(begun) => {
             let Begun { unit_facts, state } = begun;
             walk(alloc, unit_facts, state, &tree.item, recorder)

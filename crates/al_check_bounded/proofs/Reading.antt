@@ -28,34 +28,34 @@ le_test a b h = grind (arith, nat_tests)
 pub le_is : (a b : ℕ) → nat_le a b ≡ true → a ≤ b
 le_is a b h = grind (arith, nat_tests)
 
-module _ (units : UnitKey → Header → Table → List UnitKey) (verdict : UnitKey → List ℕ → CompilationUnitTree → Table → Verdict) (unit : UnitKey) (text : List ℕ) where
-  if_fits : (t : Table) → nat_le (length text) 4294967294 ≡ true → text_meaning units verdict unit text t ≡ meaning_if_read units verdict unit text (reading_of text) t
+module _ (units : UnitKey → Header → Table → List UnitKey) (names : UnitKey → Header → Table → List (List ℕ)) (verdict : UnitKey → List ℕ → CompilationUnitTree → Table → Verdict) (unit : UnitKey) (text : List ℕ) where
+  if_fits : (t : Table) → nat_le (length text) 4294967294 ≡ true → text_meaning units names verdict unit text t ≡ meaning_if_read units names verdict unit text (reading_of text) t
   unfolding text_meaning
-  if_fits t h = ap (λ (b : Bool). if b then meaning_if_read units verdict unit text (reading_of text) t else checked_faults unit []) h
+  if_fits t h = ap (λ (b : Bool). if b then meaning_if_read units names verdict unit text (reading_of text) t else checked_faults unit []) h
 
-  if_long : (t : Table) → nat_le (length text) 4294967294 ≡ false → text_meaning units verdict unit text t ≡ checked_faults unit []
+  if_long : (t : Table) → nat_le (length text) 4294967294 ≡ false → text_meaning units names verdict unit text t ≡ checked_faults unit []
   unfolding text_meaning
-  if_long t h = ap (λ (b : Bool). if b then meaning_if_read units verdict unit text (reading_of text) t else checked_faults unit []) h
+  if_long t h = ap (λ (b : Bool). if b then meaning_if_read units names verdict unit text (reading_of text) t else checked_faults unit []) h
 
   module _ (log : Log) (outcome : Outcome) where
     -- a text that is no unit
-    not_read : FaultsAreReported → log ≡ [] → outcome ≡ checked_faults unit [] → ((t : Table) → text_meaning units verdict unit text t ≡ checked_faults unit []) → IsChecked unit (header_in text) (text_meaning units verdict unit text) log outcome
+    not_read : FaultsAreReported → log ≡ [] → outcome ≡ checked_faults unit [] → ((t : Table) → text_meaning units names verdict unit text t ≡ checked_faults unit []) → IsChecked unit (header_in text) (text_meaning units names verdict unit text) log outcome
     not_read answered none is means = record {
       meaning = λ t h. is ∙ sym (means t);
       grounded = subst (λ (l : Log). Grounded (named_by (header_in text)) l) (sym none) tt;
       promised = subst (λ (o : Outcome). Promised unit (named_by (header_in text)) log o) (sym is) (answered unit (named_by (header_in text)) log []);
     }
 
-    pub too_long : FaultsAreReported → log ≡ [] → outcome ≡ checked_faults unit [] → nat_le (length text) 4294967294 ≡ false → IsChecked unit (header_in text) (text_meaning units verdict unit text) log outcome
+    pub too_long : FaultsAreReported → log ≡ [] → outcome ≡ checked_faults unit [] → nat_le (length text) 4294967294 ≡ false → IsChecked unit (header_in text) (text_meaning units names verdict unit text) log outcome
     too_long answered none is h = not_read answered none is (λ t. if_long t h)
 
-    pub fails : FaultsAreReported → log ≡ [] → outcome ≡ checked_faults unit [] → length text ≤ 4294967294 → (place : Place) (code : ℕ) → reading_of text ≡ Fails place code → IsChecked unit (header_in text) (text_meaning units verdict unit text) log outcome
-    fails answered none is h place code reads = not_read answered none is (λ t. if_fits t (le_test (length text) 4294967294 h) ∙ ap (λ (r : Reading). meaning_if_read units verdict unit text r t) reads)
+    pub fails : FaultsAreReported → log ≡ [] → outcome ≡ checked_faults unit [] → length text ≤ 4294967294 → (place : Place) (code : ℕ) → reading_of text ≡ Fails place code → IsChecked unit (header_in text) (text_meaning units names verdict unit text) log outcome
+    fails answered none is h place code reads = not_read answered none is (λ t. if_fits t (le_test (length text) 4294967294 h) ∙ ap (λ (r : Reading). meaning_if_read units names verdict unit text r t) reads)
 
     -- a text that is read as a unit
-    pub sentence : length text ≤ 4294967294 → (tree : CompilationUnitTree) → reading_of text ≡ Sentence tree → IsChecked unit (header_of tree) (meaning_within units verdict unit text tree) log outcome → IsChecked unit (header_in text) (text_meaning units verdict unit text) log outcome
+    pub sentence : length text ≤ 4294967294 → (tree : CompilationUnitTree) → reading_of text ≡ Sentence tree → IsChecked unit (header_of tree) (meaning_within units names verdict unit text tree) log outcome → IsChecked unit (header_in text) (text_meaning units names verdict unit text) log outcome
     sentence h tree reads checked = record {
-      meaning = λ t a. checked.meaning t a ∙ sym (if_fits t (le_test (length text) 4294967294 h) ∙ ap (λ (r : Reading). meaning_if_read units verdict unit text r t) reads);
+      meaning = λ t a. checked.meaning t a ∙ sym (if_fits t (le_test (length text) 4294967294 h) ∙ ap (λ (r : Reading). meaning_if_read units names verdict unit text r t) reads);
       grounded = subst (λ (x : Header). Grounded (named_by x) log) (sym (headers_read text tree reads)) checked.grounded;
       promised = subst (λ (x : Header). Promised unit (named_by x) log outcome) (sym (headers_read text tree reads)) checked.promised;
     }

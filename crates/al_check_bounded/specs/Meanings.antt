@@ -43,11 +43,11 @@ header_in text = header_if_read (reading_of text)
 abbrev pub HeadersAreRead : Type 0
 HeadersAreRead = (text : List ℕ) (tree : CompilationUnitTree) → reading_of text ≡ Sentence tree → header_in text ≡ header_of tree
 
-abbrev pub meaning_if_read : (UnitKey → Header → Table → List UnitKey) → (UnitKey → List ℕ → CompilationUnitTree → Table → Verdict) → UnitKey → List ℕ → Reading → Table → Outcome
-meaning_if_read units verdict unit text (Sentence tree) t = meaning_within units verdict unit text tree t
-meaning_if_read units verdict unit text (Fails place code) t = checked_faults unit []
+abbrev pub meaning_if_read : (UnitKey → Header → Table → List UnitKey) → (UnitKey → Header → Table → List (List ℕ)) → (UnitKey → List ℕ → CompilationUnitTree → Table → Verdict) → UnitKey → List ℕ → Reading → Table → Outcome
+meaning_if_read units names verdict unit text (Sentence tree) t = meaning_within units names verdict unit text tree t
+meaning_if_read units names verdict unit text (Fails place code) t = checked_faults unit []
 
 -- the outcome of a unit with a text under a table; a text with more bytes than a file may have, and one that is no unit, can't be compiled
-unfoldable pub text_meaning : (UnitKey → Header → Table → List UnitKey) → (UnitKey → List ℕ → CompilationUnitTree → Table → Verdict) → UnitKey → List ℕ → Table → Outcome
-text_meaning units verdict unit text t =
-    if nat_le (length text) 4294967294 then meaning_if_read units verdict unit text (reading_of text) t else checked_faults unit []
+unfoldable pub text_meaning : (UnitKey → Header → Table → List UnitKey) → (UnitKey → Header → Table → List (List ℕ)) → (UnitKey → List ℕ → CompilationUnitTree → Table → Verdict) → UnitKey → List ℕ → Table → Outcome
+text_meaning units names verdict unit text t =
+    if nat_le (length text) 4294967294 then meaning_if_read units names verdict unit text (reading_of text) t else checked_faults unit []

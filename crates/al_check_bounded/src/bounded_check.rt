@@ -34,8 +34,8 @@ impl<F: UnitFinder> BoundedCheck<F> {
     }
 
     /// Checks a unit with its text. Beside what is promised of every checker, whatever the finder asks:
-    /// - `names`: each question is by a word of the text, an operator's sign too, or for a property of a unit; that for what a body must
-    ///   complete is of the unit's own declaration.
+    /// - `names`: each question is by a word of the text, an operator's sign too, or by a name that an earlier answer tells, or for a property
+    ///   of a unit; that for what a body must complete is of the unit's own declaration.
     pub fn check_unit<A: Answers>(
         &mut self,
         alloc: Global,
@@ -45,7 +45,7 @@ impl<F: UnitFinder> BoundedCheck<F> {
     ) -> Result<Checked, NoMemory>
         requires { recorder.old.log ≡ [] }
         ensures asked { recorder.new.asked ≡ recorder.old.asked }
-        ensures checked { IfOk result (λ checked. IsChecked unit.now (header_in text.now) (text_meaning F.units F.verdict unit.now text.now) recorder.new.log (checked_model checked)) }
+        ensures checked { IfOk result (λ checked. IsChecked unit.now (header_in text.now) (text_meaning F.units F.names F.verdict unit.now text.now) recorder.new.log (checked_model checked)) }
         ensures others { OnOk result (AsksOthers unit.now recorder.new.log) }
         ensures names { OnOk result (AsksByNames unit.now (words_of text.now) recorder.new.log) }
         ensures counted { self.new.checks ≡ one_more self.old.checks }
@@ -58,7 +58,7 @@ impl<F: UnitFinder> BoundedCheck<F> {
 impl<F: UnitFinder> UnitCheck for BoundedCheck<F> {
     ghost use Rattle.al_check_bounded.specs.Meanings.{header_in, text_meaning};
 
-    ghost meaning = { text_meaning F.units F.verdict };
+    ghost meaning = { text_meaning F.units F.names F.verdict };
 
     ghost header = { header_in };
 

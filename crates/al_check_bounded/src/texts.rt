@@ -47,7 +47,7 @@ fn check_reading<F: UnitFinder, A: Answers>(
     requires reading { reading_model reading.now ≡ reading_of text.now }
     requires log { recorder.old.log ≡ [] }
     ensures asked { recorder.new.asked ≡ recorder.old.asked }
-    ensures checked { IfOk result (λ checked. IsChecked unit.now (header_in text.now) (text_meaning F.units F.verdict unit.now text.now) recorder.new.log (checked_model checked)) }
+    ensures checked { IfOk result (λ checked. IsChecked unit.now (header_in text.now) (text_meaning F.units F.names F.verdict unit.now text.now) recorder.new.log (checked_model checked)) }
     ensures others { OnOk result (AsksOthers unit.now recorder.new.log) }
     ensures names { OnOk result (AsksByNames unit.now (words_of text.now) recorder.new.log) }
 {
@@ -68,7 +68,7 @@ pub(crate) fn check_text<F: UnitFinder, A: Answers>(
 ) -> Result<Checked, NoMemory>
     requires { recorder.old.log ≡ [] }
     ensures asked { recorder.new.asked ≡ recorder.old.asked }
-    ensures checked { IfOk result (λ checked. IsChecked unit.now (header_in text.now) (text_meaning F.units F.verdict unit.now text.now) recorder.new.log (checked_model checked)) }
+    ensures checked { IfOk result (λ checked. IsChecked unit.now (header_in text.now) (text_meaning F.units F.names F.verdict unit.now text.now) recorder.new.log (checked_model checked)) }
     ensures others { OnOk result (AsksOthers unit.now recorder.new.log) }
     ensures names { OnOk result (AsksByNames unit.now (words_of text.now) recorder.new.log) }
 {

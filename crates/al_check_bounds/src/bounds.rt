@@ -19,7 +19,7 @@ pub struct Bounds {
     pub unit: UnitKey,
     /// The units that it knows.
     pub known: Seq<UnitKey>,
-    /// The names that it may ask for: the words of its text.
+    /// The names that it may ask for: the words of its text, and names that answers tell.
     pub names: NameSet,
 }
 

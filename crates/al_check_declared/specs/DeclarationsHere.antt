@@ -1,5 +1,6 @@
 -- Declarations where the check of a unit stands (ARM 3.1, 6.1, 8.4), by a table of answers.
-use Rattle.std.specs.Prelude.{ℕ, Bool, ◌&&◌, List, [], Option, Some, None, Result, Ok, Err, if◌then◌else◌}
+use Rattle.std.specs.Prelude.{ℕ, Bool, ◌&&◌, List, [], ◌∷◌, Option, Some, None, Result, Ok, Err, if◌then◌else◌}
+use Rattle.std.specs.Option.{option_map_or}
 use Rattle.al_stmts_walk.specs.Walking.{first_line}
 use Rattle.al_check_here.specs.Faulty.{effect_settled, ended}
 use Rattle.al_check_here.specs.PartsHere.{with_uses}
@@ -22,12 +23,18 @@ use Rattle.al_tree_syntax.specs.DeclarationTrees.CommonTree.{ObjectDeclaration, 
 use Rattle.al_view_typed.specs.DeclarationTrees.{DeclarationTree}
 use Rattle.al_scope_uses.specs.Pragmas.{pragma_fault}
 use Rattle.al_scope_uses.specs.UsesAt.{used_in, uses_at}
-use Rattle.al_view.specs.Symbols.{same_kind}
+use Rattle.al_scope.specs.PartialViews.{declared_type}
+use Rattle.al_view.specs.Interfaces.{views_of}
+use Rattle.al_view.specs.Symbols.{same_kind, same_part}
+use Rattle.al_view.specs.Types.{layout_words}
+use Rattle.al_view.specs.declared.part.Part.TheVariants as part
+use Rattle.al_view.specs.declared.types.TypeView.{TypeView}
+use Rattle.al_view.specs.declared.view.ViewKind.{ViewKind}
 use Rattle.al_stmts_walk.specs.Readings.{Read}
 
 -- what reads the parts of declarations there
 abbrev pub parts_here : Table → CheckState → PartReading
-parts_here t h = parts_read t h.unit.packages h.unit.labeller.predefined h.unit.labeller.own
+parts_here t h = parts_read t h.unit.packages h.unit.labeller.predefined h.unit.labeller.own h.unit.own.unit
 
 abbrev pub with_regions : CheckState → List Region → CheckState
 with_regions h regions = with_here h (record h.env { scope = in_regions h.env.scope regions })
@@ -56,11 +63,23 @@ abbrev pub pragma_settled : CheckState → Option Fault → Read CheckState (Lis
 pragma_settled h None = (h, Ok [])
 pragma_settled h (Some f) = faulty_here h f
 
+-- ---- private types
+
+-- the words of the values of the type that is declared first under a name
+abbrev pub type_words : List ViewKind → ℕ
+type_words [] = 0
+type_words (v ∷ vs) = option_map_or (λ (t : TypeView). layout_words t.layout) (declared_type v) 0
+
+-- in the visible part of a package a private type may stand (ARM 7.3(4)); the words of its values are those of its full declaration
+abbrev pub private_words : CheckState → List ℕ → Option ℕ
+private_words h name =
+    if h.unit.own.is_package && same_part h.part part.Visible then Some (type_words (views_of h.unit.private_part name)) else None
+
 -- ---- what packages and bodies declare alike
 
 abbrev pub open_declared : Table → CheckState → CommonTree → Read CheckState (List DeclarationTree)
 open_declared t h (ObjectDeclaration o) = effect_settled h (object_checked (parts_here t h) t h.env o)
-open_declared t h (TypeDeclaration d) = effect_settled h (type_checked (parts_here t h) t h.env d)
+open_declared t h (TypeDeclaration d) = effect_settled h (type_checked (parts_here t h) t h.env (private_words h d.name.text) d)
 open_declared t h (SubtypeDeclaration s) = effect_settled h (subtype_item_checked (parts_here t h) t h.env s)
 open_declared t h (UseItem u) = uses_read h (uses_at t h.env.scope h.unit.packages u)
 open_declared t h (PragmaItem p) = pragma_settled h (pragma_fault (package_name h) p)

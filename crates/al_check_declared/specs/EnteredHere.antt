@@ -6,7 +6,12 @@ use Rattle.al_check_here.specs.Standings.{is_nowhere, is_whole}
 use Rattle.al_check_here.specs.declared.state.AnalyzedHeading.{AnalyzedHeading}
 use Rattle.al_check_here.specs.declared.state.CheckState.{CheckState}
 use Rattle.al_check_objects.specs.OpenObjects.{is_of_object, renewed}
+use Rattle.al_base_fault.specs.Judging.{map_ok}
+use Rattle.al_decl_profile.specs.declared.heading.ReturnedPart.{ReturnedPart}
+use Rattle.al_decl_profile.specs.declared.heading.ReturnedPart.TheVariants.{NoValue, Value}
+use Rattle.al_scope_seen.specs.Seen.{subtype_seen_at}
 use Rattle.al_query.specs.Reads.{Table}
+use Rattle.al_scope.specs.Places.{Place}
 use Rattle.al_scope_unit.specs.UnitPlaces.{private_regions}
 use Rattle.al_check_declared.specs.DeclarationsHere.{with_regions}
 
@@ -18,8 +23,17 @@ abbrev pub private_here : Table → CheckState → CheckState
 private_here t h = private_begun (opened t h)
 
 -- the body of the unit, whose profile is its visible part (ARM 8.2); outside of all regions none is entered
+-- the result of a function is seen as its statements see it
+abbrev pub returned_seen : Table → Place → ReturnedPart → ReturnedPart
+returned_seen t place NoValue = NoValue
+returned_seen t place (Value of) = Value (map_ok (subtype_seen_at t place) of)
+
+abbrev pub heading_seen : Table → Place → AnalyzedHeading → AnalyzedHeading
+heading_seen t place read = record read { heading = record read.heading { returned = returned_seen t place read.heading.returned } }
+
 abbrev pub whole_body : Table → CheckState → AnalyzedHeading → CheckState
-whole_body t h read = if is_nowhere h then h else whole_entered (with_regions h (private_regions t h.unit.own h.env.scope.regions)) read
+whole_body t h read =
+    if is_nowhere h then h else let inner = with_regions h (private_regions t h.unit.own h.env.scope.regions) in whole_entered inner (heading_seen t inner.env.scope read)
 
 -- the body of an operation of a protected object, in that one's region, which is entered anew for it; or of what else stands inside the unit
 abbrev pub renewed_for : CheckState → AnalyzedHeading → CheckState

@@ -1,16 +1,24 @@
 // Bodies and private parts are entered (ARM 6.3, 7.1, 8.2).
-ghost use Rattle.std.specs.Prelude.{◌≡◌, ◌<◌, length, OnOk};
+ghost use Rattle.std.specs.Prelude.{◌≡◌, ◌<◌, length, IfOk, OnOk};
+ghost use Rattle.al_base_fault.specs.Judging.{map_ok};
+ghost use Rattle.al_scope_seen.specs.Seen.{subtype_seen_at};
 ghost use Rattle.al_query.specs.Reads.{FromAnswers};
 ghost use Rattle.al_scope_unit.specs.UnitPlaces.{private_regions};
 ghost use Rattle.al_check_declared.specs.DeclarationsHere.{with_regions};
-ghost use Rattle.al_check_declared.specs.EnteredHere.{body_here, nested_body, opened, private_here, read_entered, renewed_for, whole_body};
+ghost use Rattle.al_check_declared.specs.EnteredHere.{body_here, heading_seen, nested_body, opened, private_here, read_entered, renewed_for, returned_seen, whole_body};
 
 use al_base::NoMemory;
+use al_base_fault::CheckResult;
 use al_check_here::{AnalyzedHeading, CheckState, begin_private, enter_nested, enter_whole};
 use al_check_objects::{is_of_object, renew_region};
+use al_decl_profile::ReturnedPart;
 use al_query::{Answers, Recorder};
+use al_scope::Scope;
+use al_scope_seen::subtype_seen_at;
 use al_scope_unit::enter_private_part;
+use al_view::SubtypeView;
 use std::alloc::Global;
+use std::mem;
 
 /// From here on the private parts of the ancestors are seen (ARM 8.2(5)).
 fn open_ancestors<A: Answers>(
@@ -44,6 +52,53 @@ pub fn enter_private<A: Answers>(
     Ok(())
 }
 
+/// A judged mark as the place sees it.
+fn mark_seen<A: Answers>(
+    alloc: Global,
+    scope: &Scope,
+    of: CheckResult<SubtypeView>,
+    recorder: &mut Recorder<A>,
+) -> Result<CheckResult<SubtypeView>, NoMemory>
+    ensures asked { recorder.new.asked ≡ recorder.old.asked }
+    ensures answered { IfOk result (λ seen. FromAnswers recorder.old.log recorder.new.log (λ t. seen ≡ map_ok (subtype_seen_at t scope.now) of)) }
+{
+    match of {
+        Ok(of) => Ok(Ok(subtype_seen_at(alloc, scope, of, recorder)?)),
+        Err(fault) => Ok(Err(fault)),
+    }
+}
+
+/// What a subprogram returns, as its statements see it.
+fn returned_seen<A: Answers>(
+    alloc: Global,
+    scope: &Scope,
+    returned: ReturnedPart,
+    recorder: &mut Recorder<A>,
+) -> Result<ReturnedPart, NoMemory>
+    ensures asked { recorder.new.asked ≡ recorder.old.asked }
+    ensures answered { IfOk result (λ seen. FromAnswers recorder.old.log recorder.new.log (λ t. seen ≡ returned_seen t scope.now returned)) }
+{
+    match returned {
+        ReturnedPart::NoValue => Ok(ReturnedPart::NoValue),
+        ReturnedPart::Value(of) => Ok(ReturnedPart::Value(mark_seen(alloc, scope, of, recorder)?)),
+    }
+}
+
+/// The head of a body whose place sees more than the head did: its result is seen as the place sees it.
+fn see_heading<A: Answers>(
+    alloc: Global,
+    scope: &Scope,
+    read: &mut AnalyzedHeading,
+    recorder: &mut Recorder<A>,
+) -> Result<(), NoMemory>
+    ensures asked { recorder.new.asked ≡ recorder.old.asked }
+    ensures answered { OnOk result (FromAnswers recorder.old.log recorder.new.log (λ t. read.new ≡ heading_seen t scope.now read.old)) }
+{
+    let returned = mem::replace(&mut read.heading.returned, ReturnedPart::NoValue);
+    read.heading.returned = returned_seen(alloc, scope, returned, recorder)?;
+    Ok(())
+}
+
 /// The body of a unit that is one subprogram.
 fn enter_unit_body<A: Answers>(
     state: &mut CheckState,
@@ -57,8 +112,11 @@ fn enter_unit_body<A: Answers>(
         state.pending = Some(read);
         return Ok(());
     }
+    let alloc = state.unit.labeller.alloc;
+    let mut read = read;
     open_ancestors(state, recorder)?;
-    enter_whole(state.unit.labeller.alloc, state, read)
+    see_heading(alloc, &state.env.scope, &mut read, recorder)?;
+    enter_whole(alloc, state, read)
 }
 
 /// The region of a protected object is entered anew before the body of an operation of it.

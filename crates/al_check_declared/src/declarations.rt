@@ -9,7 +9,7 @@ ghost use Rattle.al_tree.specs.DeclarationViews.{common_model, object_model, pra
 ghost use Rattle.al_scope_uses.specs.Pragmas.{pragma_fault};
 ghost use Rattle.al_scope_uses.specs.UsesAt.{uses_at};
 ghost use Rattle.al_stmts_walk.specs.Views.{effects_model};
-ghost use Rattle.al_check_declared.specs.DeclarationsHere.{declared_here, is_at_head, nested_declared, open_declared, package_name, parts_here, pragma_settled, uses_read};
+ghost use Rattle.al_check_declared.specs.DeclarationsHere.{declared_here, is_at_head, nested_declared, open_declared, package_name, parts_here, pragma_settled, private_words, type_words, uses_read};
 
 use crate::settled::{Effects, no_place, settle_pragma, settle_uses};
 use al_base::{NoMemory, UnitKind};
@@ -18,12 +18,14 @@ use al_decl_ada::AdaPartAnalyzer;
 use al_decl_item::{check_object_item, check_subtype_item, check_type_item};
 use al_decl_subprogram::check_subprogram;
 use al_query::{Answers, Recorder};
+use al_scope::declared_type;
 use al_scope_uses::{pragma_fault, use_at};
 use al_stmts_walked::first_line;
 use al_tree::{
     CommonDeclaration, ObjectDeclaration, Pragma, Specification, SubtypeDeclaration,
     TypeDeclaration, UseClause,
 };
+use al_view::{Part, View};
 
 /// `names : ..;` (ARM 3.3.1, 3.3.2)
 fn object<A: Answers>(
@@ -37,7 +39,12 @@ fn object<A: Answers>(
 {
     let labeller = &state.unit.labeller;
     let packages = state.unit.packages.as_slice();
-    let parts = AdaPartAnalyzer { labeller, packages };
+    let unit = &state.unit.own.unit;
+    let parts = AdaPartAnalyzer {
+        labeller,
+        packages,
+        unit,
+    };
     let checked = check_object_item(
         labeller.alloc,
         &labeller.predefined.standard,
@@ -49,7 +56,30 @@ fn object<A: Answers>(
     settle_effect(state.unit.labeller.alloc, state, checked)
 }
 
-/// `type name is ..;` (ARM 3.2.1)
+/// The words of the values of the type that is declared first.
+fn type_words(views: &[View]) -> u32
+    ensures { result ≡ type_words views.now }
+{
+    match views {
+        [] => 0,
+        [view, ..] => match declared_type(view) {
+            Some(of) => of.layout.words(),
+            None => 0,
+        },
+    }
+}
+
+/// The words of the values of a private type of that name, where one may stand (ARM 7.3(4)).
+fn private_words(state: &CheckState, name: &[u8]) -> Option<u32>
+    ensures { result ≡ private_words state.now name.now }
+{
+    if state.unit.own.is_package && state.part.is(&Part::Visible) {
+        return Some(type_words(state.unit.private_part.views(name)));
+    }
+    None
+}
+
+/// `type name is ..;` (ARM 3.2.1, 7.3)
 fn type_declaration<A: Answers>(
     state: &mut CheckState,
     declaration: &TypeDeclaration,
@@ -57,16 +87,23 @@ fn type_declaration<A: Answers>(
 ) -> Result<Effects, NoMemory>
     requires { 0 < length state.old.env.scope.regions }
     ensures asked { recorder.new.asked ≡ recorder.old.asked }
-    ensures answered { IfOk result (λ checked. FromAnswers recorder.old.log recorder.new.log (λ t. (state.new, map_ok effects_model checked) ≡ effect_settled state.old (type_checked (parts_here t state.old) t state.old.env (type_model declaration.now)))) }
+    ensures answered { IfOk result (λ checked. FromAnswers recorder.old.log recorder.new.log (λ t. (state.new, map_ok effects_model checked) ≡ effect_settled state.old (type_checked (parts_here t state.old) t state.old.env (private_words state.old (type_model declaration.now).name.text) (type_model declaration.now)))) }
 {
+    let words = private_words(state, declaration.name.name.as_slice());
     let labeller = &state.unit.labeller;
     let packages = state.unit.packages.as_slice();
-    let parts = AdaPartAnalyzer { labeller, packages };
+    let unit = &state.unit.own.unit;
+    let parts = AdaPartAnalyzer {
+        labeller,
+        packages,
+        unit,
+    };
     let checked = check_type_item(
         labeller.alloc,
         &labeller.predefined.standard,
         &parts,
         &mut state.env,
+        words,
         declaration,
         recorder,
     )?;
@@ -85,7 +122,12 @@ fn subtype<A: Answers>(
 {
     let labeller = &state.unit.labeller;
     let packages = state.unit.packages.as_slice();
-    let parts = AdaPartAnalyzer { labeller, packages };
+    let unit = &state.unit.own.unit;
+    let parts = AdaPartAnalyzer {
+        labeller,
+        packages,
+        unit,
+    };
     let checked = check_subtype_item(
         labeller.alloc,
         &parts,
@@ -108,7 +150,12 @@ pub fn nested_subprogram<A: Answers>(
 {
     let labeller = &state.unit.labeller;
     let packages = state.unit.packages.as_slice();
-    let parts = AdaPartAnalyzer { labeller, packages };
+    let unit = &state.unit.own.unit;
+    let parts = AdaPartAnalyzer {
+        labeller,
+        packages,
+        unit,
+    };
     let checked = check_subprogram(
         labeller.alloc,
         &labeller.predefined.standard,

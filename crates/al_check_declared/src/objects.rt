@@ -33,7 +33,12 @@ pub fn declare_task<A: Answers>(
 {
     let labeller = &state.unit.labeller;
     let packages = state.unit.packages.as_slice();
-    let parts = AdaPartAnalyzer { labeller, packages };
+    let unit = &state.unit.own.unit;
+    let parts = AdaPartAnalyzer {
+        labeller,
+        packages,
+        unit,
+    };
     let checked = check_task(labeller.alloc, &parts, &mut state.env, task, recorder)?;
     settle_effect(state.unit.labeller.alloc, state, checked)
 }
@@ -51,7 +56,12 @@ pub fn declare_object<A: Answers>(
 {
     let labeller = &state.unit.labeller;
     let packages = state.unit.packages.as_slice();
-    let parts = AdaPartAnalyzer { labeller, packages };
+    let unit = &state.unit.own.unit;
+    let parts = AdaPartAnalyzer {
+        labeller,
+        packages,
+        unit,
+    };
     let checked = check_protected(
         labeller.alloc,
         &labeller.predefined.standard,

@@ -33,7 +33,12 @@ pub(crate) fn heading_here<A: Answers>(
 {
     let labeller = &state.unit.labeller;
     let packages = state.unit.packages.as_slice();
-    let parts = AdaPartAnalyzer { labeller, packages };
+    let unit = &state.unit.own.unit;
+    let parts = AdaPartAnalyzer {
+        labeller,
+        packages,
+        unit,
+    };
     heading_at(
         labeller.alloc,
         &parts,

@@ -6,6 +6,9 @@ use Rattle.al_query.specs.declared.answer.UseInPart.{UseInPart}
 use Rattle.al_view.specs.Named.{Declarations}
 use Rattle.al_view.specs.declared.part.Part.{Part}
 use Rattle.al_view.specs.declared.part.Part.TheVariants as part
+use Rattle.al_decl_type.specs.declared.declaration.Declaration.{Declaration}
+use Rattle.al_scope_seen.specs.Hidden.{hidden, hidden_in}
+use Rattle.al_scope_seen.specs.declared.hiding.PrivateName.{PrivateName}
 use Rattle.al_check_here.specs.declared.ends.Ends.{Ends}
 use Rattle.al_check_here.specs.declared.state.CheckState.{CheckState}
 use Rattle.al_check_here.specs.declared.state.UseHere.{UseHere}
@@ -26,6 +29,19 @@ parts_ended part.Visible visible declared stubs = record { visible = declared; p
 parts_ended part.Private visible declared stubs = record { visible = visible; private_part = declared; body = []; stubs = stubs }
 parts_ended _ visible declared stubs = record { visible = []; private_part = []; body = declared; stubs = stubs }
 
+-- what the visible part tells of the private types of ancestors: their partial views alone (ARM 7.3(5))
+abbrev pub hidden_by : Part → CheckState → CheckState
+hidden_by part.Visible h = record h { env = record h.env { declared = hidden_in h.unit.hidden h.env.declared } }
+hidden_by part.Private h = record h { visible = hidden_in h.unit.hidden h.visible }
+hidden_by _ h = h
+
+abbrev pub hidden_declaration : List PrivateName → Declaration → Declaration
+hidden_declaration names d = record { name = d.name; view = hidden names d.view }
+
+-- the same of the unit's own view
+abbrev pub hidden_own : CheckState → CheckState
+hidden_own h = record h { own = map (hidden_declaration h.unit.hidden) h.own }
+
 abbrev pub ends_of : CheckState → Ends
 ends_of h = record {
   progress = h.env.progress;
@@ -35,3 +51,7 @@ ends_of h = record {
   own = h.own;
   unit = h.unit;
 }
+
+-- as it is told
+abbrev pub ends_told : CheckState → Ends
+ends_told h = ends_of (hidden_own (hidden_by h.part h))

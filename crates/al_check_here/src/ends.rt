@@ -1,6 +1,7 @@
 // What the walk over a unit's text leaves.
-ghost use Rattle.std.specs.Prelude.{◌≡◌, ◌++◌, ◌∷◌, [], drop, IfOk, OnOk};
-ghost use Rattle.al_check_here.specs.Ends.{ends_of, parts_ended, stub_names, use_inside, uses_inside};
+ghost use Rattle.std.specs.Prelude.{◌≡◌, ◌++◌, ◌∷◌, [], drop, map, IfOk, OnOk};
+ghost use Rattle.al_scope_seen.specs.Hidden.{hidden, hidden_in};
+ghost use Rattle.al_check_here.specs.Ends.{ends_of, ends_told, hidden_by, hidden_declaration, hidden_own, parts_ended, stub_names, use_inside, uses_inside};
 
 use crate::parts::copied_clause;
 use crate::state::{CheckState, UnitText, UseHere};
@@ -10,8 +11,10 @@ use al_decl_judged::Progress;
 use al_decl_type::Declaration;
 use al_query::{Completion, UseInPart};
 use al_query_outcome::{Parts, StubDeclarations};
+use al_scope_seen::{PrivateName, hidden, hidden_in};
 use al_view::{Interface, Part, Seq};
 use std::alloc::Global;
+use std::mem;
 
 /// What the walk over a unit's text leaves.
 #[derive(Drop)]
@@ -162,10 +165,84 @@ fn ended(alloc: Global, state: CheckState, uses: Seq<UseInPart>) -> Ends
     }
 }
 
+/// What the private part declares, where the text ends in it.
+pub fn into_private_part(alloc: Global, state: CheckState) -> Interface
+    ensures { result ≡ (ends_of state).parts.private_part }
+{
+    let CheckState { env, part, .. } = state;
+    let Environment { declared, .. } = env;
+    match part {
+        Part::Private => declared,
+        _ => {
+            drop(declared);
+            Interface::new(alloc)
+        }
+    }
+}
+
+/// What is declared, in whose place stands what is told of it.
+fn hide(alloc: Global, names: &[PrivateName], declared: &mut Interface) -> Result<(), NoMemory>
+    ensures { OnOk result (declared.new ≡ hidden_in names.now declared.old) }
+{
+    let all = mem::replace(declared, Interface::new(alloc));
+    *declared = hidden_in(alloc, names, all)?;
+    Ok(())
+}
+
+/// What the visible part tells of the private types of ancestors: their partial views alone (ARM 7.3(5)).
+fn hide_visible(alloc: Global, state: &mut CheckState) -> Result<(), NoMemory>
+    ensures { OnOk result (state.new ≡ hidden_by state.old.part state.old) }
+{
+    let names = state.unit.hidden.as_slice();
+    match state.part {
+        Part::Visible => hide(alloc, names, &mut state.env.declared),
+        Part::Private => hide(alloc, names, &mut state.visible),
+        _ => Ok(()),
+    }
+}
+
+fn hidden_declaration(
+    alloc: Global,
+    names: &[PrivateName],
+    of: &Declaration,
+) -> Result<Declaration, NoMemory>
+    ensures { IfOk result (λ told. told ≡ hidden_declaration names.now of.now) }
+{
+    let name = Name::from_slice(alloc, of.name.as_slice())?;
+    let view = hidden(alloc, names, &of.view)?;
+    Ok(Declaration { name, view })
+}
+
+fn hidden_declarations(
+    alloc: Global,
+    names: &[PrivateName],
+    declarations: &[Declaration],
+) -> Result<Seq<Declaration>, NoMemory>
+    ensures { IfOk result (λ told. told ≡ map (hidden_declaration names.now) declarations.now) }
+{
+    let mut told = Seq::empty(alloc);
+    for of in declarations {
+        told.push(hidden_declaration(alloc, names, of)?)?;
+    }
+    Ok(told)
+}
+
+/// The same of the unit's own view.
+fn hide_own(alloc: Global, state: &mut CheckState) -> Result<(), NoMemory>
+    ensures { OnOk result (state.new ≡ hidden_own state.old) }
+{
+    let names = state.unit.hidden.as_slice();
+    state.own = hidden_declarations(alloc, names, state.own.as_slice())?;
+    Ok(())
+}
+
 /// What is left after the end of a unit's text.
 pub fn into_ends(alloc: Global, state: CheckState) -> Result<Ends, NoMemory>
-    ensures { IfOk result (λ ends. ends ≡ ends_of state) }
+    ensures { IfOk result (λ ends. ends ≡ ends_told state) }
 {
+    let mut state = state;
+    hide_visible(alloc, &mut state)?;
+    hide_own(alloc, &mut state)?;
     let uses = uses_inside(alloc, state.stubs.as_slice(), state.uses.as_slice())?;
     Ok(ended(alloc, state, uses))
 }

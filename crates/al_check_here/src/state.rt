@@ -14,6 +14,7 @@ use al_overload_nodes::Labeller;
 use al_query::UseClause;
 use al_query_outcome::StubDeclarations;
 use al_scope::Scope;
+use al_scope_seen::PrivateName;
 use al_scope_unit::OwnText;
 use al_stmts::ReturnContext;
 use al_view::{Bounds, Interface, Part, Seq, SubtypeView, Symbol, Types, View};
@@ -28,6 +29,10 @@ pub struct UnitText {
     pub packages: Seq<UnitKey>,
     /// What the unit's own text says of its place.
     pub own: OwnText,
+    /// The private types of its ancestors: of these its visible part tells the partial views alone (ARM 7.3(5)).
+    pub hidden: Seq<PrivateName>,
+    /// What its private part was found to declare, where the words of its private types are known by it; nothing before.
+    pub private_part: Interface,
 }
 
 /// What a body is of.

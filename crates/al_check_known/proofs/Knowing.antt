@@ -1,13 +1,14 @@
 -- What is known, and what stays known as more is asked.
 use Rattle.std.proofs.Common.{◌≡◌, ℕ, ◌+◌, ◌-◌, ◌<◌, zero, suc, Bool, true, false, cond, List, [], ◌∷◌, ◌++◌, Option, Some, None, take, length, get_or, inl, inr, ◌⊎◌, refl, sym, ◌∙◌, ap, subst, append_assoc, append-nil, arith}
-use Rattle.std.specs.List.{flat_map}
+use Rattle.std.specs.List.{flat_map, list_any}
+use Rattle.std.specs.Str.{bytes_eq}
 use Rattle.std.proofs.lemmas.List.{take_more}
 use Rattle.std.specs.Option.{option_map}
 use Rattle.al_base.specs.declared.unit_key.UnitKey.{UnitKey}
 use Rattle.al_base.specs.declared.unit_key.UnitKind.{UnitKind}
 use Rattle.al_base.specs.declared.unit_key.UnitKind.TheVariants.{Body, Decl}
 use Rattle.al_view.specs.Symbols.{same_unit}
-use Rattle.al_query.specs.Answers.{clause_units, context_of, context_units, parent_of, units_named}
+use Rattle.al_query.specs.Answers.{clause_units, context_of, context_units, names_told, parent_of, units_named}
 use Rattle.al_query.specs.Asked.{AsksOf, OfKnown, by_property}
 use Rattle.al_query.specs.Known.{AreKnown, has_unit, known_after, learned, told_by}
 use Rattle.al_query.specs.Reads.{Log, Table}
@@ -46,6 +47,11 @@ unfolding units_named
 nothing-named a u is h =
     let no : has_unit (units_named answers.Nothing) u ≡ true = subst (λ (x : AnswerKind). has_unit (units_named x) u ≡ true) is h in
     let bad : false ≡ true = no in
+    absurd (cc)
+
+pub nothing-told : (a : AnswerKind) (n : List ℕ) → a ≡ answers.Nothing → list_any (bytes_eq n) (names_told a) ≡ true → ⊥
+nothing-told a n is h =
+    let bad : false ≡ true = subst (λ (x : AnswerKind). list_any (bytes_eq n) (names_told x) ≡ true) is h in
     absurd (cc)
 
 pub parent-named : (a : AnswerKind) (unit : UnitKey) → parent_of a ≡ Some unit → has_unit (units_named a) unit ≡ true

@@ -1,1 +1,2 @@
+pub mod PrivateNames
 pub mod Starts

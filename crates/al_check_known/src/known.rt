@@ -88,7 +88,7 @@ fn round_subunit<A: Answers>(
 }
 
 /// The units round a unit.
-fn units_round<A: Answers>(
+pub(crate) fn units_round<A: Answers>(
     alloc: Global,
     own: &UnitKey,
     header: &Header,
@@ -114,7 +114,7 @@ fn units_round<A: Answers>(
 }
 
 /// These units with their other halves.
-fn with_halves<A: Answers>(
+pub(crate) fn with_halves<A: Answers>(
     alloc: Global,
     own: &UnitKey,
     units: Vec<UnitKey>,

@@ -7,6 +7,8 @@ mod known;
 mod mentions;
 mod named;
 mod outward;
+mod private_names;
 mod question;
 
 pub use known::units_known;
+pub use private_names::names_known;

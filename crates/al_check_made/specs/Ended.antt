@@ -32,14 +32,14 @@ tree_at line e inside = record {
 
 abbrev pub right_at : UnitFacts → ViewKind → EndedText → Inside → Verdict
 right_at r kind e inside =
-    Right (interface_of (said (record { own = e.own; kind = kind; parent = r.parent; needs_body = r.needs_body; uses_inside = e.uses; completions = e.completions })) e.parts)
+    Right (interface_of (said (record { own = e.own; kind = kind; parent = r.parent; needs_body = r.needs_body; uses_inside = e.uses; private_types = r.private_types; completions = e.completions })) e.parts)
     (tree_at r.line e inside)
 
 -- the unit that was walked
 abbrev pub walked_unit : UnitFacts → ViewKind → EndedText → Vec TypedDeclaration → Vec TypedStatement → Vec TypedBody → WalkedUnit
 walked_unit r kind e declarations statements bodies = record {
   unit = e.progress.unit;
-  properties = said (record { own = e.own; kind = kind; parent = r.parent; needs_body = r.needs_body; uses_inside = e.uses; completions = e.completions });
+  properties = said (record { own = e.own; kind = kind; parent = r.parent; needs_body = r.needs_body; uses_inside = e.uses; private_types = r.private_types; completions = e.completions });
   parts = e.parts;
   line = r.line;
   frame = e.progress.words.frame - 3;

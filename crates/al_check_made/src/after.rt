@@ -9,7 +9,7 @@ ghost use Rattle.al_check_made.specs.Ended.{ended, viewed, walked_unit};
 use crate::faults::faults_in;
 use crate::made::{WalkedUnit, finding_of};
 use crate::said::{SaidUnit, own_view, properties_of};
-use al_base::{NoMemory, UnitKey};
+use al_base::{Name, NoMemory, UnitKey};
 use al_check_within::UnitVerdict;
 use al_decl_judged::Progress;
 use al_decl_type::Declaration;
@@ -21,14 +21,15 @@ use al_view::{Seq, View};
 use al_view_typed::{TypedBody, TypedDeclaration, TypedStatement};
 use std::alloc::Global;
 
-/// What is known of a unit before its text is walked: whether it needs a body, the line of its first token, its parent, and the view that
-/// it completes.
+/// What is known of a unit before its text is walked: whether it needs a body, the line of its first token, its parent, the view that
+/// it completes, and the private types that its visible part declares.
 #[derive(Drop)]
 pub struct UnitFacts {
     pub needs_body: bool,
     pub line: usize,
     pub parent: Option<UnitKey>,
     pub view: Option<View>,
+    pub private_types: Seq<Name>,
 }
 
 /// What the walk over a unit's text left.
@@ -61,6 +62,7 @@ fn walked_unit(
         needs_body,
         line,
         parent,
+        private_types,
         ..
     } = unit_facts;
     let EndedText {
@@ -85,6 +87,7 @@ fn walked_unit(
         parent,
         needs_body,
         uses_inside: uses,
+        private_types,
         completions,
     });
     WalkedUnit {

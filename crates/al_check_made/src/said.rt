@@ -3,7 +3,7 @@ ghost use Rattle.std.specs.Prelude.{◌≡◌, IfOk};
 ghost use Rattle.al_view.specs.declared.view.ViewKind.TheVariants.{OfPackage};
 ghost use Rattle.al_check_made.specs.Said.{own_view, said, view_of_subprogram};
 
-use al_base::{NoMemory, UnitKey};
+use al_base::{Name, NoMemory, UnitKey};
 use al_decl_type::Declaration;
 use al_query::{Completion, ContextView, UseInPart};
 use al_query_outcome::Properties;
@@ -57,6 +57,7 @@ pub struct SaidUnit {
     pub parent: Option<UnitKey>,
     pub needs_body: bool,
     pub uses_inside: Seq<UseInPart>,
+    pub private_types: Seq<Name>,
     pub completions: Seq<Completion>,
 }
 
@@ -70,6 +71,7 @@ pub fn properties_of(unit: SaidUnit) -> Properties
         parent,
         needs_body,
         uses_inside,
+        private_types,
         completions,
     } = unit;
     let OwnText {
@@ -86,6 +88,7 @@ pub fn properties_of(unit: SaidUnit) -> Properties
             withs,
             uses,
             uses_inside,
+            private_types,
         },
         needs_body,
         completions,

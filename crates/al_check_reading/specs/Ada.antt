@@ -1,5 +1,10 @@
 -- The reading of Ada texts, by a table of answers.
-use Rattle.std.specs.Prelude.{List, Option, if◌then◌else◌}
+use Rattle.std.specs.Prelude.{List, Option, Some, None, if◌then◌else◌}
+use Rattle.al_base.specs.Rules.{number_of}
+use Rattle.al_base.specs.declared.rule.Rule.TheVariants.{MissingCompletion}
+use Rattle.al_base_fault.specs.Faults.{fault_at}
+use Rattle.al_scope.specs.PartialViews.{some_incomplete}
+use Rattle.al_scope.specs.Places.{inner_declared}
 use Rattle.al_check_here.specs.BodiesHere.{labelled, out_of_body, returns_in}
 use Rattle.al_check_here.specs.PartsHere.{in_statements}
 use Rattle.al_check_here.specs.RegionsHere.{in_block, in_loop, out_of_block, with_parameter}
@@ -36,6 +41,10 @@ head_here t h s = where_open h (if is_whole h then whole_head t h s else inner_h
 abbrev pub missing_here : CheckState → Label → Option Fault
 missing_here h l = missing_fault (place_of l) h.env.uncompleted
 
+-- a private type of the unit's own that has no full declaration
+abbrev pub incomplete_here : CheckState → Label → Option Fault
+incomplete_here h l = if some_incomplete (inner_declared h.env.scope.regions) then Some (fault_at (place_of l) (number_of MissingCompletion)) else None
+
 unfoldable pub ada : Table → Reading CheckState
 ada t = record {
   condition = condition_here t;
@@ -70,6 +79,7 @@ ada t = record {
   body_left = out_of_body;
   object_entered = λ h l n os. where_open h (object_entered t h l.line n os);
   object_left = object_left;
+  incomplete = incomplete_here;
   private_entered = private_here t;
   statements_entered = in_statements;
 }

@@ -1,6 +1,10 @@
 // Who reads Ada texts for the walk over a unit.
+ghost use Rattle.std.specs.Prelude.{◌≡◌};
+ghost use Rattle.al_tree.specs.Lexemes.{place_label};
+ghost use Rattle.al_check_reading.specs.Ada.{incomplete_here};
+
 use crate::{choices, ranges, values};
-use al_base::{NoMemory, Place};
+use al_base::{NoMemory, Place, Rule};
 use al_base_fault::{CheckResult, Fault};
 use al_check_declared::{
     declare_object, declare_task, declared, enter_body, enter_object, enter_private, entry_head,
@@ -24,6 +28,19 @@ use al_tree::{
 use al_view::{Bounds, Seq};
 use al_view_typed::{Typed, TypedBody, TypedDeclaration, TypedStatement};
 use std::alloc::Global;
+
+/// E302 at the end of a package's declaration, where a private type has no full declaration (ARM 7.3(4)).
+fn incomplete_here(state: &CheckState, end: Place) -> Option<Fault>
+    ensures { result ≡ incomplete_here state.now (place_label end) }
+{
+    if state.env.scope.is_incomplete() {
+        return Some(Fault {
+            place: end,
+            code: Rule::MissingCompletion.number(),
+        });
+    }
+    None
+}
 
 /// Reads the text of a unit where it stands, by what a recorder answers.
 #[derive(Drop)]
@@ -280,6 +297,10 @@ impl<A: Answers> Analyzer for AdaAnalyzer<A> {
     fn object_left(&mut self) -> Result<(), NoMemory> {
         leave_object(&mut self.state);
         Ok(())
+    }
+
+    fn incomplete(&mut self, end: Place) -> Result<Option<Fault>, NoMemory> {
+        Ok(incomplete_here(&self.state, end))
     }
 
     fn private_entered(&mut self) -> Result<(), NoMemory> {

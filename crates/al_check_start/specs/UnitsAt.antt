@@ -1,31 +1,36 @@
 -- How the check of a unit begins: what its text says of its place, the place, what waits there, and whether its name is taken (ARM 10.1, 10.2), told from
 -- answers.
-use Rattle.std.specs.Prelude.{ℕ, Bool, true, false, ◌&&◌, ◌||◌, List, [], ◌∷◌, not, Option, Some, None, Result, Ok, if◌then◌else◌}
+use Rattle.std.specs.List.{flat_map}
+use Rattle.std.specs.Prelude.{ℕ, Bool, true, false, ◌&&◌, ◌||◌, List, [], ◌∷◌, map, not, Option, Some, None, Result, Ok, if◌then◌else◌}
 use Rattle.std.specs.Option.{is_none, option_map, unwrap_or}
 use Rattle.al_base.specs.Rules.{number_of}
 use Rattle.al_base.specs.declared.rule.Rule.TheVariants.{Duplicate}
 use Rattle.al_base.specs.declared.unit_key.UnitKey.{UnitKey}
+use Rattle.al_base.specs.declared.unit_key.UnitKind.{UnitKind}
+use Rattle.al_base.specs.declared.unit_key.UnitKind.TheVariants.{Decl, Body, Sub}
 use Rattle.al_scope_context.specs.Contexts.{all_mentioned, context_at, mentioned, packaged}
 use Rattle.al_scope_context.specs.declared.context.Context.{Context}
 use Rattle.al_decl_judged.specs.declared.progress.Progress.{Progress}
 use Rattle.al_decl_type.specs.Homonyms.{Counts, with_name}
 use Rattle.al_scope_context.specs.ContextPragmas.{full_name}
 use Rattle.al_unit_header.specs.Units.{is_private, item_name, place_of}
+use Rattle.al_scope_seen.specs.Seen.{completions_seen_at}
+use Rattle.al_scope_seen.specs.declared.hiding.PrivateName.{PrivateName}
 use Rattle.al_base_fault.specs.Faults.{fault_at}
 use Rattle.al_base_fault.specs.Judging.{next, unless}
 use Rattle.al_base_fault.specs.declared.fault.Fault.{Fault}
 use Rattle.al_overload_keys.specs.Keys as keys
-use Rattle.al_query.specs.Answers.{completions_of, declaration, own_view_of, views_of}
+use Rattle.al_query.specs.Answers.{completions_of, declaration, names_told, own_view_of, views_of}
 use Rattle.al_query.specs.Reads.{Table}
 use Rattle.al_query.specs.declared.answer.Completion.{Completion}
-use Rattle.al_query.specs.declared.query.Property.TheVariants.{Completions, Kind}
+use Rattle.al_query.specs.declared.query.Property.TheVariants.{Completions, Context as context_property, Kind}
 use Rattle.al_query.specs.declared.query.Query.TheVariants.{Named, Of}
 use Rattle.al_scope.specs.Places.{Place}
 use Rattle.al_scope.specs.declared.region.UnitPart.{UnitPart}
 use Rattle.al_tree_syntax.specs.UnitTrees.{CompilationUnitTree, LibraryItemTree}
 use Rattle.al_tree_syntax.specs.UnitTrees.LibraryItemTree.{LibrarySubprogram, LibraryPackage, LibraryBody, LibraryPackageBody, Subunit}
 use Rattle.al_unit_graph.specs.Names as names
-use Rattle.al_scope_unit.specs.UnitPlaces.{mentioned_names, standard_unit, unit_regions, view_symbol}
+use Rattle.al_scope_unit.specs.UnitPlaces.{ancestor_units, mentioned_names, standard_unit, unit_regions, view_symbol}
 use Rattle.al_scope_unit.specs.declared.own.OwnText.{OwnText}
 use Rattle.al_view.specs.declared.part.Part.TheVariants as part
 use Rattle.al_view.specs.declared.symbol.Symbol.{Symbol}
@@ -111,7 +116,7 @@ abbrev pub completion : UnitKey → Option ViewKind → List Completion
 completion unit None = []
 completion unit (Some v) = record { name = last_of unit.name; view = v } ∷ []
 
--- of a package body what its declaration leaves to it; of another body what it completes itself
+-- of a package body what its declaration leaves to it; of another body what it completes itself. It waits as its place sees it.
 abbrev pub waiting : Table → UnitKey → LibraryItemTree → Option ViewKind → List Completion
 waiting t unit (LibraryPackageBody l k) view = completions_of (t (Of (declaration unit.name) Completions))
 waiting t unit (LibraryBody s b) view = completion unit view
@@ -140,6 +145,24 @@ homonyms_at unit (Subunit l o n s b) = []
 abbrev pub progress_at : UnitKey → LibraryItemTree → ℕ → Progress
 progress_at unit item depth =
     record { unit = unit; depth = depth; words = record { frame = 3; «data» = 0 }; homonyms = homonyms_at unit item; objects = []; flags = []; protected_objects = [] }
+
+-- ---- the private types that its visible part hides
+
+abbrev pub named_in : UnitKey → List ℕ → PrivateName
+named_in unit name = record { unit = unit; name = name }
+
+-- those that a unit's visible part declares
+abbrev pub private_names_of : Table → UnitKey → List PrivateName
+private_names_of t unit = map (named_in unit) (names_told (t (Of unit context_property)))
+
+-- of a declaration those of its ancestors, whose full views its visible part may see and doesn't tell (ARM 7.3(5), 10.1.1(12))
+abbrev pub hidden_of : Table → UnitKind → List ℕ → List PrivateName
+hidden_of t Decl name = flat_map (private_names_of t) (ancestor_units name)
+hidden_of t Body name = []
+hidden_of t Sub name = []
+
+abbrev pub hidden_at : Table → OwnText → List PrivateName
+hidden_at t own = hidden_of t own.unit.kind own.unit.name
 
 -- ---- its name
 
@@ -171,7 +194,7 @@ abbrev pub start_with : Table → UnitKey → LibraryItemTree → Context → Co
 start_with t unit item context completed =
     let own = own_text unit item context completed.view completed.stubs in
     let place = place_at t own (own_view unit item) in
-    record { own = own; scope = place.0; packages = place.1; progress = progress_at unit item (depth_of item completed.view); uncompleted = waiting t unit item completed.view; parent = completed.parent; view = completed.view }
+    record { own = own; scope = place.0; packages = place.1; progress = progress_at unit item (depth_of item completed.view); uncompleted = completions_seen_at t place.0 (waiting t unit item completed.view); parent = completed.parent; view = completed.view; hidden = hidden_at t own }
 
 abbrev pub start_after : Table → UnitKey → LibraryItemTree → Context → Result UnitStart Fault
 start_after t unit item context =

@@ -4,6 +4,7 @@
 
 mod child;
 mod completed;
+mod hidden;
 mod item;
 mod names;
 mod place;

@@ -2,12 +2,14 @@
 ghost use Rattle.std.specs.Prelude.{◌≡◌, IfOk};
 ghost use Rattle.al_query.specs.Reads.{FromAnswers};
 ghost use Rattle.al_tree.specs.UnitViews.{library_item_model, unit_model};
-ghost use Rattle.al_check_start.specs.UnitsAt.{start_after, start_with, unit_at};
+ghost use Rattle.al_scope_seen.specs.Seen.{completions_seen_at};
+ghost use Rattle.al_check_start.specs.UnitsAt.{hidden_at, start_after, start_with, unit_at, waiting};
 
 use crate::child::name_fault;
 use crate::completed::{Completed, completed_at};
+use crate::hidden::hidden_at;
 use crate::place::{own_text, own_view, place_at};
-use crate::waiting::{progress_at, waiting};
+use crate::waiting::{progress_at, waiting_seen};
 use al_base::{NoMemory, UnitKey};
 use al_base_fault::{CheckResult, unless};
 use al_decl_completion::Uncompleted;
@@ -15,6 +17,7 @@ use al_decl_judged::Progress;
 use al_query::{Answers, Recorder};
 use al_scope::Scope;
 use al_scope_context::{Context, context_at};
+use al_scope_seen::PrivateName;
 use al_scope_unit::OwnText;
 use al_tree::{CompilationUnit, LibraryItem};
 use al_view::{Seq, View};
@@ -36,6 +39,31 @@ pub struct UnitStart {
     pub parent: Option<UnitKey>,
     /// The own view of the declaration that a library body completes, or the subprogram of a subunit's stub.
     pub view: Option<View>,
+    /// The private types that its visible part hides.
+    pub hidden: Seq<PrivateName>,
+}
+
+/// What waits at the place of a unit, and the private types that its visible part hides.
+fn behind<A: Answers>(
+    alloc: Global,
+    unit: &UnitKey,
+    item: &LibraryItem,
+    view: &Option<View>,
+    own: &OwnText,
+    scope: &Scope,
+    recorder: &mut Recorder<A>,
+) -> Result<(Uncompleted, Seq<PrivateName>), NoMemory>
+    ensures asked { recorder.new.asked ≡ recorder.old.asked }
+    ensures answered { IfOk result (λ found. FromAnswers recorder.old.log recorder.new.log (λ t. (found.0 ≡ completions_seen_at t scope.now (waiting t unit.now (library_item_model item.now) view.now)) × (found.1 ≡ hidden_at t own.now))) }
+{
+    let hidden = hidden_at(alloc, own, recorder)?;
+    match waiting_seen(alloc, unit, item, view, scope, recorder) {
+        Ok(uncompleted) => Ok((uncompleted, hidden)),
+        Err(error) => {
+            drop(hidden);
+            Err(error)
+        }
+    }
 }
 
 /// Where the check of a unit begins that completes this, after this context clause.
@@ -60,7 +88,7 @@ fn start_with<A: Answers>(
     let mut packages = Seq::empty(alloc);
     let scope = place_at(alloc, &own, &seen, &mut packages, recorder)?;
     let progress = progress_at(alloc, unit, item, &view)?;
-    let uncompleted = waiting(alloc, unit, item, &view, recorder)?;
+    let (uncompleted, hidden) = behind(alloc, unit, item, &view, &own, &scope, recorder)?;
     Ok(UnitStart {
         own,
         scope,
@@ -69,6 +97,7 @@ fn start_with<A: Answers>(
         uncompleted,
         parent,
         view,
+        hidden,
     })
 }
 

@@ -1,5 +1,6 @@
 // What waits at the start of a unit, and how far its check has come there.
 ghost use Rattle.std.specs.Prelude.{◌≡◌, IfOk};
+ghost use Rattle.al_scope_seen.specs.Seen.{completions_seen_at};
 ghost use Rattle.al_query.specs.Answers.{completions_of, declaration};
 ghost use Rattle.al_query.specs.Reads.{FromAnswers};
 ghost use Rattle.al_query.specs.declared.query.Property.TheVariants.{Completions};
@@ -13,6 +14,8 @@ use al_decl_completion::Uncompleted;
 use al_decl_judged::Progress;
 use al_decl_type::{Homonyms, Words};
 use al_query::{Answers, Completion, Property, Query, Recorder};
+use al_scope::Scope;
+use al_scope_seen::completions_seen_at;
 use al_tree::LibraryItem;
 use al_view::{CallKind, Seq, View, ViewKind, copied_unit};
 use std::alloc::Global;
@@ -74,6 +77,23 @@ pub(crate) fn waiting<A: Answers>(
         LibraryItem::Subprogram(_, _) => Ok(Uncompleted::new(alloc)),
         LibraryItem::Package(_, _, _) => Ok(Uncompleted::new(alloc)),
     }
+}
+
+/// The same as the place of the unit sees it.
+pub(crate) fn waiting_seen<A: Answers>(
+    alloc: Global,
+    unit: &UnitKey,
+    item: &LibraryItem,
+    view: &Option<View>,
+    scope: &Scope,
+    recorder: &mut Recorder<A>,
+) -> Result<Uncompleted, NoMemory>
+    ensures asked { recorder.new.asked ≡ recorder.old.asked }
+    ensures answered { IfOk result (λ uncompleted. FromAnswers recorder.old.log recorder.new.log (λ t. uncompleted ≡ completions_seen_at t scope.now (waiting t unit.now (library_item_model item.now) view.now))) }
+{
+    let waiting = waiting(alloc, unit, item, view, recorder)?.into_completions();
+    let seen = completions_seen_at(alloc, scope, waiting.as_slice(), recorder)?;
+    Uncompleted::of(alloc, seen.as_slice())
 }
 
 /// In how many bodies a subprogram is declared.

@@ -9,7 +9,7 @@ use Rattle.al_stmts_text.proofs.Folds.{part_again}
 use Rattle.al_stmts_text.proofs.Made.{none_before}
 use Rattle.al_stmts_walk.specs.Readings.{Reading, giving}
 use Rattle.al_stmts_walk.specs.Steps.{Inside, Part, ended_by, no_part, parts_joined}
-use Rattle.al_stmts_walk.specs.Units.{enclosing_package, declaration_walked, declarations_walked, package_body_walked, package_inside, parts_walked, private_walked}
+use Rattle.al_stmts_walk.specs.Units.{enclosing_package, declaration_walked, declarations_walked, package_body_walked, package_inside, parts_completed, parts_walked, private_walked}
 use Rattle.al_stmts_walk.specs.Walking.{closed, end_of_compound, inside_after, items_walked, part_after, statements_walked}
 use Rattle.al_stmts_walk.proofs.Behind.{last_part}
 use Rattle.al_stmts_text.proofs.Loops.{stops}
@@ -78,3 +78,10 @@ package_body_made {H} R h h1 h2 new all inside done k new_is all_are inside_is i
     made_of (λ (i : Inside). ended_by i fault) h2 inside done (package_inside R (giving h1 all) k.end.end k.statements) inside_is is
     ∙ ap (λ (p : H × Part). giving ((package_inside R p k.end.end k.statements).0) (ended_by (package_inside R p k.end.end k.statements).1 fault))
     (all_are ∙ ap (λ (n : Part). part_after (giving h n) (items_walked R h k.items)) new_is ∙ none_before h (items_walked R h k.items))
+
+-- both parts of a package, and then its end
+pub completed_made : {H : Type 0} (R : Reading H) (h : H) (part : Part) (done whole : H × Part) (end : Label)
+    → giving h part ≡ whole
+    → done ≡ parts_completed R (giving h part) end
+    → done ≡ parts_completed R whole end
+completed_made {H} R h part done whole end is made = made ∙ ap (λ (p : H × Part). parts_completed R p end) is

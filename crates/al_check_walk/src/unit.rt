@@ -6,7 +6,7 @@ ghost use Rattle.al_tree.specs.Lexemes.{place_label};
 ghost use Rattle.al_tree.specs.StatementViews.{compound_end_model};
 ghost use Rattle.al_tree.specs.UnitViews.{library_item_model, package_body_model, package_model, package_statements_model, private_part_model};
 ghost use Rattle.al_stmts_walk.specs.Steps.{ended_by};
-ghost use Rattle.al_stmts_walk.specs.Units.{declaration_walked, declarations_walked, package_body_walked, package_inside, package_walked, parts_walked, private_walked, unit_walked};
+ghost use Rattle.al_stmts_walk.specs.Units.{declaration_walked, declarations_walked, package_body_walked, package_inside, package_walked, parts_completed, parts_walked, private_walked, unit_walked};
 ghost use Rattle.al_stmts_walk.specs.Walking.{end_of_compound, part_after};
 ghost use Rattle.al_stmts_walked.specs.WalkedViews.{inside_model, part_model};
 
@@ -14,8 +14,8 @@ use al_base::{NoMemory, Place};
 use al_stmts::ReturnContext;
 use al_stmts_loops::EnclosingBody;
 use al_stmts_text::{
-    Analyzer, check_after, check_body, check_items, close_part, declared_item, object_item,
-    subprogram_item, task_item,
+    Analyzer, check_after, check_body, check_items, close_part, complete_parts, declared_item,
+    object_item, subprogram_item, task_item,
 };
 use al_stmts_walked::{Enclosing, WalkedInside, WalkedPart, end_of_compound};
 use al_tree::{
@@ -128,6 +128,20 @@ fn ended(
     }
 }
 
+/// Both parts of a package up to its end.
+fn completed_parts<R: Analyzer>(
+    analyzer: &mut R,
+    alloc: Global,
+    declaration: &PackageDeclaration,
+) -> Result<WalkedPart, NoMemory>
+    ensures asked { R.asked analyzer.new ≡ R.asked analyzer.old }
+    ensures answered { IfOk result (λ done. FromAnswers (R.log analyzer.old) (R.log analyzer.new) (λ t. (R.env analyzer.new, part_model done) ≡ parts_completed (R.reading t) (parts_walked (R.reading t) (R.env analyzer.old) (package_model declaration.now)) (package_model declaration.now).end.end)) }
+{
+    let mut part = check_parts(analyzer, alloc, declaration)?;
+    complete_parts(analyzer, &mut part, declaration.end.end)?;
+    Ok(part)
+}
+
 /// A package (ARM 7.1): what waits at its end is left to its body.
 fn check_package<R: Analyzer>(
     analyzer: &mut R,
@@ -137,7 +151,7 @@ fn check_package<R: Analyzer>(
     ensures asked { R.asked analyzer.new ≡ R.asked analyzer.old }
     ensures answered { IfOk result (λ done. FromAnswers (R.log analyzer.old) (R.log analyzer.new) (λ t. (R.env analyzer.new, inside_model done) ≡ package_walked (R.reading t) (R.env analyzer.old) (package_model declaration.now))) }
 {
-    let part = check_parts(analyzer, alloc, declaration)?;
+    let part = completed_parts(analyzer, alloc, declaration)?;
     let inside = part.without_statements(alloc)?;
     ended(alloc, inside, &declaration.name, &declaration.end)
 }

@@ -22,10 +22,10 @@ pub same_bounds : (u v : UnitKey) (k l : List UnitKey) (m n : List (List ℕ)) �
 same_bounds u v k l m n a b c = ap (λ (x : UnitKey). made x k m) a ∙ ap (λ (y : List UnitKey). made v y m) b ∙ ap (λ (z : List (List ℕ)). made v l z) c
 
 -- what a check gives by bounds that are these under the table
-pub means : (units : UnitKey → Header → Table → List UnitKey) (verdict : UnitKey → List ℕ → CompilationUnitTree → Table → Verdict) (unit : UnitKey) (text : List ℕ) (tree : CompilationUnitTree) (t : Table) (b : Bounds) (found : Verdict) (outcome : Outcome)
-    → b ≡ bounds_of unit text (units unit (header_of tree) t) → found ≡ verdict b.unit text tree (bounded b t) → outcome ≡ concluded b found (bounded b t)
-    → outcome ≡ meaning_within units verdict unit text tree t
-means units verdict unit text tree t b found outcome is finds gives =
+pub means : (units : UnitKey → Header → Table → List UnitKey) (names : UnitKey → Header → Table → List (List ℕ)) (verdict : UnitKey → List ℕ → CompilationUnitTree → Table → Verdict) (unit : UnitKey) (text : List ℕ) (tree : CompilationUnitTree) (t : Table) (b : Bounds) (found : Verdict) (outcome : Outcome)
+    → b ≡ bounds_of unit text (units unit (header_of tree) t) (names unit (header_of tree) t) → found ≡ verdict b.unit text tree (bounded b t) → outcome ≡ concluded b found (bounded b t)
+    → outcome ≡ meaning_within units names verdict unit text tree t
+means units names verdict unit text tree t b found outcome is finds gives =
     gives ∙ ap (λ (v : Verdict). concluded b v (bounded b t)) finds ∙ ap (λ (x : Bounds). concluded x (verdict x.unit text tree (bounded x t)) (bounded x t)) is
 
 -- the same units and views

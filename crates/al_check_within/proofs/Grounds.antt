@@ -1,5 +1,5 @@
--- What is asked within bounds is asked of units that are known, and by the words of the text.
-use Rattle.std.proofs.Common.{◌≡◌, ℕ, Bool, true, List, [], refl, sym, subst}
+-- What is asked within bounds is asked of units that are known, and by the words of the text or by names that answers tell.
+use Rattle.std.proofs.Common.{◌≡◌, ℕ, Bool, true, List, [], ◌∷◌, ◌++◌, refl, sym, subst}
 use Rattle.al_base.specs.declared.unit_key.UnitKey.{UnitKey}
 use Rattle.al_query.specs.Asked.{AsksOf, OfKnown, by_property}
 use Rattle.al_query.specs.Known.{AreAmong, AreKnown, Grounded, has_unit, known_after}
@@ -7,9 +7,9 @@ use Rattle.al_query.specs.Reads.{Log}
 use Rattle.al_query.specs.declared.query.Query.{Query}
 use Rattle.al_query.proofs.AskLemmas.{asks_of-grounded, asks_of-known, asks_of-wanted, asks_then}
 use Rattle.al_query.proofs.KnownLemmas.{are_known, known_after-more}
-use Rattle.al_check_bounds.specs.Bounding.{AsksByNames, allowed}
+use Rattle.al_check_bounds.specs.Bounding.{AreWordsOrTold, AsksByNames, allowed}
 use Rattle.al_check_bounds.specs.declared.bounds.Bounds.{Bounds}
-use Rattle.al_check_bounds.proofs.NameLemmas.{asks-by-names, by-property, within-bounds}
+use Rattle.al_check_bounds.proofs.NameLemmas.{asks-by-names, by-property, no_names, told-later, within-bounds}
 
 any : Log → Query → Bool
 any log q = true
@@ -25,6 +25,14 @@ grounded named known wanted within a b c one known_then two three =
     (asks_then (OfKnown named any) [] a c (wider named wanted [] a one)
     (asks_of-known known named any a c known_then (wider known within a c (asks_then (OfKnown known within) a b c two three))))
 
+-- units stay known after more questions
+pub known_later : (named units : List UnitKey) (old more new : Log) → new ≡ old ++ more → AreKnown (known_after named old) units → AreKnown (known_after named new) units
+known_later named [] old more new is h = tt
+known_later named (u ∷ us) old more new is h = (
+  subst (λ (log : Log). has_unit (known_after named log) u ≡ true) (sym is) (known_after-more named old more u h.0),
+  known_later named us old more new is h.1,
+)
+
 -- units stay known
 pub still_known : (named known units : List UnitKey) (within : Log → Query → Bool) (a b c : Log) → AreKnown (known_after named a) units → AsksOf known within a b → AsksOf known within b c → AreAmong units (known_after named c)
 still_known named known units within a b c known_then two three u h =
@@ -32,10 +40,10 @@ still_known named known units within a b c known_then two three u h =
     subst (λ (log : Log). has_unit (known_after named log) u ≡ true) (sym asks.1)
     (known_after-more named a asks.0 u (are_known (known_after named a) units known_then u h))
 
--- first what makes units known is asked for properties, then within bounds
-pub by_words : (b : Bounds) (unit : UnitKey) (words : List (List ℕ)) (named : List UnitKey) (one two three : Log) → b.unit ≡ unit → b.names ≡ words → AsksOf named by_property [] one → AsksOf b.known (allowed b) one two → AsksOf b.known (allowed b) two three → AsksByNames unit words three
-by_words b unit words named one two three own is first second third =
-    let before = asks-by-names b.unit b.names named by_property (by-property b.unit b.names) [] one first refl in
-    let found = asks-by-names b.unit b.names b.known (allowed b) (within-bounds b) one two second before in
-    let all = asks-by-names b.unit b.names b.known (allowed b) (within-bounds b) two three third found in
-    subst (λ (ns : List (List ℕ)). AsksByNames unit ns three) is (subst (λ (u : UnitKey). AsksByNames u b.names three) own all)
+-- first what makes units known and tells names is asked for properties, then within bounds
+pub by_words : (b : Bounds) (unit : UnitKey) (words : List (List ℕ)) (named : List UnitKey) (one two three : Log) → b.unit ≡ unit → AreWordsOrTold words one b.names → AsksOf named by_property [] one → AsksOf b.known (allowed b) one two → AsksOf b.known (allowed b) two three → AsksByNames unit words three
+by_words b unit words named one two three own told first second third =
+    let before = asks-by-names b.unit words [] named by_property (by-property b.unit []) [] one (no_names words []) first refl in
+    let found = asks-by-names b.unit words b.names b.known (allowed b) (within-bounds b) one two told second before in
+    let all = asks-by-names b.unit words b.names b.known (allowed b) (within-bounds b) two three (told-later words b.names one second.0 two second.1 told) third found in
+    subst (λ (u : UnitKey). AsksByNames u words three) own all

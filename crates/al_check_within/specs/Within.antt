@@ -1,6 +1,8 @@
 -- What the check of a unit gives, within bounds.
 use Rattle.std.specs.Prelude.{◌≡◌, ℕ, List, []}
 use Rattle.std.specs.List.{Contains}
+use Rattle.std.specs.Str.{bytes_eq}
+use Rattle.indexmap.specs.IndexSet.{insert_all}
 use Rattle.al_base.specs.declared.unit_key.UnitKey.{UnitKey}
 use Rattle.al_tree_syntax.specs.UnitTrees.{CompilationUnitTree}
 use Rattle.al_unit_header.specs.Units.{header_of}
@@ -13,7 +15,7 @@ use Rattle.al_view_typed.specs.UnitTrees.{UnitTree}
 use Rattle.al_query_outcome.specs.ReadsLaw.{AsksOthers, named_by}
 use Rattle.al_query_outcome.specs.Results.{Outcome}
 use Rattle.al_query_outcome.specs.declared.interface.UnitInterface.{UnitInterface}
-use Rattle.al_check_bounds.specs.Bounding.{bounded}
+use Rattle.al_check_bounds.specs.Bounding.{AreWordsOrTold, bounded}
 use Rattle.al_check_bounds.specs.declared.bounds.Bounds.{Bounds}
 use Rattle.al_check_promises.specs.Laws.{Promised}
 use Rattle.al_check_promises.specs.SelfChecks.{checked_faults, self_checked}
@@ -37,13 +39,13 @@ concluded b (Right i tree) t = self_checked b.unit b.known (shown_by (wanted_of 
 abbrev pub concluded_in : Bounds → (Table → Verdict) → Table → Outcome
 concluded_in b verdict t = concluded b (verdict (bounded b t)) (bounded b t)
 
--- the bounds of a unit with that text that knows these: it asks by the words of the text
-abbrev pub bounds_of : UnitKey → List ℕ → List UnitKey → Bounds
-bounds_of unit text known = record { unit = unit; known = known; names = words_of text }
+-- the bounds of a unit with that text that knows these units, and these names from answers: it asks by the words of the text and by those names
+abbrev pub bounds_of : UnitKey → List ℕ → List UnitKey → List (List ℕ) → Bounds
+bounds_of unit text known told = record { unit = unit; known = known; names = insert_all bytes_eq (words_of text) told }
 
--- the check of a unit with a text that is read as this tree, by who is known and what is found
-abbrev pub meaning_within : (UnitKey → Header → Table → List UnitKey) → (UnitKey → List ℕ → CompilationUnitTree → Table → Verdict) → UnitKey → List ℕ → CompilationUnitTree → Table → Outcome
-meaning_within units verdict unit text tree t = concluded_in (bounds_of unit text (units unit (header_of tree) t)) (verdict unit text tree) t
+-- the check of a unit with a text that is read as this tree, by who is known, which names answers tell, and what is found
+abbrev pub meaning_within : (UnitKey → Header → Table → List UnitKey) → (UnitKey → Header → Table → List (List ℕ)) → (UnitKey → List ℕ → CompilationUnitTree → Table → Verdict) → UnitKey → List ℕ → CompilationUnitTree → Table → Outcome
+meaning_within units names verdict unit text tree t = concluded_in (bounds_of unit text (units unit (header_of tree) t) (names unit (header_of tree) t)) (verdict unit text tree) t
 
 -- these views are some of those, and the unit is kept with these where it is with those
 pub record IsAsGood (b : Bounds) (i : UnitInterface) (tree : UnitTree) (views all : List ViewKind) : Type 0 where
@@ -51,10 +53,10 @@ pub record IsAsGood (b : Bounds) (i : UnitInterface) (tree : UnitTree) (views al
   pub same : self_checked b.unit b.known views i tree ≡ self_checked b.unit b.known all i tree
 
 -- these are the bounds of a unit with that header and that text, after what was asked for them
-pub record AreBounds (units : Table → List UnitKey) (h : Header) (unit : UnitKey) (text : List ℕ) (log : Log) (b : Bounds) : Type 0 where
-  pub answered : HoldsBy log (λ t. b ≡ bounds_of unit text (units t))
+pub record AreBounds (units : Table → List UnitKey) (names : Table → List (List ℕ)) (h : Header) (unit : UnitKey) (text : List ℕ) (log : Log) (b : Bounds) : Type 0 where
+  pub answered : HoldsBy log (λ t. b ≡ bounds_of unit text (units t) (names t))
   pub own : b.unit ≡ unit
-  pub names : b.names ≡ words_of text
+  pub told : AreWordsOrTold (words_of text) log b.names
   pub asks : AsksOf (named_by h) by_property [] log
   pub others : AsksOthers unit log
   pub known : AreKnown (known_after (named_by h) log) b.known

@@ -1,12 +1,15 @@
 // The check of a unit within bounds.
 ghost use Rattle.std.specs.Prelude.{◌≡◌, ◌≤◌, [], length, IfOk, OnOk};
+ghost use Rattle.std.specs.Str.{bytes_eq};
+ghost use Rattle.indexmap.specs.IndexSet.{insert_all};
 ghost use Rattle.al_tree.specs.UnitViews.{unit_model};
 ghost use Rattle.al_unit_header.specs.Units as headers;
-ghost use Rattle.al_query.specs.Asked.{AsksOf};
+ghost use Rattle.al_unit_graph.specs.Views.{header_model};
+ghost use Rattle.al_query.specs.Asked.{AsksOf, by_property};
 ghost use Rattle.al_query.specs.Reads.{Agrees, FromAnswers};
-ghost use Rattle.al_query_outcome.specs.ReadsLaw.{AsksOthers};
+ghost use Rattle.al_query_outcome.specs.ReadsLaw.{AsksOthers, named_by};
 ghost use Rattle.al_query_outcome.specs.Results.{checked_model};
-ghost use Rattle.al_check_bounds.specs.Bounding.{AsksByNames, allowed, bounded};
+ghost use Rattle.al_check_bounds.specs.Bounding.{AreWordsOrTold, AsksByNames, allowed, bounded};
 ghost use Rattle.al_check_within.specs.Verdicts.{verdict_of};
 ghost use Rattle.al_check_within.specs.Within.{AreBounds, IsChecked, meaning_within};
 ghost use Rattle.al_check_within.specs.Words.{words_of};
@@ -14,17 +17,41 @@ ghost use Rattle.al_check_within.specs.Words.{words_of};
 use crate::concluding::concluded_within;
 use crate::finder::UnitFinder;
 use crate::finding::UnitResult;
-use crate::words::words_of;
+use crate::words::{with_names, words_of};
 use al_base::{NoMemory, UnitKey};
+use al_check_asked::NameSet;
 use al_check_bounds::{Bounded, Bounds, replay};
 use al_query::{Answers, Recorder};
 use al_query_outcome::Checked;
 use al_tree::CompilationUnit;
+use al_unit_graph::Header;
 use al_unit_header::header_of;
 use al_view::{Seq, copied_unit};
 use std::alloc::Global;
 
-/// What may be asked: the units that are known, by the words of the text.
+/// The names that may be asked for: the words of the text, and the names that answers tell.
+fn names_of<F: UnitFinder, A: Answers>(
+    alloc: Global,
+    finder: &F,
+    unit: &UnitKey,
+    text: &[u8],
+    header: &Header,
+    recorder: &mut Recorder<A>,
+) -> Result<NameSet, NoMemory>
+    requires { length text.now ≤ 4294967294 }
+    ensures asked { recorder.new.asked ≡ recorder.old.asked }
+    ensures answered { IfOk result (λ names. FromAnswers recorder.old.log recorder.new.log (λ t. names ≡ insert_all bytes_eq (words_of text.now) (F.names unit.now (header_model header.now) t))) }
+    ensures asks { OnOk result (AsksOf (named_by (header_model header.now)) by_property recorder.old.log recorder.new.log) }
+    ensures others { OnOk result (AsksOthers unit.now recorder.old.log → AsksOthers unit.now recorder.new.log) }
+    ensures told { IfOk result (λ names. AreWordsOrTold (words_of text.now) recorder.new.log names) }
+{
+    let told = finder.names_known(alloc, unit, header, recorder)?;
+    let words = words_of(alloc, text)?;
+    let names = with_names(alloc, words, told.as_slice())?;
+    Ok(names)
+}
+
+/// What may be asked: the units that are known, by the words of the text and by the names that answers tell.
 fn bounds_of<F: UnitFinder, A: Answers>(
     alloc: Global,
     finder: &F,
@@ -36,12 +63,12 @@ fn bounds_of<F: UnitFinder, A: Answers>(
     requires text { length text.now ≤ 4294967294 }
     requires log { recorder.old.log ≡ [] }
     ensures asked { recorder.new.asked ≡ recorder.old.asked }
-    ensures bounds { IfOk result (λ bounds. AreBounds (F.units unit.now (headers.header_of (unit_model tree.now))) (headers.header_of (unit_model tree.now)) unit.now text.now recorder.new.log bounds) }
+    ensures bounds { IfOk result (λ bounds. AreBounds (F.units unit.now (headers.header_of (unit_model tree.now))) (F.names unit.now (headers.header_of (unit_model tree.now))) (headers.header_of (unit_model tree.now)) unit.now text.now recorder.new.log bounds) }
 {
     let header = header_of(alloc, tree)?;
     let known = finder.units_known(alloc, unit, &header, recorder)?;
+    let names = names_of(alloc, finder, unit, text, &header, recorder)?;
     let unit = copied_unit(alloc, unit)?;
-    let names = words_of(alloc, text)?;
     Ok(Bounds {
         unit,
         known: Seq::new(known),
@@ -91,7 +118,7 @@ pub fn check_within<F: UnitFinder, A: Answers>(
     requires text { length text.now ≤ 4294967294 }
     requires log { recorder.old.log ≡ [] }
     ensures asked { recorder.new.asked ≡ recorder.old.asked }
-    ensures checked { IfOk result (λ checked. IsChecked unit.now (headers.header_of (unit_model tree.now)) (meaning_within F.units F.verdict unit.now text.now (unit_model tree.now)) recorder.new.log (checked_model checked)) }
+    ensures checked { IfOk result (λ checked. IsChecked unit.now (headers.header_of (unit_model tree.now)) (meaning_within F.units F.names F.verdict unit.now text.now (unit_model tree.now)) recorder.new.log (checked_model checked)) }
     ensures others { OnOk result (AsksOthers unit.now recorder.new.log) }
     ensures names { OnOk result (AsksByNames unit.now (words_of text.now) recorder.new.log) }
 {

@@ -5,11 +5,12 @@ ghost use Rattle.al_unit_graph.specs.Views.{header_model};
 ghost use Rattle.al_query.specs.Asked.{AsksOf, by_property};
 ghost use Rattle.al_query.specs.Known.{AreKnown, known_after};
 ghost use Rattle.al_query.specs.Reads.{Agrees, HoldsBy, FromAnswers};
+ghost use Rattle.al_query.specs.Told.{AreTold};
 ghost use Rattle.al_query_outcome.specs.ReadsLaw.{AsksOthers, named_by};
 ghost use Rattle.al_check_within.specs.Verdicts.{verdict_of};
 
 use crate::finding::UnitResult;
-use al_base::{NoMemory, UnitKey};
+use al_base::{Name, NoMemory, UnitKey};
 use al_query::{Answers, Recorder};
 use al_tree::CompilationUnit;
 use al_unit_graph::Header;
@@ -27,6 +28,9 @@ pub trait UnitFinder {
 
     /// The units that may be asked for a unit with this header, under a table.
     ghost units: { UnitKey → plain.Header → (Query → AnswerKind) → List UnitKey };
+
+    /// The names that answers tell and that may be asked for beside the words of its text, under a table.
+    ghost names: { UnitKey → plain.Header → (Query → AnswerKind) → List (List ℕ) };
 
     /// What is found in the text of a unit, which is read as this tree, under a table.
     ghost verdict: { UnitKey → List ℕ → CompilationUnitTree → (Query → AnswerKind) → Verdict };
@@ -48,6 +52,23 @@ pub trait UnitFinder {
         ensures asks { OnOk result (AsksOf (named_by (header_model header.now)) by_property recorder.old.log recorder.new.log) }
         ensures others { OnOk result (AsksOthers unit.now recorder.old.log → AsksOthers unit.now recorder.new.log) }
         ensures known { IfOk result (λ known. AreKnown (known_after (named_by (header_model header.now)) recorder.new.log) known.items) };
+
+    /// The names that may be asked for beside the words of the text.
+    /// - `asked`, `asks`, `others`: as of the units.
+    /// - `answered`: under every table that agrees with the log these are the names.
+    /// - `told`: so an answer has told each of these names then.
+    fn names_known<A: Answers>(
+        &self,
+        alloc: Global,
+        unit: &UnitKey,
+        header: &Header,
+        recorder: &mut Recorder<A>,
+    ) -> Result<Vec<Name>, NoMemory>
+        ensures asked { recorder.new.asked ≡ recorder.old.asked }
+        ensures answered { IfOk result (λ known. FromAnswers recorder.old.log recorder.new.log (λ t. known.items ≡ names unit.now (header_model header.now) t)) }
+        ensures asks { OnOk result (AsksOf (named_by (header_model header.now)) by_property recorder.old.log recorder.new.log) }
+        ensures others { OnOk result (AsksOthers unit.now recorder.old.log → AsksOthers unit.now recorder.new.log) }
+        ensures told { IfOk result (λ known. AreTold recorder.new.log known.items) };
 
     /// What is found in the text of a unit, which is read as this tree, with what was asked for it.
     /// - `agrees`: who is asked gives the recorded answers.

@@ -42,3 +42,16 @@ pub(crate) fn words_of(alloc: Global, text: &[u8]) -> Result<NameSet, NoMemory>
         Err(LexError::NoMemory) => Err(NoMemory),
     }
 }
+
+/// These words, and then the names that aren't among them.
+#[tactic(auto, using(crate::proofs::WordLemmas::names_more))]
+pub(crate) fn with_names(alloc: Global, words: NameSet, more: &[Name]) -> Result<NameSet, NoMemory>
+    ensures { IfOk result (λ names. names ≡ insert_all bytes_eq words more.now) }
+{
+    let mut names = words;
+    for name in more {
+        let name = Name::from_slice(alloc, name.as_slice())?;
+        names.insert(name)?;
+    }
+    Ok(names)
+}

@@ -2,8 +2,10 @@
 use Rattle.std.specs.Prelude.{List, Option, Result, Ok, Err}
 use Rattle.al_decl_judged.specs.Declaring.{DeclaredTree}
 use Rattle.al_decl_judged.specs.declared.names.DefiningName.{DefiningName}
+use Rattle.al_decl_judged.specs.declared.names.TypeName.{TypeName}
 use Rattle.al_decl_judged.specs.declared.progress.Progress.{Progress}
 use Rattle.al_decl_here.specs.Declaring.{begun, begun_one, with_declarations}
+use Rattle.al_decl_here.specs.TypeNames.{type_begun}
 use Rattle.al_decl_here.specs.declared.env.Environment.{Environment}
 use Rattle.al_base_fault.specs.Judging.{map_ok}
 use Rattle.al_base_fault.specs.declared.fault.Fault.{Fault}
@@ -28,6 +30,10 @@ inside h names = with_scope h (begun h.scope names)
 
 abbrev pub inside_one : Environment → DefiningName → Environment
 inside_one h n = with_scope h (begun_one h.scope n)
+
+-- inside that of a type
+abbrev pub inside_type : Environment → TypeName → Environment
+inside_type h n = with_scope h (type_begun h.scope n)
 
 -- after what it declares, which left the unit so; what it does, with the words of its temporaries
 abbrev pub after : Environment → Progress × DeclaredTree → Environment × Option DeclarationTree

@@ -7,16 +7,17 @@ use Rattle.al_decl_judged.specs.Objects.{new_objects, objects_declared}
 use Rattle.al_decl_judged.specs.Progressing.{with_all_counted}
 use Rattle.al_decl_judged.specs.StaticPieces.{static_of, static_range}
 use Rattle.al_decl_judged.specs.Subtypes.{subtype_declared}
-use Rattle.al_decl_judged.specs.TypeKinds.{array_declared, enumeration_declared, integer_declared}
+use Rattle.al_decl_judged.specs.TypeKinds.{array_declared, enumeration_declared, integer_declared, private_declared}
 use Rattle.al_decl_judged.specs.declared.names.DefiningName.{DefiningName}
+use Rattle.al_decl_judged.specs.declared.names.TypeName.{TypeName}
 use Rattle.al_decl_judged.specs.declared.new_object.NewObject.{NewObject}
 use Rattle.al_decl_judged.specs.declared.new_object.ObjectType.{ObjectType}
 use Rattle.al_decl_judged.specs.declared.new_object.ObjectType.TheVariants as object_types
 use Rattle.al_decl_judged.specs.declared.progress.Progress.{Progress}
-use Rattle.al_decl_here.specs.Declaring.{begun, begun_one, duplicate, duplicates, overloaded_duplicates}
+use Rattle.al_decl_here.specs.Declaring.{begun, begun_one, duplicate, duplicates}
+use Rattle.al_decl_here.specs.TypeNames.{enumeration_duplicate, type_begun, type_duplicate}
 use Rattle.al_decl_here.specs.declared.env.Environment.{Environment}
 use Rattle.al_decl_type.specs.declared.subtype.StaticRange.{StaticRange}
-use Rattle.al_base_fault.specs.Faults.{earlier}
 use Rattle.al_base_fault.specs.Judging.{both, next, map_ok}
 use Rattle.al_base_fault.specs.declared.fault.Fault.{Fault}
 use Rattle.al_decl_reader.specs.PartReadings.{PartReading}
@@ -30,7 +31,7 @@ use Rattle.al_view_typed.specs.DeclarationTrees.{DeclarationTree}
 use Rattle.al_view_typed.specs.ExpressionTrees.{TypedTree}
 use Rattle.al_view.specs.declared.view.SubtypeView.{SubtypeView}
 use Rattle.al_view.specs.declared.view.ViewKind.TheVariants.{OfComponent}
-use Rattle.al_decl.specs.Checking.{finished, inside, inside_one}
+use Rattle.al_decl.specs.Checking.{finished, inside, inside_one, inside_type}
 
 -- ---- numbers, subtypes
 
@@ -51,21 +52,23 @@ static_pair low high = next (both low high) (λ (b : TypedTree × TypedTree). st
 abbrev pub range_read : PartReading → Place → RangeTree → Result StaticRange Fault
 range_read R place r = static_pair (R.bound place r.low) (R.bound place r.high)
 
-abbrev pub integer_checked : PartReading → (Query → AnswerKind) → Environment → DefiningName → RangeTree → Result (Environment × Option DeclarationTree) Fault
+abbrev pub integer_checked : PartReading → (Query → AnswerKind) → Environment → TypeName → RangeTree → Result (Environment × Option DeclarationTree) Fault
 integer_checked R t h n range =
-    finished (inside_one h n) (integer_declared h.progress n (duplicate t h.scope OfComponent n) (range_read R (begun_one h.scope n) range))
+    finished (inside_type h n) (integer_declared h.progress n (type_duplicate t h.scope n) (range_read R (type_begun h.scope n) range))
 
 -- the type's name may not be overloaded, its literals may
-abbrev pub enumeration_duplicate : (Query → AnswerKind) → Environment → DefiningName → List DefiningName → Option Fault
-enumeration_duplicate t h n literals = earlier (duplicate t h.scope OfComponent n) (overloaded_duplicates t h.scope literals)
+abbrev pub enumeration_checked : (Query → AnswerKind) → Environment → TypeName → List DefiningName → Result (Environment × Option DeclarationTree) Fault
+enumeration_checked t h n literals =
+    finished (inside_type h n) (enumeration_declared h.progress n (enumeration_duplicate t h.scope n literals) literals)
 
-abbrev pub enumeration_checked : (Query → AnswerKind) → Environment → DefiningName → List DefiningName → Result (Environment × Option DeclarationTree) Fault
-enumeration_checked t h n literals = finished (inside_one h n) (enumeration_declared h.progress n (enumeration_duplicate t h n literals) literals)
-
-abbrev pub array_checked : PartReading → (Query → AnswerKind) → Environment → DefiningName → ArrayTree → Result (Environment × Option DeclarationTree) Fault
+abbrev pub array_checked : PartReading → (Query → AnswerKind) → Environment → TypeName → ArrayTree → Result (Environment × Option DeclarationTree) Fault
 array_checked R t h n array =
-    let place = begun_one h.scope n in
-    finished (inside_one h n) (array_declared h.progress n (duplicate t h.scope OfComponent n) (R.index place array.index) (R.indication place array.component))
+    let place = type_begun h.scope n in
+    finished (inside_type h n) (array_declared h.progress n (type_duplicate t h.scope n) (R.index place array.index) (R.indication place array.component))
+
+-- a private type whose values take so many words
+abbrev pub private_checked : (Query → AnswerKind) → Environment → TypeName → ℕ → Result (Environment × Option DeclarationTree) Fault
+private_checked t h n words = finished (inside_type h n) (private_declared h.progress n (type_duplicate t h.scope n) words)
 
 -- ---- objects
 

@@ -1,7 +1,7 @@
 // Declarations of types at a place (ARM 3.2.1).
 ghost use Rattle.std.specs.Prelude.{◌≡◌, ◌<◌, length, option_map, IfOk};
 ghost use Rattle.al_decl.specs.Checking.{at_place, finished};
-ghost use Rattle.al_decl.specs.Forms.{array_checked, enumeration_checked, enumeration_duplicate, integer_checked, range_read, static_pair};
+ghost use Rattle.al_decl.specs.Forms.{array_checked, enumeration_checked, integer_checked, private_checked, range_read, static_pair};
 ghost use Rattle.al_decl_judged.specs.TypeKinds.{record_declared};
 ghost use Rattle.al_base_fault.specs.Judging.{map_ok};
 ghost use Rattle.al_query.specs.Reads.{FromAnswers};
@@ -11,10 +11,11 @@ ghost use Rattle.al_view_typed.specs.ExpressionViews.{typed_model};
 
 use crate::ending::finish;
 use al_base::NoMemory;
-use al_base_fault::{CheckResult, Fault, both, earlier};
-use al_decl_here::{Environment, begin_one, fixed_duplicate, overloaded_duplicates};
+use al_base_fault::{CheckResult, Fault, both};
+use al_decl_here::{Environment, begin_type, enumeration_duplicate, type_duplicate};
 use al_decl_judged::{
-    DefiningName, declare_array, declare_enumeration, declare_integer, declare_record, static_range,
+    DefiningName, TypeName, declare_array, declare_enumeration, declare_integer, declare_private,
+    declare_record, static_range,
 };
 use al_decl_reader::PartAnalyzer;
 use al_decl_type::{Part, StaticRange};
@@ -83,7 +84,7 @@ pub fn check_integer<R: PartAnalyzer, A: Answers>(
     alloc: Global,
     analyzer: &R,
     env: &mut Environment,
-    name: &DefiningName,
+    name: &TypeName,
     range: &Range,
     recorder: &mut Recorder<A>,
 ) -> Result<CheckResult<Option<TypedDeclaration>>, NoMemory>
@@ -92,35 +93,18 @@ pub fn check_integer<R: PartAnalyzer, A: Answers>(
     ensures answered { IfOk result (λ checked. FromAnswers recorder.old.log recorder.new.log (λ t. at_place env.new (map_ok (option_map declaration_model) checked) ≡ integer_checked (R.reading analyzer.now t) t env.old name.now (range_model range.now))) }
     ensures depth { length env.new.scope.regions ≡ length env.old.scope.regions }
 {
-    let duplicate = fixed_duplicate(alloc, &env.scope, name, recorder)?;
-    begin_one(&mut env.scope, name)?;
+    let duplicate = type_duplicate(alloc, &env.scope, name, recorder)?;
+    begin_type(&mut env.scope, name)?;
     let range = integer_range(alloc, analyzer, &env.scope, range, recorder)?;
     let declared = declare_integer(alloc, &mut env.progress, name, duplicate, range)?;
     finish(env, declared)
-}
-
-/// E301 at the first of an enumeration type's name and its literals whose region has a homograph.
-fn enumeration_duplicate<A: Answers>(
-    alloc: Global,
-    env: &Environment,
-    name: &DefiningName,
-    literals: &[DefiningName],
-    recorder: &mut Recorder<A>,
-) -> Result<Option<Fault>, NoMemory>
-    requires { 0 < length env.now.scope.regions }
-    ensures asked { recorder.new.asked ≡ recorder.old.asked }
-    ensures answered { IfOk result (λ fault. FromAnswers recorder.old.log recorder.new.log (λ t. fault ≡ enumeration_duplicate t env.now name.now literals.now)) }
-{
-    let named = fixed_duplicate(alloc, &env.scope, name, recorder)?;
-    let literal = overloaded_duplicates(&env.scope, literals, recorder)?;
-    Ok(earlier(named, literal))
 }
 
 /// `type name is (literals);` (ARM 3.5.1)
 pub fn check_enumeration<A: Answers>(
     alloc: Global,
     env: &mut Environment,
-    name: &DefiningName,
+    name: &TypeName,
     literals: &[DefiningName],
     recorder: &mut Recorder<A>,
 ) -> Result<CheckResult<Option<TypedDeclaration>>, NoMemory>
@@ -129,8 +113,8 @@ pub fn check_enumeration<A: Answers>(
     ensures answered { IfOk result (λ checked. FromAnswers recorder.old.log recorder.new.log (λ t. at_place env.new (map_ok (option_map declaration_model) checked) ≡ enumeration_checked t env.old name.now literals.now)) }
     ensures depth { length env.new.scope.regions ≡ length env.old.scope.regions }
 {
-    let duplicate = enumeration_duplicate(alloc, env, name, literals, recorder)?;
-    begin_one(&mut env.scope, name)?;
+    let duplicate = enumeration_duplicate(alloc, &env.scope, name, literals, recorder)?;
+    begin_type(&mut env.scope, name)?;
     let declared = declare_enumeration(alloc, &mut env.progress, name, duplicate, literals)?;
     finish(env, declared)
 }
@@ -178,7 +162,7 @@ pub fn check_array<R: PartAnalyzer, A: Answers>(
     standard: &StandardTypes,
     analyzer: &R,
     env: &mut Environment,
-    name: &DefiningName,
+    name: &TypeName,
     array: &ArrayDefinition,
     recorder: &mut Recorder<A>,
 ) -> Result<CheckResult<Option<TypedDeclaration>>, NoMemory>
@@ -187,8 +171,8 @@ pub fn check_array<R: PartAnalyzer, A: Answers>(
     ensures answered { IfOk result (λ checked. FromAnswers recorder.old.log recorder.new.log (λ t. at_place env.new (map_ok (option_map declaration_model) checked) ≡ array_checked (R.reading analyzer.now t) t env.old name.now (array_model array.now))) }
     ensures depth { length env.new.scope.regions ≡ length env.old.scope.regions }
 {
-    let duplicate = fixed_duplicate(alloc, &env.scope, name, recorder)?;
-    begin_one(&mut env.scope, name)?;
+    let duplicate = type_duplicate(alloc, &env.scope, name, recorder)?;
+    begin_type(&mut env.scope, name)?;
     let (index, component) = array_parts(alloc, analyzer, &env.scope, array, recorder)?;
     let declared = declare_array(
         alloc,
@@ -207,7 +191,7 @@ pub fn check_record(
     alloc: Global,
     standard: &StandardTypes,
     env: &mut Environment,
-    name: &DefiningName,
+    name: &TypeName,
     duplicate: Option<Fault>,
     parts: &CheckResult<Seq<Part>>,
 ) -> Result<CheckResult<Option<TypedDeclaration>>, NoMemory>
@@ -216,5 +200,24 @@ pub fn check_record(
     ensures depth { length env.new.scope.regions ≡ length env.old.scope.regions }
 {
     let declared = declare_record(alloc, standard, &mut env.progress, name, duplicate, parts)?;
+    finish(env, declared)
+}
+
+/// `type name is private;`, whose values take so many words (ARM 7.3).
+pub fn check_private<A: Answers>(
+    alloc: Global,
+    env: &mut Environment,
+    name: &TypeName,
+    words: u32,
+    recorder: &mut Recorder<A>,
+) -> Result<CheckResult<Option<TypedDeclaration>>, NoMemory>
+    requires { 0 < length env.old.scope.regions }
+    ensures asked { recorder.new.asked ≡ recorder.old.asked }
+    ensures answered { IfOk result (λ checked. FromAnswers recorder.old.log recorder.new.log (λ t. at_place env.new (map_ok (option_map declaration_model) checked) ≡ private_checked t env.old name.now words)) }
+    ensures depth { length env.new.scope.regions ≡ length env.old.scope.regions }
+{
+    let duplicate = type_duplicate(alloc, &env.scope, name, recorder)?;
+    begin_type(&mut env.scope, name)?;
+    let declared = declare_private(alloc, &mut env.progress, name, duplicate, words)?;
     finish(env, declared)
 }

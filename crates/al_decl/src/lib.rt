@@ -7,7 +7,7 @@ mod object;
 mod simple;
 mod slots;
 
-pub use definition::{check_array, check_enumeration, check_integer, check_record};
+pub use definition::{check_array, check_enumeration, check_integer, check_private, check_record};
 pub use ending::{finish, finish_right};
 pub use object::check_objects;
 pub use simple::{check_number, check_subtype};

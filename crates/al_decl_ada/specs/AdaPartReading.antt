@@ -40,11 +40,11 @@ abbrev pub priority_at : Table → Surroundings → ExpressionTree → Result Ty
 priority_at t s x = checked_at t s contexts.PriorityValue None [] x
 
 -- what is read at the places of a unit
-unfoldable pub parts_read : Table → List UnitKey → Predefined → Option Symbol → PartReading
-parts_read t packages predefined own = record {
+unfoldable pub parts_read : Table → List UnitKey → Predefined → Option Symbol → UnitKey → PartReading
+parts_read t packages predefined own unit = record {
   mark = λ place m. mark_at t place packages (name_text m);
-  indication = λ place i. indication_at t (surrounded packages predefined own place) i;
-  index = λ place r. index_at t (surrounded packages predefined own place) r;
+  indication = λ place i. indication_at t (surrounded packages predefined own place) unit i;
+  index = λ place r. index_at t (surrounded packages predefined own place) unit r;
   value = λ place of x. initial_at t (surrounded packages predefined own place) of x;
   number = λ place x. number_at t (surrounded packages predefined own place) x;
   bound = λ place x. bound_at t (surrounded packages predefined own place) x;

@@ -22,11 +22,13 @@ use std::alloc::Global;
 pub struct AdaPartAnalyzer<'a> {
     pub labeller: &'a Labeller,
     pub packages: &'a [UnitKey],
+    /// The unit in which they stand.
+    pub unit: &'a UnitKey,
 }
 
 #[tactic(auto, unfolding(crate::specs::AdaPartReading::parts_read))]
 impl PartAnalyzer for AdaPartAnalyzer<'_> {
-    ghost reading = { λ p t. parts_read t p.packages.now p.labeller.now.predefined p.labeller.now.own };
+    ghost reading = { λ p t. parts_read t p.packages.now p.labeller.now.predefined p.labeller.now.own p.unit.now };
 
     fn mark<A: Answers>(
         &self,
@@ -50,7 +52,7 @@ impl PartAnalyzer for AdaPartAnalyzer<'_> {
             scope,
             packages: self.packages,
         };
-        indication_at(&site, indication, recorder)
+        indication_at(&site, self.unit, indication, recorder)
     }
 
     fn index<A: Answers>(
@@ -65,7 +67,7 @@ impl PartAnalyzer for AdaPartAnalyzer<'_> {
             scope,
             packages: self.packages,
         };
-        index_at(&site, index, recorder)
+        index_at(&site, self.unit, index, recorder)
     }
 
     fn value<A: Answers>(

@@ -1,3 +1,4 @@
 pub mod Declaring
 pub mod Inner
 pub mod Laws
+pub mod TypeNames

@@ -5,6 +5,7 @@ mod env;
 mod homograph;
 mod inner;
 mod laws;
+mod types;
 
 pub use env::{Environment, begin, begin_one};
 pub use homograph::{
@@ -13,3 +14,4 @@ pub use homograph::{
 };
 pub use inner::{enter_region, leave_region, make_visible};
 pub use laws::a_literal_is_a_homograph_of_what_is_fixed;
+pub use types::{begin_type, enumeration_duplicate, type_duplicate, type_name};

@@ -9,13 +9,14 @@ ghost use Rattle.al_query.specs.Reads.{FromAnswers};
 ghost use Rattle.al_tree.specs.DeclarationViews.{identifiers_model, object_form_model, object_model, subtype_model, type_definition_model, type_model};
 ghost use Rattle.al_view_typed.specs.DeclarationTrees.{declaration_model};
 
+use crate::private_type::check_private_item;
 use al_base::NoMemory;
 use al_base_fault::CheckResult;
 use al_decl::{
     check_array, check_enumeration, check_integer, check_number, check_objects, check_subtype,
 };
-use al_decl_here::Environment;
-use al_decl_judged::DefiningName;
+use al_decl_here::{Environment, type_name};
+use al_decl_judged::{DefiningName, TypeName};
 use al_decl_names::{defining_name, defining_names};
 use al_decl_reader::PartAnalyzer;
 use al_decl_record::{check_null_record, check_record_type};
@@ -93,7 +94,7 @@ pub fn check_object_item<R: PartAnalyzer, A: Answers>(
 fn check_literals<A: Answers>(
     alloc: Global,
     env: &mut Environment,
-    name: &DefiningName,
+    name: &TypeName,
     literals: &Identifiers,
     recorder: &mut Recorder<A>,
 ) -> Result<CheckResult<Option<TypedDeclaration>>, NoMemory>
@@ -112,13 +113,14 @@ fn check_definition<R: PartAnalyzer, A: Answers>(
     standard: &StandardTypes,
     analyzer: &R,
     env: &mut Environment,
-    name: &DefiningName,
+    words: Option<u32>,
+    name: &TypeName,
     definition: &TypeDefinition,
     recorder: &mut Recorder<A>,
 ) -> Result<CheckResult<Option<TypedDeclaration>>, NoMemory>
     requires { 0 < length env.old.scope.regions }
     ensures asked { recorder.new.asked ≡ recorder.old.asked }
-    ensures answered { IfOk result (λ checked. FromAnswers recorder.old.log recorder.new.log (λ t. at_place env.new (map_ok (option_map declaration_model) checked) ≡ definition_checked (R.reading analyzer.now t) t env.old name.now (type_definition_model definition.now))) }
+    ensures answered { IfOk result (λ checked. FromAnswers recorder.old.log recorder.new.log (λ t. at_place env.new (map_ok (option_map declaration_model) checked) ≡ definition_checked (R.reading analyzer.now t) t env.old words name.now (type_definition_model definition.now))) }
     ensures depth { OnOk result (length env.new.scope.regions ≡ length env.old.scope.regions) }
 {
     match definition {
@@ -126,6 +128,7 @@ fn check_definition<R: PartAnalyzer, A: Answers>(
             check_integer(alloc, analyzer, env, name, range, recorder)
         }
         TypeDefinition::NullRecord => check_null_record(alloc, standard, env, name, recorder),
+        TypeDefinition::Private(_) => check_private_item(alloc, env, name, words, recorder),
         TypeDefinition::Enumeration(_, literals) => {
             check_literals(alloc, env, name, literals, recorder)
         }
@@ -138,23 +141,33 @@ fn check_definition<R: PartAnalyzer, A: Answers>(
     }
 }
 
-/// `type name is ..;` (ARM 3.2.1)
+/// `type name is ..;` (ARM 3.2.1). The words of a private type's values are given where one may stand (ARM 7.3(4)).
 pub fn check_type_item<R: PartAnalyzer, A: Answers>(
     alloc: Global,
     standard: &StandardTypes,
     analyzer: &R,
     env: &mut Environment,
+    words: Option<u32>,
     declaration: &TypeDeclaration,
     recorder: &mut Recorder<A>,
 ) -> Result<CheckResult<Option<TypedDeclaration>>, NoMemory>
     requires { 0 < length env.old.scope.regions }
     ensures asked { recorder.new.asked ≡ recorder.old.asked }
-    ensures answered { IfOk result (λ checked. FromAnswers recorder.old.log recorder.new.log (λ t. at_place env.new (map_ok (option_map declaration_model) checked) ≡ type_checked (R.reading analyzer.now t) t env.old (type_model declaration.now))) }
+    ensures answered { IfOk result (λ checked. FromAnswers recorder.old.log recorder.new.log (λ t. at_place env.new (map_ok (option_map declaration_model) checked) ≡ type_checked (R.reading analyzer.now t) t env.old words (type_model declaration.now))) }
     ensures depth { OnOk result (length env.new.scope.regions ≡ length env.old.scope.regions) }
 {
     let name = defining_name(alloc, &declaration.name)?;
-    let definition = &declaration.definition;
-    check_definition(alloc, standard, analyzer, env, &name, definition, recorder)
+    let name = type_name(alloc, env, name)?;
+    check_definition(
+        alloc,
+        standard,
+        analyzer,
+        env,
+        words,
+        &name,
+        &declaration.definition,
+        recorder,
+    )
 }
 
 /// `subtype name is indication;` (ARM 3.2.2)

@@ -2,5 +2,6 @@
 #![tactic(auto)]
 
 mod item;
+mod private_type;
 
 pub use item::{check_object_item, check_subtype_item, check_type_item};

@@ -1,5 +1,5 @@
 -- What the declarations of a unit have taken so far.
-use Rattle.std.specs.Prelude.{ℕ, Bool, ◌==◌, List, [], ◌∷◌, ◌++◌, if◌then◌else◌}
+use Rattle.std.specs.Prelude.{ℕ, Bool, ◌==◌, List, [], ◌∷◌, ◌++◌, is_some, unwrap_or, if◌then◌else◌}
 use Rattle.al_view.specs.declared.symbol.Symbol.{Symbol}
 use Rattle.al_view.specs.declared.view.ObjectPlace.{ObjectPlace}
 use Rattle.al_view.specs.declared.view.ObjectPlace.TheVariants.{Frame, Static}
@@ -8,6 +8,7 @@ use Rattle.al_view_typed.specs.declared.unit.ProtectedWords.{ProtectedWords}
 use Rattle.al_decl_type.specs.Homonyms.{with_name}
 use Rattle.al_decl_type.specs.TypeDeclarations.{next_symbol, with_names}
 use Rattle.al_decl_type.specs.WordCounts.{after_data, after_frame}
+use Rattle.al_decl_judged.specs.declared.names.TypeName.{TypeName}
 use Rattle.al_decl_judged.specs.declared.progress.Progress.{Progress}
 
 -- depth 0 is library level, where there is no frame
@@ -25,6 +26,14 @@ with_all_counted p names = record p { homonyms = with_names p.homonyms names }
 -- the symbol of the next declaration of a name
 abbrev pub symbol_of : Progress → List ℕ → Symbol
 symbol_of p name = next_symbol p.unit p.homonyms name
+
+-- the symbol of a type that is declared: that of the private type that it completes, or else of the next declaration of its name
+abbrev pub type_symbol : Progress → TypeName → Symbol
+type_symbol p n = unwrap_or n.partial (symbol_of p n.defining.name)
+
+-- where it completes one, its name is counted already
+abbrev pub type_counted : Progress → TypeName → Progress
+type_counted p n = if is_some n.partial then p else with_counted p n.defining.name
 
 -- where the next object or flag lies: in the unit's words, or in the innermost frame
 abbrev pub next_place : Progress → Symbol → ObjectPlace

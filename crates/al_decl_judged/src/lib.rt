@@ -14,11 +14,13 @@ mod type_kind;
 
 pub use declared::Declared;
 pub use mark::{index_of_bounds, index_of_mark, indication};
-pub use names::{DefiningName, named_so, repeated};
+pub use names::{DefiningName, TypeName, named_so, repeated};
 pub use new_object::{NewObject, ObjectType, copied_subtype, new_objects};
 pub use number::declare_numbers;
 pub use object::declare_objects;
 pub use progress::Progress;
 pub use static_piece::{place_label, static_of, static_range};
 pub use subtype::declare_subtype;
-pub use type_kind::{declare_array, declare_enumeration, declare_integer, declare_record};
+pub use type_kind::{
+    declare_array, declare_enumeration, declare_integer, declare_private, declare_record,
+};

@@ -8,7 +8,7 @@ ghost use Rattle.al_decl_judged.specs.Progressing.{with_all_counted};
 use crate::progress::Progress;
 use al_base::{Name, NoMemory, Place, Rule};
 use al_base_fault::Fault;
-use al_view::Seq;
+use al_view::{Seq, Symbol};
 use std::alloc::Global;
 
 /// A defining name in lower case, and where it stands.
@@ -20,6 +20,21 @@ pub struct DefiningName {
 impl Drop for DefiningName {
     fn drop(self) {
         let DefiningName { name: _, place: _ } = self;
+    }
+}
+
+/// The name of a type that is declared. Where the declaration completes a private type (ARM 7.3(4)), the symbol of that type: it is the same type.
+pub struct TypeName {
+    pub defining: DefiningName,
+    pub partial: Option<Symbol>,
+}
+
+impl Drop for TypeName {
+    fn drop(self) {
+        let TypeName {
+            defining: _,
+            partial: _,
+        } = self;
     }
 }
 

@@ -1,7 +1,8 @@
 // What the declarations of a unit have taken so far.
 ghost use Rattle.std.specs.Prelude.{◌≡◌, IfOk, OnOk};
-ghost use Rattle.al_decl_judged.specs.Progressing.{after_flag, after_object, after_protected, is_library_level, next_place, symbol_of, with_counted};
+ghost use Rattle.al_decl_judged.specs.Progressing.{after_flag, after_object, after_protected, is_library_level, next_place, symbol_of, type_counted, type_symbol, with_counted};
 
+use crate::names::TypeName;
 use al_base::{NoMemory, UnitKey};
 use al_decl_type::{Homonyms, Words, next_symbol};
 use al_view::{ObjectPlace, Priority, Seq, Symbol};
@@ -40,6 +41,17 @@ impl Progress {
         ensures counted { OnOk result (self.new ≡ with_counted self.old name.now) }
     {
         next_symbol(alloc, &self.unit, &mut self.homonyms, name)
+    }
+
+    /// The symbol of a type that is declared: that of the private type that it completes, or else that of one more declaration of its name.
+    pub fn type_symbol(&mut self, alloc: Global, name: &TypeName) -> Result<Symbol, NoMemory>
+        ensures symbol { IfOk result (λ symbol. symbol ≡ type_symbol self.old name.now) }
+        ensures counted { OnOk result (self.new ≡ type_counted self.old name.now) }
+    {
+        match &name.partial {
+            Some(symbol) => symbol.copy(alloc),
+            None => self.next_symbol(alloc, name.defining.name.as_slice()),
+        }
     }
 
     /// One more declaration of a name that has no symbol.

@@ -2,35 +2,56 @@
 ghost use Rattle.std.specs.Prelude.{◌≡◌, [], IfOk, OnOk};
 ghost use Rattle.al_base_fault.specs.Judging.{both, next, map_ok, unless};
 ghost use Rattle.al_decl_type.specs.Types.{array_type, integer_type, record_type};
+ghost use Rattle.al_view_predefined.specs.Standard.{private_type};
+ghost use Rattle.al_decl_type.specs.TypeDeclarations.{declared_with, spellings, with_names};
 ghost use Rattle.al_decl_judged.specs.Declaring.{declared_model, joined};
 ghost use Rattle.al_decl_judged.specs.DefiningNames.{names_of};
-ghost use Rattle.al_decl_judged.specs.TypeKinds.{array_declared, counts_after, declarations_of, enumeration_declared, integer_declared, literals_fault, record_declared, with_type};
+ghost use Rattle.al_decl_judged.specs.TypeKinds.{array_declared, counts_after, declarations_of, enumeration_declared, integer_declared, literals_fault, private_declared, record_declared, signs_by, with_type};
 
 use crate::declared::Declared;
-use crate::names::{DefiningName, named_so, names_of, repeated};
+use crate::names::{DefiningName, TypeName, named_so, names_of, repeated};
 use crate::progress::Progress;
 use al_base::NoMemory;
 use al_base_fault::{CheckResult, Fault, both, earlier, unless};
 use al_decl_type::{
     Declaration, Homonyms, Part, StaticRange, array_type, declared_by, enumeration_type,
-    integer_type, own_type, record_type,
+    full_declared_by, integer_type, own_type, record_type,
 };
-use al_view::{Names, Seq, SubtypeView, Symbol, Types};
-use al_view_predefined::{StandardTypes, no_names};
+use al_view::{Names, Seq, SubtypeView, Symbol, TypeView, Types};
+use al_view_predefined::{StandardTypes, no_names, private_type};
 use std::alloc::Global;
+
+/// What the declaration of a type of these types declares: the full one of a private type all but what its partial view declared.
+fn declared_of(
+    alloc: Global,
+    homonyms: &mut Homonyms,
+    name: &TypeName,
+    types: &Types,
+    of: &TypeView,
+    literals: &Names,
+) -> Result<Seq<Declaration>, NoMemory>
+    ensures declared { IfOk result (λ declared. declared ≡ declared_with (signs_by name.now of.now.definition) of.now types.now literals.now homonyms.old) }
+    ensures counted { OnOk result (homonyms.new ≡ with_names (with_names homonyms.old literals.now) (spellings (signs_by name.now of.now.definition))) }
+{
+    if name.partial.is_some() {
+        return full_declared_by(alloc, homonyms, types, of, literals);
+    }
+    declared_by(alloc, homonyms, types, of, literals)
+}
 
 /// What the declaration of the last of these types declares.
 fn declarations_of(
     alloc: Global,
     homonyms: &mut Homonyms,
+    name: &TypeName,
     types: &Types,
     literals: &Names,
 ) -> Result<Seq<Declaration>, NoMemory>
-    ensures declared { IfOk result (λ declared. declared ≡ declarations_of types.now literals.now homonyms.old) }
-    ensures counted { OnOk result (homonyms.new ≡ counts_after types.now literals.now homonyms.old) }
+    ensures declared { IfOk result (λ declared. declared ≡ declarations_of name.now types.now literals.now homonyms.old) }
+    ensures counted { OnOk result (homonyms.new ≡ counts_after name.now types.now literals.now homonyms.old) }
 {
     match own_type(types) {
-        Some(of) => declared_by(alloc, homonyms, types, of, literals),
+        Some(of) => declared_of(alloc, homonyms, name, types, of, literals),
         None => Ok(Seq::empty(alloc)),
     }
 }
@@ -39,17 +60,18 @@ fn declarations_of(
 fn with_type(
     alloc: Global,
     progress: &mut Progress,
+    name: &TypeName,
     names: Option<Fault>,
     literals: &Names,
     types: CheckResult<Types>,
 ) -> Result<CheckResult<Declared>, NoMemory>
-    ensures { IfOk result (λ checked. joined progress.new (map_ok declared_model checked) ≡ map_ok (with_type progress.old literals.now) (unless names types)) }
+    ensures { IfOk result (λ checked. joined progress.new (map_ok declared_model checked) ≡ map_ok (with_type progress.old name.now literals.now) (unless names types)) }
 {
     let types = match unless(names, types) {
         Ok(types) => types,
         Err(fault) => return Ok(Err(fault)),
     };
-    let declarations = declarations_of(alloc, &mut progress.homonyms, &types, literals)?;
+    let declarations = declarations_of(alloc, &mut progress.homonyms, name, &types, literals)?;
     Ok(Ok(Declared {
         declarations,
         effect: None,
@@ -83,16 +105,16 @@ fn checked_integer(
 pub fn declare_integer(
     alloc: Global,
     progress: &mut Progress,
-    name: &DefiningName,
+    name: &TypeName,
     duplicate: Option<Fault>,
     range: CheckResult<StaticRange>,
 ) -> Result<CheckResult<Declared>, NoMemory>
     ensures { IfOk result (λ checked. joined progress.new (map_ok declared_model checked) ≡ integer_declared progress.old name.now duplicate range) }
 {
-    let symbol = progress.next_symbol(alloc, name.name.as_slice())?;
+    let symbol = progress.type_symbol(alloc, name)?;
     let types = checked_integer(alloc, &symbol, range)?;
     let literals = no_literals(alloc)?;
-    with_type(alloc, progress, duplicate, &literals, types)
+    with_type(alloc, progress, name, duplicate, &literals, types)
 }
 
 fn literals_fault(name: &DefiningName, literals: &[DefiningName]) -> Option<Fault>
@@ -105,17 +127,17 @@ fn literals_fault(name: &DefiningName, literals: &[DefiningName]) -> Option<Faul
 pub fn declare_enumeration(
     alloc: Global,
     progress: &mut Progress,
-    name: &DefiningName,
+    name: &TypeName,
     duplicate: Option<Fault>,
     literals: &[DefiningName],
 ) -> Result<CheckResult<Declared>, NoMemory>
     ensures { IfOk result (λ checked. joined progress.new (map_ok declared_model checked) ≡ enumeration_declared progress.old name.now duplicate literals.now) }
 {
-    let fault = earlier(duplicate, literals_fault(name, literals));
-    let symbol = progress.next_symbol(alloc, name.name.as_slice())?;
+    let fault = earlier(duplicate, literals_fault(&name.defining, literals));
+    let symbol = progress.type_symbol(alloc, name)?;
     let literals = Names::new(alloc, names_of(alloc, literals)?)?;
     let types = enumeration_type(alloc, &symbol, &literals)?;
-    with_type(alloc, progress, fault, &literals, Ok(types))
+    with_type(alloc, progress, name, fault, &literals, Ok(types))
 }
 
 fn checked_array(
@@ -139,17 +161,17 @@ pub fn declare_array(
     alloc: Global,
     standard: &StandardTypes,
     progress: &mut Progress,
-    name: &DefiningName,
+    name: &TypeName,
     duplicate: Option<Fault>,
     index: CheckResult<SubtypeView>,
     component: CheckResult<SubtypeView>,
 ) -> Result<CheckResult<Declared>, NoMemory>
     ensures { IfOk result (λ checked. joined progress.new (map_ok declared_model checked) ≡ array_declared progress.old name.now duplicate index component) }
 {
-    let symbol = progress.next_symbol(alloc, name.name.as_slice())?;
-    let types = checked_array(alloc, standard, &symbol, name, index, component)?;
+    let symbol = progress.type_symbol(alloc, name)?;
+    let types = checked_array(alloc, standard, &symbol, &name.defining, index, component)?;
     let literals = no_literals(alloc)?;
-    with_type(alloc, progress, duplicate, &literals, types)
+    with_type(alloc, progress, name, duplicate, &literals, types)
 }
 
 fn checked_record(
@@ -173,14 +195,30 @@ pub fn declare_record(
     alloc: Global,
     standard: &StandardTypes,
     progress: &mut Progress,
-    name: &DefiningName,
+    name: &TypeName,
     duplicate: Option<Fault>,
     parts: &CheckResult<Seq<Part>>,
 ) -> Result<CheckResult<Declared>, NoMemory>
     ensures { IfOk result (λ checked. joined progress.new (map_ok declared_model checked) ≡ record_declared progress.old name.now duplicate parts.now) }
 {
-    let symbol = progress.next_symbol(alloc, name.name.as_slice())?;
-    let types = checked_record(alloc, standard, &symbol, name, parts)?;
+    let symbol = progress.type_symbol(alloc, name)?;
+    let types = checked_record(alloc, standard, &symbol, &name.defining, parts)?;
     let literals = no_literals(alloc)?;
-    with_type(alloc, progress, duplicate, &literals, types)
+    with_type(alloc, progress, name, duplicate, &literals, types)
+}
+
+/// `type N is private`, whose values take so many words (ARM 7.3).
+pub fn declare_private(
+    alloc: Global,
+    progress: &mut Progress,
+    name: &TypeName,
+    duplicate: Option<Fault>,
+    words: u32,
+) -> Result<CheckResult<Declared>, NoMemory>
+    ensures { IfOk result (λ checked. joined progress.new (map_ok declared_model checked) ≡ private_declared progress.old name.now duplicate words) }
+{
+    let symbol = progress.type_symbol(alloc, name)?;
+    let types = private_type(alloc, &symbol, words)?;
+    let literals = no_literals(alloc)?;
+    with_type(alloc, progress, name, duplicate, &literals, Ok(types))
 }

@@ -14,8 +14,8 @@ use crate::components::{ComponentList, check_component, check_components};
 use al_base::NoMemory;
 use al_base_fault::CheckResult;
 use al_decl::check_record;
-use al_decl_here::{Environment, begin_one, enter_region, fixed_duplicate, leave_region};
-use al_decl_judged::DefiningName;
+use al_decl_here::{Environment, begin_type, enter_region, leave_region, type_duplicate};
+use al_decl_judged::TypeName;
 use al_decl_reader::PartAnalyzer;
 use al_decl_type::Part;
 use al_query::{Answers, Recorder};
@@ -97,7 +97,7 @@ pub fn check_record_type<R: PartAnalyzer, A: Answers>(
     standard: &StandardTypes,
     analyzer: &R,
     env: &mut Environment,
-    name: &DefiningName,
+    name: &TypeName,
     components: &Components,
     recorder: &mut Recorder<A>,
 ) -> Result<CheckResult<Option<TypedDeclaration>>, NoMemory>
@@ -106,8 +106,8 @@ pub fn check_record_type<R: PartAnalyzer, A: Answers>(
     ensures answered { IfOk result (λ checked. FromAnswers recorder.old.log recorder.new.log (λ t. at_place env.new (map_ok (option_map declaration_model) checked) ≡ record_checked (R.reading analyzer.now t) t env.old name.now (components_model components.now))) }
     ensures depth { OnOk result (length env.new.scope.regions ≡ length env.old.scope.regions) }
 {
-    let duplicate = fixed_duplicate(alloc, &env.scope, name, recorder)?;
-    begin_one(&mut env.scope, name)?;
+    let duplicate = type_duplicate(alloc, &env.scope, name, recorder)?;
+    begin_type(&mut env.scope, name)?;
     let parts = parts_at(alloc, analyzer, &mut env.scope, components, recorder)?;
     check_record(alloc, standard, env, name, duplicate, &parts)
 }
@@ -124,7 +124,7 @@ pub fn check_null_record<A: Answers>(
     alloc: Global,
     standard: &StandardTypes,
     env: &mut Environment,
-    name: &DefiningName,
+    name: &TypeName,
     recorder: &mut Recorder<A>,
 ) -> Result<CheckResult<Option<TypedDeclaration>>, NoMemory>
     requires { 0 < length env.old.scope.regions }
@@ -132,8 +132,8 @@ pub fn check_null_record<A: Answers>(
     ensures answered { IfOk result (λ checked. FromAnswers recorder.old.log recorder.new.log (λ t. at_place env.new (map_ok (option_map declaration_model) checked) ≡ null_record_checked t env.old name.now)) }
     ensures depth { length env.new.scope.regions ≡ length env.old.scope.regions }
 {
-    let duplicate = fixed_duplicate(alloc, &env.scope, name, recorder)?;
-    begin_one(&mut env.scope, name)?;
+    let duplicate = type_duplicate(alloc, &env.scope, name, recorder)?;
+    begin_type(&mut env.scope, name)?;
     let parts = no_parts(alloc);
     check_record(alloc, standard, env, name, duplicate, &parts)
 }

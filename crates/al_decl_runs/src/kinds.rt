@@ -7,7 +7,7 @@ use crate::parts::{
 use al_base::NoMemory;
 use al_base_fault::{CheckResult, Fault, both};
 use al_decl_judged::{
-    Declared, DefiningName, NewObject, ObjectType, declare_array, declare_enumeration,
+    Declared, DefiningName, NewObject, ObjectType, TypeName, declare_array, declare_enumeration,
     declare_integer, declare_numbers, declare_objects, declare_record, declare_subtype,
     new_objects,
 };
@@ -145,7 +145,7 @@ fn numbers(
 fn enumeration(
     desk: &mut Desk,
     duplicate: Option<Fault>,
-    name: &DefiningName,
+    name: &TypeName,
     words: &str,
 ) -> Result<CheckResult<Declared>, NoMemory> {
     let literals = names_of(desk.alloc, words)?;
@@ -158,7 +158,7 @@ fn enumeration(
 fn array(
     desk: &mut Desk,
     duplicate: Option<Fault>,
-    name: &DefiningName,
+    name: &TypeName,
     words: &str,
 ) -> Result<CheckResult<Declared>, NoMemory> {
     let (index, component) = last_word(words);
@@ -172,7 +172,7 @@ fn array(
 fn record(
     desk: &mut Desk,
     duplicate: Option<Fault>,
-    name: &DefiningName,
+    name: &TypeName,
     words: &str,
 ) -> Result<CheckResult<Declared>, NoMemory> {
     let parts = parts_of(desk, words)?;
@@ -196,14 +196,14 @@ fn one_named(
     desk: &mut Desk,
     duplicate: Option<Fault>,
     kind: &str,
-    name: &DefiningName,
+    name: &TypeName,
     words: &str,
 ) -> Result<CheckResult<Declared>, NoMemory> {
     match kind {
         "enumeration" => enumeration(desk, duplicate, name, words),
         "array" => array(desk, duplicate, name, words),
         "record" => record(desk, duplicate, name, words),
-        "subtype" => subtype(desk, duplicate, name, words),
+        "subtype" => subtype(desk, duplicate, &name.defining, words),
         _ => {
             let range = range_of(words);
             declare_integer(desk.alloc, &mut desk.progress, name, duplicate, range)
@@ -218,7 +218,10 @@ fn one(
     words: &str,
 ) -> Result<CheckResult<Declared>, NoMemory> {
     let (name, words) = first_word(words);
-    let name = name_of(desk.alloc, name)?;
+    let name = TypeName {
+        defining: name_of(desk.alloc, name)?,
+        partial: None,
+    };
     let declared = one_named(desk, duplicate, kind, &name, words);
     drop(name);
     declared

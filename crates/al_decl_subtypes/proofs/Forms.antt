@@ -1,12 +1,7 @@
 -- What holds of a range or a constraint holds of it as it stands in the text, where the bounds are boxed.
-use Rattle.std.proofs.Common.{◌≡◌, ℕ, List, [], ◌++◌, Option, Some, None, sym, subst, Box, Global}
+use Rattle.std.proofs.Common.{◌≡◌, Option, Some, None, sym, subst, Box, Global}
 use Rattle.std.specs.Prelude.{option_map}
-use Rattle.al_base.specs.declared.unit_key.UnitKey.{UnitKey}
-use Rattle.al_query.proofs.AskLemmas.{asks_none}
-use Rattle.al_query.specs.Asked.{AsksOf, OfKnown, by_name}
-use Rattle.al_query.specs.Reads.{Log}
 use Rattle.al_tree_syntax.specs.DeclarationTrees.{DiscreteRangeTree, DiscreteRangeTree as ranges, RangeTree}
-use Rattle.al_overload_terms_at.proofs.Composed.{asks_of-names}
 use Rattle.al_tree.specs.DeclarationViews.{boxed_range_model, discrete_range_model, range_model}
 use Rattle.al_tree.specs.ExpressionViews.{expression_model}
 use Rattle.al_tree.specs.declared.declaration.DiscreteRange.{DiscreteRange}
@@ -39,7 +34,3 @@ constrained_holds P is opened h =
 -- none
 pub unconstrained_holds : (P : Option RangeTree → Type 0) {o : Option (Box Range Global)} → o ≡ None → P None → P (option_map boxed_range_model o)
 unconstrained_holds P is h = subst (λ (o : Option (Box Range Global)). P (option_map boxed_range_model o)) (sym is) h
-
--- no more names are asked for
-pub asks_of-no_more : (us : List UnitKey) (ns : List (List ℕ)) (old new : Log) → AsksOf us (by_name ns) old new → AsksOf us (by_name (ns ++ [])) old new
-asks_of-no_more us ns old new one = asks_of-names us ns [] old new new one (asks_none (OfKnown us (by_name [])) new)

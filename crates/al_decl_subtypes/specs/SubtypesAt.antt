@@ -1,6 +1,7 @@
 -- Subtype indications and index subtypes where they stand (ARM 3.2.2, 3.6). Their names are looked up by a table of answers.
 use Rattle.std.specs.Prelude.{ℕ, List, [], ◌++◌, Option, Some, None, Result, Ok, Err}
 use Rattle.al_base.specs.declared.place.Place.{Place}
+use Rattle.al_base.specs.declared.unit_key.UnitKey.{UnitKey}
 use Rattle.al_decl_type.specs.declared.subtype.StaticRange.{StaticRange}
 use Rattle.al_decl_judged.specs.Indications.{index_of_bounds, index_of_mark, indication}
 use Rattle.al_decl_judged.specs.StaticPieces.{static_range}
@@ -21,6 +22,7 @@ use Rattle.al_overload_values.specs.Surroundings.{Surroundings}
 use Rattle.al_overload_values.specs.ValuesAt.{pair_judged_at}
 use Rattle.al_view.specs.declared.types.TypeView.{TypeView}
 use Rattle.al_view.specs.declared.view.SubtypeView.{SubtypeView}
+use Rattle.al_decl_subtypes.specs.Complete.{completed}
 
 -- a range of static bounds: E304 at the first that isn't static
 abbrev pub static_pair : PairTree → Result StaticRange Fault
@@ -39,12 +41,14 @@ abbrev pub constrained_at : Table → Surroundings → Place → Result SubtypeV
 constrained_at t s place mark None = indication place mark None
 constrained_at t s place mark (Some r) = indication place mark (constraint_at t s mark r)
 
-abbrev pub indication_at : Table → Surroundings → SubtypeIndicationTree → Result SubtypeView Fault
-indication_at t s i = constrained_at t s (place_of i.mark.first) (mark_at t s.place s.packages (name_text i.mark)) i.constraint
+-- in a unit; its mark wants a type that is complete there
+abbrev pub indication_at : Table → Surroundings → UnitKey → SubtypeIndicationTree → Result SubtypeView Fault
+indication_at t s unit i =
+    constrained_at t s (place_of i.mark.first) (completed unit (place_of i.mark.first) (mark_at t s.place s.packages (name_text i.mark))) i.constraint
 
 -- the subtype of an index: a mark or a Range attribute alone
-abbrev pub index_of_single : Table → Surroundings → ExpressionTree → Result SubtypeView Fault
-index_of_single t s x = index_of_mark (first_place x) (range_with_at t s.place s.packages s.predefined s.own x) None
+abbrev pub index_of_single : Table → Surroundings → UnitKey → ExpressionTree → Result SubtypeView Fault
+index_of_single t s unit x = index_of_mark (first_place x) (completed unit (first_place x) (range_with_at t s.place s.packages s.predefined s.own x)) None
 
 -- a mark with a constraint
 abbrev pub index_of_marked : Table → Surroundings → Place → Result SubtypeView Fault → RangeTree → Result SubtypeView Fault
@@ -54,10 +58,11 @@ index_of_marked t s place mark r = index_of_mark place mark (constraint_at t s m
 abbrev pub index_of_pair : PairTree → Result SubtypeView Fault
 index_of_pair pair = index_of_bounds pair.range.of pair.range.types (static_pair pair)
 
-abbrev pub index_at : Table → Surroundings → DiscreteRangeTree → Result SubtypeView Fault
-index_at t s (ranges.SoleMark x) = index_of_single t s x
-index_at t s (ranges.MarkRange mark r) = index_of_marked t s (first_place mark) (mark_at t s.place s.packages mark) r
-index_at t s (ranges.Bounds r) = next (pair_judged_at t s contexts.PairOfBounds [] r) index_of_pair
+abbrev pub index_at : Table → Surroundings → UnitKey → DiscreteRangeTree → Result SubtypeView Fault
+index_at t s unit (ranges.SoleMark x) = index_of_single t s unit x
+index_at t s unit (ranges.MarkRange mark r) =
+    index_of_marked t s (first_place mark) (completed unit (first_place mark) (mark_at t s.place s.packages mark)) r
+index_at t s unit (ranges.Bounds r) = next (pair_judged_at t s contexts.PairOfBounds [] r) index_of_pair
 
 -- ---- which names are asked for
 

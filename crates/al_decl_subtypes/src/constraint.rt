@@ -3,7 +3,7 @@ ghost use Rattle.std.specs.Prelude.{◌≡◌, IfOk};
 ghost use Rattle.al_base_fault.specs.Judging.{next, map_ok};
 ghost use Rattle.al_overload_label.specs.RangesSeen.{pair_model};
 ghost use Rattle.al_overload.specs.declared.context.Context.TheVariants as contexts;
-ghost use Rattle.al_query.specs.Asked.{AsksOf, by_name};
+ghost use Rattle.al_query.specs.Asked.{AsksOf, by_some_name};
 ghost use Rattle.al_query.specs.Reads.{FromAnswers};
 ghost use Rattle.al_decl_subtypes.specs.SubtypesAt.{constraint_at, static_at, static_pair};
 ghost use Rattle.al_overload_terms_at.specs.TermsAt.{range_names};
@@ -43,7 +43,7 @@ pub fn static_at<A: Answers>(
 ) -> Result<CheckResult<StaticRange>, NoMemory>
     ensures asked { recorder.new.asked ≡ recorder.old.asked }
     ensures answered { IfOk result (λ checked. FromAnswers recorder.old.log recorder.new.log (λ t. checked ≡ static_at t (site_model site.now) context.now types.now (range_model range.now))) }
-    ensures asks { IfOk result (λ _. AsksOf (site_units (site_model site.now)) (by_name (range_names (range_model range.now))) recorder.old.log recorder.new.log) }
+    ensures asks { IfOk result (λ _. AsksOf (site_units (site_model site.now)) by_some_name recorder.old.log recorder.new.log) }
 {
     let pair = pair_judged_at(site, context, types, range, recorder)?;
     Ok(static_pair(&pair))
@@ -66,7 +66,7 @@ fn constraint_of<A: Answers>(
 ) -> Result<CheckResult<StaticRange>, NoMemory>
     ensures asked { recorder.new.asked ≡ recorder.old.asked }
     ensures answered { IfOk result (λ checked. FromAnswers recorder.old.log recorder.new.log (λ t. checked ≡ static_at t (site_model site.now) (contexts.BoundOf (mark_type mark.now)) mark.now.types (range_model range.now))) }
-    ensures asks { IfOk result (λ _. AsksOf (site_units (site_model site.now)) (by_name (range_names (range_model range.now))) recorder.old.log recorder.new.log) }
+    ensures asks { IfOk result (λ _. AsksOf (site_units (site_model site.now)) by_some_name recorder.old.log recorder.new.log) }
 {
     let context = bound_context(site.labeller, mark)?;
     static_at(site, &context, &mark.types, range, recorder)
@@ -82,7 +82,7 @@ pub(crate) fn constraint_at<A: Answers>(
 ) -> Result<Option<CheckResult<StaticRange>>, NoMemory>
     ensures asked { recorder.new.asked ≡ recorder.old.asked }
     ensures answered { IfOk result (λ constraint. FromAnswers recorder.old.log recorder.new.log (λ t. constraint ≡ constraint_at t (site_model site.now) mark.now (range_model range.now))) }
-    ensures asks { IfOk result (λ _. AsksOf (site_units (site_model site.now)) (by_name (range_names (range_model range.now))) recorder.old.log recorder.new.log) }
+    ensures asks { IfOk result (λ _. AsksOf (site_units (site_model site.now)) by_some_name recorder.old.log recorder.new.log) }
 {
     match mark {
         Ok(mark) => {

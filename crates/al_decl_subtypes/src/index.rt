@@ -4,8 +4,9 @@ ghost use Rattle.al_base_fault.specs.Judging.{next, map_ok};
 ghost use Rattle.al_overload_keys.specs.Places.{first_place};
 ghost use Rattle.al_overload_label.specs.RangesSeen.{pair_model};
 ghost use Rattle.al_overload.specs.declared.context.Context.TheVariants as contexts;
-ghost use Rattle.al_query.specs.Asked.{AsksOf, by_name};
+ghost use Rattle.al_query.specs.Asked.{AsksOf, by_some_name};
 ghost use Rattle.al_query.specs.Reads.{FromAnswers};
+ghost use Rattle.al_decl_subtypes.specs.Complete.{completed};
 ghost use Rattle.al_decl_subtypes.specs.SubtypesAt.{discrete_names, index_at, index_of_marked, index_of_pair, index_of_single};
 ghost use Rattle.al_overload_terms_at.specs.TermsAt.{mark_at, range_names, text_names};
 ghost use Rattle.al_tree.specs.DeclarationViews.{discrete_range_model, range_model};
@@ -13,8 +14,9 @@ ghost use Rattle.al_tree.specs.ExpressionViews.{expression_model};
 ghost use Rattle.al_overload_values.specs.Surroundings.{site_model, site_units};
 ghost use Rattle.al_overload_values.specs.ValuesAt.{pair_judged_at};
 
+use crate::complete::completed;
 use crate::constraint::{constraint_at, static_pair};
-use al_base::{NoMemory, Place};
+use al_base::{NoMemory, Place, UnitKey};
 use al_base_fault::CheckResult;
 use al_decl_judged::{index_of_bounds, index_of_mark};
 use al_overload::Context;
@@ -30,17 +32,19 @@ use al_view::SubtypeView;
 
 fn single_index<A: Answers>(
     site: &Site<'_>,
+    unit: &UnitKey,
     expression: &Expression,
     recorder: &mut Recorder<A>,
 ) -> Result<CheckResult<SubtypeView>, NoMemory>
     ensures asked { recorder.new.asked ≡ recorder.old.asked }
-    ensures answered { IfOk result (λ checked. FromAnswers recorder.old.log recorder.new.log (λ t. checked ≡ index_of_single t (site_model site.now) (expression_model expression.now))) }
-    ensures asks { IfOk result (λ _. AsksOf (site_units (site_model site.now)) (by_name (text_names (expression_model expression.now))) recorder.old.log recorder.new.log) }
+    ensures answered { IfOk result (λ checked. FromAnswers recorder.old.log recorder.new.log (λ t. checked ≡ index_of_single t (site_model site.now) unit.now (expression_model expression.now))) }
+    ensures asks { IfOk result (λ _. AsksOf (site_units (site_model site.now)) by_some_name recorder.old.log recorder.new.log) }
 {
     let labeller = site.labeller;
     let (alloc, standard) = (labeller.alloc, &labeller.predefined.standard);
     let (scope, packages) = (site.scope, site.packages);
     let range = range_with_at(labeller, scope, packages, expression, recorder)?;
+    let range = completed(unit, first_place(expression), range);
     let subtype = index_of_mark(alloc, standard, first_place(expression), &range, None);
     drop(range);
     subtype
@@ -56,7 +60,7 @@ fn constrained_index<A: Answers>(
 ) -> Result<CheckResult<SubtypeView>, NoMemory>
     ensures asked { recorder.new.asked ≡ recorder.old.asked }
     ensures answered { IfOk result (λ checked. FromAnswers recorder.old.log recorder.new.log (λ t. checked ≡ index_of_marked t (site_model site.now) place mark.now (range_model range.now))) }
-    ensures asks { IfOk result (λ _. AsksOf (site_units (site_model site.now)) (by_name (range_names (range_model range.now))) recorder.old.log recorder.new.log) }
+    ensures asks { IfOk result (λ _. AsksOf (site_units (site_model site.now)) by_some_name recorder.old.log recorder.new.log) }
 {
     let constraint = constraint_at(site, mark, range, recorder)?;
     let labeller = site.labeller;
@@ -67,18 +71,20 @@ fn constrained_index<A: Answers>(
 
 fn marked_index<A: Answers>(
     site: &Site<'_>,
+    unit: &UnitKey,
     mark: &Expression,
     range: &Range,
     recorder: &mut Recorder<A>,
 ) -> Result<CheckResult<SubtypeView>, NoMemory>
     ensures asked { recorder.new.asked ≡ recorder.old.asked }
-    ensures answered { IfOk result (λ checked. FromAnswers recorder.old.log recorder.new.log (λ t. checked ≡ index_of_marked t (site_model site.now) (first_place (expression_model mark.now)) (mark_at t (site_model site.now).place (site_model site.now).packages (expression_model mark.now)) (range_model range.now))) }
-    ensures asks { IfOk result (λ _. AsksOf (site_units (site_model site.now)) (by_name (text_names (expression_model mark.now) ++ range_names (range_model range.now))) recorder.old.log recorder.new.log) }
+    ensures answered { IfOk result (λ checked. FromAnswers recorder.old.log recorder.new.log (λ t. checked ≡ index_of_marked t (site_model site.now) (first_place (expression_model mark.now)) (completed unit.now (first_place (expression_model mark.now)) (mark_at t (site_model site.now).place (site_model site.now).packages (expression_model mark.now))) (range_model range.now))) }
+    ensures asks { IfOk result (λ _. AsksOf (site_units (site_model site.now)) by_some_name recorder.old.log recorder.new.log) }
 {
     let labeller = site.labeller;
     let (alloc, standard) = (labeller.alloc, &labeller.predefined.standard);
     let (place, packages) = (first_place(mark), site.packages);
     let mark = mark_at(alloc, standard, site.scope, packages, mark, recorder)?;
+    let mark = completed(unit, place, mark);
     let subtype = constrained_index(site, place, &mark, range, recorder);
     drop(mark);
     subtype
@@ -104,7 +110,7 @@ fn bounds_index<A: Answers>(
 ) -> Result<CheckResult<SubtypeView>, NoMemory>
     ensures asked { recorder.new.asked ≡ recorder.old.asked }
     ensures answered { IfOk result (λ checked. FromAnswers recorder.old.log recorder.new.log (λ t. checked ≡ next (pair_judged_at t (site_model site.now) contexts.PairOfBounds [] (range_model range.now)) index_of_pair)) }
-    ensures asks { IfOk result (λ _. AsksOf (site_units (site_model site.now)) (by_name (range_names (range_model range.now))) recorder.old.log recorder.new.log) }
+    ensures asks { IfOk result (λ _. AsksOf (site_units (site_model site.now)) by_some_name recorder.old.log recorder.new.log) }
 {
     let types = no_types(site.labeller.alloc)?;
     let pair = pair_judged_at(site, &Context::PairOfBounds, &types, range, recorder)?;
@@ -113,19 +119,21 @@ fn bounds_index<A: Answers>(
 }
 
 /// The subtype of an index at a place (ARM 3.6, 3.6.1), or the first rule that is broken: E401 or E404 of a mark, E404 at what is no range
-/// and at a mark that isn't scalar, what is wrong with the bounds, E304 at one that isn't static, E305 at one that lies outside of the mark's.
+/// and at a mark that isn't scalar, what is wrong with the bounds, E304 at one that isn't static, E305 at one that lies outside of the mark's; E310 at a mark
+/// whose type has no full declaration yet, in the unit that declares it.
 pub fn index_at<A: Answers>(
     site: &Site<'_>,
+    unit: &UnitKey,
     of: &DiscreteRange,
     recorder: &mut Recorder<A>,
 ) -> Result<CheckResult<SubtypeView>, NoMemory>
     ensures asked { recorder.new.asked ≡ recorder.old.asked }
-    ensures answered { IfOk result (λ checked. FromAnswers recorder.old.log recorder.new.log (λ t. checked ≡ index_at t (site_model site.now) (discrete_range_model of.now))) }
-    ensures asks { IfOk result (λ _. AsksOf (site_units (site_model site.now)) (by_name (discrete_names (discrete_range_model of.now))) recorder.old.log recorder.new.log) }
+    ensures answered { IfOk result (λ checked. FromAnswers recorder.old.log recorder.new.log (λ t. checked ≡ index_at t (site_model site.now) unit.now (discrete_range_model of.now))) }
+    ensures asks { IfOk result (λ _. AsksOf (site_units (site_model site.now)) by_some_name recorder.old.log recorder.new.log) }
 {
     match of {
-        DiscreteRange::Mark(expression) => single_index(site, expression, recorder),
+        DiscreteRange::Mark(expression) => single_index(site, unit, expression, recorder),
         DiscreteRange::Bounds(range) => bounds_index(site, range, recorder),
-        DiscreteRange::MarkRange(mark, range) => marked_index(site, mark, range, recorder),
+        DiscreteRange::MarkRange(mark, range) => marked_index(site, unit, mark, range, recorder),
     }
 }

@@ -1,6 +1,7 @@
 //! Subtype indications and index subtypes where they stand (ARM 3.2.2, 3.6).
 #![tactic(auto)]
 
+mod complete;
 mod constraint;
 mod index;
 mod indication;

@@ -1,5 +1,5 @@
 -- What the declaration of a type declares, in order (ARM 3.2.1(9), 3.5.1(3), 3.2.3(6)).
-use Rattle.std.specs.Prelude.{ℕ, ◌+◌, List, [], ◌∷◌, ◌++◌, map, fold}
+use Rattle.std.specs.Prelude.{ℕ, ◌+◌, List, [], ◌∷◌, ◌++◌, map, fold, drop}
 use Rattle.std.specs.List.{flat_map}
 use Rattle.al_base.specs.declared.unit_key.UnitKey.{UnitKey}
 use Rattle.al_view.specs.declared.symbol.Symbol.{Symbol}
@@ -48,8 +48,20 @@ with_names counts names = fold with_name counts names
 abbrev pub spellings : List Sign → List (List ℕ)
 spellings signs = map (λ s. spelling s.1) signs
 
--- a type of these types, the last of them, with its literals and its operators
-abbrev pub declared_by : TypeView → List TypeView → List (List ℕ) → Counts → List Declaration
-declared_by of types literals counts =
+-- a type of these types, the last of them, with its literals and with these operators
+abbrev pub declared_with : List Sign → TypeView → List TypeView → List (List ℕ) → Counts → List Declaration
+declared_with signs of types literals counts =
     declared_as of.symbol.name (of_type types literals)
-    ∷ literals_from of.symbol types 0 literals ++ operators_from of.symbol types (with_names counts literals) (signs_of of.definition)
+    ∷ literals_from of.symbol types 0 literals ++ operators_from of.symbol types (with_names counts literals) signs
+
+-- with its operators
+abbrev pub declared_by : TypeView → List TypeView → List (List ℕ) → Counts → List Declaration
+declared_by of types literals counts = declared_with (signs_of of.definition) of types literals counts
+
+-- the operators that the full declaration of a private type declares: `=` and `/=`, which come first of all, are its partial view's (ARM 7.3.1(3))
+abbrev pub later_signs : TypeDefinition → List Sign
+later_signs definition = drop 2 (signs_of definition)
+
+-- the full view of a private type
+abbrev pub full_declared_by : TypeView → List TypeView → List (List ℕ) → Counts → List Declaration
+full_declared_by of types literals counts = declared_with (later_signs of.definition) of types literals counts

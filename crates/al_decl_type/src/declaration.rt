@@ -4,10 +4,10 @@ ghost use Rattle.std.specs.Option.{option_copied};
 ghost use Rattle.al_view_predefined.specs.Operators.{operator_view, spelling};
 ghost use Rattle.al_view_predefined.specs.Standard.{literal};
 ghost use Rattle.al_decl_type.specs.Homonyms.{count_of, with_name};
-ghost use Rattle.al_decl_type.specs.TypeDeclarations.{declared_as, declared_by, literals_from, next_symbol, operators_from, signs_of, spellings, with_names};
+ghost use Rattle.al_decl_type.specs.TypeDeclarations.{declared_as, declared_by, declared_with, full_declared_by, later_signs, literals_from, next_symbol, operators_from, signs_of, spellings, with_names};
 
 use crate::homonyms::Homonyms;
-use crate::signs::{Sign, signs_of};
+use crate::signs::{Sign, later_signs, signs_of};
 use al_base::{Name, NoMemory, UnitKey};
 use al_view::{LiteralView, Names, Seq, Symbol, TypeView, Types, View, ViewKind, copied_unit};
 use al_view_predefined::{of_type, operator_view};
@@ -128,17 +128,17 @@ fn declare_signs(
     Ok(())
 }
 
-/// What the declaration of a type declares, in order: the type with all types that it is of, itself last, its literals and
-/// its operators. The type's own name was counted where its symbol was made; its literals and operators are counted here.
-pub fn declared_by(
+/// What the declaration of a type with these operators declares.
+fn declared_with(
     alloc: Global,
     homonyms: &mut Homonyms,
     types: &Types,
     of: &TypeView,
     literals: &Names,
+    signs: &[Sign],
 ) -> Result<Seq<Declaration>, NoMemory>
-    ensures declared { IfOk result (λ declared. declared ≡ declared_by of.now types.now literals.now homonyms.old) }
-    ensures counted { OnOk result (homonyms.new ≡ with_names (with_names homonyms.old literals.now) (spellings (signs_of of.now.definition))) }
+    ensures declared { IfOk result (λ declared. declared ≡ declared_with signs.now of.now types.now literals.now homonyms.old) }
+    ensures counted { OnOk result (homonyms.new ≡ with_names (with_names homonyms.old literals.now) (spellings signs.now)) }
 {
     let mut declared = Seq::empty(alloc);
     let view = of_type(alloc, types, literals.share()?)?;
@@ -152,7 +152,37 @@ pub fn declared_by(
         types,
         literals.as_slice(),
     )?;
-    let signs = signs_of(&of.definition);
     declare_signs(alloc, homonyms, &mut declared, symbol, types, signs)?;
     Ok(declared)
+}
+
+/// What the declaration of a type declares, in order: the type with all types that it is of, itself last, its literals and
+/// its operators. The type's own name was counted where its symbol was made; its literals and operators are counted here.
+pub fn declared_by(
+    alloc: Global,
+    homonyms: &mut Homonyms,
+    types: &Types,
+    of: &TypeView,
+    literals: &Names,
+) -> Result<Seq<Declaration>, NoMemory>
+    ensures declared { IfOk result (λ declared. declared ≡ declared_by of.now types.now literals.now homonyms.old) }
+    ensures counted { OnOk result (homonyms.new ≡ with_names (with_names homonyms.old literals.now) (spellings (signs_of of.now.definition))) }
+{
+    let signs = signs_of(&of.definition);
+    declared_with(alloc, homonyms, types, of, literals, signs)
+}
+
+/// What the full declaration of a private type declares: the same but for `=` and `/=`, which its partial view declared (ARM 7.3.1(3)).
+pub fn full_declared_by(
+    alloc: Global,
+    homonyms: &mut Homonyms,
+    types: &Types,
+    of: &TypeView,
+    literals: &Names,
+) -> Result<Seq<Declaration>, NoMemory>
+    ensures declared { IfOk result (λ declared. declared ≡ full_declared_by of.now types.now literals.now homonyms.old) }
+    ensures counted { OnOk result (homonyms.new ≡ with_names (with_names homonyms.old literals.now) (spellings (later_signs of.now.definition))) }
+{
+    let signs = later_signs(&of.definition);
+    declared_with(alloc, homonyms, types, of, literals, signs)
 }

@@ -2,7 +2,6 @@
 #![tactic(auto)]
 
 mod array;
-mod copies;
 mod declaration;
 mod homonyms;
 pub mod laws;
@@ -14,7 +13,7 @@ mod type_list;
 mod words;
 
 pub use array::{MOST_WORDS, array_type};
-pub use declaration::{Declaration, declared_by, next_symbol, own_type};
+pub use declaration::{Declaration, declared_by, full_declared_by, next_symbol, own_type};
 pub use homonyms::Homonyms;
 pub use object::{
     formal_view, missing_value, number_view, object_view, subtype_view, whole_subtype,

@@ -1,6 +1,6 @@
 // The operators of types, by their signs (ARM 3.2.3(6), 4.5).
 ghost use Rattle.std.specs.Prelude.{◌≡◌};
-ghost use Rattle.al_decl_type.specs.TypeDeclarations.{signs_of};
+ghost use Rattle.al_decl_type.specs.TypeDeclarations.{later_signs, signs_of};
 
 use al_view::TypeDefinition;
 use al_view_predefined::OperatorProfile::{Binary, Power, Relation, Unary};
@@ -37,7 +37,7 @@ const OF_ENUMERATIONS: [Sign; 6] = [
     (Relation, OperatorSymbol::GreaterOrEqual),
 ];
 
-const OF_COMPOSITES: [Sign; 2] = [
+const EQUALITY: [Sign; 2] = [
     (Relation, OperatorSymbol::Equal),
     (Relation, OperatorSymbol::NotEqual),
 ];
@@ -49,9 +49,20 @@ pub(crate) fn signs_of(definition: &TypeDefinition) -> &'static [Sign]
     match definition {
         TypeDefinition::Integer(_) => &OF_INTEGERS,
         TypeDefinition::Enumeration { .. } => &OF_ENUMERATIONS,
-        TypeDefinition::Array { .. } => &OF_COMPOSITES,
-        TypeDefinition::Record(_) => &OF_COMPOSITES,
+        TypeDefinition::Array { .. } => &EQUALITY,
+        TypeDefinition::Record(_) => &EQUALITY,
         TypeDefinition::Time => &[],
-        TypeDefinition::Private => &[],
+        TypeDefinition::Private => &EQUALITY,
     }
+}
+
+/// Those that the full declaration of a private type declares, beside `=` and `/=`, which come first.
+pub(crate) fn later_signs(definition: &TypeDefinition) -> &'static [Sign]
+    ensures { result.now ≡ later_signs definition.now }
+{
+    let signs = signs_of(definition);
+    if 2 < signs.len() {
+        return &signs[2..];
+    }
+    &[]
 }

@@ -5,10 +5,9 @@ ghost use Rattle.al_view.specs.Symbols.{same_symbol};
 ghost use Rattle.al_decl_type.specs.TypeLists.{is_known, joined, other_types, with_type};
 ghost use Rattle.al_decl_type.specs.Types.{enumeration_type, integer_type, words_of};
 
-use crate::copies::copied_type;
 use al_base::NoMemory;
 use al_view::{Bounds, Names, Seq, SubtypeView, Symbol, TypeDefinition, TypeView, Types};
-use al_view_predefined::{StandardTypes, scalar};
+use al_view_predefined::{StandardTypes, copied_type, scalar};
 use std::alloc::Global;
 
 /// An integer type with these bounds (ARM 3.5.4).

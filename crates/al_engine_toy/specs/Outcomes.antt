@@ -30,7 +30,7 @@ properties unit parent marked = record {
   kind = OfPackage (own_symbol unit);
   parent = parent;
   is_private = marked;
-  context = record { withs = []; uses = []; uses_inside = [] };
+  context = record { withs = []; uses = []; uses_inside = []; private_types = [] };
   needs_body = false;
   completions = [];
 }

@@ -49,6 +49,7 @@ fn properties(
         withs: Seq::empty(alloc),
         uses: Seq::empty(alloc),
         uses_inside: Seq::empty(alloc),
+        private_types: Seq::empty(alloc),
     };
     Ok(Properties {
         kind,

@@ -1,11 +1,13 @@
--- What the names of a text denote at its place, as they are looked up one after another (ARM 4.1.3, 8.3).
-use Rattle.std.specs.Prelude.{ℕ, Bool, List, [], ◌++◌, fold, Option, Some, None, if◌then◌else◌}
+-- What the names of a text denote at its place, as they are looked up one after another (ARM 4.1.3, 8.3). What is found is as the place sees it: of
+-- private types whose full views are seen there, by these.
+use Rattle.std.specs.Prelude.{ℕ, Bool, List, [], ◌++◌, fold, Option, Some, None, option_map, if◌then◌else◌}
 use Rattle.al_base.specs.declared.unit_key.UnitKey.{UnitKey}
 use Rattle.al_overload_keys.specs.Keys.{dotted, is_none}
 use Rattle.al_overload_keys.specs.declared.names.Names.{Names}
 use Rattle.al_overload_lookup.specs.TextNames.{names_in}
 use Rattle.al_overload_lookup.specs.declared.name.TextName.{TextName}
 use Rattle.al_overload_lookup.specs.declared.name.TextName.TheVariants.{Simple, Selected}
+use Rattle.al_scope_seen.specs.Seen.{all_seen_at}
 use Rattle.al_query.specs.Known.{has_unit}
 use Rattle.al_query.specs.Reads.{Table}
 use Rattle.al_scope.specs.Expanded.{selected_at, within}
@@ -49,8 +51,8 @@ construct_of (views.OfNumber value) = None
 construct_of (views.OfLiteral x) = None
 
 abbrev pub selected_by : Table → Place → List ℕ → Option Symbol → Option Symbol → Option (List ViewKind)
-selected_by t place name (Some s) construct = Some (selected_at t name s place)
-selected_by t place name None (Some s) = within t place.mentioned name s place.regions
+selected_by t place name (Some s) construct = Some (all_seen_at t place (selected_at t name s place))
+selected_by t place name None (Some s) = option_map (all_seen_at t place) (within t place.mentioned name s place.regions)
 selected_by t place name None None = None
 
 -- what is selected after a declaration's name: in a package that is mentioned or in a construct round the place; after all else nothing is looked for
@@ -67,7 +69,7 @@ with_each t place packages key name names vs = fold (λ (found : Names) (v : Vie
 
 -- with all that is visible under a name
 abbrev pub with_visible : Table → Place → List ℕ → Names → Names
-with_visible t place name names = record { visible = with_views names.visible name (visible_at t name place); prefixes = names.prefixes }
+with_visible t place name names = record { visible = with_views names.visible name (all_seen_at t place (visible_at t name place)); prefixes = names.prefixes }
 
 -- with what is selected after a name
 abbrev pub with_prefixed : Table → Place → List UnitKey → List ℕ → List ℕ → Names → Names

@@ -1,8 +1,8 @@
 // The names of an expression's text, looked up at its place.
-ghost use Rattle.std.specs.Prelude.{◌≡◌, [], ◌∷◌, IfOk, OnOk, map};
-ghost use Rattle.al_overload_lookup.specs.Lookups.{asked_name, asked_units, found, is_new, looked_up, looked_up_all, names_at, with_prefixed, with_visible};
+ghost use Rattle.std.specs.Prelude.{◌≡◌, IfOk, OnOk};
+ghost use Rattle.al_overload_lookup.specs.Lookups.{asked_units, found, is_new, looked_up, looked_up_all, names_at, with_prefixed, with_visible};
 ghost use Rattle.al_overload_lookup.specs.TextNames.{names_in};
-ghost use Rattle.al_query.specs.Asked.{AsksOf, by_name};
+ghost use Rattle.al_query.specs.Asked.{AsksOf, by_some_name};
 ghost use Rattle.al_query.specs.Reads.{FromAnswers};
 ghost use Rattle.al_scope.specs.Places.{place_units};
 ghost use Rattle.al_tree.specs.ExpressionViews.{expression_model};
@@ -14,12 +14,14 @@ use al_base::{NoMemory, UnitKey};
 use al_overload_keys::{Names, dotted, is_none};
 use al_query::{Answers, Recorder};
 use al_scope::Scope;
+use al_scope_seen::all_seen_at;
 use al_tree::Expression;
 use al_view::{Interface, Views};
 use std::alloc::Global;
 
 /// All that is visible under a name.
 fn find_visible<A: Answers>(
+    alloc: Global,
     scope: &Scope,
     names: &mut Names,
     name: &[u8],
@@ -27,9 +29,10 @@ fn find_visible<A: Answers>(
 ) -> Result<(), NoMemory>
     ensures asked { recorder.new.asked ≡ recorder.old.asked }
     ensures answered { OnOk result (FromAnswers recorder.old.log recorder.new.log (λ t. names.new ≡ with_visible t scope.now name.now names.old)) }
-    ensures asks { OnOk result (AsksOf (place_units scope.now) (by_name (name.now ∷ [])) recorder.old.log recorder.new.log) }
+    ensures asks { OnOk result (AsksOf (place_units scope.now) by_some_name recorder.old.log recorder.new.log) }
 {
     let found = scope.visible(name, recorder)?;
+    let found = all_seen_at(alloc, scope, found.as_slice(), recorder)?;
     add_views(&mut names.visible, name, found.as_slice())?;
     Ok(())
 }
@@ -46,13 +49,13 @@ fn find_selected<A: Answers>(
 ) -> Result<(), NoMemory>
     ensures asked { recorder.new.asked ≡ recorder.old.asked }
     ensures answered { OnOk result (FromAnswers recorder.old.log recorder.new.log (λ t. names.new ≡ with_prefixed t scope.now packages.now prefix.now name.now names.old)) }
-    ensures asks { OnOk result (AsksOf (asked_units scope.now packages.now) (by_name (name.now ∷ [])) recorder.old.log recorder.new.log) }
+    ensures asks { OnOk result (AsksOf (asked_units scope.now packages.now) by_some_name recorder.old.log recorder.new.log) }
 {
     let key = dotted(alloc, prefix, name)?;
     let mut views = Views::new(alloc);
     views.append(names.visible.views(prefix))?;
     let (key, views) = (key.as_slice(), views.as_slice());
-    add_each(scope, packages, names, key, name, views, recorder)?;
+    add_each(alloc, scope, packages, names, key, name, views, recorder)?;
     Ok(())
 }
 
@@ -80,11 +83,11 @@ fn find<A: Answers>(
 ) -> Result<(), NoMemory>
     ensures asked { recorder.new.asked ≡ recorder.old.asked }
     ensures answered { OnOk result (FromAnswers recorder.old.log recorder.new.log (λ t. names.new ≡ found t scope.now packages.now names.old of.now)) }
-    ensures asks { OnOk result (AsksOf (asked_units scope.now packages.now) (by_name (asked_name of.now ∷ [])) recorder.old.log recorder.new.log) }
+    ensures asks { OnOk result (AsksOf (asked_units scope.now packages.now) by_some_name recorder.old.log recorder.new.log) }
 {
     match of {
         TextName::Simple(name) => {
-            find_visible(scope, names, name.as_slice(), recorder)?;
+            find_visible(alloc, scope, names, name.as_slice(), recorder)?;
             Ok(())
         }
         TextName::Selected { prefix, name } => {
@@ -107,7 +110,7 @@ fn look_up<A: Answers>(
 ) -> Result<(), NoMemory>
     ensures asked { recorder.new.asked ≡ recorder.old.asked }
     ensures answered { OnOk result (FromAnswers recorder.old.log recorder.new.log (λ t. names.new ≡ looked_up t scope.now packages.now names.old of.now)) }
-    ensures asks { OnOk result (AsksOf (asked_units scope.now packages.now) (by_name (asked_name of.now ∷ [])) recorder.old.log recorder.new.log) }
+    ensures asks { OnOk result (AsksOf (asked_units scope.now packages.now) by_some_name recorder.old.log recorder.new.log) }
 {
     if is_new(alloc, names, of)? {
         find(alloc, scope, packages, names, of, recorder)?;
@@ -126,7 +129,7 @@ pub fn look_up_all<A: Answers>(
 ) -> Result<Names, NoMemory>
     ensures asked { recorder.new.asked ≡ recorder.old.asked }
     ensures answered { IfOk result (λ names. FromAnswers recorder.old.log recorder.new.log (λ t. names ≡ looked_up_all t scope.now packages.now of.now)) }
-    ensures asks { IfOk result (λ _. AsksOf (asked_units scope.now packages.now) (by_name (map asked_name of.now)) recorder.old.log recorder.new.log) }
+    ensures asks { IfOk result (λ _. AsksOf (asked_units scope.now packages.now) by_some_name recorder.old.log recorder.new.log) }
 {
     let mut names = Names {
         visible: Interface::new(alloc),
@@ -148,7 +151,7 @@ pub fn names<A: Answers>(
 ) -> Result<Names, NoMemory>
     ensures asked { recorder.new.asked ≡ recorder.old.asked }
     ensures answered { IfOk result (λ names. FromAnswers recorder.old.log recorder.new.log (λ t. names ≡ names_at t scope.now packages.now (expression_model expression.now))) }
-    ensures asks { IfOk result (λ _. AsksOf (asked_units scope.now packages.now) (by_name (map asked_name (names_in (expression_model expression.now)))) recorder.old.log recorder.new.log) }
+    ensures asks { IfOk result (λ _. AsksOf (asked_units scope.now packages.now) by_some_name recorder.old.log recorder.new.log) }
 {
     let of = names_in(alloc, expression)?;
     let names = look_up_all(alloc, scope, packages, &of, recorder)?;

@@ -1,16 +1,20 @@
 // What is selected after a name (ARM 4.1.3).
-ghost use Rattle.std.specs.Prelude.{◌≡◌, [], ◌∷◌, IfOk, OnOk};
+ghost use Rattle.std.specs.Prelude.{◌≡◌, IfOk, OnOk, option_map};
 ghost use Rattle.std.specs.Option.{option_copied};
 ghost use Rattle.al_overload_lookup.specs.Lookups.{asked_units, construct_of, package_in, selected_in, with_each, with_selected, with_views};
+ghost use Rattle.al_scope_seen.specs.Seen.{all_seen_at};
+ghost use Rattle.al_scope.specs.Places.{place_units};
 ghost use Rattle.al_query.specs.Known.{has_unit};
-ghost use Rattle.al_query.specs.Asked.{AsksOf, by_name};
+ghost use Rattle.al_query.specs.Asked.{AsksOf, by_some_name};
 ghost use Rattle.al_query.specs.Reads.{FromAnswers};
 
 use al_base::{NoMemory, UnitKey};
 use al_overload_keys::Names;
 use al_query::{Answers, Recorder};
 use al_scope::Scope;
+use al_scope_seen::all_seen_at;
 use al_view::{Interface, Symbol, View, ViewKind, Views, is_unit};
+use std::alloc::Global;
 
 /// More views of a name.
 #[tactic(auto, using(std::proofs::lemmas::List::Sums::fold_more))]
@@ -72,8 +76,30 @@ fn construct_of(view: &View) -> Option<&Symbol>
     }
 }
 
+/// What was found, as the place sees it.
+fn seen_if_any<A: Answers>(
+    alloc: Global,
+    scope: &Scope,
+    views: Option<Views>,
+    recorder: &mut Recorder<A>,
+) -> Result<Option<Views>, NoMemory>
+    ensures asked { recorder.new.asked ≡ recorder.old.asked }
+    ensures answered { IfOk result (λ seen. FromAnswers recorder.old.log recorder.new.log (λ t. seen ≡ option_map (all_seen_at t scope.now) views)) }
+    ensures asks { IfOk result (λ _. AsksOf (place_units scope.now) by_some_name recorder.old.log recorder.new.log) }
+{
+    match views {
+        Some(views) => {
+            let seen = all_seen_at(alloc, scope, views.as_slice(), recorder);
+            drop(views);
+            Ok(Some(seen?))
+        }
+        None => Ok(None),
+    }
+}
+
 /// What is selected after a declaration's name, where it is looked for there.
 fn selected_in<A: Answers>(
+    alloc: Global,
     scope: &Scope,
     packages: &[UnitKey],
     name: &[u8],
@@ -82,17 +108,18 @@ fn selected_in<A: Answers>(
 ) -> Result<Option<Views>, NoMemory>
     ensures asked { recorder.new.asked ≡ recorder.old.asked }
     ensures answered { IfOk result (λ found. FromAnswers recorder.old.log recorder.new.log (λ t. found ≡ selected_in t scope.now packages.now name.now view.now)) }
-    ensures asks { IfOk result (λ _. AsksOf (asked_units scope.now packages.now) (by_name (name.now ∷ [])) recorder.old.log recorder.new.log) }
+    ensures asks { IfOk result (λ _. AsksOf (asked_units scope.now packages.now) by_some_name recorder.old.log recorder.new.log) }
 {
     match package_in(packages, view) {
         Some(symbol) => {
             let views = scope.selected(symbol, name, recorder)?;
+            let views = all_seen_at(alloc, scope, views.as_slice(), recorder)?;
             Ok(Some(views))
         }
         None => match construct_of(view) {
             Some(symbol) => {
                 let views = scope.selected_within(symbol, name, recorder)?;
-                Ok(views)
+                seen_if_any(alloc, scope, views, recorder)
             }
             None => Ok(None),
         },
@@ -121,6 +148,7 @@ fn put_selected(
 
 /// What is selected after one declaration's name, under the whole name.
 fn add_selected<A: Answers>(
+    alloc: Global,
     scope: &Scope,
     packages: &[UnitKey],
     names: &mut Names,
@@ -131,15 +159,16 @@ fn add_selected<A: Answers>(
 ) -> Result<(), NoMemory>
     ensures asked { recorder.new.asked ≡ recorder.old.asked }
     ensures answered { OnOk result (FromAnswers recorder.old.log recorder.new.log (λ t. names.new ≡ with_selected key.now view.now names.old (selected_in t scope.now packages.now name.now view.now))) }
-    ensures asks { OnOk result (AsksOf (asked_units scope.now packages.now) (by_name (name.now ∷ [])) recorder.old.log recorder.new.log) }
+    ensures asks { OnOk result (AsksOf (asked_units scope.now packages.now) by_some_name recorder.old.log recorder.new.log) }
 {
-    let found = selected_in(scope, packages, name, view, recorder)?;
+    let found = selected_in(alloc, scope, packages, name, view, recorder)?;
     put_selected(names, key, view, found)?;
     Ok(())
 }
 
 /// What is selected after a name, by the declarations that are visible under it.
 pub(crate) fn add_each<A: Answers>(
+    alloc: Global,
     scope: &Scope,
     packages: &[UnitKey],
     names: &mut Names,
@@ -150,10 +179,10 @@ pub(crate) fn add_each<A: Answers>(
 ) -> Result<(), NoMemory>
     ensures asked { recorder.new.asked ≡ recorder.old.asked }
     ensures answered { OnOk result (FromAnswers recorder.old.log recorder.new.log (λ t. names.new ≡ with_each t scope.now packages.now key.now name.now names.old views.now)) }
-    ensures asks { OnOk result (AsksOf (asked_units scope.now packages.now) (by_name (name.now ∷ [])) recorder.old.log recorder.new.log) }
+    ensures asks { OnOk result (AsksOf (asked_units scope.now packages.now) by_some_name recorder.old.log recorder.new.log) }
 {
     for view in views {
-        add_selected(scope, packages, names, key, name, view, recorder)?;
+        add_selected(alloc, scope, packages, names, key, name, view, recorder)?;
     }
     Ok(())
 }

@@ -5,9 +5,8 @@ ghost use Rattle.al_overload_keys.specs.Keys.{denoted};
 ghost use Rattle.al_overload_keys.specs.Places.{first_place};
 ghost use Rattle.al_overload_lookup.specs.Lookups.{asked_units};
 ghost use Rattle.al_overload_prefixes.specs.TextsAt.{bounds_with_at, context_with_at, joined, range_with, range_with_at, read_with, read_with_at, reading_with_model, term_with, term_with_at, term_with_model, terms_with_model};
-ghost use Rattle.al_query.specs.Asked.{AsksOf, by_name};
+ghost use Rattle.al_query.specs.Asked.{AsksOf, by_some_name};
 ghost use Rattle.al_query.specs.Reads.{FromAnswers};
-ghost use Rattle.al_overload_terms_at.specs.TermsAt.{range_names, text_names};
 ghost use Rattle.al_tree.specs.DeclarationViews.{range_model};
 ghost use Rattle.al_tree.specs.ExpressionViews.{expression_model};
 
@@ -57,7 +56,7 @@ fn term_with_at<A: Answers>(
 ) -> Result<CheckResult<(Term, Option<Fault>)>, NoMemory>
     ensures asked { recorder.new.asked ≡ recorder.old.asked }
     ensures answered { IfOk result (λ checked. FromAnswers recorder.old.log recorder.new.log (λ t. map_ok term_with_model checked ≡ term_with_at t scope.now packages.now labeller.now.predefined labeller.now.own at (expression_model expression.now))) }
-    ensures asks { IfOk result (λ _. AsksOf (asked_units scope.now packages.now) (by_name (text_names (expression_model expression.now))) recorder.old.log recorder.new.log) }
+    ensures asks { IfOk result (λ _. AsksOf (asked_units scope.now packages.now) by_some_name recorder.old.log recorder.new.log) }
 {
     let names = names(labeller.alloc, scope, packages, expression, recorder)?;
     let checked = term_with(labeller, &names, at, expression)?;
@@ -74,7 +73,7 @@ pub fn context_with_at<A: Answers>(
 ) -> Result<CheckResult<(Term, Option<Fault>)>, NoMemory>
     ensures asked { recorder.new.asked ≡ recorder.old.asked }
     ensures answered { IfOk result (λ checked. FromAnswers recorder.old.log recorder.new.log (λ t. map_ok term_with_model checked ≡ context_with_at t scope.now packages.now labeller.now.predefined labeller.now.own (expression_model expression.now))) }
-    ensures asks { IfOk result (λ _. AsksOf (asked_units scope.now packages.now) (by_name (text_names (expression_model expression.now))) recorder.old.log recorder.new.log) }
+    ensures asks { IfOk result (λ _. AsksOf (asked_units scope.now packages.now) by_some_name recorder.old.log recorder.new.log) }
 {
     let at = first_place(expression);
     let checked = term_with_at(labeller, scope, packages, at, expression, recorder)?;
@@ -103,7 +102,7 @@ pub fn bounds_with_at<A: Answers>(
 ) -> Result<CheckResult<((Term, Term), Option<Fault>)>, NoMemory>
     ensures asked { recorder.new.asked ≡ recorder.old.asked }
     ensures answered { IfOk result (λ checked. FromAnswers recorder.old.log recorder.new.log (λ t. map_ok terms_with_model checked ≡ bounds_with_at t scope.now packages.now labeller.now.predefined labeller.now.own (range_model range.now))) }
-    ensures asks { IfOk result (λ _. AsksOf (asked_units scope.now packages.now) (by_name (range_names (range_model range.now))) recorder.old.log recorder.new.log) }
+    ensures asks { IfOk result (λ _. AsksOf (asked_units scope.now packages.now) by_some_name recorder.old.log recorder.new.log) }
 {
     let at = first_place(&range.low);
     let low = term_with_at(labeller, scope, packages, at, &range.low, recorder)?;
@@ -143,7 +142,7 @@ pub fn read_with_at<A: Answers>(
 ) -> Result<CheckResult<(Reading, Option<Fault>)>, NoMemory>
     ensures asked { recorder.new.asked ≡ recorder.old.asked }
     ensures answered { IfOk result (λ checked. FromAnswers recorder.old.log recorder.new.log (λ t. map_ok reading_with_model checked ≡ read_with_at t scope.now packages.now labeller.now.predefined labeller.now.own (expression_model expression.now))) }
-    ensures asks { IfOk result (λ _. AsksOf (asked_units scope.now packages.now) (by_name (text_names (expression_model expression.now))) recorder.old.log recorder.new.log) }
+    ensures asks { IfOk result (λ _. AsksOf (asked_units scope.now packages.now) by_some_name recorder.old.log recorder.new.log) }
 {
     let names = names(labeller.alloc, scope, packages, expression, recorder)?;
     let checked = read_with(labeller, &names, first_place(expression), expression)?;
@@ -182,7 +181,7 @@ pub fn range_with_at<A: Answers>(
 ) -> Result<CheckResult<SubtypeView>, NoMemory>
     ensures asked { recorder.new.asked ≡ recorder.old.asked }
     ensures answered { IfOk result (λ range. FromAnswers recorder.old.log recorder.new.log (λ t. range ≡ range_with_at t scope.now packages.now labeller.now.predefined labeller.now.own (expression_model expression.now))) }
-    ensures asks { IfOk result (λ _. AsksOf (asked_units scope.now packages.now) (by_name (text_names (expression_model expression.now))) recorder.old.log recorder.new.log) }
+    ensures asks { IfOk result (λ _. AsksOf (asked_units scope.now packages.now) by_some_name recorder.old.log recorder.new.log) }
 {
     let names = names(labeller.alloc, scope, packages, expression, recorder)?;
     let range = range_with(labeller, &names, first_place(expression), expression)?;

@@ -2,10 +2,10 @@
 ghost use Rattle.std.specs.Prelude.{◌≡◌, IfOk};
 ghost use Rattle.al_base_fault.specs.Judging.{map_ok};
 ghost use Rattle.al_overload_lookup.specs.Lookups.{asked_units};
-ghost use Rattle.al_query.specs.Asked.{AsksOf, by_name};
+ghost use Rattle.al_query.specs.Asked.{AsksOf, by_some_name};
 ghost use Rattle.al_query.specs.Reads.{FromAnswers};
 ghost use Rattle.al_overload_readings.specs.TermLists.{pair_model};
-ghost use Rattle.al_overload_terms_at.specs.TermsAt.{bounds_at, range_names};
+ghost use Rattle.al_overload_terms_at.specs.TermsAt.{bounds_at};
 ghost use Rattle.al_tree.specs.DeclarationViews.{range_model};
 
 use crate::text::term_at;
@@ -30,7 +30,7 @@ pub fn bounds_at<A: Answers>(
 ) -> Result<CheckResult<(Term, Term)>, NoMemory>
     ensures asked { recorder.new.asked ≡ recorder.old.asked }
     ensures answered { IfOk result (λ checked. FromAnswers recorder.old.log recorder.new.log (λ t. map_ok pair_model checked ≡ bounds_at t scope.now packages.now (range_model range.now))) }
-    ensures asks { IfOk result (λ _. AsksOf (asked_units scope.now packages.now) (by_name (range_names (range_model range.now))) recorder.old.log recorder.new.log) }
+    ensures asks { IfOk result (λ _. AsksOf (asked_units scope.now packages.now) by_some_name recorder.old.log recorder.new.log) }
 {
     let low = term_at(alloc, standard, scope, packages, &range.low, recorder)?;
     let high = term_at(alloc, standard, scope, packages, &range.high, recorder)?;

@@ -4,12 +4,12 @@ ghost use Rattle.al_base_fault.specs.Judging.{map_ok};
 ghost use Rattle.al_overload_keys.specs.Keys.{denoted, dotted};
 ghost use Rattle.al_overload_lookup.specs.Lookups.{asked_units, names_at};
 ghost use Rattle.al_overload_lookup.specs.TextNames.{names_in, selected_names, sign_names};
-ghost use Rattle.al_query.specs.Asked.{AsksOf, by_name};
+ghost use Rattle.al_query.specs.Asked.{AsksOf, by_some_name};
 ghost use Rattle.al_query.specs.Reads.{FromAnswers};
 ghost use Rattle.al_overload_readings.specs.ReadingViews.{reading_model};
 ghost use Rattle.al_overload_terms.specs.Texts.{mark_of_text, read};
 ghost use Rattle.al_overload_terms_at.specs.CompoundNames.{name_text};
-ghost use Rattle.al_overload_terms_at.specs.TermsAt.{mark_at, text_names};
+ghost use Rattle.al_overload_terms_at.specs.TermsAt.{mark_at};
 ghost use Rattle.al_tree.specs.DeclarationViews.{compound_model};
 ghost use Rattle.al_tree.specs.Lexemes.{identifier_label};
 
@@ -132,7 +132,7 @@ fn names_of_name<A: Answers>(
 ) -> Result<Names, NoMemory>
     ensures asked { recorder.new.asked ≡ recorder.old.asked }
     ensures answered { IfOk result (λ names. FromAnswers recorder.old.log recorder.new.log (λ t. names ≡ names_at t scope.now packages.now (name_text (compound_model name.now)))) }
-    ensures asks { IfOk result (λ _. AsksOf (asked_units scope.now packages.now) (by_name (text_names (name_text (compound_model name.now)))) recorder.old.log recorder.new.log) }
+    ensures asks { IfOk result (λ _. AsksOf (asked_units scope.now packages.now) by_some_name recorder.old.log recorder.new.log) }
 {
     let of = names_in_name(alloc, name)?;
     let names = look_up_all(alloc, scope, packages, &of, recorder)?;
@@ -164,7 +164,7 @@ pub fn name_mark_at<A: Answers>(
 ) -> Result<CheckResult<SubtypeView>, NoMemory>
     ensures asked { recorder.new.asked ≡ recorder.old.asked }
     ensures answered { IfOk result (λ mark. FromAnswers recorder.old.log recorder.new.log (λ t. mark ≡ mark_at t scope.now packages.now (name_text (compound_model name.now)))) }
-    ensures asks { IfOk result (λ _. AsksOf (asked_units scope.now packages.now) (by_name (text_names (name_text (compound_model name.now)))) recorder.old.log recorder.new.log) }
+    ensures asks { IfOk result (λ _. AsksOf (asked_units scope.now packages.now) by_some_name recorder.old.log recorder.new.log) }
 {
     let names = names_of_name(alloc, scope, packages, name, recorder)?;
     let mark = mark_of_name(alloc, &names, name)?;

@@ -2,11 +2,11 @@
 ghost use Rattle.std.specs.Prelude.{◌≡◌, IfOk};
 ghost use Rattle.al_base_fault.specs.Judging.{map_ok};
 ghost use Rattle.al_overload_lookup.specs.Lookups.{asked_units};
-ghost use Rattle.al_query.specs.Asked.{AsksOf, by_name};
+ghost use Rattle.al_query.specs.Asked.{AsksOf, by_some_name};
 ghost use Rattle.al_query.specs.Reads.{FromAnswers};
 ghost use Rattle.al_overload_readings.specs.ReadingViews.{reading_model};
 ghost use Rattle.al_overload_term.specs.TermViews.{term_model};
-ghost use Rattle.al_overload_terms_at.specs.TermsAt.{mark_at, read_at, single_at, term_at, text_names};
+ghost use Rattle.al_overload_terms_at.specs.TermsAt.{mark_at, read_at, single_at, term_at};
 ghost use Rattle.al_tree.specs.ExpressionViews.{expression_model};
 
 use al_base::{NoMemory, UnitKey};
@@ -33,7 +33,7 @@ pub fn read_at<A: Answers>(
 ) -> Result<CheckResult<Reading>, NoMemory>
     ensures asked { recorder.new.asked ≡ recorder.old.asked }
     ensures answered { IfOk result (λ checked. FromAnswers recorder.old.log recorder.new.log (λ t. map_ok reading_model checked ≡ read_at t scope.now packages.now (expression_model expression.now))) }
-    ensures asks { IfOk result (λ _. AsksOf (asked_units scope.now packages.now) (by_name (text_names (expression_model expression.now))) recorder.old.log recorder.new.log) }
+    ensures asks { IfOk result (λ _. AsksOf (asked_units scope.now packages.now) by_some_name recorder.old.log recorder.new.log) }
 {
     let names = names(alloc, scope, packages, expression, recorder)?;
     let checked = read(alloc, standard, &names, expression)?;
@@ -51,7 +51,7 @@ pub fn term_at<A: Answers>(
 ) -> Result<CheckResult<Term>, NoMemory>
     ensures asked { recorder.new.asked ≡ recorder.old.asked }
     ensures answered { IfOk result (λ checked. FromAnswers recorder.old.log recorder.new.log (λ t. map_ok term_model checked ≡ term_at t scope.now packages.now (expression_model expression.now))) }
-    ensures asks { IfOk result (λ _. AsksOf (asked_units scope.now packages.now) (by_name (text_names (expression_model expression.now))) recorder.old.log recorder.new.log) }
+    ensures asks { IfOk result (λ _. AsksOf (asked_units scope.now packages.now) by_some_name recorder.old.log recorder.new.log) }
 {
     let names = names(alloc, scope, packages, expression, recorder)?;
     let checked = term_of(alloc, standard, &names, expression)?;
@@ -69,7 +69,7 @@ pub fn mark_at<A: Answers>(
 ) -> Result<CheckResult<SubtypeView>, NoMemory>
     ensures asked { recorder.new.asked ≡ recorder.old.asked }
     ensures answered { IfOk result (λ mark. FromAnswers recorder.old.log recorder.new.log (λ t. mark ≡ mark_at t scope.now packages.now (expression_model expression.now))) }
-    ensures asks { IfOk result (λ _. AsksOf (asked_units scope.now packages.now) (by_name (text_names (expression_model expression.now))) recorder.old.log recorder.new.log) }
+    ensures asks { IfOk result (λ _. AsksOf (asked_units scope.now packages.now) by_some_name recorder.old.log recorder.new.log) }
 {
     let names = names(alloc, scope, packages, expression, recorder)?;
     let mark = mark_of_text(alloc, standard, &names, expression)?;
@@ -87,7 +87,7 @@ pub fn single_at<A: Answers>(
 ) -> Result<CheckResult<SubtypeView>, NoMemory>
     ensures asked { recorder.new.asked ≡ recorder.old.asked }
     ensures answered { IfOk result (λ range. FromAnswers recorder.old.log recorder.new.log (λ t. range ≡ single_at t scope.now packages.now (expression_model expression.now))) }
-    ensures asks { IfOk result (λ _. AsksOf (asked_units scope.now packages.now) (by_name (text_names (expression_model expression.now))) recorder.old.log recorder.new.log) }
+    ensures asks { IfOk result (λ _. AsksOf (asked_units scope.now packages.now) by_some_name recorder.old.log recorder.new.log) }
 {
     let names = names(alloc, scope, packages, expression, recorder)?;
     let range = one_range(alloc, standard, &names, expression)?;

@@ -1,15 +1,15 @@
 // Targets and sources of assignments (ARM 5.2).
-ghost use Rattle.std.specs.Prelude.{◌≡◌, IfOk, ◌++◌, [], Some};
+ghost use Rattle.std.specs.Prelude.{◌≡◌, IfOk, [], Some};
 ghost use Rattle.al_overload_heads.specs.Parts.{nominal};
 ghost use Rattle.al_base_fault.specs.Judging.{next, map_ok, unless};
 ghost use Rattle.al_overload_label.specs.Contexts.{target_judged};
 ghost use Rattle.al_overload_name.specs.Types.{value_type};
 ghost use Rattle.al_overload.specs.declared.context.Context.TheVariants as contexts;
 ghost use Rattle.al_overload_prefixes.specs.TextsAt.{term_with_model};
-ghost use Rattle.al_query.specs.Asked.{AsksOf, by_name};
+ghost use Rattle.al_query.specs.Asked.{AsksOf, by_some_name};
 ghost use Rattle.al_query.specs.Reads.{FromAnswers};
 ghost use Rattle.al_overload_term.specs.TermViews.{term_model};
-ghost use Rattle.al_overload_terms_at.specs.TermsAt.{term_at, text_names};
+ghost use Rattle.al_overload_terms_at.specs.TermsAt.{term_at};
 ghost use Rattle.al_tree.specs.ExpressionViews.{expression_model};
 ghost use Rattle.al_view_typed.specs.ExpressionViews.{typed_model};
 ghost use Rattle.al_overload_values.specs.Surroundings.{site_model, site_units};
@@ -68,7 +68,7 @@ pub fn target_at<A: Answers>(
 ) -> Result<CheckResult<Typed>, NoMemory>
     ensures asked { recorder.new.asked ≡ recorder.old.asked }
     ensures answered { IfOk result (λ checked. FromAnswers recorder.old.log recorder.new.log (λ t. (word.new, map_ok typed_model checked) ≡ target_at t (site_model site.now) (expression_model expression.now) word.old)) }
-    ensures asks { IfOk result (λ _. AsksOf (site_units (site_model site.now)) (by_name (text_names (expression_model expression.now))) recorder.old.log recorder.new.log) }
+    ensures asks { IfOk result (λ _. AsksOf (site_units (site_model site.now)) by_some_name recorder.old.log recorder.new.log) }
 {
     let labeller = site.labeller;
     let (scope, packages) = (site.scope, site.packages);
@@ -136,7 +136,7 @@ fn value_of<A: Answers>(
 ) -> Result<CheckResult<Typed>, NoMemory>
     ensures asked { recorder.new.asked ≡ recorder.old.asked }
     ensures answered { IfOk result (λ checked. FromAnswers recorder.old.log recorder.new.log (λ t. (word.new, map_ok typed_model checked) ≡ value_at t (site_model site.now) context.now (Some of.now) of.now.types (expression_model value.now) word.old)) }
-    ensures asks { IfOk result (λ _. AsksOf (site_units (site_model site.now)) (by_name (text_names (expression_model value.now))) recorder.old.log recorder.new.log) }
+    ensures asks { IfOk result (λ _. AsksOf (site_units (site_model site.now)) by_some_name recorder.old.log recorder.new.log) }
 {
     let allowed = Some(nominal(site.labeller, &of.subtype, &of.types)?);
     value_at(site, context, &allowed, &of.types, value, word, recorder)
@@ -151,7 +151,7 @@ fn source_of<A: Answers>(
 ) -> Result<CheckResult<Typed>, NoMemory>
     ensures asked { recorder.new.asked ≡ recorder.old.asked }
     ensures answered { IfOk result (λ checked. FromAnswers recorder.old.log recorder.new.log (λ t. (word.new, map_ok typed_model checked) ≡ with_words word.old (source_checked t (site_model site.now) (expression_model value.now) of.now))) }
-    ensures asks { IfOk result (λ _. AsksOf (site_units (site_model site.now)) (by_name (text_names (expression_model value.now))) recorder.old.log recorder.new.log) }
+    ensures asks { IfOk result (λ _. AsksOf (site_units (site_model site.now)) by_some_name recorder.old.log recorder.new.log) }
 {
     let context = source_context(site.labeller, of)?;
     value_of(site, of, &context, value, word, recorder)
@@ -166,7 +166,7 @@ fn source_in<A: Answers>(
 ) -> Result<CheckResult<Typed>, NoMemory>
     ensures asked { recorder.new.asked ≡ recorder.old.asked }
     ensures answered { IfOk result (λ checked. FromAnswers recorder.old.log recorder.new.log (λ t. (word.new, map_ok typed_model checked) ≡ with_words word.old (next of (source_checked t (site_model site.now) (expression_model value.now))))) }
-    ensures asks { IfOk result (λ _. AsksOf (site_units (site_model site.now)) (by_name (text_names (expression_model value.now))) recorder.old.log recorder.new.log) }
+    ensures asks { IfOk result (λ _. AsksOf (site_units (site_model site.now)) by_some_name recorder.old.log recorder.new.log) }
 {
     match of {
         Ok(of) => {
@@ -185,7 +185,7 @@ fn target_part_at<A: Answers>(
 ) -> Result<CheckResult<Nominal>, NoMemory>
     ensures asked { recorder.new.asked ≡ recorder.old.asked }
     ensures answered { IfOk result (λ checked. FromAnswers recorder.old.log recorder.new.log (λ t. checked ≡ next (term_at t (site_model site.now).place (site_model site.now).packages (expression_model target.now)) target_part)) }
-    ensures asks { IfOk result (λ _. AsksOf (site_units (site_model site.now)) (by_name (text_names (expression_model target.now))) recorder.old.log recorder.new.log) }
+    ensures asks { IfOk result (λ _. AsksOf (site_units (site_model site.now)) by_some_name recorder.old.log recorder.new.log) }
 {
     let labeller = site.labeller;
     let standard = &labeller.predefined.standard;
@@ -205,7 +205,7 @@ pub fn source_at<A: Answers>(
 ) -> Result<CheckResult<Typed>, NoMemory>
     ensures asked { recorder.new.asked ≡ recorder.old.asked }
     ensures answered { IfOk result (λ checked. FromAnswers recorder.old.log recorder.new.log (λ t. (word.new, map_ok typed_model checked) ≡ source_at t (site_model site.now) (expression_model target.now) (expression_model value.now) word.old)) }
-    ensures asks { IfOk result (λ _. AsksOf (site_units (site_model site.now)) (by_name (text_names (expression_model target.now) ++ text_names (expression_model value.now))) recorder.old.log recorder.new.log) }
+    ensures asks { IfOk result (λ _. AsksOf (site_units (site_model site.now)) by_some_name recorder.old.log recorder.new.log) }
 {
     let of = target_part_at(site, target, recorder)?;
     source_in(site, of, value, word, recorder)

@@ -2,9 +2,8 @@
 ghost use Rattle.std.specs.Prelude.{◌≡◌, IfOk, []};
 ghost use Rattle.al_base_fault.specs.Judging.{map_ok};
 ghost use Rattle.al_overload.specs.declared.context.Context.TheVariants as contexts;
-ghost use Rattle.al_query.specs.Asked.{AsksOf, by_name};
+ghost use Rattle.al_query.specs.Asked.{AsksOf, by_some_name};
 ghost use Rattle.al_query.specs.Reads.{FromAnswers};
-ghost use Rattle.al_overload_terms_at.specs.TermsAt.{text_names};
 ghost use Rattle.al_overload_types.specs.Leaves.{mark_type};
 ghost use Rattle.al_tree.specs.ExpressionViews.{expression_model};
 ghost use Rattle.al_view_typed.specs.ExpressionViews.{typed_model};
@@ -41,7 +40,7 @@ pub fn condition_at<A: Answers>(
 ) -> Result<CheckResult<Typed>, NoMemory>
     ensures asked { recorder.new.asked ≡ recorder.old.asked }
     ensures answered { IfOk result (λ checked. FromAnswers recorder.old.log recorder.new.log (λ t. (word.new, map_ok typed_model checked) ≡ condition_at t (site_model site.now) (expression_model expression.now) word.old)) }
-    ensures asks { IfOk result (λ _. AsksOf (site_units (site_model site.now)) (by_name (text_names (expression_model expression.now))) recorder.old.log recorder.new.log) }
+    ensures asks { IfOk result (λ _. AsksOf (site_units (site_model site.now)) by_some_name recorder.old.log recorder.new.log) }
 {
     let types = no_types(site.labeller.alloc)?;
     let context = Context::Condition;
@@ -57,7 +56,7 @@ pub fn moment_at<A: Answers>(
 ) -> Result<CheckResult<Typed>, NoMemory>
     ensures asked { recorder.new.asked ≡ recorder.old.asked }
     ensures answered { IfOk result (λ checked. FromAnswers recorder.old.log recorder.new.log (λ t. (word.new, map_ok typed_model checked) ≡ moment_at t (site_model site.now) (expression_model expression.now) word.old)) }
-    ensures asks { IfOk result (λ _. AsksOf (site_units (site_model site.now)) (by_name (text_names (expression_model expression.now))) recorder.old.log recorder.new.log) }
+    ensures asks { IfOk result (λ _. AsksOf (site_units (site_model site.now)) by_some_name recorder.old.log recorder.new.log) }
 {
     let types = no_types(site.labeller.alloc)?;
     let context = Context::Moment;
@@ -82,7 +81,7 @@ pub fn result_at<A: Answers>(
 ) -> Result<CheckResult<Typed>, NoMemory>
     ensures asked { recorder.new.asked ≡ recorder.old.asked }
     ensures answered { IfOk result (λ checked. FromAnswers recorder.old.log recorder.new.log (λ t. (word.new, map_ok typed_model checked) ≡ result_at t (site_model site.now) of.now (expression_model expression.now) word.old)) }
-    ensures asks { IfOk result (λ _. AsksOf (site_units (site_model site.now)) (by_name (text_names (expression_model expression.now))) recorder.old.log recorder.new.log) }
+    ensures asks { IfOk result (λ _. AsksOf (site_units (site_model site.now)) by_some_name recorder.old.log recorder.new.log) }
 {
     let context = result_context(site.labeller, of)?;
     value_at(site, &context, &None, &of.types, expression, word, recorder)

@@ -4,9 +4,8 @@ ghost use Rattle.al_base_fault.specs.Judging.{next, map_ok, unless};
 ghost use Rattle.al_overload_label.specs.Ranges.{bounds_checked};
 ghost use Rattle.al_overload_label.specs.RangesSeen.{pair_model};
 ghost use Rattle.al_overload_prefixes.specs.TextsAt.{terms_with_model};
-ghost use Rattle.al_query.specs.Asked.{AsksOf, by_name};
+ghost use Rattle.al_query.specs.Asked.{AsksOf, by_some_name};
 ghost use Rattle.al_query.specs.Reads.{FromAnswers};
-ghost use Rattle.al_overload_terms_at.specs.TermsAt.{range_names};
 ghost use Rattle.al_tree.specs.DeclarationViews.{range_model};
 ghost use Rattle.al_overload_values.specs.Surroundings.{site_model, site_units};
 ghost use Rattle.al_overload_values.specs.ValuesAt.{pair_at, pair_judged_at};
@@ -54,7 +53,7 @@ pub fn pair_judged_at<A: Answers>(
 ) -> Result<CheckResult<Pair>, NoMemory>
     ensures asked { recorder.new.asked ≡ recorder.old.asked }
     ensures answered { IfOk result (λ checked. FromAnswers recorder.old.log recorder.new.log (λ t. map_ok pair_model checked ≡ pair_judged_at t (site_model site.now) context.now types.now (range_model range.now))) }
-    ensures asks { IfOk result (λ _. AsksOf (site_units (site_model site.now)) (by_name (range_names (range_model range.now))) recorder.old.log recorder.new.log) }
+    ensures asks { IfOk result (λ _. AsksOf (site_units (site_model site.now)) by_some_name recorder.old.log recorder.new.log) }
 {
     let labeller = site.labeller;
     let (scope, packages) = (site.scope, site.packages);
@@ -73,7 +72,7 @@ pub fn pair_at<A: Answers>(
 ) -> Result<CheckResult<Pair>, NoMemory>
     ensures asked { recorder.new.asked ≡ recorder.old.asked }
     ensures answered { IfOk result (λ checked. FromAnswers recorder.old.log recorder.new.log (λ t. (word.new, map_ok pair_model checked) ≡ pair_at t (site_model site.now) context.now types.now (range_model range.now) word.old)) }
-    ensures asks { IfOk result (λ _. AsksOf (site_units (site_model site.now)) (by_name (range_names (range_model range.now))) recorder.old.log recorder.new.log) }
+    ensures asks { IfOk result (λ _. AsksOf (site_units (site_model site.now)) by_some_name recorder.old.log recorder.new.log) }
 {
     let mut checked = pair_judged_at(site, context, types, range, recorder)?;
     take_pair_words(&mut checked, word);

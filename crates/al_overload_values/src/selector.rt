@@ -4,9 +4,8 @@ ghost use Rattle.al_base_fault.specs.Judging.{next, map_ok, unless};
 ghost use Rattle.al_overload_label.specs.Ranges.{selector_checked};
 ghost use Rattle.al_overload_label.specs.RangesSeen.{found_model};
 ghost use Rattle.al_overload_prefixes.specs.TextsAt.{term_with_model};
-ghost use Rattle.al_query.specs.Asked.{AsksOf, by_name};
+ghost use Rattle.al_query.specs.Asked.{AsksOf, by_some_name};
 ghost use Rattle.al_query.specs.Reads.{FromAnswers};
-ghost use Rattle.al_overload_terms_at.specs.TermsAt.{text_names};
 ghost use Rattle.al_tree.specs.ExpressionViews.{expression_model};
 ghost use Rattle.al_overload_values.specs.Surroundings.{site_model, site_units};
 ghost use Rattle.al_overload_values.specs.ValuesAt.{selector_at, selector_judged_at};
@@ -48,7 +47,7 @@ pub fn selector_judged_at<A: Answers>(
 ) -> Result<CheckResult<DeterminedValue>, NoMemory>
     ensures asked { recorder.new.asked ≡ recorder.old.asked }
     ensures answered { IfOk result (λ checked. FromAnswers recorder.old.log recorder.new.log (λ t. map_ok found_model checked ≡ selector_judged_at t (site_model site.now) (expression_model expression.now))) }
-    ensures asks { IfOk result (λ _. AsksOf (site_units (site_model site.now)) (by_name (text_names (expression_model expression.now))) recorder.old.log recorder.new.log) }
+    ensures asks { IfOk result (λ _. AsksOf (site_units (site_model site.now)) by_some_name recorder.old.log recorder.new.log) }
 {
     let labeller = site.labeller;
     let (scope, packages) = (site.scope, site.packages);
@@ -65,7 +64,7 @@ pub fn selector_at<A: Answers>(
 ) -> Result<CheckResult<DeterminedValue>, NoMemory>
     ensures asked { recorder.new.asked ≡ recorder.old.asked }
     ensures answered { IfOk result (λ checked. FromAnswers recorder.old.log recorder.new.log (λ t. (word.new, map_ok found_model checked) ≡ selector_at t (site_model site.now) (expression_model expression.now) word.old)) }
-    ensures asks { IfOk result (λ _. AsksOf (site_units (site_model site.now)) (by_name (text_names (expression_model expression.now))) recorder.old.log recorder.new.log) }
+    ensures asks { IfOk result (λ _. AsksOf (site_units (site_model site.now)) by_some_name recorder.old.log recorder.new.log) }
 {
     let mut checked = selector_judged_at(site, expression, recorder)?;
     take_found_words(&mut checked, word);

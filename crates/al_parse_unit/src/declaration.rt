@@ -6,7 +6,7 @@ ghost use Rattle.al_tree_syntax.specs.Constructs.{Construct as constructs, place
 ghost use Rattle.al_tree_syntax.specs.DeclarationTrees.{array_tokens, common_tokens, component_tokens, components_tokens, compounds_tokens, discrete_range_tokens, identifiers_tokens, initial_tokens, object_form_tokens, object_tokens, object_type_tokens, pragma_arguments_tokens, pragma_tokens, range_tokens, subtype_indication_tokens, subtype_tokens, type_definition_tokens, type_tokens, use_tokens};
 ghost use Rattle.al_tree_syntax.specs.Declarations.{array_rule, common_rule, component_rule, initial_rule, object_rule, pragma_rule, subtype_indication_rule, subtype_rule, type_rule, typed_rule, use_rule};
 ghost use Rattle.al_tree_syntax.specs.Expressions.{range_rule};
-ghost use Rattle.al_tree_syntax.specs.Notation.{opens, opens_at, the, ◌∣◌, ◌⨾◌};
+ghost use Rattle.al_tree_syntax.specs.Notation.{any, opens, opens_at, the, ◌∣◌, ◌⨾◌};
 ghost use Rattle.al_tree_syntax.specs.Rules.{grammar};
 ghost use Rattle.al_tree_syntax.specs.Symbols.{Symbol as symbols};
 ghost use Rattle.al_tree_syntax.specs.Words.{labelled, word};
@@ -308,7 +308,7 @@ fn type_definition<'a>(
     depth: u32,
     tokens: &'a [Token],
 ) -> Result<(TypeDefinition, &'a [Token]), Stop>
-    ensures { Gives (λ x. type_definition_tokens (type_definition_model x.0)) (λ x. lexemes source.now x.1.now) result (lexemes source.now tokens.now) (reading depth (range_rule ∣ the symbols.Null ⨾ the symbols.Record ∣ opens_at symbols.LeftParenthesis constructs.EnumerationLiterals ∣ array_rule ∣ opens symbols.Record constructs.RecordDefinition) (lexemes source.now tokens.now)) }
+    ensures { Gives (λ x. type_definition_tokens (type_definition_model x.0)) (λ x. lexemes source.now x.1.now) result (lexemes source.now tokens.now) (reading depth (range_rule ∣ the symbols.Null ⨾ the symbols.Record ∣ any symbols.Private ∣ opens_at symbols.LeftParenthesis constructs.EnumerationLiterals ∣ array_rule ∣ opens symbols.Record constructs.RecordDefinition) (lexemes source.now tokens.now)) }
 {
     if is_next(source, tokens, Symbol::Range) {
         let (range, rest) = range(alloc, source, depth, tokens)?;
@@ -317,6 +317,10 @@ fn type_definition<'a>(
     if let Some(rest) = skip(source, tokens, Symbol::Null) {
         let rest = expect(source, rest, Symbol::Record)?;
         return Ok((TypeDefinition::NullRecord, rest));
+    }
+    if is_next(source, tokens, Symbol::Private) {
+        let (place, rest) = word_at(source, tokens, Symbol::Private)?;
+        return Ok((TypeDefinition::Private(place), rest));
     }
     if is_next(source, tokens, Symbol::LeftParenthesis) {
         let (inner, opening, rest) = enter_at(source, depth, tokens, Symbol::LeftParenthesis)?;

@@ -6,7 +6,7 @@ use Rattle.std.proofs.lemmas.List.Folds.{list_any-append}
 use Rattle.std.proofs.lemmas.Slice.Eq.{bytes_eq-Decides}
 use Rattle.al_base.specs.declared.unit_key.UnitKey.{UnitKey}
 use Rattle.al_view.specs.declared.part.Part.{Part}
-use Rattle.al_query.specs.Asked.{Asks, AsksOf, Follows, OfKnown, by_name, by_name_or_property, by_property, names_after}
+use Rattle.al_query.specs.Asked.{Asks, AsksOf, Follows, OfKnown, by_name, by_some_name, by_name_or_property, by_property, names_after}
 use Rattle.al_query.specs.Known.{AreKnown, Grounded, has_unit, known_after, learned}
 use Rattle.al_query.specs.Queries.{unit_of}
 use Rattle.al_query.specs.Reads.{Log, logged, recorded}
@@ -138,3 +138,8 @@ pub asks_of-grounded : (known : List UnitKey) (wanted : Log → Query → Bool) 
 asks_of-grounded known wanted log a =
     let all = follows-grounded known wanted [] a.0 a.2 in
     subst (λ (l : Log). Grounded known l) (sym a.1) (subst (λ (us : List UnitKey). Grounded us a.0) (append-nil known) all)
+
+-- a question for one of these names, or for a name in an answer, is for some name
+pub by_name-some : (ns : List (List ℕ)) (log : Log) (q : Query) → by_name ns log q ≡ true → by_some_name log q ≡ true
+by_name-some ns log (Named unit part name) k = refl
+by_name-some ns log (Of unit property) k = k

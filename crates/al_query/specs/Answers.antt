@@ -67,6 +67,11 @@ abbrev pub context_of : AnswerKind → Option ContextView
 context_of (Context context) = Some context
 context_of _ = None
 
+-- the private types that its visible part declares, by their names; none where its context isn't answered
+abbrev pub names_told : AnswerKind → List (List ℕ)
+names_told (Context c) = c.private_types
+names_told _ = []
+
 -- what must be completed, nothing where that isn't answered
 abbrev pub completions_of : AnswerKind → List Completion
 completions_of (Completions completions) = completions

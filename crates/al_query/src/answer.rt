@@ -1,7 +1,7 @@
 // Answers to questions of units.
 ghost use Rattle.std.specs.Prelude.{◌≡◌, IfOk};
 ghost use Rattle.std.specs.Option.{option_copied};
-ghost use Rattle.al_query.specs.Answers.{completions_of, context_of, form_of, form_of_profile, form_of_view, is_private_of, needs_body_of, own_view_of, parent_of, views_of};
+ghost use Rattle.al_query.specs.Answers.{completions_of, context_of, form_of, form_of_profile, form_of_view, is_private_of, names_told, needs_body_of, own_view_of, parent_of, views_of};
 
 use al_base::{Name, NoMemory, UnitKey};
 use al_view::{Part, Profile, Seq, Symbol, View, ViewKind, Views};
@@ -73,7 +73,7 @@ impl Drop for UseInPart {
     }
 }
 
-/// The with and use clauses of a unit.
+/// The with and use clauses of a unit, and the names of its private types.
 pub struct ContextView {
     /// The units that its with clauses name, in order (ARM 10.1.2(6)).
     pub withs: Seq<UnitKey>,
@@ -81,6 +81,8 @@ pub struct ContextView {
     pub uses: Seq<UseClause>,
     /// The use clauses that stand immediately in its parts, in order.
     pub uses_inside: Seq<UseInPart>,
+    /// The private types that its visible part declares, in order (ARM 7.3): whoever sees the full view of one asks for it by its name.
+    pub private_types: Seq<Name>,
 }
 
 impl Drop for ContextView {
@@ -89,6 +91,7 @@ impl Drop for ContextView {
             withs: _,
             uses: _,
             uses_inside: _,
+            private_types: _,
         } = self;
     }
 }
@@ -242,6 +245,16 @@ impl Answer {
         match self.kind() {
             AnswerKind::Context(context) => Some(context),
             _ => None,
+        }
+    }
+
+    /// The private types that the unit's visible part declares, by their names; none where its context isn't answered.
+    pub fn private_types(&self) -> &[Name]
+        ensures { result.now ≡ names_told self.now }
+    {
+        match self.kind() {
+            AnswerKind::Context(context) => context.private_types.as_slice(),
+            _ => &[],
         }
     }
 

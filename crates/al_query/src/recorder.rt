@@ -5,8 +5,10 @@ ghost use Rattle.al_base.specs.declared.unit_key.UnitKey.{UnitKey};
 ghost use Rattle.al_base_shortage.specs.Counts.{counted};
 ghost use Rattle.al_query.specs.declared.query.Query.{Query};
 ghost use Rattle.al_query.specs.declared.answer.AnswerKind.{AnswerKind};
+ghost use Rattle.al_query.specs.Answers.{names_told};
 ghost use Rattle.al_query.specs.Known.{Learns};
 ghost use Rattle.al_query.specs.Reads.{Agrees, Agrees-prop, FromAnswers, logged, recorded};
+ghost use Rattle.al_query.specs.Told.{AreTold};
 
 use crate::answer::Answer;
 use crate::query::Query;
@@ -134,6 +136,7 @@ impl<A: Answers> Recorder<A> {
         ensures log { IfOk result (λ answer. self.new.log ≡ logged self.old.log query.now answer) }
         ensures answered { IfOk result (λ answer. FromAnswers self.old.log self.new.log (λ t. t query.now ≡ answer)) }
         ensures learns { IfOk result (λ answer. Learns self.old.log self.new.log query.now answer) }
+        ensures tells { IfOk result (λ answer. AreTold self.new.log (names_told answer)) }
         ensures err { OnErr result (self.new.log ≡ self.old.log) }
         ensures failures { self.new.failures ≡ counted (is_ok result) self.old.failures }
     {

@@ -38,6 +38,7 @@ impl Same for ContextView {
         self.withs.is_same(&other.withs)
             && self.uses.is_same(&other.uses)
             && self.uses_inside.is_same(&other.uses_inside)
+            && self.private_types.is_same(&other.private_types)
     }
 }
 

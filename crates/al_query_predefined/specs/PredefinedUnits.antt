@@ -28,7 +28,7 @@ package_properties name identifier parent = record {
   kind = OfPackage (package_symbol name identifier);
   parent = parent;
   is_private = false;
-  context = record { withs = []; uses = []; uses_inside = [] };
+  context = record { withs = []; uses = []; uses_inside = []; private_types = [] };
   needs_body = false;
   completions = [];
 }

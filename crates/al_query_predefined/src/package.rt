@@ -73,6 +73,7 @@ fn package_properties(
         withs: Seq::empty(alloc),
         uses: Seq::empty(alloc),
         uses_inside: Seq::empty(alloc),
+        private_types: Seq::empty(alloc),
     };
     Ok(Properties {
         kind,

@@ -1,5 +1,5 @@
 -- A declaration that fits stands once in its region.
-use Rattle.std.proofs.Common.{◌≡◌, ℕ, List, [], ◌∷◌, ◌++◌, Bool, true, false, cond, inl, inr, map, Option, Some, None, refl, sym, ◌∙◌, ap, subst}
+use Rattle.std.proofs.Common.{◌≡◌, ℕ, List, [], ◌∷◌, ◌++◌, Bool, true, false, cond, map, Option, Some, None, refl, sym, ◌∙◌, ap, subst}
 use Rattle.std.specs.List.{flat_map, list_any}
 use Rattle.std.specs.Map.{lookup}
 use Rattle.std.specs.Prelude.{unwrap_or}
@@ -12,10 +12,11 @@ use Rattle.al_view.specs.Named.{Declarations}
 use Rattle.al_query.specs.declared.query.Query.{Query}
 use Rattle.al_query.specs.declared.answer.AnswerKind.{AnswerKind}
 use Rattle.al_scope.specs.declared.region.Region.{Region}
+use Rattle.al_scope.specs.PartialViews.{without_partial}
 use Rattle.al_scope.specs.Places.{Place, in_last, with_declared}
 use Rattle.al_scope.specs.Visible.{declared_by, found_in, here}
-use Rattle.al_scope.specs.VisibleSet.{AllOnce, Has, Once, StaysOnce}
-use Rattle.al_scope.proofs.DistinctLemmas.{any-self, once-join}
+use Rattle.al_scope.specs.VisibleSet.{AllOnce, Once, StaysOnce}
+use Rattle.al_scope.proofs.PartialLemmas.{once-pushed}
 use Rattle.al_scope.proofs.HidingLemmas.{append-assoc}
 
 -- the views of the name are one more
@@ -44,22 +45,11 @@ with_view-other (e ∷ es) name other v h = at (bytes_eq name e.0) refl (with_vi
         ∙ sym (ap (λ b. unwrap_or (cond b (Some e.1) (lookup (bytes_eq other) es)) []) apart)
     at false i more = same-front (bytes_eq other e.0) e.1 (lookup (bytes_eq other) (with_view es name v)) (lookup (bytes_eq other) es) more
 
--- no homograph of it is there, so it isn't
-once-pushed : (views : List ViewKind) (v : ViewKind) → list_any (homographs v) views ≡ false → Once views → Once (views ++ v ∷ [])
-once-pushed views v h one = once-join views (v ∷ []) one (λ k. k, tt) apart
-  where
-    apart : (w : ViewKind) → Has views w → Has (v ∷ []) w → ⊥
-    apart w i (inr j) = j
-    apart w i (inl j) =
-        let there : list_any (homographs v) views ≡ true = any-self views v (subst (λ (x : ViewKind). Has views x) (sym j) i) in
-        let bad : true ≡ false = sym there ∙ h in
-        absurd (cc)
-
 once-named : (t : Query → AnswerKind) (m : Declarations) (name : List ℕ) (v : ViewKind) (r : Region) → list_any (homographs v) (found_in t m name r).views ≡ false → Once (found_in t m name r).views → Once (found_in t m name (with_declared name v r)).views
 once-named t m name v r h one =
     let parts = flat_map (declared_by t m name) r.parts in
     let same : (parts ++ views_of r.declared name) ++ v ∷ [] ≡ parts ++ views_of (with_view r.declared name v) name = append-assoc parts (views_of r.declared name) (v ∷ []) ∙ ap (λ l. parts ++ l) (sym (with_view-same r.declared name v)) in
-    subst (λ (l : List ViewKind). Once l) same (once-pushed (found_in t m name r).views v h one)
+    subst (λ (l : List ViewKind). Once (without_partial l)) same (once-pushed (parts ++ views_of r.declared name) v h one)
 
 once-region : (t : Query → AnswerKind) (m : Declarations) (name other : List ℕ) (v : ViewKind) (r : Region) → list_any (homographs v) (found_in t m name r).views ≡ false → Once (found_in t m other r).views → Once (found_in t m other (with_declared name v r)).views
 once-region t m name other v r h one = at (bytes_eq other name) refl
@@ -69,7 +59,7 @@ once-region t m name other v r h one = at (bytes_eq other name) refl
         let e : other ≡ name = (bytes_eq-Decides other name).0 i in
         let before : Once (found_in t m name r).views = subst (λ (n : List ℕ). Once (found_in t m n r).views) e one in
         subst (λ (n : List ℕ). Once (found_in t m n (with_declared name v r)).views) (sym e) (once-named t m name v r h before)
-    at false i = subst (λ (l : List ViewKind). Once (flat_map (declared_by t m other) r.parts ++ l)) (sym (with_view-other r.declared name other v i)) one
+    at false i = subst (λ (l : List ViewKind). Once (without_partial (flat_map (declared_by t m other) r.parts ++ l))) (sym (with_view-other r.declared name other v i)) one
 
 once-declared : (t : Query → AnswerKind) (m : Declarations) (name other : List ℕ) (v : ViewKind) (rs : List Region) → list_any (homographs v) (here t m name rs) ≡ false → AllOnce (map (found_in t m other) rs) → AllOnce (map (found_in t m other) (in_last (with_declared name v) rs))
 once-declared t m name other v [] h one = tt

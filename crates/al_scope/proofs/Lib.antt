@@ -5,6 +5,7 @@ pub mod ExpandedLemmas
 pub mod HidingLemmas
 pub mod NameLemmas
 pub mod OnceLemmas
+pub mod PartialLemmas
 pub mod PartLemmas
 pub mod PlaceLemmas
 pub mod SearchLemmas

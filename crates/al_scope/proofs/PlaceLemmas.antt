@@ -92,6 +92,24 @@ none-last (x ∷ y ∷ ys) (suc n) h e =
     let less : n + 1 ≡ length (y ∷ ys) = omega arith in
     none-last (y ∷ ys) n less e
 
+-- what is declared in the innermost region is what the last region declares
+inner_declared-at : (xs : List Region) (n : ℕ) (r : Region) → n + 1 ≡ length xs → slice_get xs n ≡ Some r → inner_declared xs ≡ r.declared
+inner_declared-at [] n r h e = absurd (omega arith)
+inner_declared-at (x ∷ []) zero r h e = let same : x ≡ r = cc in ap (λ (q : Region). q.declared) same
+inner_declared-at (x ∷ []) (suc n) r h e = absurd (omega arith)
+inner_declared-at (x ∷ y ∷ ys) zero r h e = absurd (omega arith)
+inner_declared-at (x ∷ y ∷ ys) (suc n) r h e =
+    let less : n + 1 ≡ length (y ∷ ys) = omega arith in
+    inner_declared-at (y ∷ ys) n r less e
+
+pub inner_declared-last : (xs : List Region) (r : Region) → slice_get xs (length xs - 1) ≡ Some r → inner_declared xs ≡ r.declared
+inner_declared-last [] r h = absurd (cc)
+inner_declared-last (x ∷ xs) r h = inner_declared-at (x ∷ xs) (length (x ∷ xs) - 1) r (omega arith) h
+
+pub inner_declared-none : (xs : List Region) → slice_get xs (length xs - 1) ≡ None → inner_declared xs ≡ []
+inner_declared-none [] e = refl
+inner_declared-none (x ∷ xs) e = absurd (none-last (x ∷ xs) (length (x ∷ xs) - 1) (omega arith) e)
+
 pub each-none : (xs : List Region) → slice_get xs (length xs - 1) ≡ None → EachOnce (uses_at xs)
 unfolding IsStrictlySortedBy
 each-none [] e = tt

@@ -10,7 +10,8 @@ use Rattle.al_query.specs.declared.query.Query.{Query}
 use Rattle.al_query.specs.declared.answer.AnswerKind.{AnswerKind}
 use Rattle.al_scope.specs.declared.region.Region.{Region}
 use Rattle.al_scope.specs.declared.region.UnitPart.{UnitPart}
-use Rattle.al_scope.specs.Places.{Place, is_region_of}
+use Rattle.al_base.specs.declared.unit_key.UnitKey.{UnitKey}
+use Rattle.al_scope.specs.Places.{Place, is_region_of, is_within}
 use Rattle.al_scope.specs.Visible.{declared_by, found_in}
 use Rattle.al_scope.specs.VisibleSet.{Has}
 
@@ -47,3 +48,15 @@ selected_parts s place = option_map_or (λ r. r.parts) (region_of s place.region
 -- the parts that are asked where the prefix is a construct that is no package
 abbrev pub within_parts : Symbol → Place → List UnitPart
 within_parts s place = option_map_or (λ r. r.parts) (region_of s place.regions) []
+
+-- the outermost region round the place that is a construct's of that unit: the package's, where the unit is a package
+abbrev pub unit_region : UnitKey → List Region → Option Region
+unit_region unit regions = find (is_within unit) regions
+
+-- what it has of a name; nothing, where the unit doesn't enclose the place
+abbrev pub within_unit : (Query → AnswerKind) → List ℕ → UnitKey → Place → List ViewKind
+within_unit t name unit place = option_map_or (λ r. (found_in t place.mentioned name r).views) (unit_region unit place.regions) []
+
+-- the parts that are asked then
+abbrev pub unit_parts : UnitKey → Place → List UnitPart
+unit_parts unit place = option_map_or (λ r. r.parts) (unit_region unit place.regions) []

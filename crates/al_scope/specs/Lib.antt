@@ -1,6 +1,7 @@
 pub mod Asked
 pub mod Expanded
 pub mod NameSets
+pub mod PartialViews
 pub mod Places
 pub mod Searches
 pub mod UseClauses

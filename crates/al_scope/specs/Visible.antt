@@ -14,6 +14,7 @@ use Rattle.al_scope.specs.declared.region.UnitPart.{UnitPart}
 use Rattle.al_scope.specs.declared.region.Region.{Region}
 use Rattle.al_scope.specs.declared.uses.PackageUse.{PackageUse}
 use Rattle.al_scope.specs.declared.hiding.RegionEntry.{RegionEntry}
+use Rattle.al_scope.specs.PartialViews.{without_partial}
 use Rattle.al_scope.specs.Places.{Place, child_name, is_visible_part, uses_at, visible_part}
 use Rattle.al_scope.specs.UseClauses.{Uses, opens}
 
@@ -26,11 +27,11 @@ abbrev pub declared_by : (Query → AnswerKind) → Declarations → List ℕ �
 declared_by t m name p = answer.views_of (t (Named p.unit p.part name)) ++ children_in m name p
 
 -- what a region has of a name: whether a declaration of it was begun, and what is declared, first in the parts that the
--- region continues
+-- region continues; the partial view of a private type gives way to its full view
 abbrev pub found_in : (Query → AnswerKind) → Declarations → List ℕ → Region → RegionEntry
 found_in t m name r = record {
   begun = list_any (bytes_eq name) r.begun;
-  views = flat_map (declared_by t m name) r.parts ++ interface.views_of r.declared name;
+  views = without_partial (flat_map (declared_by t m name) r.parts ++ interface.views_of r.declared name);
 }
 
 -- a region shuts an outer declaration out (ARM 8.3(15, 16)): by a declaration that was begun, or by a homograph

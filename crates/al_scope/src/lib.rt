@@ -4,11 +4,13 @@
 mod hiding;
 pub mod laws;
 mod names;
+mod partial;
 mod questions;
 mod region;
 mod scope;
 mod search;
 mod uses;
 
+pub use partial::{declared_type, first_partial, is_full_view, is_private, own_type, partial_type};
 pub use region::UnitPart;
 pub use scope::Scope;

@@ -117,6 +117,7 @@ pub fn ask_each<A: Answers>(
     ensures answered { IfOk result (λ views. FromAnswers recorder.old.log recorder.new.log (λ t. views ≡ flat_map (declared_by t mentioned.now name.now) parts.now)) }
     ensures asks { IfOk result (λ _. AsksParts parts.now name.now recorder.old.log recorder.new.log) }
     ensures takes_none { parts.now ≡ [] → is_ok result ≡ true }
+    ensures none { parts.now ≡ [] → IfOk result (λ views. views ≡ []) }
 {
     let mut views = Views::new(alloc);
     for part in parts {

@@ -9,13 +9,15 @@ ghost use Rattle.al_query.specs.Asked.{AsksOf, by_name};
 ghost use Rattle.al_query.specs.Reads.{HoldsBy, FromAnswers};
 ghost use Rattle.al_scope.specs.declared.region.Region.{Region};
 ghost use Rattle.al_scope.specs.Asked.{AsksParts};
-ghost use Rattle.al_scope.specs.Expanded.{IsSelected, part_of, region_of, selected_at, selected_parts, within, within_parts};
+ghost use Rattle.al_scope.specs.Expanded.{IsSelected, part_of, region_of, selected_at, selected_parts, unit_parts, unit_region, within, within_parts, within_unit};
+ghost use Rattle.al_scope.specs.PartialViews.{some_incomplete};
 ghost use Rattle.al_scope.specs.Places.{encloses, entered, entered_construct, in_last, inner_declared, inner_parts, is_declared_round, part_units, place_of, place_units, uses_at, with_begun, with_declared, with_mentioned, with_part, with_use, with_use_type};
 ghost use Rattle.al_scope.specs.Searches.{searched_parts};
 ghost use Rattle.al_scope.specs.Visible.{declared_by, here, visible_at};
 ghost use Rattle.al_scope.specs.VisibleSet.{Has, IsVisible, KeepsOnce, StaysOnce};
 
 use crate::hiding::{Search, has_homograph};
+use crate::partial::some_incomplete;
 use crate::questions::{ask_more, visible_part_at};
 use crate::region::{Region, UnitPart};
 use crate::search::{append_some, find, search_outward, used_of};
@@ -62,6 +64,13 @@ fn place_of(regions: &[Region], construct: &Symbol) -> usize
             }
         }
     }
+}
+
+/// The outermost region that is a construct's of that unit.
+fn unit_region<'a>(regions: &'a [Region], unit: &UnitKey) -> Option<&'a Region>
+    ensures { option_copied result ≡ unit_region unit.now regions.now }
+{
+    regions.iter().find(|region| region.is_in(unit))
 }
 
 /// The regions round a place, outermost first, and the library units that are mentioned there.
@@ -277,6 +286,26 @@ impl Scope {
         Ok(found.views)
     }
 
+    /// What is declared of a name in the innermost region, without the parts that it continues.
+    pub fn declared_alone(&self, name: &[u8]) -> &[View]
+        ensures { result.now ≡ views_of (inner_declared self.now.regions) name.now }
+    {
+        match self.regions.last() {
+            Some(region) => region.declared.views(name),
+            None => &[],
+        }
+    }
+
+    /// Whether a private type of the innermost region has no full declaration yet, the parts that the region continues left out.
+    pub fn is_incomplete(&self) -> bool
+        ensures { result ≡ some_incomplete (inner_declared self.now.regions) }
+    {
+        match self.regions.last() {
+            Some(region) => some_incomplete(&region.declared),
+            None => false,
+        }
+    }
+
     /// Whether the innermost region has a homograph, so that the declaration wouldn't fit there (ARM 8.3(26)). Where that region
     /// continues no part and nothing of the name is declared in it, it takes no memory.
     pub fn has_homograph<A: Answers>(
@@ -358,6 +387,28 @@ impl Scope {
                 Ok(Some(found.views))
             }
             None => Ok(None),
+        }
+    }
+
+    /// What the region of a package that encloses the place has of a name, by the package's unit: nothing where it doesn't enclose the place, and
+    /// then it takes no memory.
+    pub fn within_unit<A: Answers>(
+        &self,
+        unit: &UnitKey,
+        name: &[u8],
+        recorder: &mut Recorder<A>,
+    ) -> Result<Views, NoMemory>
+        ensures asked { recorder.new.asked ≡ recorder.old.asked }
+        ensures answered { IfOk result (λ views. FromAnswers recorder.old.log recorder.new.log (λ t. views ≡ within_unit t name.now unit.now self.now)) }
+        ensures asks { IfOk result (λ _. AsksOf (part_units (unit_parts unit.now self.now)) (by_name (name.now ∷ [])) recorder.old.log recorder.new.log) }
+        ensures takes_none { unit_region unit.now self.now.regions ≡ None → is_ok result ≡ true }
+    {
+        match unit_region(self.regions.as_slice(), unit) {
+            Some(region) => {
+                let found = find(self.alloc, &self.mentioned, region, name, recorder)?;
+                Ok(found.views)
+            }
+            None => Ok(Views::new(self.alloc)),
         }
     }
 

@@ -11,6 +11,7 @@ ghost use Rattle.al_scope.specs.Visible.{found_in, potential, use_visible};
 ghost use Rattle.al_scope.specs.VisibleSet.{AreApart, DeclareOnce, Once};
 
 use crate::hiding::{RegionEntry, Search, use_visible_of};
+use crate::partial::without_partial;
 use crate::questions::ask_each;
 use crate::region::Region;
 use al_base::NoMemory;
@@ -44,6 +45,7 @@ pub fn find<A: Answers>(
 {
     let mut views = ask_each(alloc, mentioned, region.parts.as_slice(), name, recorder)?;
     append_some(&mut views, region.declared.views(name))?;
+    let views = without_partial(alloc, views)?;
     let begun = region.begun.contains(name);
     Ok(RegionEntry { begun, views })
 }

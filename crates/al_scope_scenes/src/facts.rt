@@ -131,6 +131,7 @@ pub fn context_of(alloc: Global, clauses: &str) -> Result<ContextView, NoMemory>
         withs: Seq::empty(alloc),
         uses: Seq::empty(alloc),
         uses_inside: Seq::empty(alloc),
+        private_types: Seq::empty(alloc),
     };
     let added = add_clauses(alloc, clauses, &mut context);
     match added {

@@ -12,4 +12,4 @@ pub use clauses::use_each;
 pub use mentions::mentioned;
 pub use own::OwnText;
 pub use private_part::enter_private_part;
-pub use unit_place::enter_unit;
+pub use unit_place::{ancestors_of, enter_unit};

@@ -5,10 +5,9 @@ ghost use Rattle.al_stmts_calls.specs.PerformedAt.{call_effect_at, performed_aft
 ghost use Rattle.al_overload_prefixes.specs.TextsAt.{term_with_model};
 ghost use Rattle.al_overload_put.specs.Puts.{call_effect};
 ghost use Rattle.al_overload_put.specs.Seen.{performed_model as put_model};
-ghost use Rattle.al_query.specs.Asked.{AsksOf, by_name};
+ghost use Rattle.al_query.specs.Asked.{AsksOf, by_some_name};
 ghost use Rattle.al_query.specs.Reads.{FromAnswers};
 ghost use Rattle.al_stmts_text.specs.PerformedViews.{performed_model};
-ghost use Rattle.al_overload_terms_at.specs.TermsAt.{text_names};
 ghost use Rattle.al_tree.specs.ExpressionViews.{expression_model};
 ghost use Rattle.al_overload_values.specs.Surroundings.{site_model, site_units};
 
@@ -85,7 +84,7 @@ pub fn call_effect_at<A: Answers>(
 ) -> Result<CheckResult<CallEffect>, NoMemory>
     ensures asked { recorder.new.asked ≡ recorder.old.asked }
     ensures answered { IfOk result (λ checked. FromAnswers recorder.old.log recorder.new.log (λ t. (word.new, map_ok performed_model checked) ≡ call_effect_at t (site_model site.now) (expression_model expression.now) word.old)) }
-    ensures asks { IfOk result (λ _. AsksOf (site_units (site_model site.now)) (by_name (text_names (expression_model expression.now))) recorder.old.log recorder.new.log) }
+    ensures asks { IfOk result (λ _. AsksOf (site_units (site_model site.now)) by_some_name recorder.old.log recorder.new.log) }
 {
     let labeller = site.labeller;
     let (scope, packages) = (site.scope, site.packages);

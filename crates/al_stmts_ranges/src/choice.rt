@@ -1,17 +1,16 @@
 // Choices of case statements (ARM 3.8.1, 5.4).
-ghost use Rattle.std.specs.Prelude.{◌≡◌, ◌++◌, IfOk, None, option_map};
+ghost use Rattle.std.specs.Prelude.{◌≡◌, IfOk, None, option_map};
 ghost use Rattle.al_decl_judged.specs.StaticPieces.{static_of};
 ghost use Rattle.al_base_fault.specs.Judging.{both, next, map_ok, unless};
 ghost use Rattle.al_overload_keys.specs.Places.{first_place};
 ghost use Rattle.al_overload_label.specs.Contexts.{term_checked};
 ghost use Rattle.al_overload_prefixes.specs.TextsAt.{read_with_at, reading_with_model};
-ghost use Rattle.al_query.specs.Asked.{AsksOf, by_name};
+ghost use Rattle.al_query.specs.Asked.{AsksOf, by_some_name};
 ghost use Rattle.al_query.specs.Reads.{FromAnswers};
-ghost use Rattle.al_stmts_ranges.specs.ChoicesAt.{bounds_choice, choice_at, choice_context, choice_names, discrete_choice, fitted_choice, mark_choice, marked_choice, one_value, range_choice, range_part, read_choice, static_choice, value_choice};
+ghost use Rattle.al_stmts_ranges.specs.ChoicesAt.{bounds_choice, choice_at, choice_context, discrete_choice, fitted_choice, mark_choice, marked_choice, one_value, range_choice, range_part, read_choice, static_choice, value_choice};
 ghost use Rattle.al_overload_readings.specs.ReadingViews.{reading_model};
-ghost use Rattle.al_decl_subtypes.specs.SubtypesAt.{discrete_names};
 ghost use Rattle.al_overload_term.specs.TermViews.{term_model};
-ghost use Rattle.al_overload_terms_at.specs.TermsAt.{mark_at, range_names, text_names};
+ghost use Rattle.al_overload_terms_at.specs.TermsAt.{mark_at};
 ghost use Rattle.al_tree.specs.DeclarationViews.{discrete_range_model, range_model};
 ghost use Rattle.al_tree.specs.ExpressionViews.{expression_model};
 ghost use Rattle.al_tree.specs.StatementViews.{choice_model};
@@ -207,7 +206,7 @@ fn single_choice<A: Answers>(
 ) -> Result<CheckResult<Choice>, NoMemory>
     ensures asked { recorder.new.asked ≡ recorder.old.asked }
     ensures answered { IfOk result (λ choice. FromAnswers recorder.old.log recorder.new.log (λ t. choice ≡ next (read_with_at t (site_model site.now).place (site_model site.now).packages (site_model site.now).predefined (site_model site.now).own (expression_model expression.now)) (read_choice (site_model site.now).predefined (site_model site.now).own found.now))) }
-    ensures asks { IfOk result (λ _. AsksOf (site_units (site_model site.now)) (by_name (text_names (expression_model expression.now))) recorder.old.log recorder.new.log) }
+    ensures asks { IfOk result (λ _. AsksOf (site_units (site_model site.now)) by_some_name recorder.old.log recorder.new.log) }
 {
     let labeller = site.labeller;
     let (scope, packages) = (site.scope, site.packages);
@@ -225,7 +224,7 @@ fn static_choice<A: Answers>(
 ) -> Result<CheckResult<StaticRange>, NoMemory>
     ensures asked { recorder.new.asked ≡ recorder.old.asked }
     ensures answered { IfOk result (λ bounds. FromAnswers recorder.old.log recorder.new.log (λ t. bounds ≡ static_choice t (site_model site.now) found.now (range_model range.now))) }
-    ensures asks { IfOk result (λ _. AsksOf (site_units (site_model site.now)) (by_name (range_names (range_model range.now))) recorder.old.log recorder.new.log) }
+    ensures asks { IfOk result (λ _. AsksOf (site_units (site_model site.now)) by_some_name recorder.old.log recorder.new.log) }
 {
     let context = choice_context(site.labeller, found)?;
     static_at(site, &context, &found.types, range, recorder)
@@ -248,7 +247,7 @@ fn bounds_chosen<A: Answers>(
 ) -> Result<CheckResult<Choice>, NoMemory>
     ensures asked { recorder.new.asked ≡ recorder.old.asked }
     ensures answered { IfOk result (λ choice. FromAnswers recorder.old.log recorder.new.log (λ t. choice ≡ map_ok range_choice (static_choice t (site_model site.now) found.now (range_model range.now)))) }
-    ensures asks { IfOk result (λ _. AsksOf (site_units (site_model site.now)) (by_name (range_names (range_model range.now))) recorder.old.log recorder.new.log) }
+    ensures asks { IfOk result (λ _. AsksOf (site_units (site_model site.now)) by_some_name recorder.old.log recorder.new.log) }
 {
     let range = static_choice(site, found, range, recorder)?;
     Ok(range_choice(range))
@@ -310,7 +309,7 @@ fn marked_parts<A: Answers>(
 ) -> Result<CheckResult<(SubtypeView, StaticRange)>, NoMemory>
     ensures asked { recorder.new.asked ≡ recorder.old.asked }
     ensures answered { IfOk result (λ parts. FromAnswers recorder.old.log recorder.new.log (λ t. parts ≡ both (mark_at t (site_model site.now).place (site_model site.now).packages (expression_model mark.now)) (static_choice t (site_model site.now) found.now (range_model range.now)))) }
-    ensures asks { IfOk result (λ _. AsksOf (site_units (site_model site.now)) (by_name (text_names (expression_model mark.now) ++ range_names (range_model range.now))) recorder.old.log recorder.new.log) }
+    ensures asks { IfOk result (λ _. AsksOf (site_units (site_model site.now)) by_some_name recorder.old.log recorder.new.log) }
 {
     let labeller = site.labeller;
     let standard = &labeller.predefined.standard;
@@ -329,7 +328,7 @@ fn marked_chosen<A: Answers>(
 ) -> Result<CheckResult<Choice>, NoMemory>
     ensures asked { recorder.new.asked ≡ recorder.old.asked }
     ensures answered { IfOk result (λ choice. FromAnswers recorder.old.log recorder.new.log (λ t. choice ≡ next (both (mark_at t (site_model site.now).place (site_model site.now).packages (expression_model mark.now)) (static_choice t (site_model site.now) found.now (range_model range.now))) (marked_choice found.now (first_place (expression_model mark.now))))) }
-    ensures asks { IfOk result (λ _. AsksOf (site_units (site_model site.now)) (by_name (text_names (expression_model mark.now) ++ range_names (range_model range.now))) recorder.old.log recorder.new.log) }
+    ensures asks { IfOk result (λ _. AsksOf (site_units (site_model site.now)) by_some_name recorder.old.log recorder.new.log) }
 {
     let parts = marked_parts(site, found, mark, range, recorder)?;
     let choice = any_marked_choice(site.labeller, found, first_place(mark), parts)?;
@@ -344,7 +343,7 @@ fn discrete_choice<A: Answers>(
 ) -> Result<CheckResult<Choice>, NoMemory>
     ensures asked { recorder.new.asked ≡ recorder.old.asked }
     ensures answered { IfOk result (λ choice. FromAnswers recorder.old.log recorder.new.log (λ t. choice ≡ discrete_choice t (site_model site.now) found.now (discrete_range_model range.now))) }
-    ensures asks { IfOk result (λ _. AsksOf (site_units (site_model site.now)) (by_name (discrete_names (discrete_range_model range.now))) recorder.old.log recorder.new.log) }
+    ensures asks { IfOk result (λ _. AsksOf (site_units (site_model site.now)) by_some_name recorder.old.log recorder.new.log) }
 {
     match range {
         DiscreteRange::Mark(expression) => single_choice(site, found, expression, recorder),
@@ -363,7 +362,7 @@ pub fn choice_at<A: Answers>(
 ) -> Result<CheckResult<Choice>, NoMemory>
     ensures asked { recorder.new.asked ≡ recorder.old.asked }
     ensures answered { IfOk result (λ checked. FromAnswers recorder.old.log recorder.new.log (λ t. checked ≡ choice_at t (site_model site.now) found.now (choice_model choice.now))) }
-    ensures asks { IfOk result (λ _. AsksOf (site_units (site_model site.now)) (by_name (choice_names (choice_model choice.now))) recorder.old.log recorder.new.log) }
+    ensures asks { IfOk result (λ _. AsksOf (site_units (site_model site.now)) by_some_name recorder.old.log recorder.new.log) }
 {
     match choice {
         ChoiceText::Others => Ok(Ok(Choice::Others)),

@@ -1,18 +1,17 @@
 // Ranges of for loops (ARM 5.5).
-ghost use Rattle.std.specs.Prelude.{◌≡◌, ◌++◌, IfOk, [], None};
+ghost use Rattle.std.specs.Prelude.{◌≡◌, IfOk, [], None};
 ghost use Rattle.al_base_fault.specs.Judging.{both, next, map_ok};
 ghost use Rattle.al_overload_keys.specs.Places.{first_place};
 ghost use Rattle.al_overload_label.specs.Ranges.{bounds_checked};
 ghost use Rattle.al_overload_label.specs.RangesSeen.{pair_model};
 ghost use Rattle.al_overload.specs.declared.context.Context.TheVariants as contexts;
 ghost use Rattle.al_overload_prefixes.specs.TextsAt.{bounds_with_at, range_with_at};
-ghost use Rattle.al_query.specs.Asked.{AsksOf, by_name};
+ghost use Rattle.al_query.specs.Asked.{AsksOf, by_some_name};
 ghost use Rattle.al_query.specs.Reads.{FromAnswers};
 ghost use Rattle.al_stmts_ranges.specs.LoopsAt.{after_mark, between, discrete, found_range_model, loop_range_at, loop_range_checked, marked_model, range_with_words, whole, whole_range};
-ghost use Rattle.al_decl_subtypes.specs.SubtypesAt.{discrete_names};
 ghost use Rattle.al_tree_syntax.specs.DeclarationTrees.DiscreteRangeTree.{MarkRange};
 ghost use Rattle.al_overload_term.specs.TermViews.{term_model};
-ghost use Rattle.al_overload_terms_at.specs.TermsAt.{mark_at, range_names, text_names};
+ghost use Rattle.al_overload_terms_at.specs.TermsAt.{mark_at};
 ghost use Rattle.al_overload_types.specs.Leaves.{mark_type};
 ghost use Rattle.al_tree.specs.DeclarationViews.{discrete_range_model, range_model};
 ghost use Rattle.al_tree.specs.ExpressionViews.{expression_model};
@@ -170,7 +169,7 @@ fn single_range<A: Answers>(
 ) -> Result<CheckResult<FoundRange>, NoMemory>
     ensures asked { recorder.new.asked ≡ recorder.old.asked }
     ensures answered { IfOk result (λ range. FromAnswers recorder.old.log recorder.new.log (λ t. map_ok found_range_model range ≡ next (range_with_at t (site_model site.now).place (site_model site.now).packages (site_model site.now).predefined (site_model site.now).own (expression_model expression.now)) (whole_range (first_place (expression_model expression.now))))) }
-    ensures asks { IfOk result (λ _. AsksOf (site_units (site_model site.now)) (by_name (text_names (expression_model expression.now))) recorder.old.log recorder.new.log) }
+    ensures asks { IfOk result (λ _. AsksOf (site_units (site_model site.now)) by_some_name recorder.old.log recorder.new.log) }
 {
     let labeller = site.labeller;
     let (scope, packages) = (site.scope, site.packages);
@@ -186,7 +185,7 @@ fn bounds_range<A: Answers>(
 ) -> Result<CheckResult<FoundRange>, NoMemory>
     ensures asked { recorder.new.asked ≡ recorder.old.asked }
     ensures answered { IfOk result (λ found. FromAnswers recorder.old.log recorder.new.log (λ t. map_ok found_range_model found ≡ map_ok (between None) (pair_judged_at t (site_model site.now) contexts.PairOfBounds [] (range_model range.now)))) }
-    ensures asks { IfOk result (λ _. AsksOf (site_units (site_model site.now)) (by_name (range_names (range_model range.now))) recorder.old.log recorder.new.log) }
+    ensures asks { IfOk result (λ _. AsksOf (site_units (site_model site.now)) by_some_name recorder.old.log recorder.new.log) }
 {
     let types = no_types(site.labeller.alloc)?;
     let pair = pair_judged_at(site, &Context::PairOfBounds, &types, range, recorder)?;
@@ -202,7 +201,7 @@ fn marked_bounds<A: Answers>(
 ) -> Result<CheckResult<((SubtypeView, Bounds), ((Term, Term), Option<Fault>))>, NoMemory>
     ensures asked { recorder.new.asked ≡ recorder.old.asked }
     ensures answered { IfOk result (λ checked. FromAnswers recorder.old.log recorder.new.log (λ t. map_ok marked_model checked ≡ both (next (mark_at t (site_model site.now).place (site_model site.now).packages (expression_model mark.now)) (discrete (first_place (expression_model mark.now)))) (bounds_with_at t (site_model site.now).place (site_model site.now).packages (site_model site.now).predefined (site_model site.now).own (range_model range.now)))) }
-    ensures asks { IfOk result (λ _. AsksOf (site_units (site_model site.now)) (by_name (text_names (expression_model mark.now) ++ range_names (range_model range.now))) recorder.old.log recorder.new.log) }
+    ensures asks { IfOk result (λ _. AsksOf (site_units (site_model site.now)) by_some_name recorder.old.log recorder.new.log) }
 {
     let labeller = site.labeller;
     let (alloc, standard) = (labeller.alloc, &labeller.predefined.standard);
@@ -221,7 +220,7 @@ fn marked_range<A: Answers>(
 ) -> Result<CheckResult<FoundRange>, NoMemory>
     ensures asked { recorder.new.asked ≡ recorder.old.asked }
     ensures answered { IfOk result (λ found. FromAnswers recorder.old.log recorder.new.log (λ t. map_ok found_range_model found ≡ loop_range_checked t (site_model site.now) (MarkRange (expression_model mark.now) (range_model range.now)))) }
-    ensures asks { IfOk result (λ _. AsksOf (site_units (site_model site.now)) (by_name (text_names (expression_model mark.now) ++ range_names (range_model range.now))) recorder.old.log recorder.new.log) }
+    ensures asks { IfOk result (λ _. AsksOf (site_units (site_model site.now)) by_some_name recorder.old.log recorder.new.log) }
 {
     let checked = marked_bounds(site, mark, range, recorder)?;
     let found = after_mark(site.labeller, checked)?;
@@ -235,7 +234,7 @@ fn check_range<A: Answers>(
 ) -> Result<CheckResult<FoundRange>, NoMemory>
     ensures asked { recorder.new.asked ≡ recorder.old.asked }
     ensures answered { IfOk result (λ found. FromAnswers recorder.old.log recorder.new.log (λ t. map_ok found_range_model found ≡ loop_range_checked t (site_model site.now) (discrete_range_model range.now))) }
-    ensures asks { IfOk result (λ _. AsksOf (site_units (site_model site.now)) (by_name (discrete_names (discrete_range_model range.now))) recorder.old.log recorder.new.log) }
+    ensures asks { IfOk result (λ _. AsksOf (site_units (site_model site.now)) by_some_name recorder.old.log recorder.new.log) }
 {
     match range {
         DiscreteRange::Mark(expression) => single_range(site, expression, recorder),
@@ -269,7 +268,7 @@ pub fn loop_range_at<A: Answers>(
 ) -> Result<CheckResult<FoundRange>, NoMemory>
     ensures asked { recorder.new.asked ≡ recorder.old.asked }
     ensures answered { IfOk result (λ found. FromAnswers recorder.old.log recorder.new.log (λ t. (word.new, map_ok found_range_model found) ≡ loop_range_at t (site_model site.now) (discrete_range_model range.now) word.old)) }
-    ensures asks { IfOk result (λ _. AsksOf (site_units (site_model site.now)) (by_name (discrete_names (discrete_range_model range.now))) recorder.old.log recorder.new.log) }
+    ensures asks { IfOk result (λ _. AsksOf (site_units (site_model site.now)) by_some_name recorder.old.log recorder.new.log) }
 {
     let mut checked = check_range(site, range, recorder)?;
     take_range_words(&mut checked, word);

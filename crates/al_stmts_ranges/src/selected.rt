@@ -1,11 +1,10 @@
 // Selectors of case statements, with what chooses of them.
-ghost use Rattle.std.specs.Prelude.{◌≡◌, ◌++◌, IfOk};
+ghost use Rattle.std.specs.Prelude.{◌≡◌, IfOk};
 ghost use Rattle.al_base_fault.specs.Judging.{next, map_ok};
 ghost use Rattle.al_overload_label.specs.RangesSeen.{found_model};
-ghost use Rattle.al_query.specs.Asked.{AsksOf, by_name};
+ghost use Rattle.al_query.specs.Asked.{AsksOf, by_some_name};
 ghost use Rattle.al_query.specs.Reads.{FromAnswers};
-ghost use Rattle.al_stmts_ranges.specs.ChoicesAt.{all_values, choice_at, choice_names, selected_at, values_of, whole_at};
-ghost use Rattle.al_overload_terms_at.specs.TermsAt.{text_names};
+ghost use Rattle.al_stmts_ranges.specs.ChoicesAt.{all_values, choice_at, selected_at, values_of, whole_at};
 ghost use Rattle.al_tree.specs.ExpressionViews.{expression_model};
 ghost use Rattle.al_tree.specs.StatementViews.{choice_model};
 ghost use Rattle.al_overload_values.specs.Surroundings.{site_model, site_units};
@@ -55,7 +54,7 @@ pub fn whole_at<A: Answers>(
 ) -> Result<Bounds, NoMemory>
     ensures asked { recorder.new.asked ≡ recorder.old.asked }
     ensures answered { IfOk result (λ whole. FromAnswers recorder.old.log recorder.new.log (λ t. whole ≡ whole_at t (site_model site.now) (expression_model selector.now))) }
-    ensures asks { IfOk result (λ _. AsksOf (site_units (site_model site.now)) (by_name (text_names (expression_model selector.now))) recorder.old.log recorder.new.log) }
+    ensures asks { IfOk result (λ _. AsksOf (site_units (site_model site.now)) by_some_name recorder.old.log recorder.new.log) }
 {
     let checked = selector_judged_at(site, selector, recorder)?;
     Ok(values_of(&site.labeller.predefined.standard, &checked))
@@ -69,7 +68,7 @@ fn choice_of<A: Answers>(
 ) -> Result<CheckResult<Choice>, NoMemory>
     ensures asked { recorder.new.asked ≡ recorder.old.asked }
     ensures answered { IfOk result (λ checked. FromAnswers recorder.old.log recorder.new.log (λ t. checked ≡ next (map_ok found_model selector.now) (λ x. choice_at t (site_model site.now) x.found (choice_model choice.now)))) }
-    ensures asks { IfOk result (λ _. AsksOf (site_units (site_model site.now)) (by_name (choice_names (choice_model choice.now))) recorder.old.log recorder.new.log) }
+    ensures asks { IfOk result (λ _. AsksOf (site_units (site_model site.now)) by_some_name recorder.old.log recorder.new.log) }
 {
     match selector {
         Ok(selector) => choice_at(site, &selector.found, choice, recorder),
@@ -86,7 +85,7 @@ pub fn selected_at<A: Answers>(
 ) -> Result<CheckResult<Choice>, NoMemory>
     ensures asked { recorder.new.asked ≡ recorder.old.asked }
     ensures answered { IfOk result (λ checked. FromAnswers recorder.old.log recorder.new.log (λ t. checked ≡ selected_at t (site_model site.now) (expression_model selector.now) (choice_model choice.now))) }
-    ensures asks { IfOk result (λ _. AsksOf (site_units (site_model site.now)) (by_name (text_names (expression_model selector.now) ++ choice_names (choice_model choice.now))) recorder.old.log recorder.new.log) }
+    ensures asks { IfOk result (λ _. AsksOf (site_units (site_model site.now)) by_some_name recorder.old.log recorder.new.log) }
 {
     let found = selector_judged_at(site, selector, recorder)?;
     let checked = choice_of(site, &found, choice, recorder);

@@ -272,6 +272,11 @@ pub trait Analyzer {
         ensures asked { asked self.new ≡ asked self.old }
         ensures answered { OnOk result (FromAnswers (log self.old) (log self.new) (λ t. env self.new ≡ (reading t).object_left (env self.old))) };
 
+    /// The fault at the end of a package's declaration, where a private type has no full declaration (ARM 7.3(4)).
+    fn incomplete(&mut self, end: Place) -> Result<Option<Fault>, NoMemory>
+        ensures asked { asked self.new ≡ asked self.old }
+        ensures answered { IfOk result (λ found. FromAnswers (log self.old) (log self.new) (λ t. (env self.new, found) ≡ giving (env self.old) ((reading t).incomplete (env self.old) (place_label end)))) };
+
     /// From here on the private parts of the ancestors are seen (ARM 8.2(5)).
     fn private_entered(&mut self) -> Result<(), NoMemory>
         ensures asked { asked self.new ≡ asked self.old }

@@ -18,5 +18,5 @@ mod text;
 
 pub use analyzer::{Analyzer, CallEffect};
 pub use items::{declared_item, object_item, subprogram_item, task_item};
-pub use regions::close_part;
+pub use regions::{close_part, complete_parts};
 pub use text::{check_after, check_body, check_items, check_part, check_statements};

@@ -3,6 +3,7 @@ ghost use Rattle.std.specs.Prelude.{◌≡◌, IfOk, OnOk};
 ghost use Rattle.al_query.specs.Reads.{FromAnswers};
 ghost use Rattle.al_tree.specs.Lexemes.{place_label};
 ghost use Rattle.al_stmts_walk.specs.Steps.{block_of, broken_by};
+ghost use Rattle.al_stmts_walk.specs.Units.{parts_completed};
 ghost use Rattle.al_stmts_walk.specs.Walking.{closed, region_left};
 ghost use Rattle.al_stmts_walked.specs.WalkedViews.{inside_model, one_model, part_model};
 
@@ -53,6 +54,20 @@ pub fn close_part<R: Analyzer>(
 {
     let missing = analyzer.missing(end)?;
     part.close(missing);
+    Ok(())
+}
+
+/// Both parts of a package up to its end: E302 there where a private type has no full declaration.
+pub fn complete_parts<R: Analyzer>(
+    analyzer: &mut R,
+    part: &mut WalkedPart,
+    end: Place,
+) -> Result<(), NoMemory>
+    ensures asked { R.asked analyzer.new ≡ R.asked analyzer.old }
+    ensures answered { OnOk result (FromAnswers (R.log analyzer.old) (R.log analyzer.new) (λ t. (R.env analyzer.new, part_model part.new) ≡ parts_completed (R.reading t) (R.env analyzer.old, part_model part.old) (place_label end))) }
+{
+    let incomplete = analyzer.incomplete(end)?;
+    part.close(incomplete);
     Ok(())
 }
 

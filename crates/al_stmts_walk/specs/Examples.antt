@@ -163,6 +163,7 @@ toy some_body = record {
   single_task = λ h t. (h, Ok []);
   single_object = λ h l p. (h, Ok []);
   missing = waiting;
+  incomplete = λ h l. None;
   head = λ h s. (([], context_of s) ∷ h, Ok []);
   task_head = λ h n. (([], in_task) ∷ h, Ok []);
   entry_head = λ h n barrier. (([], in_entry) ∷ h, Ok []);

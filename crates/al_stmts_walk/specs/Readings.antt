@@ -85,6 +85,8 @@ pub record Reading (H : Type 0) : Type 0 where
   pub object_entered : H → Label → Label → OperationBodiesTree → Read H (List DeclarationTree)
   pub object_left : H → H
   -- ---- units
+  -- what is wrong at the end of a package's declaration: a private type has no full declaration (ARM 7.3(4))
+  pub incomplete : H → Label → Option Fault
   -- from here on the ancestors' private parts are seen (ARM 8.2(5))
   pub private_entered : H → H
   -- the statements of a package's body, whose frame is that of the unit's elaboration

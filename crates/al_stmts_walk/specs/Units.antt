@@ -8,7 +8,7 @@ use Rattle.al_tree_syntax.specs.UnitTrees.{LibraryItemTree, PackageTree, Package
 use Rattle.al_tree_syntax.specs.UnitTrees.LibraryItemTree.{LibrarySubprogram, LibraryPackage, LibraryBody, LibraryPackageBody, Subunit}
 use Rattle.al_stmts_loops.specs.declared.returns.EnclosingBody.TheVariants as bodies
 use Rattle.al_stmts_walk.specs.Readings.{Reading}
-use Rattle.al_stmts_walk.specs.Steps.{Enclosing, Inside, Part, ended_by, in_body, inside_of, no_part, nothing}
+use Rattle.al_stmts_walk.specs.Steps.{Enclosing, Inside, Part, closed_by, ended_by, in_body, inside_of, no_part, nothing}
 use Rattle.al_stmts_walk.specs.Walking.{body_walked, closed, declared_part, end_of_compound, inside_after, items_walked, part_after, statements_walked}
 
 abbrev pub without_statements : {H : Type 0} → H × Part → H × Inside
@@ -34,9 +34,13 @@ private_walked R h (Some p) = declarations_walked R (R.private_entered h) p.decl
 abbrev pub parts_walked : {H : Type 0} → Reading H → H → PackageTree → H × Part
 parts_walked R h k = let visible = declarations_walked R h k.visible in part_after visible (private_walked R visible.0 k.private_part)
 
+-- both parts up to the end: E302 there where a private type has no full declaration
+abbrev pub parts_completed : {H : Type 0} → Reading H → H × Part → Label → H × Part
+parts_completed R part end = (part.0, closed_by part.1 (R.incomplete part.0 end))
+
 -- a package: what waits at its end is left to its body; the name at its end, E308, counts as a declaration
 abbrev pub package_walked : {H : Type 0} → Reading H → H → PackageTree → H × Inside
-package_walked R h k = let whole = parts_walked R h k in (whole.0, ended_by (inside_of whole.1 nothing) (end_of_compound k.name k.end.end_name))
+package_walked R h k = let whole = parts_completed R (parts_walked R h k) k.end.end in (whole.0, ended_by (inside_of whole.1 nothing) (end_of_compound k.name k.end.end_name))
 
 -- the statements of a package's body, in which there is no return (ARM 6.5(5))
 abbrev pub enclosing_package : Enclosing

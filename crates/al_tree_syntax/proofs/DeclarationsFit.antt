@@ -71,13 +71,14 @@ module _ (w : ℕ) (c : Nested) (d : ℕ) (h : AllFit w c d) where
   components_fit (inl (x, xs)) = max-le (component_fits x) (map_fits (component_from c) (component_nesting w) d component_fits xs)
   components_fit (inr x) = none_fits d
 
-  type_definition_fits : (x : Of c (range_rule ∣ the NullWord ⨾ the RecordWord ∣ opens_at LeftParenthesisWord InEnumerationLiterals ∣ array_rule ∣ opens RecordWord InRecordDefinition)) → type_definition_nesting w (type_definition_from c x) ≤ d
+  type_definition_fits : (x : Of c (range_rule ∣ the NullWord ⨾ the RecordWord ∣ any PrivateWord ∣ opens_at LeftParenthesisWord InEnumerationLiterals ∣ array_rule ∣ opens RecordWord InRecordDefinition)) → type_definition_nesting w (type_definition_from c x) ≤ d
   unfolding type_definition_from construct_at
   type_definition_fits (inl r) = range_fits r
   type_definition_fits (inr (inl x)) = none_fits d
-  type_definition_fits (inr (inr (inl (l, x)))) = h (place InEnumerationLiterals) x
-  type_definition_fits (inr (inr (inr (inl a)))) = array_fits a
-  type_definition_fits (inr (inr (inr (inr x)))) = h (place InRecordDefinition) x
+  type_definition_fits (inr (inr (inl l))) = none_fits d
+  type_definition_fits (inr (inr (inr (inl (l, x))))) = h (place InEnumerationLiterals) x
+  type_definition_fits (inr (inr (inr (inr (inl a))))) = array_fits a
+  type_definition_fits (inr (inr (inr (inr (inr x))))) = h (place InRecordDefinition) x
 
   formals_fit : (x : Of c formals_rule) → formals_nesting w (formals_from c x) ≤ d
   unfolding formals_rule formals_from construct_at

@@ -13,7 +13,7 @@ use Rattle.al_tree_syntax.specs.DeclarationTrees.DiscreteRangeTree.{Bounds, Mark
 use Rattle.al_tree_syntax.specs.DeclarationTrees.ObjectTypeTree.{AnonymousArray, NamedType}
 use Rattle.al_tree_syntax.specs.DeclarationTrees.ObjectFormTree.{NamedNumber, TypedObject}
 use Rattle.al_tree_syntax.specs.DeclarationTrees.ComponentsTree.{NullComponents, SomeComponents}
-use Rattle.al_tree_syntax.specs.DeclarationTrees.TypeDefinitionTree.{ArrayDefinition, EnumerationDefinition, IntegerDefinition, NullRecordDefinition, RecordDefinition}
+use Rattle.al_tree_syntax.specs.DeclarationTrees.TypeDefinitionTree.{ArrayDefinition, EnumerationDefinition, IntegerDefinition, NullRecordDefinition, PrivateDefinition, RecordDefinition}
 use Rattle.al_tree_syntax.specs.DeclarationTrees.SpecificationTree.{FunctionSpecification, ProcedureSpecification}
 use Rattle.al_tree_syntax.specs.DeclarationTrees.ProtectedOperationTree.{EntryDeclaration, ProtectedSubprogram}
 use Rattle.al_tree_syntax.specs.DeclarationTrees.CommonTree.{ObjectDeclaration, PragmaItem, SubtypeDeclaration, TypeDeclaration, UseClause}
@@ -154,9 +154,10 @@ module _ (w : ℕ) (c : Nested) (d : ℕ) (m : Made w c d) where
   unfolding type_definition_from construct_at
   type_definition_made (IntegerDefinition r) h = let x = range_made r h in (inl x.0, λ i. IntegerDefinition (x.1 i))
   type_definition_made NullRecordDefinition h = (inr (inl (tt, tt)), refl)
-  type_definition_made (EnumerationDefinition l n) h = let x = m.made (place InEnumerationLiterals) n h in (inr (inr (inl (l, x.0))), λ i. EnumerationDefinition l (x.1 i))
-  type_definition_made (ArrayDefinition a) h = let x = array_made a h in (inr (inr (inr (inl x.0))), λ i. ArrayDefinition (x.1 i))
-  type_definition_made (RecordDefinition k e) h = let x = m.made (place InRecordDefinition) k e h in (inr (inr (inr (inr x.0))), x.1)
+  type_definition_made (PrivateDefinition l) h = (inr (inr (inl l)), refl)
+  type_definition_made (EnumerationDefinition l n) h = let x = m.made (place InEnumerationLiterals) n h in (inr (inr (inr (inl (l, x.0)))), λ i. EnumerationDefinition l (x.1 i))
+  type_definition_made (ArrayDefinition a) h = let x = array_made a h in (inr (inr (inr (inr (inl x.0)))), λ i. ArrayDefinition (x.1 i))
+  type_definition_made (RecordDefinition k e) h = let x = m.made (place InRecordDefinition) k e h in (inr (inr (inr (inr (inr x.0)))), x.1)
 
   type_made : (t : TypeTree) → type_nesting w t ≤ d → Fiber (type_from c) t
   unfolding type_rule identifier_rule type_from

@@ -114,13 +114,14 @@ module _ (c : Nested) (h : Lexed c) where
   components_same (inl (x, xs)) = λ i. component_same x i ++ map_same (component_from c) component_tokens (lexed c h component_rule) component_same xs i
   components_same (inr x) = refl
 
-  type_definition_same : (x : Of c (range_rule ∣ the NullWord ⨾ the RecordWord ∣ opens_at LeftParenthesisWord InEnumerationLiterals ∣ array_rule ∣ opens RecordWord InRecordDefinition)) → type_definition_tokens (type_definition_from c x) ≡ lexed c h (range_rule ∣ the NullWord ⨾ the RecordWord ∣ opens_at LeftParenthesisWord InEnumerationLiterals ∣ array_rule ∣ opens RecordWord InRecordDefinition) x
+  type_definition_same : (x : Of c (range_rule ∣ the NullWord ⨾ the RecordWord ∣ any PrivateWord ∣ opens_at LeftParenthesisWord InEnumerationLiterals ∣ array_rule ∣ opens RecordWord InRecordDefinition)) → type_definition_tokens (type_definition_from c x) ≡ lexed c h (range_rule ∣ the NullWord ⨾ the RecordWord ∣ any PrivateWord ∣ opens_at LeftParenthesisWord InEnumerationLiterals ∣ array_rule ∣ opens RecordWord InRecordDefinition) x
   unfolding type_definition_from construct_at
   type_definition_same (inl r) = range_same r
   type_definition_same (inr (inl x)) = refl
-  type_definition_same (inr (inr (inl (l, x)))) = λ i. labelled symbols.LeftParenthesis l ∷ h.same (place InEnumerationLiterals) x i
-  type_definition_same (inr (inr (inr (inl a)))) = array_same a
-  type_definition_same (inr (inr (inr (inr x)))) = h.same (place InRecordDefinition) x
+  type_definition_same (inr (inr (inl l))) = refl
+  type_definition_same (inr (inr (inr (inl (l, x))))) = λ i. labelled symbols.LeftParenthesis l ∷ h.same (place InEnumerationLiterals) x i
+  type_definition_same (inr (inr (inr (inr (inl a))))) = array_same a
+  type_definition_same (inr (inr (inr (inr (inr x))))) = h.same (place InRecordDefinition) x
 
   type_same : (x : Of c type_rule) → type_tokens (type_from c x) ≡ lexed c h type_rule x
   unfolding type_rule identifier_rule type_from

@@ -252,6 +252,19 @@ statements =
     ∷ word Semicolon ∷ name ∷ word Colon ∷ word Begin ∷ word Null ∷ word Semicolon ∷ word End ∷ name ∷ word Semicolon
     ∷ word End ∷ name ∷ word Semicolon ∷ [])
 
+-- package P is type T is private; function F return T; private type T is null record; end P;
+private_type : List Lexeme
+private_type =
+    (word Package ∷ name ∷ word Is ∷ word «Type» ∷ name ∷ word Is ∷ word Private ∷ word Semicolon ∷ word Function ∷ name
+    ∷ word Return ∷ name ∷ word Semicolon ∷ word Private ∷ word «Type» ∷ name ∷ word Is ∷ word Null ∷ word Record
+    ∷ word Semicolon ∷ word End ∷ name ∷ word Semicolon ∷ [])
+
+-- package P is type T is private record null; end record; end P;
+private_record : List Lexeme
+private_record =
+    (word Package ∷ name ∷ word Is ∷ word «Type» ∷ name ∷ word Is ∷ word Private ∷ word Record ∷ word Null ∷ word Semicolon
+    ∷ word End ∷ word Record ∷ word Semicolon ∷ word End ∷ name ∷ word Semicolon ∷ [])
+
 -- private procedure A.B;
 private_unit : List Lexeme
 private_unit = (word Private ∷ word Procedure ∷ name ∷ word Dot ∷ name ∷ word Semicolon ∷ [])
@@ -283,8 +296,9 @@ sentences_have_none :
     × (fault bodies ≡ None)
     × (fault statements ≡ None)
     × (fault private_unit ≡ None)
-unfolding fault fault_of times turns grammar construct_at inside nowhere word name number_literal string repeated smallest no_last_semicolon no_mixing no_mixing_short short_forms parentheses_63 parentheses_64 body_in_63 body_in_64 stub_in_64 condition_in_63 if_in_63 array_in_64 label_in_64 if_in_64 protected_in_64 task_body_in_64 record_in_64 procedure_in_64 qualified_ends qualified_no_statement attribute_goes_on stub_of_unit declarations bodies statements private_unit private_body no_statement nothing identifier_rule identifiers_rule compound_name_rule compound_names_rule selection_rule designator_rule name_rest_rule parentheses_rule name_rule primary_rule factor_rule multiplying_rule term_rule adding_rule simple_expression_rule relational_rule membership_rule relation_rule and_rule or_rule xor_rule expression_rule expressions_rule range_rule discrete_range_rule use_rule pragma_rule subtype_indication_rule array_rule initial_rule typed_rule object_rule component_rule type_rule subtype_rule formal_rule formals_rule specification_rule aspect_rule task_rule common_rule declaration_rule subprogram_rule item_rule operation_rule element_rule protected_rule operation_body_rule protected_body_rule loop_rule block_rule named_rule return_rule exit_rule delay_rule statement_rule statements_rule branch_rule if_rule choice_rule alternative_rule case_rule plain_loop_rule while_rule for_rule plain_block_rule declare_rule subprogram_body_rule package_rule package_body_rule context_rule library_item_rule unit_rule
-sentences_have_none = (refl, refl, refl, refl, refl, refl, refl, refl, refl, refl, refl)
+    × (fault private_type ≡ None)
+unfolding fault fault_of times turns grammar construct_at inside nowhere word name number_literal string repeated smallest no_last_semicolon no_mixing no_mixing_short short_forms parentheses_63 parentheses_64 body_in_63 body_in_64 stub_in_64 condition_in_63 if_in_63 array_in_64 label_in_64 if_in_64 protected_in_64 task_body_in_64 record_in_64 procedure_in_64 qualified_ends qualified_no_statement attribute_goes_on stub_of_unit declarations bodies statements private_unit private_body private_type private_record no_statement nothing identifier_rule identifiers_rule compound_name_rule compound_names_rule selection_rule designator_rule name_rest_rule parentheses_rule name_rule primary_rule factor_rule multiplying_rule term_rule adding_rule simple_expression_rule relational_rule membership_rule relation_rule and_rule or_rule xor_rule expression_rule expressions_rule range_rule discrete_range_rule use_rule pragma_rule subtype_indication_rule array_rule initial_rule typed_rule object_rule component_rule type_rule subtype_rule formal_rule formals_rule specification_rule aspect_rule task_rule common_rule declaration_rule subprogram_rule item_rule operation_rule element_rule protected_rule operation_body_rule protected_body_rule loop_rule block_rule named_rule return_rule exit_rule delay_rule statement_rule statements_rule branch_rule if_rule choice_rule alternative_rule case_rule plain_loop_rule while_rule for_rule plain_block_rule declare_rule subprogram_body_rule package_rule package_body_rule context_rule library_item_rule unit_rule
+sentences_have_none = (refl, refl, refl, refl, refl, refl, refl, refl, refl, refl, refl, refl)
 
 -- Where the fault is.
 faults_have_places :
@@ -305,7 +319,8 @@ faults_have_places :
     × (fault qualified_no_statement ≡ Some 6)  -- at `(`
     × (fault stub_of_unit ≡ Some 3)  -- at `separate`
     × (fault private_body ≡ Some 5)  -- at `is`
+    × (fault private_record ≡ Some 7)  -- at `record`
     × (fault no_statement ≡ Some 4)  -- at `end`
     × (fault nothing ≡ Some 0)  -- at the end
-unfolding fault fault_of times turns grammar construct_at inside nowhere word name number_literal string repeated smallest no_last_semicolon no_mixing no_mixing_short short_forms parentheses_63 parentheses_64 body_in_63 body_in_64 stub_in_64 condition_in_63 if_in_63 array_in_64 label_in_64 if_in_64 protected_in_64 task_body_in_64 record_in_64 procedure_in_64 qualified_ends qualified_no_statement attribute_goes_on stub_of_unit declarations bodies statements private_unit private_body no_statement nothing identifier_rule identifiers_rule compound_name_rule compound_names_rule selection_rule designator_rule name_rest_rule parentheses_rule name_rule primary_rule factor_rule multiplying_rule term_rule adding_rule simple_expression_rule relational_rule membership_rule relation_rule and_rule or_rule xor_rule expression_rule expressions_rule range_rule discrete_range_rule use_rule pragma_rule subtype_indication_rule array_rule initial_rule typed_rule object_rule component_rule type_rule subtype_rule formal_rule formals_rule specification_rule aspect_rule task_rule common_rule declaration_rule subprogram_rule item_rule operation_rule element_rule protected_rule operation_body_rule protected_body_rule loop_rule block_rule named_rule return_rule exit_rule delay_rule statement_rule statements_rule branch_rule if_rule choice_rule alternative_rule case_rule plain_loop_rule while_rule for_rule plain_block_rule declare_rule subprogram_body_rule package_rule package_body_rule context_rule library_item_rule unit_rule
-faults_have_places = (refl, refl, refl, refl, refl, refl, refl, refl, refl, refl, refl, refl, refl, refl, refl, refl, refl, refl, refl)
+unfolding fault fault_of times turns grammar construct_at inside nowhere word name number_literal string repeated smallest no_last_semicolon no_mixing no_mixing_short short_forms parentheses_63 parentheses_64 body_in_63 body_in_64 stub_in_64 condition_in_63 if_in_63 array_in_64 label_in_64 if_in_64 protected_in_64 task_body_in_64 record_in_64 procedure_in_64 qualified_ends qualified_no_statement attribute_goes_on stub_of_unit declarations bodies statements private_unit private_body private_type private_record no_statement nothing identifier_rule identifiers_rule compound_name_rule compound_names_rule selection_rule designator_rule name_rest_rule parentheses_rule name_rule primary_rule factor_rule multiplying_rule term_rule adding_rule simple_expression_rule relational_rule membership_rule relation_rule and_rule or_rule xor_rule expression_rule expressions_rule range_rule discrete_range_rule use_rule pragma_rule subtype_indication_rule array_rule initial_rule typed_rule object_rule component_rule type_rule subtype_rule formal_rule formals_rule specification_rule aspect_rule task_rule common_rule declaration_rule subprogram_rule item_rule operation_rule element_rule protected_rule operation_body_rule protected_body_rule loop_rule block_rule named_rule return_rule exit_rule delay_rule statement_rule statements_rule branch_rule if_rule choice_rule alternative_rule case_rule plain_loop_rule while_rule for_rule plain_block_rule declare_rule subprogram_body_rule package_rule package_body_rule context_rule library_item_rule unit_rule
+faults_have_places = (refl, refl, refl, refl, refl, refl, refl, refl, refl, refl, refl, refl, refl, refl, refl, refl, refl, refl, refl, refl)

@@ -21,7 +21,7 @@ use Rattle.al_tree_syntax.specs.DeclarationTrees.DiscreteRangeTree.{Bounds, Mark
 use Rattle.al_tree_syntax.specs.DeclarationTrees.ObjectTypeTree.{AnonymousArray, NamedType}
 use Rattle.al_tree_syntax.specs.DeclarationTrees.ObjectFormTree.{NamedNumber, TypedObject}
 use Rattle.al_tree_syntax.specs.DeclarationTrees.ComponentsTree.{NullComponents, SomeComponents}
-use Rattle.al_tree_syntax.specs.DeclarationTrees.TypeDefinitionTree.{ArrayDefinition, EnumerationDefinition, IntegerDefinition, NullRecordDefinition, RecordDefinition}
+use Rattle.al_tree_syntax.specs.DeclarationTrees.TypeDefinitionTree.{ArrayDefinition, EnumerationDefinition, IntegerDefinition, NullRecordDefinition, PrivateDefinition, RecordDefinition}
 use Rattle.al_tree_syntax.specs.DeclarationTrees.SpecificationTree.{FunctionSpecification, ProcedureSpecification}
 use Rattle.al_tree_syntax.specs.DeclarationTrees.ProtectedOperationTree.{EntryDeclaration, ProtectedSubprogram}
 use Rattle.al_tree_syntax.specs.DeclarationTrees.CommonTree.{ObjectDeclaration, PragmaItem, SubtypeDeclaration, TypeDeclaration, UseClause}
@@ -181,6 +181,7 @@ module _ (w : ℕ) where
   type_definition_heavy : (t : TypeDefinitionTree) → type_definition_nesting w t ≤ heavy w (type_definition_tokens t)
   type_definition_heavy (IntegerDefinition r) = range_heavy r
   type_definition_heavy NullRecordDefinition = none w _
+  type_definition_heavy (PrivateDefinition l) = none w _
   type_definition_heavy (EnumerationDefinition l i) = one_here w _ _ _
   type_definition_heavy (ArrayDefinition a) = array_heavy a
   type_definition_heavy (RecordDefinition c l) = opened_word w _ _ refl (fro w _ _ (components_heavy c))

@@ -70,6 +70,8 @@ pub data ComponentsTree : Type 0 where
 pub data TypeDefinitionTree : Type 0 where
   IntegerDefinition : RangeTree → TypeDefinitionTree
   NullRecordDefinition : TypeDefinitionTree
+  -- private (ARM 7.3)
+  PrivateDefinition : Label → TypeDefinitionTree
   EnumerationDefinition : Label → IdentifiersTree → TypeDefinitionTree
   ArrayDefinition : ArrayTree → TypeDefinitionTree
   RecordDefinition : ComponentsTree → Label → TypeDefinitionTree
@@ -232,6 +234,7 @@ components_tokens (SomeComponents c cs) = component_tokens c ++ each component_t
 abbrev pub type_definition_tokens : TypeDefinitionTree → List Lexeme
 type_definition_tokens (IntegerDefinition r) = range_tokens r
 type_definition_tokens NullRecordDefinition = word symbols.Null ∷ word symbols.Record ∷ []
+type_definition_tokens (PrivateDefinition l) = labelled symbols.Private l ∷ []
 type_definition_tokens (EnumerationDefinition l i) = labelled symbols.LeftParenthesis l ∷ (identifiers_tokens i ++ word symbols.RightParenthesis ∷ [])
 type_definition_tokens (ArrayDefinition a) = array_tokens a
 type_definition_tokens (RecordDefinition c l) = word symbols.Record ∷ (components_tokens c ++ labelled symbols.End l ∷ word symbols.Record ∷ [])

@@ -42,7 +42,7 @@ component_rule = identifiers_rule ⨾ the Colon ⨾ subtype_indication_rule ⨾ 
 unfoldable pub type_rule : Rule
 type_rule =
     the «Type» ⨾ identifier_rule ⨾ the Is
-    ⨾ (range_rule ∣ the Null ⨾ the Record ∣ opens_at LeftParenthesis EnumerationLiterals ∣ array_rule ∣ opens Record RecordDefinition)
+    ⨾ (range_rule ∣ the Null ⨾ the Record ∣ any Private ∣ opens_at LeftParenthesis EnumerationLiterals ∣ array_rule ∣ opens Record RecordDefinition)
     ⨾ the Semicolon
 
 -- subtype declaration (ARM 3.2.2)

@@ -15,7 +15,7 @@ use Rattle.al_tree_syntax.specs.DeclarationTrees.DiscreteRangeTree.{Bounds, Mark
 use Rattle.al_tree_syntax.specs.DeclarationTrees.ObjectTypeTree.{AnonymousArray, NamedType}
 use Rattle.al_tree_syntax.specs.DeclarationTrees.ObjectFormTree.{NamedNumber, TypedObject}
 use Rattle.al_tree_syntax.specs.DeclarationTrees.ComponentsTree.{NullComponents, SomeComponents}
-use Rattle.al_tree_syntax.specs.DeclarationTrees.TypeDefinitionTree.{ArrayDefinition, EnumerationDefinition, IntegerDefinition, NullRecordDefinition, RecordDefinition}
+use Rattle.al_tree_syntax.specs.DeclarationTrees.TypeDefinitionTree.{ArrayDefinition, EnumerationDefinition, IntegerDefinition, NullRecordDefinition, PrivateDefinition, RecordDefinition}
 use Rattle.al_tree_syntax.specs.DeclarationTrees.SpecificationTree.{FunctionSpecification, ProcedureSpecification}
 use Rattle.al_tree_syntax.specs.DeclarationTrees.ProtectedOperationTree.{EntryDeclaration, ProtectedSubprogram}
 use Rattle.al_tree_syntax.specs.DeclarationTrees.CommonTree.{ObjectDeclaration, PragmaItem, SubtypeDeclaration, TypeDeclaration, UseClause}
@@ -97,13 +97,14 @@ module _ (c : Nested) where
   components_from (inl (x, xs)) = SomeComponents (component_from x) (map component_from xs)
   components_from (inr x) = NullComponents
 
-  unfoldable pub type_definition_from : Of c (range_rule ∣ the Null ⨾ the Record ∣ opens_at LeftParenthesis InEnumerationLiterals ∣ array_rule ∣ opens Record InRecordDefinition) → TypeDefinitionTree
+  unfoldable pub type_definition_from : Of c (range_rule ∣ the Null ⨾ the Record ∣ any Private ∣ opens_at LeftParenthesis InEnumerationLiterals ∣ array_rule ∣ opens Record InRecordDefinition) → TypeDefinitionTree
   unfolding construct_at
   type_definition_from (inl r) = IntegerDefinition (range_from r)
   type_definition_from (inr (inl x)) = NullRecordDefinition
-  type_definition_from (inr (inr (inl (l, x)))) = EnumerationDefinition l (c.from (place InEnumerationLiterals) x)
-  type_definition_from (inr (inr (inr (inl a)))) = ArrayDefinition (array_from a)
-  type_definition_from (inr (inr (inr (inr x)))) = c.from (place InRecordDefinition) x
+  type_definition_from (inr (inr (inl l))) = PrivateDefinition l
+  type_definition_from (inr (inr (inr (inl (l, x))))) = EnumerationDefinition l (c.from (place InEnumerationLiterals) x)
+  type_definition_from (inr (inr (inr (inr (inl a))))) = ArrayDefinition (array_from a)
+  type_definition_from (inr (inr (inr (inr (inr x))))) = c.from (place InRecordDefinition) x
 
   unfoldable pub type_from : Of c type_rule → TypeTree
   unfolding type_rule identifier_rule

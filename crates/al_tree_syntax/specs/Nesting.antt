@@ -12,7 +12,7 @@ use Rattle.al_tree_syntax.specs.DeclarationTrees.DiscreteRangeTree.{Bounds, Mark
 use Rattle.al_tree_syntax.specs.DeclarationTrees.ObjectTypeTree.{AnonymousArray, NamedType}
 use Rattle.al_tree_syntax.specs.DeclarationTrees.ObjectFormTree.{NamedNumber, TypedObject}
 use Rattle.al_tree_syntax.specs.DeclarationTrees.ComponentsTree.{NullComponents, SomeComponents}
-use Rattle.al_tree_syntax.specs.DeclarationTrees.TypeDefinitionTree.{ArrayDefinition, EnumerationDefinition, IntegerDefinition, NullRecordDefinition, RecordDefinition}
+use Rattle.al_tree_syntax.specs.DeclarationTrees.TypeDefinitionTree.{ArrayDefinition, EnumerationDefinition, IntegerDefinition, NullRecordDefinition, PrivateDefinition, RecordDefinition}
 use Rattle.al_tree_syntax.specs.DeclarationTrees.SpecificationTree.{FunctionSpecification, ProcedureSpecification}
 use Rattle.al_tree_syntax.specs.DeclarationTrees.ProtectedOperationTree.{EntryDeclaration, ProtectedSubprogram}
 use Rattle.al_tree_syntax.specs.DeclarationTrees.CommonTree.{ObjectDeclaration, PragmaItem, SubtypeDeclaration, TypeDeclaration, UseClause}
@@ -136,6 +136,7 @@ module _ (w : ℕ) where
   abbrev pub type_definition_nesting : TypeDefinitionTree → ℕ
   type_definition_nesting (IntegerDefinition r) = range_nesting r
   type_definition_nesting NullRecordDefinition = 0
+  type_definition_nesting (PrivateDefinition l) = 0
   type_definition_nesting (EnumerationDefinition l i) = 1
   type_definition_nesting (ArrayDefinition a) = array_nesting a
   type_definition_nesting (RecordDefinition c l) = suc (components_nesting c)

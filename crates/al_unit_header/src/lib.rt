@@ -8,6 +8,8 @@ mod laws;
 mod names;
 mod package;
 mod stubs;
+mod types;
 
 pub use header::header_of;
 pub use laws::bodies_are_needed;
+pub use types::private_types;

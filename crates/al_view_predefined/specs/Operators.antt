@@ -4,7 +4,7 @@ use Rattle.al_base.specs.declared.unit_key.UnitKind.TheVariants.{Decl}
 use Rattle.al_view.specs.declared.symbol.Symbol.{Symbol}
 use Rattle.al_view.specs.declared.types.Subtype.{Subtype}
 use Rattle.al_view.specs.declared.types.TypeDefinition.{TypeDefinition}
-use Rattle.al_view.specs.declared.types.TypeDefinition.TheVariants.{Integer, Enumeration, Array, Record}
+use Rattle.al_view.specs.declared.types.TypeDefinition.TheVariants.{Integer, Enumeration, Array, Record, Private}
 use Rattle.al_view.specs.declared.types.TypeView.{TypeView}
 use Rattle.al_view_predefined.specs.declared.operators.OperatorProfile.{OperatorProfile}
 use Rattle.al_view_predefined.specs.declared.operators.OperatorProfile.TheVariants.{Unary, Binary, Power, Later, Relation}
@@ -68,6 +68,7 @@ operators_of (Integer bounds) = relations ∷ arithmetic
 operators_of (Enumeration names) = relations ∷ []
 operators_of (Array index component) = equality ∷ []
 operators_of (Record components) = equality ∷ []
+operators_of Private = equality ∷ []
 operators_of _ = []
 
 -- what a predefined package declares first under a name

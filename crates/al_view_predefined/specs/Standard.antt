@@ -1,9 +1,9 @@
 -- What the predefined package Standard declares (ARM A.1).
 use Rattle.std.specs.Prelude.{ℕ, List, [], ◌∷◌, codes, Some, pos, negsuc}
 use Rattle.al_view.specs.declared.symbol.Symbol.{Symbol}
-use Rattle.al_view.specs.declared.types.Layout.TheVariants.{Scalar}
+use Rattle.al_view.specs.declared.types.Layout.TheVariants.{Scalar, Words}
 use Rattle.al_view.specs.declared.types.TypeDefinition.{TypeDefinition}
-use Rattle.al_view.specs.declared.types.TypeDefinition.TheVariants.{Integer, Enumeration}
+use Rattle.al_view.specs.declared.types.TypeDefinition.TheVariants.{Integer, Enumeration, Private}
 use Rattle.al_view.specs.declared.types.TypeView.{TypeView}
 use Rattle.al_view.specs.declared.view.ViewKind.{ViewKind}
 use Rattle.al_view.specs.declared.view.ViewKind.TheVariants.{OfType, OfSubtype, OfLiteral}
@@ -14,6 +14,10 @@ use Rattle.al_view_predefined.specs.Operators.{operators_of, logical, standard_s
 -- a scalar type alone
 abbrev pub scalar : Symbol → TypeDefinition → List TypeView
 scalar t definition = record { symbol = t; definition = definition; layout = Scalar } ∷ []
+
+-- the partial view of a private type, of whose values the words alone are known (ARM 7.3)
+abbrev pub private_type : Symbol → ℕ → List TypeView
+private_type t words = record { symbol = t; definition = Private; layout = Words words } ∷ []
 
 abbrev pub boolean : Symbol
 boolean = standard_symbol (codes "boolean")

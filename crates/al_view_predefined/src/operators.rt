@@ -429,7 +429,7 @@ pub fn declare_logical(
 }
 
 /// The operators that the declaration of a type declares, after what is declared (ARM 3.2.3(6)); of Boolean but the
-/// logical ones. Their numbers count their homonyms there and in what the unit declares elsewhere.
+/// logical ones, of a private type those of its partial view (ARM 7.3(15)). Their numbers count their homonyms there and in what the unit declares elsewhere.
 pub fn declare_operators(
     alloc: Global,
     elsewhere: &Interface,
@@ -453,12 +453,12 @@ pub fn declare_operators(
                 alloc, elsewhere, interface, of_type, types, relation, &RELATIONS,
             )?;
         }
-        TypeDefinition::Array { .. } | TypeDefinition::Record(_) => {
+        TypeDefinition::Array { .. } | TypeDefinition::Record(_) | TypeDefinition::Private => {
             declare_group(
                 alloc, elsewhere, interface, of_type, types, relation, &EQUALITY,
             )?;
         }
-        TypeDefinition::Time | TypeDefinition::Private => {}
+        TypeDefinition::Time => {}
     }
     Ok(())
 }

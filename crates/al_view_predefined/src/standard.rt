@@ -2,7 +2,7 @@
 ghost use Rattle.std.specs.Prelude.{◌≡◌, [], codes, IfOk, OnOk, Some, pos};
 ghost use Rattle.al_view.specs.Interfaces.{with_view};
 ghost use Rattle.al_view_predefined.specs.Operators.{logical, operators_of, with_operators};
-ghost use Rattle.al_view_predefined.specs.Standard.{boolean_definition, boolean_literals, integer, integer_definition, integers_from, literal, of_type, scalar, standard, with_boolean, with_integer, with_subtypes};
+ghost use Rattle.al_view_predefined.specs.Standard.{boolean_definition, boolean_literals, integer, integer_definition, integers_from, literal, of_type, private_type, scalar, standard, with_boolean, with_integer, with_subtypes};
 
 use crate::operators::{
     declare_first_operators, declare_integer_operators, declare_logical, standard_symbol,
@@ -41,6 +41,21 @@ pub fn scalar(alloc: Global, symbol: &Symbol, definition: TypeDefinition) -> Res
         symbol,
         definition,
         layout: Layout::Scalar,
+    })?;
+    let types = Types::new(alloc, types)?;
+    Ok(types)
+}
+
+/// The partial view of a private type whose values take so many words (ARM 7.3).
+pub fn private_type(alloc: Global, symbol: &Symbol, words: u32) -> Result<Types, NoMemory>
+    ensures { IfOk result (λ types. types ≡ private_type symbol.now words) }
+{
+    let symbol = symbol.copy(alloc)?;
+    let mut types = Seq::empty(alloc);
+    types.push(TypeView {
+        symbol,
+        definition: TypeDefinition::Private,
+        layout: Layout::Words(words),
     })?;
     let types = Types::new(alloc, types)?;
     Ok(types)

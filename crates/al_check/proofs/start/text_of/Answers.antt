@@ -11,5 +11,5 @@ one_memory alloc = ap (λ (u : Unit {0}). let g : Global = record { memory = rec
 
 pub returns : goal.returns
 returns c =
-    let make = λ (alloc : Global) (p : Predefined). let text : UnitText = record { labeller = record { alloc = alloc; predefined = p; own = None }; packages = c.args.packages; own = c.args.own } in text in
+    let make = λ (alloc : Global) (p : Predefined). let text : UnitText = record { labeller = record { alloc = alloc; predefined = p; own = None }; packages = c.args.packages; own = c.args.own; hidden = c.args.hidden; private_part = c.args.private_part } in text in
     ap (λ (a : Global). make a c.in_ok-predefined.predefined) (one_memory c.args.alloc) ∙ ap (λ (p : Predefined). make the_memory p) c.in_ok-predefined.ensures

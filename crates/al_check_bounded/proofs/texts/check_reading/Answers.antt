@@ -13,12 +13,12 @@ use Rattle.al_check_bounded.proofs.texts.check_reading.Goals as goal
 pub returns-in-Sentence-clause-checked : goal.returns-in-Sentence-clause-checked
 returns-in-Sentence-clause-checked g c =
     IfOk-weaker c.check_within.result _ _ (λ v k.
-    sentence g.F.UnitFinder.units g.F.UnitFinder.verdict c.args.unit.now c.args.text.now c.check_within.new.recorder.log (checked_model v) c.requires.text (unit_model c.in-Sentence.tree) (sym c.requires.reading ∙ ap reading_model c.in-Sentence.is) k) c.check_within.ensures.checked
+    sentence g.F.UnitFinder.units g.F.UnitFinder.names g.F.UnitFinder.verdict c.args.unit.now c.args.text.now c.check_within.new.recorder.log (checked_model v) c.requires.text (unit_model c.in-Sentence.tree) (sym c.requires.reading ∙ ap reading_model c.in-Sentence.is) k) c.check_within.ensures.checked
 
 pub returns-in-Fails-clause-checked : goal.returns-in-Fails-clause-checked
 returns-in-Fails-clause-checked g c =
     IfOk-weaker c.not_yet.result _ _ (λ v e.
-    fails g.F.UnitFinder.units g.F.UnitFinder.verdict c.args.unit.now c.args.text.now c.args.recorder.now.log (checked_model v) c.faults_are_reported.ensures c.requires.log e c.requires.text _ _ (sym c.requires.reading ∙ ap reading_model c.in-Fails.is)) c.not_yet.ensures
+    fails g.F.UnitFinder.units g.F.UnitFinder.names g.F.UnitFinder.verdict c.args.unit.now c.args.text.now c.args.recorder.now.log (checked_model v) c.faults_are_reported.ensures c.requires.log e c.requires.text _ _ (sym c.requires.reading ∙ ap reading_model c.in-Fails.is)) c.not_yet.ensures
 
 pub returns-in-Fails-clause-others : goal.returns-in-Fails-clause-others
 returns-in-Fails-clause-others g c = IfOk-weaker c.not_yet.result _ _ (λ v e. subst (λ (l : Log). AsksOthers c.args.unit.now l) (sym c.requires.log) refl) c.not_yet.ensures

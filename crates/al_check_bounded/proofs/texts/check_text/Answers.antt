@@ -11,7 +11,7 @@ use Rattle.al_check_bounded.proofs.texts.check_text.Goals as goal
 pub returns-then-not-fits-clause-checked : goal.returns-then-not-fits-clause-checked
 returns-then-not-fits-clause-checked g c =
     IfOk-weaker c.not_yet.result _ _ (λ v e.
-    too_long g.F.UnitFinder.units g.F.UnitFinder.verdict c.args.unit.now c.args.text.now c.args.recorder.now.log (checked_model v) c.faults_are_reported.ensures c.requires e (sym c.fits.ensures ∙ c.if-not-fits.true)) c.not_yet.ensures
+    too_long g.F.UnitFinder.units g.F.UnitFinder.names g.F.UnitFinder.verdict c.args.unit.now c.args.text.now c.args.recorder.now.log (checked_model v) c.faults_are_reported.ensures c.requires e (sym c.fits.ensures ∙ c.if-not-fits.true)) c.not_yet.ensures
 
 pub returns-then-not-fits-clause-others : goal.returns-then-not-fits-clause-others
 returns-then-not-fits-clause-others g c = IfOk-weaker c.not_yet.result _ _ (λ v e. subst (λ (l : Log). AsksOthers c.args.unit.now l) (sym c.requires) refl) c.not_yet.ensures

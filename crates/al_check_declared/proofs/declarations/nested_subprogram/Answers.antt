@@ -20,7 +20,7 @@ returns-clause-answered g c =
           ∙ effect_same s c.check_subprogram.new.env _
           ∙ ap (effect_settled s)
           (answered.1
-          ∙ ap (λ (ps : List UnitKey). subprogram_checked (parts_read t ps l.predefined l.own) t s.env c.first_line.result text) c.as_slice-packages.ensures
-          ∙ ap (λ (n : ℕ). subprogram_checked (parts_read t s.unit.packages l.predefined l.own) t s.env n text) c.first_line.ensures),
+          ∙ ap (λ (ps : List UnitKey). subprogram_checked (parts_read t ps l.predefined l.own s.unit.own.unit) t s.env c.first_line.result text) c.as_slice-packages.ensures
+          ∙ ap (λ (n : ℕ). subprogram_checked (parts_read t s.unit.packages l.predefined l.own s.unit.own.unit) t s.env n text) c.first_line.ensures),
     ))
     c.settle_effect.ensures

@@ -1,9 +1,10 @@
-use Rattle.std.proofs.Common.{List, ap, ◌∙◌}
+use Rattle.std.proofs.Common.{ℕ, List, Option, ap, ◌∙◌}
 use Rattle.al_check_here.specs.Faulty.{effect_settled}
 use Rattle.al_decl_ada.specs.AdaPartReading.{parts_read}
 use Rattle.al_base.specs.declared.unit_key.UnitKey.{UnitKey}
 use Rattle.al_decl_item.specs.Items.{type_checked}
 use Rattle.al_tree.specs.DeclarationViews.{type_model}
+use Rattle.al_check_declared.specs.DeclarationsHere.{private_words}
 use Rattle.al_check_declared.proofs.Composed.{effect_same, if_ok}
 use Rattle.al_check_declared.proofs.declarations.type_declaration.Goals as goal
 
@@ -17,6 +18,8 @@ returns-clause-answered g c =
       answered.0,
       settled
           ∙ effect_same s c.check_type_item.new.env _
-          ∙ ap (effect_settled s) (answered.1 ∙ ap (λ (ps : List UnitKey). type_checked (parts_read t ps l.predefined l.own) t s.env (type_model c.args.declaration.now)) c.as_slice-packages.ensures),
+          ∙ ap (effect_settled s) (answered.1
+          ∙ ap (λ (ps : List UnitKey). type_checked (parts_read t ps l.predefined l.own s.unit.own.unit) t s.env c.private_words-words.result (type_model c.args.declaration.now)) c.as_slice-packages.ensures
+          ∙ ap (λ (w : Option ℕ). type_checked (parts_read t s.unit.packages l.predefined l.own s.unit.own.unit) t s.env w (type_model c.args.declaration.now)) (c.private_words-words.ensures ∙ ap (private_words s) c.as_slice.ensures)),
     ))
     c.settle_effect.ensures

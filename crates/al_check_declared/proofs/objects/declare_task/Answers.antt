@@ -17,6 +17,6 @@ returns-clause-answered g c =
       answered.0,
       settled
           ∙ effect_same s c.check_task.new.env _
-          ∙ ap (effect_settled s) (answered.1 ∙ ap (λ (ps : List UnitKey). task_checked (parts_read t ps l.predefined l.own) t s.env (task_model c.args.task.now)) c.as_slice-packages.ensures),
+          ∙ ap (effect_settled s) (answered.1 ∙ ap (λ (ps : List UnitKey). task_checked (parts_read t ps l.predefined l.own s.unit.own.unit) t s.env (task_model c.args.task.now)) c.as_slice-packages.ensures),
     ))
     c.settle_effect.ensures

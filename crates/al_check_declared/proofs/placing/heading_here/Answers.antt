@@ -15,7 +15,7 @@ returns-clause-answered g c =
     if_ok c.heading_at.result _ _
     (λ heading answered t h.
     let read = answered t h in
-    (read.0, read.1 ∙ ap (λ (ps : List UnitKey). heading_read (parts_read t ps l.predefined l.own) s.env.scope (specification_model c.args.specification.now)) c.as_slice-packages.ensures))
+    (read.0, read.1 ∙ ap (λ (ps : List UnitKey). heading_read (parts_read t ps l.predefined l.own s.unit.own.unit) s.env.scope (specification_model c.args.specification.now)) c.as_slice-packages.ensures))
     c.heading_at.ensures.answered
 
 pub returns-clause-state : goal.returns-clause-state

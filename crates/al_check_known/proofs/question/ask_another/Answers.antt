@@ -1,7 +1,7 @@
 use Rattle.std.proofs.Common.{◌∙◌, ap, sym}
 use Rattle.al_base.specs.declared.unit_key.UnitKey.{UnitKey}
 use Rattle.al_query.specs.declared.query.Query.TheVariants.{Of}
-use Rattle.al_check_known.proofs.Knowing.{asked-other, nothing-named}
+use Rattle.al_check_known.proofs.Knowing.{asked-other, nothing-named, nothing-told}
 use Rattle.al_check_known.proofs.question.ask_another.Goals as goal
 
 pub returns-clause-answered : goal.returns-clause-answered
@@ -12,3 +12,6 @@ returns-clause-answered g c t h =
 
 pub returns-then-is_unit-clause-named : goal.returns-then-is_unit-clause-named
 returns-then-is_unit-clause-named g c known u h = absurd (nothing-named c.in_ok-nothing.nothing u c.in_ok-nothing.ensures h)
+
+pub returns-then-is_unit-clause-told : goal.returns-then-is_unit-clause-told
+returns-then-is_unit-clause-told g c n h = absurd (nothing-told c.in_ok-nothing.nothing n c.in_ok-nothing.ensures h)

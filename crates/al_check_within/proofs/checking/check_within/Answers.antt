@@ -27,7 +27,7 @@ returns-clause-checked g c =
     record {
       meaning = λ t h. let gives = last.answered t h in
           let finds = found.found t gives.0 in
-          means g.F.UnitFinder.units g.F.UnitFinder.verdict c.args.unit.now c.args.text.now tree t b (verdict_of c.in_ok-found.found.finding) (checked_model c.in_ok-checked.checked) (are.answered t finds.0) finds.1 gives.1;
+          means g.F.UnitFinder.units g.F.UnitFinder.names g.F.UnitFinder.verdict c.args.unit.now c.args.text.now tree t b (verdict_of c.in_ok-found.found.finding) (checked_model c.in_ok-checked.checked) (are.answered t finds.0) finds.1 gives.1;
       grounded = grounded named b.known by_property (allowed b) one two three are.asks are.known found.asks last.asks;
       promised = subst (λ (u : UnitKey). Promised u named three (checked_model c.in_ok-checked.checked)) are.own
           (last.promised named (still_known named b.known b.known (allowed b) one two three are.known found.asks last.asks));
@@ -43,7 +43,7 @@ pub returns-clause-names : goal.returns-clause-names
 returns-clause-names g c =
     let are = c.in_ok-bounds.ensures.bounds in
     by_words c.in_ok-bounds.bounds c.args.unit.now (words_of c.args.text.now) (named_by (headers.header_of (unit_model c.args.tree.now))) c.bounds_of.new.recorder.log c.found_within.new.recorder.log c.concluded_within.new.recorder.log
-    are.own are.names are.asks c.in_ok-found.ensures.asks c.in_ok-checked.ensures.asks
+    are.own are.told are.asks c.in_ok-found.ensures.asks c.in_ok-checked.ensures.asks
 
 pub concluded_within-requires : goal.concluded_within-requires
 concluded_within-requires g c t h = (c.in_ok-found.ensures.answered t h).1

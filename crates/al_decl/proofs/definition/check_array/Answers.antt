@@ -1,7 +1,6 @@
 use Rattle.std.proofs.Common.{Option, Result, ap, ◌∙◌}
 use Rattle.al_decl_judged.specs.TypeKinds.{array_declared}
-use Rattle.al_decl_here.specs.Declaring.{begun_one, duplicate}
-use Rattle.al_view.specs.declared.view.ViewKind.TheVariants.{OfComponent}
+use Rattle.al_decl_here.specs.TypeNames.{type_begun, type_duplicate}
 use Rattle.al_base_fault.specs.declared.fault.Fault.{Fault}
 use Rattle.al_scope.specs.Places.{Place}
 use Rattle.al_tree.specs.DeclarationViews.{array_model}
@@ -24,8 +23,8 @@ returns-clause-answered g c =
       finishes _ _ h.progress _ _ _ made
           (c.in_ok-declared.ensures
           ∙ ap (λ (d : Option Fault). array_declared h.progress n d c.in_ok-index.index c.in_ok-index.component) homograph.1
-          ∙ ap (λ (s : Result SubtypeView Fault). array_declared h.progress n (duplicate t h.scope OfComponent n) s c.in_ok-index.component) (parts.1.0 ∙ ap (λ (p : Place). R.index p a.index) c.in_ok-begin_one.ensures.begun)
-          ∙ ap (λ (s : Result SubtypeView Fault). array_declared h.progress n (duplicate t h.scope OfComponent n) (R.index (begun_one h.scope n) a.index) s) (parts.1.1 ∙ ap (λ (p : Place). R.indication p a.component) c.in_ok-begin_one.ensures.begun))
-          (ap (with_scope h) c.in_ok-begin_one.ensures.begun),
+          ∙ ap (λ (s : Result SubtypeView Fault). array_declared h.progress n (type_duplicate t h.scope n) s c.in_ok-index.component) (parts.1.0 ∙ ap (λ (p : Place). R.index p a.index) c.in_ok-begin_type.ensures.begun)
+          ∙ ap (λ (s : Result SubtypeView Fault). array_declared h.progress n (type_duplicate t h.scope n) (R.index (type_begun h.scope n) a.index) s) (parts.1.1 ∙ ap (λ (p : Place). R.indication p a.component) c.in_ok-begin_type.ensures.begun))
+          (ap (with_scope h) c.in_ok-begin_type.ensures.begun),
     ))
     c.finish.ensures.made

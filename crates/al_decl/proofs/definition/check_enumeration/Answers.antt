@@ -14,6 +14,6 @@ returns-clause-answered g c =
       homograph.0,
       finishes _ _ h.progress _ _ _ made
           (c.in_ok-declared.ensures ∙ ap (λ (d : Option Fault). enumeration_declared h.progress c.args.name.now d c.args.literals.now) homograph.1)
-          (ap (with_scope h) c.in_ok-begin_one.ensures.begun),
+          (ap (with_scope h) c.in_ok-begin_type.ensures.begun),
     ))
     c.finish.ensures.made

@@ -1,8 +1,7 @@
 use Rattle.std.proofs.Common.{Option, Result, ap, ◌∙◌}
 use Rattle.al_decl_type.specs.declared.subtype.StaticRange.{StaticRange}
 use Rattle.al_decl_judged.specs.TypeKinds.{integer_declared}
-use Rattle.al_decl_here.specs.Declaring.{duplicate}
-use Rattle.al_view.specs.declared.view.ViewKind.TheVariants.{OfComponent}
+use Rattle.al_decl_here.specs.TypeNames.{type_duplicate}
 use Rattle.al_base_fault.specs.declared.fault.Fault.{Fault}
 use Rattle.al_scope.specs.Places.{Place}
 use Rattle.al_tree.specs.DeclarationViews.{range_model}
@@ -25,7 +24,7 @@ returns-clause-answered g c =
       finishes _ _ h.progress _ _ _ made
           (c.in_ok-declared.ensures
           ∙ ap (λ (d : Option Fault). integer_declared h.progress n d c.in_ok-range.range) homograph.1
-          ∙ ap (λ (s : Result StaticRange Fault). integer_declared h.progress n (duplicate t h.scope OfComponent n) s) (range.1 ∙ ap (λ (p : Place). range_read R p r) c.in_ok-begin_one.ensures.begun))
-          (ap (with_scope h) c.in_ok-begin_one.ensures.begun),
+          ∙ ap (λ (s : Result StaticRange Fault). integer_declared h.progress n (type_duplicate t h.scope n) s) (range.1 ∙ ap (λ (p : Place). range_read R p r) c.in_ok-begin_type.ensures.begun))
+          (ap (with_scope h) c.in_ok-begin_type.ensures.begun),
     ))
     c.finish.ensures.made

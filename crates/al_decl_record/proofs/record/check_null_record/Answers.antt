@@ -2,7 +2,7 @@ use Rattle.std.proofs.Common.{List, Option, Result, Ok, [], ap, ◌∙◌}
 use Rattle.al_decl.specs.Checking.{finished, with_scope}
 use Rattle.al_decl_type.specs.declared.record.Part.{Part}
 use Rattle.al_decl_judged.specs.TypeKinds.{record_declared}
-use Rattle.al_decl_here.specs.Declaring.{begun_one}
+use Rattle.al_decl_here.specs.TypeNames.{type_begun}
 use Rattle.al_base_fault.specs.declared.fault.Fault.{Fault}
 use Rattle.al_scope.specs.Places.{Place}
 use Rattle.al_decl_record.proofs.Outcomes.{if_ok}
@@ -17,8 +17,8 @@ returns-clause-answered g c =
     let homograph = c.in_ok-duplicate.ensures.answered t agrees in (
       homograph.0,
       made
-          ∙ ap (λ (r : Result (List Part) Fault). finished (with_scope h c.begin_one.new.scope) (record_declared h.progress n c.in_ok-duplicate.duplicate r)) c.no_parts-parts.ensures
-          ∙ ap (λ (p : Place). finished (with_scope h p) (record_declared h.progress n c.in_ok-duplicate.duplicate (Ok []))) c.in_ok-begin_one.ensures.begun
-          ∙ ap (λ (d : Option Fault). finished (with_scope h (begun_one h.scope n)) (record_declared h.progress n d (Ok []))) homograph.1,
+          ∙ ap (λ (r : Result (List Part) Fault). finished (with_scope h c.begin_type.new.scope) (record_declared h.progress n c.in_ok-duplicate.duplicate r)) c.no_parts-parts.ensures
+          ∙ ap (λ (p : Place). finished (with_scope h p) (record_declared h.progress n c.in_ok-duplicate.duplicate (Ok []))) c.in_ok-begin_type.ensures.begun
+          ∙ ap (λ (d : Option Fault). finished (with_scope h (type_begun h.scope n)) (record_declared h.progress n d (Ok []))) homograph.1,
     ))
     c.check_record.ensures.made

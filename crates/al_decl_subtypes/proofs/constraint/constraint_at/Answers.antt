@@ -2,7 +2,7 @@ use Rattle.std.proofs.Common.{Some, Result, ap, ◌∙◌, sym}
 use Rattle.al_decl_type.specs.declared.subtype.StaticRange.{StaticRange}
 use Rattle.al_base_fault.specs.declared.fault.Fault.{Fault}
 use Rattle.al_query.proofs.AskLemmas.{asks_none}
-use Rattle.al_query.specs.Asked.{OfKnown, by_name}
+use Rattle.al_query.specs.Asked.{OfKnown, by_some_name}
 use Rattle.al_decl_subtypes.specs.SubtypesAt.{constraint_at}
 use Rattle.al_overload_terms_at.specs.TermsAt.{range_names}
 use Rattle.al_tree.specs.DeclarationViews.{range_model}
@@ -24,4 +24,4 @@ unfolding constraint_at
 returns-in-Err-clause-answered g c t h = (h, ap (λ (m : Result SubtypeView Fault). constraint_at t (site_model c.args.site.now) m (range_model c.args.range.now)) (sym c.in-Err.is))
 
 pub returns-in-Err-clause-asks : goal.returns-in-Err-clause-asks
-returns-in-Err-clause-asks g c = asks_none (OfKnown (site_units (site_model c.args.site.now)) (by_name (range_names (range_model c.args.range.now)))) c.args.recorder.now.log
+returns-in-Err-clause-asks g c = asks_none (OfKnown (site_units (site_model c.args.site.now)) by_some_name) c.args.recorder.now.log

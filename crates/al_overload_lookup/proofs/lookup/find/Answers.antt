@@ -1,7 +1,7 @@
-use Rattle.std.proofs.Common.{ℕ, List, [], ◌∷◌, ap, ◌∙◌, sym, subst}
-use Rattle.al_overload_lookup.specs.Lookups.{asked_name, asked_units, found, with_prefixed, with_visible}
+use Rattle.std.proofs.Common.{ℕ, List, ap, ◌∙◌, sym}
+use Rattle.al_overload_lookup.specs.Lookups.{found, with_prefixed, with_visible}
 use Rattle.al_query.proofs.AskLemmas.{asks_of-left}
-use Rattle.al_query.specs.Asked.{AsksOf, by_name}
+use Rattle.al_query.specs.Asked.{by_some_name}
 use Rattle.al_scope.specs.Places.{place_units}
 use Rattle.al_overload_lookup.specs.declared.name.TextName.{TextName}
 use Rattle.al_overload_lookup.proofs.lookup.find.Goals as goal
@@ -27,14 +27,4 @@ returns-in_ok-find_selected-in-Selected-clause-answered g c t h =
 
 pub returns-in_ok-find_visible-in-Simple-clause-asks : goal.returns-in_ok-find_visible-in-Simple-clause-asks
 returns-in_ok-find_visible-in-Simple-clause-asks g c =
-    let place = c.args.scope.now in
-    let packages = c.args.packages.now in
-    let name = c.as_slice.result.now in
-    subst (λ (n : List ℕ). AsksOf (asked_units place packages) (by_name (n ∷ [])) c.args.recorder.now.log c.find_visible.new.recorder.log)
-    (c.as_slice.ensures ∙ ap asked_name (sym c.in-Simple.is))
-    (asks_of-left (place_units place) packages (by_name (name ∷ [])) c.args.recorder.now.log c.find_visible.new.recorder.log c.in_ok-find_visible-in-Simple.ensures.asks)
-
-pub returns-in_ok-find_selected-in-Selected-clause-asks : goal.returns-in_ok-find_selected-in-Selected-clause-asks
-returns-in_ok-find_selected-in-Selected-clause-asks g c =
-    subst (λ (n : List ℕ). AsksOf (asked_units c.args.scope.now c.args.packages.now) (by_name (n ∷ [])) c.args.recorder.now.log c.find_selected.new.recorder.log)
-    (c.as_slice-name.ensures ∙ ap asked_name (sym c.in-Selected.is)) c.in_ok-find_selected-in-Selected.ensures.asks
+    asks_of-left (place_units c.args.scope.now) c.args.packages.now by_some_name c.args.recorder.now.log c.find_visible.new.recorder.log c.in_ok-find_visible-in-Simple.ensures.asks

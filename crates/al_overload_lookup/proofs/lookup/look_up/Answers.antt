@@ -1,7 +1,7 @@
-use Rattle.std.proofs.Common.{Bool, [], ◌∷◌, ap, ◌∙◌, sym, if◌then◌else◌}
-use Rattle.al_overload_lookup.specs.Lookups.{asked_name, asked_units, found, looked_up}
+use Rattle.std.proofs.Common.{Bool, ap, ◌∙◌, sym, if◌then◌else◌}
+use Rattle.al_overload_lookup.specs.Lookups.{asked_units, found, looked_up}
 use Rattle.al_query.proofs.AskLemmas.{asks_none}
-use Rattle.al_query.specs.Asked.{OfKnown, by_name}
+use Rattle.al_query.specs.Asked.{OfKnown, by_some_name}
 use Rattle.al_overload_lookup.proofs.lookup.look_up.Goals as goal
 
 pub returns-then-branch-clause-answered : goal.returns-then-branch-clause-answered
@@ -20,4 +20,4 @@ returns-clause-answered g c t h = (
 )
 
 pub returns-clause-asks : goal.returns-clause-asks
-returns-clause-asks g c = asks_none (OfKnown (asked_units c.args.scope.now c.args.packages.now) (by_name (asked_name c.args.of.now ∷ []))) c.args.recorder.now.log
+returns-clause-asks g c = asks_none (OfKnown (asked_units c.args.scope.now c.args.packages.now) by_some_name) c.args.recorder.now.log

@@ -1,10 +1,10 @@
-use Rattle.std.proofs.Common.{◌≡◌, List, [], ◌∷◌, take, refl, ap, ◌∙◌, arith}
+use Rattle.std.proofs.Common.{◌≡◌, List, take, refl, ap, ◌∙◌, arith}
 use Rattle.std.proofs.lemmas.List.{take_all}
 use Rattle.al_overload_keys.specs.declared.names.Names.{Names}
 use Rattle.al_overload_lookup.proofs.Folds.{folded}
 use Rattle.al_overload_lookup.specs.Lookups.{asked_units, selected_in, with_each, with_selected}
 use Rattle.al_query.proofs.AskLemmas.{asks_none, asks_then}
-use Rattle.al_query.specs.Asked.{OfKnown, by_name}
+use Rattle.al_query.specs.Asked.{OfKnown, by_some_name}
 use Rattle.al_view.specs.declared.view.ViewKind.{ViewKind}
 use Rattle.al_overload_lookup.proofs.select.add_each.Goals as goal
 
@@ -12,7 +12,7 @@ pub loop-view-init : goal.loop-view-init
 loop-view-init g c = record {
   asked = refl;
   answered = λ t h. (h, refl);
-  asks = asks_none (OfKnown (asked_units c.args.scope.now c.args.packages.now) (by_name (c.args.name.now ∷ []))) c.args.recorder.now.log;
+  asks = asks_none (OfKnown (asked_units c.args.scope.now c.args.packages.now) by_some_name) c.args.recorder.now.log;
 }
 
 pub loop-view-preserved : goal.loop-view-preserved
@@ -23,7 +23,7 @@ loop-view-preserved g c =
       answered = λ t h. let answered = c.in_ok-add_selected.ensures.answered t h in
           let before = i.answered t answered.0 in
           (before.0, folded (λ (found : Names) (v : ViewKind). with_selected c.args.key.now v found (selected_in t c.args.scope.now c.args.packages.now c.args.name.now v)) c.args.names.now c.loop-view.names c.add_selected.new.names c.args.views.now c.loop-view.view-index c.view-item.result (omega arith) c.view-item.is before.1 answered.1);
-      asks = asks_then (OfKnown (asked_units c.args.scope.now c.args.packages.now) (by_name (c.args.name.now ∷ []))) c.args.recorder.now.log c.loop-view.recorder.log c.add_selected.new.recorder.log i.asks c.in_ok-add_selected.ensures.asks;
+      asks = asks_then (OfKnown (asked_units c.args.scope.now c.args.packages.now) by_some_name) c.args.recorder.now.log c.loop-view.recorder.log c.add_selected.new.recorder.log i.asks c.in_ok-add_selected.ensures.asks;
     }
 
 pub returns-clause-answered : goal.returns-clause-answered

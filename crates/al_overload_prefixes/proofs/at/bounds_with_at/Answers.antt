@@ -2,14 +2,12 @@ use Rattle.std.proofs.Common.{Option, Result, ap, ◌∙◌}
 use Rattle.al_base.specs.declared.place.Place.{Place}
 use Rattle.al_base_fault.specs.Judging.{both, map_ok}
 use Rattle.al_base_fault.specs.declared.fault.Fault.{Fault}
-use Rattle.al_overload_keys.specs.Places.{first_place}
 use Rattle.al_overload_lookup.specs.Lookups.{asked_units}
 use Rattle.al_overload_prefixes.proofs.Seen.{both_model}
 use Rattle.al_overload_prefixes.specs.TextsAt.{With, joined, term_with_at, term_with_model}
 use Rattle.al_overload_term.specs.Terms.{TermTree}
 use Rattle.al_overload_term.specs.declared.term.Term.{Term}
-use Rattle.al_overload_terms_at.proofs.Composed.{asks_of-names}
-use Rattle.al_overload_terms_at.specs.TermsAt.{text_names}
+use Rattle.al_overload_terms_at.proofs.Composed.{asks_more}
 use Rattle.al_tree.specs.ExpressionViews.{expression_model}
 use Rattle.al_overload_prefixes.proofs.at.bounds_with_at.Goals as goal
 
@@ -31,4 +29,4 @@ returns-clause-answered g c t h =
 
 pub returns-clause-asks : goal.returns-clause-asks
 returns-clause-asks g c =
-    asks_of-names (asked_units c.args.scope.now c.args.packages.now) (text_names (expression_model c.args.range.now.low)) (text_names (expression_model c.args.range.now.high)) _ _ _ c.in_ok-low.ensures.asks c.in_ok-high.ensures.asks
+    asks_more (asked_units c.args.scope.now c.args.packages.now) _ _ _ c.in_ok-low.ensures.asks c.in_ok-high.ensures.asks

@@ -4,8 +4,8 @@ use Rattle.al_base_fault.specs.declared.fault.Fault.{Fault}
 use Rattle.al_overload_lookup.specs.Lookups.{asked_units}
 use Rattle.al_overload_term.specs.TermViews.{term_model}
 use Rattle.al_overload_term.specs.Terms.{TermTree}
-use Rattle.al_overload_terms_at.proofs.Composed.{asks_of-names}
-use Rattle.al_overload_terms_at.specs.TermsAt.{term_at, text_names}
+use Rattle.al_overload_terms_at.proofs.Composed.{asks_more}
+use Rattle.al_overload_terms_at.specs.TermsAt.{term_at}
 use Rattle.al_tree.specs.ExpressionViews.{expression_model}
 use Rattle.al_overload_terms_at.proofs.bounds.bounds_at.Goals as goal
 
@@ -21,4 +21,4 @@ returns-clause-answered g c t h =
 
 pub returns-clause-asks : goal.returns-clause-asks
 returns-clause-asks g c =
-    asks_of-names (asked_units c.args.scope.now c.args.packages.now) (text_names (expression_model c.args.range.now.low)) (text_names (expression_model c.args.range.now.high)) _ _ _ c.in_ok-low.ensures.asks c.in_ok-high.ensures.asks
+    asks_more (asked_units c.args.scope.now c.args.packages.now) _ _ _ c.in_ok-low.ensures.asks c.in_ok-high.ensures.asks

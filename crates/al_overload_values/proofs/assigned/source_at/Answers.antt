@@ -2,8 +2,7 @@ use Rattle.std.proofs.Common.{Result, ap, ◌∙◌}
 use Rattle.al_overload_heads.specs.declared.part.Nominal.{Nominal}
 use Rattle.al_base_fault.specs.Judging.{next}
 use Rattle.al_base_fault.specs.declared.fault.Fault.{Fault}
-use Rattle.al_overload_terms_at.proofs.Composed.{asks_of-names, if_ok}
-use Rattle.al_overload_terms_at.specs.TermsAt.{text_names}
+use Rattle.al_overload_terms_at.proofs.Composed.{asks_more, if_ok}
 use Rattle.al_tree.specs.ExpressionViews.{expression_model}
 use Rattle.al_overload_values.specs.Surroundings.{site_model, site_units}
 use Rattle.al_overload_values.specs.ValuesAt.{source_checked}
@@ -22,5 +21,5 @@ returns-clause-answered g c =
 pub returns-clause-asks : goal.returns-clause-asks
 returns-clause-asks g c =
     if_ok c.source_in.result _ _
-    (λ checked asks. asks_of-names (site_units (site_model c.args.site.now)) (text_names (expression_model c.args.target.now)) (text_names (expression_model c.args.value.now)) _ _ _ c.in_ok-of.ensures.asks asks)
+    (λ checked asks. asks_more (site_units (site_model c.args.site.now)) _ _ _ c.in_ok-of.ensures.asks asks)
     c.source_in.ensures.asks

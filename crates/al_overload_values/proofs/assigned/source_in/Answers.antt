@@ -3,9 +3,8 @@ use Rattle.al_overload_heads.specs.declared.part.Nominal.{Nominal}
 use Rattle.al_base_fault.specs.Judging.{next}
 use Rattle.al_base_fault.specs.declared.fault.Fault.{Fault}
 use Rattle.al_query.proofs.AskLemmas.{asks_none}
-use Rattle.al_query.specs.Asked.{OfKnown, by_name}
+use Rattle.al_query.specs.Asked.{OfKnown, by_some_name}
 use Rattle.al_overload_terms_at.proofs.Composed.{if_ok}
-use Rattle.al_overload_terms_at.specs.TermsAt.{text_names}
 use Rattle.al_tree.specs.ExpressionViews.{expression_model}
 use Rattle.al_overload_values.specs.Surroundings.{site_model, site_units}
 use Rattle.al_overload_values.specs.ValuesAt.{source_checked}
@@ -26,4 +25,4 @@ returns-in-Err-clause-answered g c t h =
     (h, ap (λ (of : Result Nominal Fault). with_words c.args.word.now (next of (source_checked t (site_model c.args.site.now) (expression_model c.args.value.now)))) (sym c.in-Err.is))
 
 pub returns-in-Err-clause-asks : goal.returns-in-Err-clause-asks
-returns-in-Err-clause-asks g c = asks_none (OfKnown (site_units (site_model c.args.site.now)) (by_name (text_names (expression_model c.args.value.now)))) c.args.recorder.now.log
+returns-in-Err-clause-asks g c = asks_none (OfKnown (site_units (site_model c.args.site.now)) by_some_name) c.args.recorder.now.log

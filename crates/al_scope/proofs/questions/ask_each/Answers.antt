@@ -1,4 +1,4 @@
-use Rattle.std.proofs.Common.{◌≡◌, ◌+◌, [], ◌∷◌, ◌++◌, arith, ◌∙◌, take, sym, ap}
+use Rattle.std.proofs.Common.{◌≡◌, ◌+◌, [], ◌∷◌, ◌++◌, arith, ◌∙◌, length, take, sym, ap}
 use Rattle.std.proofs.lemmas.List.{take_all, take_more}
 use Rattle.al_scope.specs.Visible.{declared_by}
 use Rattle.al_scope.proofs.HidingLemmas.{flat_map-take_more}
@@ -19,6 +19,7 @@ loop-part-preserved g c =
       answered = λ t h. let answered = c.in_ok-ask_more.ensures.answered t h in
           let before = i.answered t answered.0 in
           (before.0, rw (flat_map-take_more (declared_by t c.args.mentioned.now c.args.name.now) parts n part (omega arith), ← c.part-item.is, ← before.1) answered.1);
+      none = λ e. absurd (omega arith);
     }
 
 pub returns-clause-answered : goal.returns-clause-answered
@@ -31,3 +32,8 @@ pub returns-clause-asks : goal.returns-clause-asks
 returns-clause-asks g c =
     let e : take c.loop-part.part-index c.args.parts.now ≡ c.args.parts.now = take_all c.loop-part.part-index c.args.parts.now (omega arith) in
     parts-of (take c.loop-part.part-index c.args.parts.now) c.args.parts.now c.args.name.now c.args.recorder.now.log c.loop-part.recorder.log e c.loop-part.invariant.asks
+
+pub returns-clause-none : goal.returns-clause-none
+returns-clause-none g c e =
+    let at_end : c.loop-part.part-index ≡ 0 = omega (arith, ap length e) in
+    c.loop-part.invariant.none at_end

@@ -1,4 +1,4 @@
-use Rattle.std.proofs.Common.{◌≡◌, take}
+use Rattle.std.proofs.Common.{◌≡◌, [], take}
 use Rattle.std.specs.List.{flat_map}
 use Rattle.al_query.specs.Reads.{FromAnswers}
 use Rattle.al_scope.specs.Asked.{AsksParts}
@@ -11,4 +11,5 @@ invariant-loop-part g l = record {
   asks : AsksParts (take l.part-index l.parts) l.name l.fn.recorder.log l.recorder.log;
   asked : l.recorder.asked ≡ l.fn.recorder.asked;
   answered : FromAnswers l.fn.recorder.log l.recorder.log (λ t. l.views ≡ flat_map (declared_by t l.mentioned l.name) (take l.part-index l.parts));
+  none : l.part-index ≡ 0 → l.views ≡ [];
 }

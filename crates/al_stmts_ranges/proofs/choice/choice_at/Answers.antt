@@ -1,7 +1,7 @@
 use Rattle.std.proofs.Common.{◌≡◌, ap, subst, sym}
 use Rattle.al_query.proofs.AskLemmas.{asks_none}
-use Rattle.al_query.specs.Asked.{AsksOf, OfKnown, by_name}
-use Rattle.al_stmts_ranges.specs.ChoicesAt.{choice_at, choice_names}
+use Rattle.al_query.specs.Asked.{OfKnown, by_some_name}
+use Rattle.al_stmts_ranges.specs.ChoicesAt.{choice_at}
 use Rattle.al_overload_terms_at.proofs.Composed.{if_ok}
 use Rattle.al_tree.specs.StatementViews.{choice_model}
 use Rattle.al_tree.specs.declared.statement.Choice.{Choice}
@@ -12,7 +12,7 @@ pub returns-in-Others-clause-answered : goal.returns-in-Others-clause-answered
 returns-in-Others-clause-answered g c t h = (h, ap (λ (x : Choice). choice_at t (site_model c.args.site.now) c.args.found.now (choice_model x)) (sym c.in-Others.is))
 
 pub returns-in-Others-clause-asks : goal.returns-in-Others-clause-asks
-returns-in-Others-clause-asks g c = asks_none (OfKnown (site_units (site_model c.args.site.now)) (by_name (choice_names (choice_model c.args.choice.now)))) c.args.recorder.now.log
+returns-in-Others-clause-asks g c = asks_none (OfKnown (site_units (site_model c.args.site.now)) by_some_name) c.args.recorder.now.log
 
 pub returns-in-Range-clause-answered : goal.returns-in-Range-clause-answered
 returns-in-Range-clause-answered g c =
@@ -21,9 +21,3 @@ returns-in-Range-clause-answered g c =
     let read = answered t h in
     (read.0, subst (λ (x : Choice). checked ≡ choice_at t (site_model c.args.site.now) c.args.found.now (choice_model x)) (sym c.in-Range.is) read.1))
     c.discrete_choice.ensures.answered
-
-pub returns-in-Range-clause-asks : goal.returns-in-Range-clause-asks
-returns-in-Range-clause-asks g c =
-    if_ok c.discrete_choice.result _ _
-    (λ checked asks. subst (λ (x : Choice). AsksOf (site_units (site_model c.args.site.now)) (by_name (choice_names (choice_model x))) c.args.recorder.now.log c.discrete_choice.new.recorder.log) (sym c.in-Range.is) asks)
-    c.discrete_choice.ensures.asks

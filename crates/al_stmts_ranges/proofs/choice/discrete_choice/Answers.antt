@@ -1,11 +1,9 @@
 use Rattle.std.proofs.Common.{◌≡◌}
-use Rattle.al_query.specs.Asked.{AsksOf, by_name}
 use Rattle.al_stmts_ranges.specs.ChoicesAt.{discrete_choice}
 use Rattle.al_decl_subtypes.proofs.Forms.{bounds_hold, marked_holds, sole_holds}
-use Rattle.al_decl_subtypes.specs.SubtypesAt.{discrete_names}
 use Rattle.al_tree_syntax.specs.DeclarationTrees.{DiscreteRangeTree}
 use Rattle.al_overload_terms_at.proofs.Composed.{if_ok}
-use Rattle.al_overload_values.specs.Surroundings.{site_model, site_units}
+use Rattle.al_overload_values.specs.Surroundings.{site_model}
 use Rattle.al_stmts_ranges.proofs.choice.discrete_choice.Goals as goal
 
 pub returns-in-Mark-clause-answered : goal.returns-in-Mark-clause-answered
@@ -16,12 +14,6 @@ returns-in-Mark-clause-answered g c =
     (read.0, sole_holds (λ (r : DiscreteRangeTree). checked ≡ discrete_choice t (site_model c.args.site.now) c.args.found.now r) c.in-Mark.is read.1))
     c.single_choice.ensures.answered
 
-pub returns-in-Mark-clause-asks : goal.returns-in-Mark-clause-asks
-returns-in-Mark-clause-asks g c =
-    if_ok c.single_choice.result _ _
-    (λ checked asks. sole_holds (λ (r : DiscreteRangeTree). AsksOf (site_units (site_model c.args.site.now)) (by_name (discrete_names r)) c.args.recorder.now.log c.single_choice.new.recorder.log) c.in-Mark.is asks)
-    c.single_choice.ensures.asks
-
 pub returns-in-Bounds-clause-answered : goal.returns-in-Bounds-clause-answered
 returns-in-Bounds-clause-answered g c =
     if_ok c.bounds_chosen.result _ _
@@ -30,12 +22,6 @@ returns-in-Bounds-clause-answered g c =
     (read.0, bounds_hold (λ (r : DiscreteRangeTree). checked ≡ discrete_choice t (site_model c.args.site.now) c.args.found.now r) c.in-Bounds.is c.deref.ensures read.1))
     c.bounds_chosen.ensures.answered
 
-pub returns-in-Bounds-clause-asks : goal.returns-in-Bounds-clause-asks
-returns-in-Bounds-clause-asks g c =
-    if_ok c.bounds_chosen.result _ _
-    (λ checked asks. bounds_hold (λ (r : DiscreteRangeTree). AsksOf (site_units (site_model c.args.site.now)) (by_name (discrete_names r)) c.args.recorder.now.log c.bounds_chosen.new.recorder.log) c.in-Bounds.is c.deref.ensures asks)
-    c.bounds_chosen.ensures.asks
-
 pub returns-in-MarkRange-clause-answered : goal.returns-in-MarkRange-clause-answered
 returns-in-MarkRange-clause-answered g c =
     if_ok c.marked_chosen.result _ _
@@ -43,9 +29,3 @@ returns-in-MarkRange-clause-answered g c =
     let read = answered t h in
     (read.0, marked_holds (λ (r : DiscreteRangeTree). checked ≡ discrete_choice t (site_model c.args.site.now) c.args.found.now r) c.in-MarkRange.is c.deref-in-MarkRange.ensures read.1))
     c.marked_chosen.ensures.answered
-
-pub returns-in-MarkRange-clause-asks : goal.returns-in-MarkRange-clause-asks
-returns-in-MarkRange-clause-asks g c =
-    if_ok c.marked_chosen.result _ _
-    (λ checked asks. marked_holds (λ (r : DiscreteRangeTree). AsksOf (site_units (site_model c.args.site.now)) (by_name (discrete_names r)) c.args.recorder.now.log c.marked_chosen.new.recorder.log) c.in-MarkRange.is c.deref-in-MarkRange.ensures asks)
-    c.marked_chosen.ensures.asks

@@ -3,10 +3,8 @@ use Rattle.al_decl_type.specs.declared.subtype.StaticRange.{StaticRange}
 use Rattle.al_base_fault.specs.Judging.{both}
 use Rattle.al_base_fault.specs.declared.fault.Fault.{Fault}
 use Rattle.al_stmts_ranges.specs.ChoicesAt.{static_choice}
-use Rattle.al_overload_terms_at.proofs.Composed.{asks_of-names}
-use Rattle.al_overload_terms_at.specs.TermsAt.{range_names, text_names}
+use Rattle.al_overload_terms_at.proofs.Composed.{asks_more}
 use Rattle.al_tree.specs.DeclarationViews.{range_model}
-use Rattle.al_tree.specs.ExpressionViews.{expression_model}
 use Rattle.al_overload_values.specs.Surroundings.{site_model, site_units}
 use Rattle.al_view.specs.declared.view.SubtypeView.{SubtypeView}
 use Rattle.al_stmts_ranges.proofs.choice.marked_parts.Goals as goal
@@ -23,4 +21,4 @@ returns-clause-answered g c t h =
 
 pub returns-clause-asks : goal.returns-clause-asks
 returns-clause-asks g c =
-    asks_of-names (site_units (site_model c.args.site.now)) (text_names (expression_model c.args.mark.now)) (range_names (range_model c.args.range.now)) _ _ _ c.in_ok-mark.ensures.asks c.in_ok-range.ensures.asks
+    asks_more (site_units (site_model c.args.site.now)) _ _ _ c.in_ok-mark.ensures.asks c.in_ok-range.ensures.asks

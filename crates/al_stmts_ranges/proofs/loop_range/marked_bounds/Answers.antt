@@ -8,9 +8,8 @@ use Rattle.al_stmts_ranges.proofs.Seen.{seen_both}
 use Rattle.al_overload_prefixes.specs.TextsAt.{With, terms_with_model}
 use Rattle.al_overload_term.specs.Terms.{TermTree}
 use Rattle.al_overload_term.specs.declared.term.Term.{Term}
-use Rattle.al_overload_terms_at.proofs.Composed.{asks_of-names}
-use Rattle.al_overload_terms_at.specs.TermsAt.{mark_at, range_names, text_names}
-use Rattle.al_tree.specs.DeclarationViews.{range_model}
+use Rattle.al_overload_terms_at.proofs.Composed.{asks_more}
+use Rattle.al_overload_terms_at.specs.TermsAt.{mark_at}
 use Rattle.al_tree.specs.ExpressionViews.{expression_model}
 use Rattle.al_overload_values.specs.Surroundings.{site_model, site_units}
 use Rattle.al_view.specs.declared.types.Bounds.{Bounds}
@@ -33,4 +32,4 @@ returns-clause-answered g c t h =
 
 pub returns-clause-asks : goal.returns-clause-asks
 returns-clause-asks g c =
-    asks_of-names (site_units (site_model c.args.site.now)) (text_names (expression_model c.args.mark.now)) (range_names (range_model c.args.range.now)) _ _ _ c.in_ok-mark.ensures.asks c.in_ok-bounds.ensures.asks
+    asks_more (site_units (site_model c.args.site.now)) _ _ _ c.in_ok-mark.ensures.asks c.in_ok-bounds.ensures.asks

@@ -5,8 +5,8 @@ use Rattle.al_overload_label.specs.Ranges.{FoundTree}
 use Rattle.al_overload_label.specs.RangesSeen.{found_model}
 use Rattle.al_overload_label.specs.declared.range.DeterminedValue.{DeterminedValue}
 use Rattle.al_query.proofs.AskLemmas.{asks_none}
-use Rattle.al_query.specs.Asked.{OfKnown, by_name}
-use Rattle.al_stmts_ranges.specs.ChoicesAt.{choice_at, choice_names}
+use Rattle.al_query.specs.Asked.{OfKnown, by_some_name}
+use Rattle.al_stmts_ranges.specs.ChoicesAt.{choice_at}
 use Rattle.al_overload_terms_at.proofs.Composed.{if_ok}
 use Rattle.al_tree.specs.StatementViews.{choice_model}
 use Rattle.al_overload_values.specs.Surroundings.{site_model, site_units}
@@ -25,4 +25,4 @@ returns-in-Err-clause-answered g c t h =
     (h, ap (λ (r : Result DeterminedValue Fault). next (map_ok found_model r) (λ (x : FoundTree). choice_at t (site_model c.args.site.now) x.found (choice_model c.args.choice.now))) (sym c.in-Err.is))
 
 pub returns-in-Err-clause-asks : goal.returns-in-Err-clause-asks
-returns-in-Err-clause-asks g c = asks_none (OfKnown (site_units (site_model c.args.site.now)) (by_name (choice_names (choice_model c.args.choice.now)))) c.args.recorder.now.log
+returns-in-Err-clause-asks g c = asks_none (OfKnown (site_units (site_model c.args.site.now)) by_some_name) c.args.recorder.now.log

@@ -2,10 +2,8 @@ use Rattle.std.proofs.Common.{Result, ap, ◌∙◌}
 use Rattle.al_base_fault.specs.Judging.{next}
 use Rattle.al_base_fault.specs.declared.fault.Fault.{Fault}
 use Rattle.al_overload_label.specs.Ranges.{FoundTree}
-use Rattle.al_stmts_ranges.specs.ChoicesAt.{choice_at, choice_names}
-use Rattle.al_overload_terms_at.proofs.Composed.{asks_of-names, if_ok}
-use Rattle.al_overload_terms_at.specs.TermsAt.{text_names}
-use Rattle.al_tree.specs.ExpressionViews.{expression_model}
+use Rattle.al_stmts_ranges.specs.ChoicesAt.{choice_at}
+use Rattle.al_overload_terms_at.proofs.Composed.{asks_more, if_ok}
 use Rattle.al_tree.specs.StatementViews.{choice_model}
 use Rattle.al_overload_values.specs.Surroundings.{site_model, site_units}
 use Rattle.al_stmts_ranges.proofs.selected.selected_at.Goals as goal
@@ -22,5 +20,5 @@ returns-clause-answered g c =
 pub returns-clause-asks : goal.returns-clause-asks
 returns-clause-asks g c =
     if_ok c.choice_of-checked.result _ _
-    (λ checked asks. asks_of-names (site_units (site_model c.args.site.now)) (text_names (expression_model c.args.selector.now)) (choice_names (choice_model c.args.choice.now)) _ _ _ c.in_ok-found.ensures.asks asks)
+    (λ checked asks. asks_more (site_units (site_model c.args.site.now)) _ _ _ c.in_ok-found.ensures.asks asks)
     c.choice_of-checked.ensures.asks

@@ -1,0 +1,9 @@
+use Rattle.std.proofs.Common.{Option, ap}
+use Rattle.al_base_fault.specs.declared.fault.Fault.{Fault}
+use Rattle.al_stmts_walk.specs.Readings.{giving}
+use Rattle.al_check_reading.specs.Ada.{ada}
+use Rattle.al_check_reading.proofs.analyzer.AdaAnalyzerAnalyzer.incomplete.Goals as goal
+
+pub returns-clause-answered : goal.returns-clause-answered
+unfolding ada
+returns-clause-answered g c = λ t h. (h, ap (λ (x : Option Fault). giving c.args.self.now.state x) c.incomplete_here.ensures)

@@ -1,0 +1,4 @@
+pub mod Asked
+pub mod Lists
+pub mod Outcomes
+pub mod Stays

@@ -1,0 +1,3 @@
+pub mod Recasts
+pub mod Seen
+pub mod Hidden

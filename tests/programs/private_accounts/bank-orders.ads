@@ -1,0 +1,3 @@
+package Bank.Orders is
+   procedure Pay (From, To : in out Account; Amount : Natural; Times : Positive; Paid : out Natural);
+end Bank.Orders;
