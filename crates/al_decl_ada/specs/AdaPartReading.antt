@@ -15,7 +15,7 @@ use Rattle.al_overload_terms_at.specs.TermsAt.{mark_at}
 use Rattle.al_overload_types.specs.Leaves.{mark_type}
 use Rattle.al_view_typed.specs.ExpressionTrees.{TypedTree}
 use Rattle.al_overload_values.specs.Surroundings.{Surroundings}
-use Rattle.al_overload_values.specs.ValuesAt.{checked_at}
+use Rattle.al_overload_values.specs.ValuesAt.{checked_at, static_checked_at}
 use Rattle.al_view.specs.declared.symbol.Symbol.{Symbol}
 use Rattle.al_view.specs.declared.view.SubtypeView.{SubtypeView}
 
@@ -27,13 +27,13 @@ surrounded packages predefined own place = record { place = place; packages = pa
 abbrev pub initial_at : Table → Surroundings → SubtypeView → ExpressionTree → Result TypedTree Fault
 initial_at t s of x = checked_at t s (contexts.InitialValue (mark_type of)) (Some (nominal of.types of.subtype)) of.types x
 
--- the value of named numbers, which is of any integer type (ARM 3.3.2(3))
+-- the value of named numbers, which is static and of any integer type (ARM 3.3.2(2, 3))
 abbrev pub number_at : Table → Surroundings → ExpressionTree → Result TypedTree Fault
-number_at t s x = checked_at t s contexts.NumberValue None [] x
+number_at t s x = static_checked_at t s contexts.NumberValue [] x
 
--- a bound of an integer type, which is of any integer type (ARM 3.5.4(5))
+-- a bound of an integer type, which is static and of any integer type (ARM 3.5.4(4, 5))
 abbrev pub bound_at : Table → Surroundings → ExpressionTree → Result TypedTree Fault
-bound_at t s x = checked_at t s contexts.IntegerBound None [] x
+bound_at t s x = static_checked_at t s contexts.IntegerBound [] x
 
 -- the value of aspect Priority, which is of Integer (ARM D.1(15))
 abbrev pub priority_at : Table → Surroundings → ExpressionTree → Result TypedTree Fault

@@ -17,7 +17,7 @@ use al_overload::Context;
 use al_overload_heads::Nominal;
 use al_overload_name::value_type;
 use al_overload_nodes::Labeller;
-use al_overload_values::{Site, checked_at, no_types};
+use al_overload_values::{Site, checked_at, no_types, static_checked_at};
 use al_query::{Answers, Recorder};
 use al_tree::Expression;
 use al_view::SubtypeView;
@@ -69,7 +69,7 @@ pub(crate) fn initial_at<A: Answers>(
     value_of(site, of, &context, value, recorder)
 }
 
-/// The value of named numbers (ARM 3.3.2(3)).
+/// The value of named numbers, which must be static (ARM 3.3.2(2, 3)).
 pub(crate) fn number_at<A: Answers>(
     site: &Site<'_>,
     value: &Expression,
@@ -80,10 +80,10 @@ pub(crate) fn number_at<A: Answers>(
 {
     let types = no_types(site.labeller.alloc)?;
     let context = Context::NumberValue;
-    checked_at(site, &context, &None, &types, value, recorder)
+    static_checked_at(site, &context, &types, value, recorder)
 }
 
-/// A bound of an integer type (ARM 3.5.4(5)).
+/// A bound of an integer type, which must be static (ARM 3.5.4(4, 5)).
 pub(crate) fn bound_at<A: Answers>(
     site: &Site<'_>,
     bound: &Expression,
@@ -94,7 +94,7 @@ pub(crate) fn bound_at<A: Answers>(
 {
     let types = no_types(site.labeller.alloc)?;
     let context = Context::IntegerBound;
-    checked_at(site, &context, &None, &types, bound, recorder)
+    static_checked_at(site, &context, &types, bound, recorder)
 }
 
 /// The value of aspect Priority (ARM D.1(15)).

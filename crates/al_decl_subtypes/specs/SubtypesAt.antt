@@ -19,7 +19,7 @@ use Rattle.al_overload_terms_at.specs.CompoundNames.{name_text}
 use Rattle.al_overload_terms_at.specs.TermsAt.{mark_at, range_names, text_names}
 use Rattle.al_overload_types.specs.Leaves.{mark_type}
 use Rattle.al_overload_values.specs.Surroundings.{Surroundings}
-use Rattle.al_overload_values.specs.ValuesAt.{pair_judged_at}
+use Rattle.al_overload_values.specs.ValuesAt.{static_pair_at}
 use Rattle.al_view.specs.declared.types.TypeView.{TypeView}
 use Rattle.al_view.specs.declared.view.SubtypeView.{SubtypeView}
 use Rattle.al_decl_subtypes.specs.Complete.{completed}
@@ -29,7 +29,7 @@ abbrev pub static_pair : PairTree → Result StaticRange Fault
 static_pair pair = static_range pair.low pair.high
 
 abbrev pub static_at : Table → Surroundings → Context → List TypeView → RangeTree → Result StaticRange Fault
-static_at t s context types r = next (pair_judged_at t s context types r) static_pair
+static_at t s context types r = next (static_pair_at t s context types r) static_pair
 
 -- the constraint after a mark, which is of the mark's type; it isn't asked for after a mark that is faulty
 unfoldable pub constraint_at : Table → Surroundings → Result SubtypeView Fault → RangeTree → Option (Result StaticRange Fault)
@@ -62,7 +62,7 @@ abbrev pub index_at : Table → Surroundings → UnitKey → DiscreteRangeTree �
 index_at t s unit (ranges.SoleMark x) = index_of_single t s unit x
 index_at t s unit (ranges.MarkRange mark r) =
     index_of_marked t s (first_place mark) (completed unit (first_place mark) (mark_at t s.place s.packages mark)) r
-index_at t s unit (ranges.Bounds r) = next (pair_judged_at t s contexts.PairOfBounds [] r) index_of_pair
+index_at t s unit (ranges.Bounds r) = next (static_pair_at t s contexts.PairOfBounds [] r) index_of_pair
 
 -- ---- which names are asked for
 

@@ -19,7 +19,7 @@ use al_overload::Context;
 use al_overload_label::Pair;
 use al_overload_name::value_type;
 use al_overload_nodes::Labeller;
-use al_overload_values::{Site, pair_judged_at};
+use al_overload_values::{Site, static_pair_at};
 use al_query::{Answers, Recorder};
 use al_tree::Range;
 use al_view::{SubtypeView, Types};
@@ -45,7 +45,7 @@ pub fn static_at<A: Answers>(
     ensures answered { IfOk result (λ checked. FromAnswers recorder.old.log recorder.new.log (λ t. checked ≡ static_at t (site_model site.now) context.now types.now (range_model range.now))) }
     ensures asks { IfOk result (λ _. AsksOf (site_units (site_model site.now)) by_some_name recorder.old.log recorder.new.log) }
 {
-    let pair = pair_judged_at(site, context, types, range, recorder)?;
+    let pair = static_pair_at(site, context, types, range, recorder)?;
     Ok(static_pair(&pair))
 }
 

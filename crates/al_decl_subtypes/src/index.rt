@@ -12,7 +12,7 @@ ghost use Rattle.al_overload_terms_at.specs.TermsAt.{mark_at, range_names, text_
 ghost use Rattle.al_tree.specs.DeclarationViews.{discrete_range_model, range_model};
 ghost use Rattle.al_tree.specs.ExpressionViews.{expression_model};
 ghost use Rattle.al_overload_values.specs.Surroundings.{site_model, site_units};
-ghost use Rattle.al_overload_values.specs.ValuesAt.{pair_judged_at};
+ghost use Rattle.al_overload_values.specs.ValuesAt.{static_pair_at};
 
 use crate::complete::completed;
 use crate::constraint::{constraint_at, static_pair};
@@ -25,7 +25,7 @@ use al_overload_label::Pair;
 use al_overload_nodes::Labeller;
 use al_overload_prefixes::range_with_at;
 use al_overload_terms_at::mark_at;
-use al_overload_values::{Site, no_types, pair_judged_at};
+use al_overload_values::{Site, no_types, static_pair_at};
 use al_query::{Answers, Recorder};
 use al_tree::{DiscreteRange, Expression, Range};
 use al_view::SubtypeView;
@@ -109,11 +109,11 @@ fn bounds_index<A: Answers>(
     recorder: &mut Recorder<A>,
 ) -> Result<CheckResult<SubtypeView>, NoMemory>
     ensures asked { recorder.new.asked ≡ recorder.old.asked }
-    ensures answered { IfOk result (λ checked. FromAnswers recorder.old.log recorder.new.log (λ t. checked ≡ next (pair_judged_at t (site_model site.now) contexts.PairOfBounds [] (range_model range.now)) index_of_pair)) }
+    ensures answered { IfOk result (λ checked. FromAnswers recorder.old.log recorder.new.log (λ t. checked ≡ next (static_pair_at t (site_model site.now) contexts.PairOfBounds [] (range_model range.now)) index_of_pair)) }
     ensures asks { IfOk result (λ _. AsksOf (site_units (site_model site.now)) by_some_name recorder.old.log recorder.new.log) }
 {
     let types = no_types(site.labeller.alloc)?;
-    let pair = pair_judged_at(site, &Context::PairOfBounds, &types, range, recorder)?;
+    let pair = static_pair_at(site, &Context::PairOfBounds, &types, range, recorder)?;
     let subtype = pair_index(site.labeller, pair)?;
     Ok(subtype)
 }

@@ -3,3 +3,4 @@ pub mod Labelling
 pub mod Counts
 pub mod Resolution
 pub mod Ranges
+pub mod Sizes

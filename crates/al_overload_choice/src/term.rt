@@ -1,5 +1,6 @@
 // Expressions whose names, calls and operators have their candidates, and which of these are meant.
-ghost use Rattle.std.specs.Prelude.{◌≡◌, [], ◌∷◌, ◌++◌, IfOk, is_ok, if◌then◌else◌};
+ghost use Rattle.std.specs.Prelude.{◌≡◌, [], ◌∷◌, ◌++◌, IfOk, IfSome, is_ok, if◌then◌else◌};
+ghost use Rattle.al_overload_choice.specs.Sizes.{IsLabelledWithin, IsWithin};
 ghost use Rattle.al_overload_choice.specs.Counts.{AreCounted, candidates, counted_all, plain, plain_all};
 ghost use Rattle.al_overload_choice.specs.Labelling.{Tree as tree, Trees as trees, with_candidate};
 
@@ -73,17 +74,56 @@ impl Model for Choices {
 }
 
 /// An expression inside another one: the candidates of the name, call or operator at its head, and its operands.
-#[derive(Drop)]
 #[cycle(term)]
 pub enum Term {
     Head(Choices, Terms),
 }
 
-#[derive(Drop)]
+// A chain of operators leans to the left: the first operand is let go by the loop, and the others by a call, so that no chain takes more of
+// the stack than its nesting; nor does a list of arguments.
+impl Drop for Term {
+    #[cycle(drop_term)]
+    fn drop(mut self) {
+        loop {
+            match self {
+                Term::Head(_, operands) => match operands.into_first() {
+                    Some(first) => self = first,
+                    None => return,
+                },
+            }
+        }
+    }
+}
+
 #[cycle(term)]
 pub enum Terms {
     NoTerms,
     MoreTerms(Box<Term>, Box<Terms>),
+}
+
+impl Terms {
+    /// The first; the others are let go.
+    #[cycle(drop_term)]
+    fn into_first(self) -> Option<Term>
+        ensures { IfSome result (λ first. IsWithin first self) }
+    {
+        match self {
+            Terms::NoTerms => None,
+            Terms::MoreTerms(first, _) => Some(Box::into_inner(first)),
+        }
+    }
+}
+
+impl Drop for Terms {
+    #[cycle(drop_term)]
+    fn drop(mut self) {
+        loop {
+            match self {
+                Terms::NoTerms => return,
+                Terms::MoreTerms(_, others) => self = Box::into_inner(others),
+            }
+        }
+    }
 }
 
 /// Operands, in the order of the text.
@@ -131,17 +171,55 @@ impl Model for Expression {
 
 /// An expression with the candidate, by its number, that each head means.
 #[cycle(labelled)]
-#[derive(Drop)]
 pub enum Labelled {
     /// The candidate of this number, from 0, and whether it is an operator of the root type.
     HeadAs(usize, bool, LabelledTerms),
 }
 
-#[derive(Drop)]
+// Let go as candidates are.
+impl Drop for Labelled {
+    #[cycle(drop_labelled)]
+    fn drop(mut self) {
+        loop {
+            match self {
+                Labelled::HeadAs(_, _, operands) => match operands.into_first() {
+                    Some(first) => self = first,
+                    None => return,
+                },
+            }
+        }
+    }
+}
+
 #[cycle(labelled)]
 pub enum LabelledTerms {
     NoLabelled,
     MoreLabelled(Box<Labelled>, Box<LabelledTerms>),
+}
+
+impl LabelledTerms {
+    /// The first; the others are let go.
+    #[cycle(drop_labelled)]
+    fn into_first(self) -> Option<Labelled>
+        ensures { IfSome result (λ first. IsLabelledWithin first self) }
+    {
+        match self {
+            LabelledTerms::NoLabelled => None,
+            LabelledTerms::MoreLabelled(first, _) => Some(Box::into_inner(first)),
+        }
+    }
+}
+
+impl Drop for LabelledTerms {
+    #[cycle(drop_labelled)]
+    fn drop(mut self) {
+        loop {
+            match self {
+                LabelledTerms::NoLabelled => return,
+                LabelledTerms::MoreLabelled(_, others) => self = Box::into_inner(others),
+            }
+        }
+    }
 }
 
 impl Choices {

@@ -1,5 +1,6 @@
 -- Parts that are read one after another.
-use Rattle.std.proofs.Common.{◌≡◌, ℕ, suc, ◌+◌, ◌<◌, ◌≤◌, List, ◌∷◌, map, length, get_or, drop, Option, sym, ap, ◌∙◌, add-one}
+use Rattle.std.specs.Option.{option_map_or}
+use Rattle.std.proofs.Common.{false, ◌≡◌, ℕ, suc, ◌+◌, ◌<◌, ◌≤◌, List, ◌∷◌, map, length, get_or, drop, Option, sym, ap, ◌∙◌, add-one}
 use Rattle.std.proofs.Math.Seq.{drop-cons}
 use Rattle.std.proofs.lemmas.List.{drop_all}
 use Rattle.al_overload_choice.specs.Labelling.{Label}
@@ -12,7 +13,8 @@ use Rattle.al_view.specs.declared.symbol.Symbol.{Symbol}
 use Rattle.al_view.specs.declared.types.TypeView.{TypeView}
 use Rattle.al_view.specs.declared.view.SubprogramView.{SubprogramView}
 use Rattle.al_overload_nodes.specs.Gathering.{Parts}
-use Rattle.al_overload_nodes.specs.Names.{is_variable}
+use Rattle.al_overload_label.specs.Variables.{variable_as}
+use Rattle.al_overload_picks.specs.Labels.{operand_label}
 use Rattle.al_overload_label.specs.Readings.{actuals_read, reading, values_read}
 use Rattle.al_overload_types.specs.Leaves.{actual_read, component_read}
 
@@ -24,7 +26,7 @@ drop_here xs i x within is =
 pub actuals_step : (p : Predefined) (own : Option Symbol) (s : SubprogramView) (label : Label) (ts : List Term) (i : ℕ) (x : Term) (a b whole : Parts ActualTree)
     → actuals_read p own s label i a (terms_of (map term_model (drop i ts))) ≡ whole
     → i < length ts → x ≡ get_or ts i x
-    → b ≡ actual_read s label i a (first_place (term_model x)) (is_variable (term_model x)) (λ l of. reading p own (term_model x) l s.types of)
+    → b ≡ actual_read s label i a (first_place (term_model x)) (option_map_or (variable_as (term_model x)) (operand_label i label) false) (λ l of. reading p own (term_model x) l s.types of)
     → actuals_read p own s label (i + 1) b (terms_of (map term_model (drop (i + 1) ts))) ≡ whole
 actuals_step p own s label ts i x a b whole so_far within is more =
     ap (λ (c : Parts ActualTree). actuals_read p own s label (i + 1) c (terms_of (map term_model (drop (i + 1) ts)))) more

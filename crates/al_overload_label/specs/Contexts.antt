@@ -20,7 +20,7 @@ use Rattle.al_overload_heads.specs.declared.everywhere.Predefined.{Predefined}
 use Rattle.al_overload_heads.specs.declared.part.Nominal.{Nominal}
 use Rattle.al_overload_nodes.specs.Calls.{call_made, unless_variable}
 use Rattle.al_overload_nodes.specs.Gathering.{Parts, no_parts}
-use Rattle.al_overload_nodes.specs.Names.{is_variable}
+use Rattle.al_overload_label.specs.Variables.{variable_as}
 use Rattle.al_overload_nodes.specs.Nodes.{ReadingTree, checked}
 use Rattle.al_overload_nodes.specs.Operators.{picked_subprogram}
 use Rattle.al_overload_label.specs.Readings.{actuals_read, reading}
@@ -58,7 +58,7 @@ term_checked p own context allowed types term = checked (term_read p own context
 
 -- the target of an assignment: E406 where it is no name of a variable
 abbrev pub target_checked : TermTree → ReadingTree → Result Label Fault → Result TypedTree Fault
-target_checked term r (Ok label) = unless (unless_variable (is_variable term) (first_place term)) (checked r)
+target_checked term r (Ok label) = unless (unless_variable (variable_as term label) (first_place term)) (checked r)
 target_checked term r (Err fault) = Err fault
 
 abbrev pub target_judged : Predefined → Option Symbol → List TypeView → TermTree → Result TypedTree Fault

@@ -1,5 +1,6 @@
 -- The labelled tree of a term with its labelling (ARM 8.6).
-use Rattle.std.specs.Prelude.{ℕ, ◌+◌, ◌&&◌, Bool, List, Option, Some, None}
+use Rattle.std.specs.Prelude.{ℕ, ◌+◌, ◌&&◌, Bool, false, List, Option, Some, None}
+use Rattle.std.specs.Option.{option_map_or}
 use Rattle.al_base.specs.declared.place.Place.{Place}
 use Rattle.al_overload_choice.specs.Labelling.{Label}
 use Rattle.al_overload.specs.declared.context.Context.TheVariants as contexts
@@ -18,7 +19,8 @@ use Rattle.al_overload_heads.specs.Universal.{computes_one, computes_two, is_uni
 use Rattle.al_overload_heads.specs.declared.everywhere.Predefined.{Predefined}
 use Rattle.al_overload_nodes.specs.Gathering.{Parts, no_parts}
 use Rattle.al_overload_picks.specs.Labels.{operand_label}
-use Rattle.al_overload_nodes.specs.Names.{is_variable, selected_node}
+use Rattle.al_overload_label.specs.Variables.{variable_as}
+use Rattle.al_overload_nodes.specs.Names.{selected_node}
 use Rattle.al_overload_nodes.specs.Nodes.{ReadingTree, grouped, literal, misfit}
 use Rattle.al_overload_nodes.specs.Operators.{binary_node, binary_signature, short_circuit_node, unary_node, unary_signature}
 use Rattle.al_overload_types.specs.FromAnswers.{DeterminedType, test_type, types_in}
@@ -90,7 +92,7 @@ abbrev mutual
   pub actuals_read : Predefined → Option Symbol → SubprogramView → Label → ℕ → Parts ActualTree → TermsTree → Parts ActualTree
   actuals_read p own s label n actuals terms.NoTerm = actuals
   actuals_read p own s label n actuals (terms.MoreTerms argument more) =
-      actuals_read p own s label (n + 1) (actual_read s label n actuals (first_place argument) (is_variable argument)
+      actuals_read p own s label (n + 1) (actual_read s label n actuals (first_place argument) (option_map_or (variable_as argument) (operand_label n label) false)
       (λ l of. reading p own argument l s.types of)) more
 
   -- the components of an aggregate of this type, in the same way

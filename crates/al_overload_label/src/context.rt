@@ -5,19 +5,21 @@ ghost use Rattle.al_base_fault.specs.Judging.{map_ok};
 ghost use Rattle.al_overload_term.specs.Terms.{TermTree as terms};
 ghost use Rattle.al_overload_term.specs.TermViews.{term_model, terms_of};
 ghost use Rattle.al_view_typed.specs.ExpressionViews.{call_model, typed_model};
+ghost use Rattle.al_overload_label.specs.Static.{static_term_checked};
 ghost use Rattle.al_overload_label.specs.Contexts.{call_checked, call_read, stands_at, statement_checked, target_judged, term_checked, term_read};
 ghost use Rattle.al_overload_nodes.specs.Views.{actuals_model, reading_model};
 
 use crate::meaning::interpret;
 use crate::reading::{read, read_actuals, read_inner};
+use crate::staticness::{checked_as, wanted_after};
+use crate::variable::variable_as;
 use al_base::{NoMemory, Place};
-use al_base_fault::{CheckResult, unless};
+use al_base_fault::{CheckResult, Fault, unless};
 use al_overload::Context;
 use al_overload_choice::Labelled;
 use al_overload_heads::{Nominal, Predefined, declared_under, interpret_term};
 use al_overload_nodes::{
-    Actuals, Labeller, Reading, checked, is_variable, nothing_fits, picked_subprogram,
-    unless_variable,
+    Actuals, Labeller, Reading, checked, nothing_fits, picked_subprogram, unless_variable,
 };
 use al_overload_term::{Term, first_place};
 use al_view::{SubprogramView, Symbol, Types, View};
@@ -80,6 +82,35 @@ pub fn check_term(
     Ok(checked(reading))
 }
 
+/// The labelled tree of a context's term that must be static, or what is wrong with it: as `check_term`, and E304 at its first token, where what was
+/// found in the prefixes of its attributes doesn't stand there.
+pub fn check_static_term(
+    labeller: &Labeller,
+    context: &Context,
+    types: &Types,
+    found: Option<Fault>,
+    term: &Term,
+) -> Result<CheckResult<Typed>, NoMemory>
+    ensures { IfOk result (λ typed. map_ok typed_model typed ≡ static_term_checked labeller.now.predefined labeller.now.own context.now types.now found (term_model term.now)) }
+{
+    let (alloc, predefined) = (labeller.alloc, &labeller.predefined);
+    match interpret_term(alloc, predefined, context, &None, term)? {
+        Ok(label) => {
+            let reading = read(
+                labeller,
+                term,
+                &label,
+                types,
+                stands_at(predefined, context),
+            );
+            drop(label);
+            let place = first_place(term);
+            Ok(checked_as(wanted_after(place, found), place, reading?))
+        }
+        Err(fault) => Ok(Err(fault)),
+    }
+}
+
 /// The target of an assignment: E406 at its first token where it is no name of a variable.
 pub fn check_target(
     labeller: &Labeller,
@@ -90,9 +121,11 @@ pub fn check_target(
 {
     match interpret(labeller, Context::Target, term)? {
         Ok(label) => {
-            let reading = read(labeller, term, &label, types, &labeller.predefined.root);
+            let predefined = &labeller.predefined;
+            let reading = read(labeller, term, &label, types, &predefined.root);
+            let is_variable = variable_as(&predefined.standard, term, &label);
             drop(label);
-            let fault = unless_variable(is_variable(term), first_place(term));
+            let fault = unless_variable(is_variable, first_place(term));
             Ok(unless(fault, checked(reading?)))
         }
         Err(fault) => Ok(Err(fault)),

@@ -8,6 +8,11 @@ mod meaning;
 mod pair;
 mod range;
 mod reading;
+mod staticness;
+mod variable;
 
-pub use context::{check_call, check_target, check_term, read_call, read_term};
-pub use range::{DeterminedValue, FoundType, Pair, check_bounds, check_selector};
+pub use context::{check_call, check_static_term, check_target, check_term, read_call, read_term};
+pub use range::{
+    DeterminedValue, FoundType, Pair, check_bounds, check_selector, check_static_bounds,
+};
+pub use variable::target_part;

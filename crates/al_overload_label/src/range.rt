@@ -7,7 +7,9 @@ ghost use Rattle.al_overload_term.specs.TermViews.{term_model};
 ghost use Rattle.al_view_typed.specs.ExpressionViews.{typed_model};
 ghost use Rattle.al_overload_nodes.specs.Nodes.{checked};
 ghost use Rattle.al_overload_nodes.specs.Views.{pair_model as typed_pair_model};
-ghost use Rattle.al_overload_label.specs.Ranges.{bound_at, bounds_checked, found_of, found_type, pair_of, pair_read, selector_at, selector_checked, selector_read};
+ghost use Rattle.al_overload_label.specs.Ranges.{bound_at, bounds_checked, bounds_checked_as, found_of, found_type, pair_of, pair_read, selector_at, selector_checked, selector_read, static_bounds_checked};
+ghost use Rattle.al_overload_label.specs.Static.{checked_as};
+ghost use Rattle.al_overload_term.specs.Places.{first_place};
 ghost use Rattle.al_overload_label.specs.RangesSeen.{found_model, pair_model};
 ghost use Rattle.al_overload_types.specs.Seen.{told_model};
 
@@ -15,8 +17,9 @@ use crate::context::stands_at;
 use crate::meaning::interpret;
 use crate::pair::together;
 use crate::reading::{read, read_operand};
+use crate::staticness::{Staticness, checked_as, wanted_after};
 use al_base::NoMemory;
-use al_base_fault::{CheckResult, both};
+use al_base_fault::{CheckResult, Fault, both};
 use al_overload::Context;
 use al_overload_choice::Labelled;
 use al_overload_heads::interpret_bounds;
@@ -90,6 +93,7 @@ fn pair_of(range: FoundType, bounds: CheckResult<(Typed, Typed)>) -> CheckResult
 /// A bound at the type of the pair.
 fn bound_at(
     labeller: &Labeller,
+    wanted: Staticness,
     types: &Types,
     low: &Term,
     position: usize,
@@ -97,7 +101,7 @@ fn bound_at(
     label: &Labelled,
     determined: &DeterminedType<'_>,
 ) -> Result<CheckResult<Typed>, NoMemory>
-    ensures { IfOk result (λ typed. map_ok typed_model typed ≡ checked (bound_at labeller.now.predefined labeller.now.own types.now (term_model low.now) position (term_model bound.now) (label_of label.now) (told_model determined.now))) }
+    ensures { IfOk result (λ typed. map_ok typed_model typed ≡ checked_as wanted (first_place (term_model bound.now)) (bound_at labeller.now.predefined labeller.now.own types.now (term_model low.now) position (term_model bound.now) (label_of label.now) (told_model determined.now))) }
 {
     let (among, of) = (types_in(types, determined), determined.of);
     let reading = read_operand(
@@ -109,26 +113,48 @@ fn bound_at(
         among,
         of,
     )?;
-    Ok(checked(reading))
+    Ok(checked_as(wanted, first_place(bound), reading))
 }
 
 fn read_pair(
     labeller: &Labeller,
+    wanted: Staticness,
     types: &Types,
     at: &Symbol,
     low: &Term,
     high: &Term,
     label: &Labelled,
 ) -> Result<CheckResult<Pair>, NoMemory>
-    ensures { IfOk result (λ pair. map_ok pair_model pair ≡ pair_read labeller.now.predefined labeller.now.own types.now at.now (term_model low.now) (term_model high.now) (label_of label.now)) }
+    ensures { IfOk result (λ pair. map_ok pair_model pair ≡ pair_read labeller.now.predefined labeller.now.own wanted types.now at.now (term_model low.now) (term_model high.now) (label_of label.now)) }
 {
     let otherwise = among(types, at);
     let determined = pair_type(labeller, otherwise, low, high, label);
-    let first = bound_at(labeller, types, low, 0, low, label, &determined);
-    let last = bound_at(labeller, types, low, 1, high, label, &determined);
+    let first = bound_at(labeller, wanted, types, low, 0, low, label, &determined);
+    let last = bound_at(labeller, wanted, types, low, 1, high, label, &determined);
     let range = found_type(labeller.alloc, &range_type(labeller, determined));
     let (range, (first, last)) = together(range, together(first, last))?;
     Ok(pair_of(range, both(first, last)))
+}
+
+fn check_bounds_as(
+    labeller: &Labeller,
+    wanted: Staticness,
+    context: &Context,
+    types: &Types,
+    low: &Term,
+    high: &Term,
+) -> Result<CheckResult<Pair>, NoMemory>
+    ensures { IfOk result (λ pair. map_ok pair_model pair ≡ bounds_checked_as labeller.now.predefined labeller.now.own wanted context.now types.now (term_model low.now) (term_model high.now)) }
+{
+    match interpret_bounds(labeller.alloc, &labeller.predefined, context, low, high)? {
+        Ok(label) => {
+            let at = stands_at(&labeller.predefined, context);
+            let pair = read_pair(labeller, wanted, types, at, low, high, &label);
+            drop(label);
+            pair
+        }
+        Err(fault) => Ok(Err(fault)),
+    }
 }
 
 /// A pair of bounds, with the type of their range: E402 or E403 at the first token of the low one, where the two have no interpretation,
@@ -142,15 +168,22 @@ pub fn check_bounds(
 ) -> Result<CheckResult<Pair>, NoMemory>
     ensures { IfOk result (λ pair. map_ok pair_model pair ≡ bounds_checked labeller.now.predefined labeller.now.own context.now types.now (term_model low.now) (term_model high.now)) }
 {
-    match interpret_bounds(labeller.alloc, &labeller.predefined, context, low, high)? {
-        Ok(label) => {
-            let at = stands_at(&labeller.predefined, context);
-            let pair = read_pair(labeller, types, at, low, high, &label);
-            drop(label);
-            pair
-        }
-        Err(fault) => Ok(Err(fault)),
-    }
+    check_bounds_as(labeller, Staticness::Any, context, types, low, high)
+}
+
+/// The same of bounds that must be static, where this was found in the prefixes of their attributes: E304 at the first token of each that isn't.
+pub fn check_static_bounds(
+    labeller: &Labeller,
+    context: &Context,
+    types: &Types,
+    found: Option<Fault>,
+    low: &Term,
+    high: &Term,
+) -> Result<CheckResult<Pair>, NoMemory>
+    ensures { IfOk result (λ pair. map_ok pair_model pair ≡ static_bounds_checked labeller.now.predefined labeller.now.own context.now types.now found (term_model low.now) (term_model high.now)) }
+{
+    let wanted = wanted_after(first_place(low), found);
+    check_bounds_as(labeller, wanted, context, types, low, high)
 }
 
 fn found_of(found: FoundType, value: CheckResult<Typed>) -> CheckResult<DeterminedValue>

@@ -1,5 +1,8 @@
 // The labelled tree of a term with its labelling: what recurses.
-ghost use Rattle.std.specs.Prelude.{◌≡◌, IfOk, OnOk, map};
+ghost use Rattle.std.specs.Prelude.{◌≡◌, IfOk, OnOk, false, map};
+ghost use Rattle.std.specs.Option.{option_map_or};
+ghost use Rattle.al_overload_label.specs.Variables.{variable_as};
+ghost use Rattle.al_overload_picks.specs.Labels.{operand_label};
 ghost use Rattle.al_overload_choice.specs.Counts.{label_of};
 ghost use Rattle.al_base_fault.specs.Judging.{map_ok};
 ghost use Rattle.al_overload_term.specs.Terms.{TermTree as trees};
@@ -10,7 +13,7 @@ ghost use Rattle.al_overload_types.specs.Leaves.{actual_read, component_read, in
 ghost use Rattle.al_overload_term.specs.Places.{first_place};
 ghost use Rattle.al_overload_label.specs.Chains.{IsAt, IsBelow, stepped};
 ghost use Rattle.al_overload_nodes.specs.Calls.{call_node};
-ghost use Rattle.al_overload_nodes.specs.Names.{is_variable, object_node};
+ghost use Rattle.al_overload_nodes.specs.Names.{object_node};
 ghost use Rattle.al_overload_nodes.specs.Views.{actuals_model, reading_model, values_model};
 
 use crate::chain::{Joint, Sign, Step, chained, down, joined};
@@ -19,13 +22,13 @@ use crate::made::{
 };
 use crate::meaning::{interpret_conversion, interpret_qualified, types_of_test};
 use crate::pair::together;
+use crate::variable::variable_at;
 use al_base::{NoMemory, Place};
 use al_base_fault::CheckResult;
 use al_overload_choice::Labelled;
 use al_overload_heads::part_of;
 use al_overload_nodes::{
-    Actuals, Labeller, Reading, Values, add_actual, faulty, grouped, is_variable, misfit,
-    nothing_fits,
+    Actuals, Labeller, Reading, Values, add_actual, faulty, grouped, misfit, nothing_fits,
 };
 use al_overload_picks::{how_indexed, operand_label, range_in};
 use al_overload_term::{Term, first_place};
@@ -698,7 +701,7 @@ fn read_actual(
     label: &Labelled,
     actuals: &mut Actuals,
 ) -> Result<(), NoMemory>
-    ensures { OnOk result (actuals_model actuals.new ≡ actual_read subprogram.now (label_of label.now) position (actuals_model actuals.old) (first_place (term_model argument.now)) (is_variable (term_model argument.now)) (λ l of. reading labeller.now.predefined labeller.now.own (term_model argument.now) l subprogram.now.types of)) }
+    ensures { OnOk result (actuals_model actuals.new ≡ actual_read subprogram.now (label_of label.now) position (actuals_model actuals.old) (first_place (term_model argument.now)) (option_map_or (variable_as (term_model argument.now)) (operand_label position (label_of label.now)) false) (λ l of. reading labeller.now.predefined labeller.now.own (term_model argument.now) l subprogram.now.types of)) }
 {
     let place = first_place(argument);
     let Some(parameter) = subprogram.profile.parameters.as_slice().get(position) else {
@@ -708,7 +711,7 @@ fn read_actual(
     let range = range_in(&labeller.predefined.standard, types, subtype);
     let base = &subtype.base;
     let value = read_operand(labeller, argument, place, position, label, types, base)?;
-    let is_variable = is_variable(argument);
+    let is_variable = variable_at(labeller, argument, position, label);
     add_actual(actuals, parameter.mode, range, place, is_variable, value)
 }
 

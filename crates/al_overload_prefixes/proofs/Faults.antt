@@ -1,5 +1,5 @@
 -- How the faults of a text are found, by the constructors and fields of the program's trees.
-use Rattle.std.proofs.Common.{◌≡◌, ℕ, zero, suc, ◌<◌, ◌≤◌, Box, Global, List, [], ◌∷◌, map, length, take, get_or, Option, Some, None, refl, sym, ap, ◌∙◌, arith}
+use Rattle.std.proofs.Common.{◌≡◌, ℕ, zero, suc, ◌<◌, List, [], ◌∷◌, map, length, take, get_or, Option, Some, None, refl, sym, ap, ◌∙◌, arith}
 use Rattle.std.specs.Prelude.{option_map}
 use Rattle.al_base.specs.declared.place.Place.{Place}
 use Rattle.al_tree_grammar.specs.Grammar.{Label}
@@ -15,10 +15,7 @@ use Rattle.al_tree_syntax.specs.ExpressionTrees.{ExpressionTree, ExpressionTree 
 use Rattle.al_overload_terms.specs.Texts.{read}
 use Rattle.al_tree.specs.ExpressionViews.{expression_model, expressions_of, infix_model, longer_model, member_of, member_model, part_model, prefixed_model}
 use Rattle.al_tree.specs.Lexemes.{place_label}
-use Rattle.al_tree.proofs.ExpressionsMade.{expression_infix_model}
-use Rattle.al_tree.specs.declared.expression.Expression.{Expression, size-Expression}
-use Rattle.al_tree.specs.declared.expression.Expression.TheVariants as variants
-use Rattle.al_tree.specs.declared.expression.Expression.TheViews.{size_is-Infix, sized-Infix}
+use Rattle.al_tree.specs.declared.expression.Expression.{Expression}
 use Rattle.al_tree.specs.declared.expression.Infix.{Infix, out-Infix}
 use Rattle.al_tree.specs.declared.expression.Longer.{Longer, out-Longer}
 use Rattle.al_tree.specs.declared.expression.Member.{Member, out-Member}
@@ -57,23 +54,6 @@ infix_fault p own d at found i = ap (text_fault p own d at found) (infix_fields 
 pub grouped_fault : (p : Predefined) (own : Option Symbol) (d : Denotations) (at : Place) (found : Option Fault) (x : GroupTree) → text_fault p own d at found (e.Group x) ≡ group_fault p own d at found x
 unfolding text_fault
 grouped_fault p own d at found x = refl
-
--- a step down the left operands
-pub left_fault : (p : Predefined) (own : Option Symbol) (d : Denotations) (at : Place) (found fault whole : Option Fault) (rest : Expression) (boxed : Box Infix Global) (left right : Expression)
-    → rest ≡ variants.Infix boxed → left ≡ (out-Infix boxed.value).left → right ≡ (out-Infix boxed.value).right
-    → fault ≡ text_fault p own d at found (expression_model right) → text_fault p own d at found (expression_model rest) ≡ whole
-    → text_fault p own d at fault (expression_model left) ≡ whole
-left_fault p own d at found fault whole rest boxed left right is left_is right_is fault_is known =
-    ap (λ (f : Option Fault). text_fault p own d at f (expression_model left)) (fault_is ∙ ap (λ (x : Expression). text_fault p own d at found (expression_model x)) right_is)
-    ∙ ap (λ (x : Expression). text_fault p own d at (text_fault p own d at found (expression_model (out-Infix boxed.value).right)) (expression_model x)) left_is
-    ∙ sym (ap (λ (x : Expression). text_fault p own d at found (expression_model x)) is ∙ ap (text_fault p own d at found) (expression_infix_model boxed) ∙ infix_fault p own d at found boxed.value)
-    ∙ known
-
--- the left operand is no deeper
-pub left_deeper : (rest : Expression) (boxed : Box Infix Global) (left whole : Expression)
-    → rest ≡ variants.Infix boxed → left ≡ (out-Infix boxed.value).left → size-Expression rest ≤ size-Expression whole → size-Expression left ≤ size-Expression whole
-left_deeper rest boxed left whole is left_is known =
-    let a = ap size-Expression is in let b = ap size-Expression left_is in omega (arith, sized-Infix boxed, size_is-Infix boxed.value, a, b)
 
 -- ---- membership tests
 

@@ -1,3 +1,4 @@
 pub mod Prefixes
 pub mod Texts
 pub mod TextsAt
+pub mod Steps

@@ -1,6 +1,6 @@
 -- What is wrong in the prefix of an attribute (ARM 4.1.4). It tells the attribute nothing but its array, which is known without interpretation; but
 -- what stands in its indexes is part of the context round the attribute (ARM 8.6(4)), and must have its one interpretation there as all else has.
-use Rattle.std.specs.Prelude.{ℕ, Bool, ◌&&◌, ◌==◌, List, [], Option, Some, None, is_some, Result, Ok, Err, if◌then◌else◌}
+use Rattle.std.specs.Prelude.{Bool, ◌&&◌, ◌==◌, [], Option, Some, None, is_some, Result, Ok, Err, if◌then◌else◌}
 use Rattle.al_base.specs.declared.place.Place.{Place}
 use Rattle.al_overload_heads.specs.declared.everywhere.Predefined.{Predefined}
 use Rattle.al_base_fault.specs.Faults.{fault_at}

@@ -5,6 +5,7 @@ ghost use Rattle.al_base_fault.specs.Judging.{map_ok};
 ghost use Rattle.al_overload_keys.specs.Keys.{denoted};
 ghost use Rattle.al_overload_keys.specs.Places.{first_place};
 ghost use Rattle.al_overload_prefixes.specs.Prefixes.{place_after, prefix_fault};
+ghost use Rattle.al_overload_prefixes.specs.Steps.{IsBelow, stepped, tested_value};
 ghost use Rattle.al_overload_prefixes.specs.Texts.{all_fault, after_fault, group_fault, text_fault};
 ghost use Rattle.al_overload_readings.specs.ReadingViews.{reading_model};
 ghost use Rattle.al_overload_terms.specs.Texts.{read};
@@ -31,10 +32,18 @@ fn prefix_read(
     read(labeller.alloc, standard, names, prefix)
 }
 
+/// A step into a text.
+#[derive(Drop)]
+pub(crate) enum Step<'a> {
+    /// The first fault so far, with what stands at the left.
+    Down(Option<Fault>, &'a Expression),
+    /// That of all.
+    Last(Option<Fault>),
+}
+
 /// The first fault in the prefixes of attributes: the one that was found already, or one in this text, which stands in a context that begins at
-/// `at`. A chain of operators is gone down by a loop.
+/// `at`. What stands at the left is gone down by a loop.
 #[cycle(text)]
-#[tactic(auto, using(crate::proofs::Faults::infix_fault, al_tree::proofs::ExpressionsMade::expression_infix_model))]
 pub(crate) fn text_fault(
     labeller: &Labeller,
     names: &Names,
@@ -46,66 +55,71 @@ pub(crate) fn text_fault(
 {
     let mut fault = found;
     let mut rest = expression;
-    while let Expression::Infix(infix) = rest {
-        fault = text_fault(labeller, names, at, fault, &infix.right)?;
-        rest = &infix.left;
+    loop {
+        match step_into(labeller, names, at, fault, rest)? {
+            Step::Down(so_far, left) => {
+                fault = so_far;
+                rest = left;
+            }
+            Step::Last(fault) => return Ok(fault),
+        }
     }
-    one_fault(labeller, names, at, fault, rest)
 }
 
-/// The same by the form of the text.
+/// A step by the form of the text: all but what stands at the left.
 #[cycle(text)]
 #[tactic(auto, using(crate::proofs::Faults::number_fault, crate::proofs::Faults::string_fault, crate::proofs::Faults::name_fault, crate::proofs::Faults::longer_fault, crate::proofs::Faults::prefixed_fault, crate::proofs::Faults::infix_fault, crate::proofs::Faults::grouped_fault, al_tree::proofs::ExpressionsMade::expression_numeric_model, al_tree::proofs::ExpressionsMade::expression_text_model, al_tree::proofs::ExpressionsMade::expression_name_model, al_tree::proofs::ExpressionsMade::expression_longer_model, al_tree::proofs::ExpressionsMade::expression_prefixed_model, al_tree::proofs::ExpressionsMade::expression_infix_model, al_tree::proofs::ExpressionsMade::expression_member_model, al_tree::proofs::ExpressionsMade::expression_group_model))]
-fn one_fault(
+fn step_into<'a>(
     labeller: &Labeller,
     names: &Names,
     at: Place,
     found: Option<Fault>,
-    expression: &Expression,
-) -> Result<Option<Fault>, NoMemory>
-    ensures { IfOk result (λ fault. fault ≡ text_fault labeller.now.predefined labeller.now.own (denoted names.now) at found (expression_model expression.now)) }
+    expression: &'a Expression,
+) -> Result<Step<'a>, NoMemory>
+    ensures fault { IfOk result (λ s. stepped labeller.now.predefined labeller.now.own (denoted names.now) at s ≡ text_fault labeller.now.predefined labeller.now.own (denoted names.now) at found (expression_model expression.now)) }
+    ensures below { IfOk result (λ s. IsBelow expression.now s) }
 {
     match expression {
-        Expression::Numeric(_) => Ok(found),
-        Expression::Text(_) => Ok(found),
-        Expression::Name(_) => Ok(found),
+        Expression::Numeric(_) => Ok(Step::Last(found)),
+        Expression::Text(_) => Ok(Step::Last(found)),
+        Expression::Name(_) => Ok(Step::Last(found)),
         Expression::Longer(longer) => {
-            let after = after_fault(labeller, names, at, found, &longer.part, &longer.prefix)?;
-            text_fault(labeller, names, at, after, &longer.prefix)
+            let fault = after_fault(labeller, names, at, found, &longer.part, &longer.prefix)?;
+            Ok(Step::Down(fault, &longer.prefix))
         }
-        Expression::Prefixed(prefixed) => {
-            text_fault(labeller, names, at, found, &prefixed.operand)
-        }
+        Expression::Prefixed(prefixed) => Ok(Step::Down(found, &prefixed.operand)),
         Expression::Infix(infix) => {
-            let right = text_fault(labeller, names, at, found, &infix.right)?;
-            text_fault(labeller, names, at, right, &infix.left)
+            let fault = text_fault(labeller, names, at, found, &infix.right)?;
+            Ok(Step::Down(fault, &infix.left))
         }
-        Expression::Member(tested) => member_fault(labeller, names, at, found, tested),
-        Expression::Group(group) => group_fault(labeller, names, at, found, group),
+        Expression::Member(tested) => {
+            let fault = range_fault(labeller, names, at, found, tested)?;
+            Ok(Step::Down(fault, &tested.left))
+        }
+        Expression::Group(group) => {
+            let fault = group_fault(labeller, names, at, found, group)?;
+            Ok(Step::Last(fault))
+        }
     }
 }
 
-/// That of a membership test.
+/// That of a mark or a range that a value is tested against.
 #[cycle(text)]
 #[tactic(auto, using(crate::proofs::Faults::mark_fault, crate::proofs::Faults::bounds_fault))]
-fn member_fault(
+fn range_fault(
     labeller: &Labeller,
     names: &Names,
     at: Place,
     found: Option<Fault>,
     tested: &Member,
 ) -> Result<Option<Fault>, NoMemory>
-    ensures { IfOk result (λ fault. fault ≡ text_fault labeller.now.predefined labeller.now.own (denoted names.now) at found (member_model tested.now)) }
+    ensures { IfOk result (λ fault. text_fault labeller.now.predefined labeller.now.own (denoted names.now) at fault (expression_model (tested_value tested.now)) ≡ text_fault labeller.now.predefined labeller.now.own (denoted names.now) at found (member_model tested.now)) }
 {
     match &tested.high {
-        None => {
-            let mark = text_fault(labeller, names, at, found, &tested.low)?;
-            text_fault(labeller, names, at, mark, &tested.left)
-        }
+        None => text_fault(labeller, names, at, found, &tested.low),
         Some(high) => {
-            let high = text_fault(labeller, names, at, found, high)?;
-            let low = text_fault(labeller, names, at, high, &tested.low)?;
-            text_fault(labeller, names, at, low, &tested.left)
+            let fault = text_fault(labeller, names, at, found, high)?;
+            text_fault(labeller, names, at, fault, &tested.low)
         }
     }
 }

@@ -1,5 +1,5 @@
 -- What the program's values are as plain data.
-use Rattle.std.specs.Prelude.{List, map}
+use Rattle.std.specs.Prelude.{map}
 use Rattle.al_view_typed.specs.ExpressionViews.{call_model}
 use Rattle.al_view_typed.specs.StatementTrees.{PieceTree, StatementFormTree}
 use Rattle.al_view_typed.specs.StatementTrees.StatementFormTree.{CallStatement, PutStatement}

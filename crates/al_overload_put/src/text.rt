@@ -1,5 +1,5 @@
 // What Put and Put_Line put (ARM A.10.7).
-ghost use Rattle.std.specs.Prelude.{◌≡◌, ◌++◌, ◌∷◌, [], IfOk, OnOk, map, None};
+ghost use Rattle.std.specs.Prelude.{◌≡◌, ◌+◌, ◌<◌, ◌++◌, ◌∷◌, [], IfOk, OnOk, map, None, Ok, Err, sum_by};
 ghost use Rattle.al_base_fault.specs.Judging.{map_ok};
 ghost use Rattle.al_overload_label.specs.Contexts.{term_checked};
 ghost use Rattle.al_overload.specs.Meanings.{nothing_fits};
@@ -8,9 +8,11 @@ ghost use Rattle.al_overload_term.specs.TermViews.{term_model, terms_of};
 ghost use Rattle.al_view_typed.specs.ExpressionViews.{typed_model};
 ghost use Rattle.al_view_typed.specs.StatementTrees.PieceTree.{TextPiece};
 ghost use Rattle.al_view_typed.specs.StatementViews.{piece_model};
-ghost use Rattle.al_overload_nodes.specs.Gathering.{no_parts, with_part};
+ghost use Rattle.al_overload_nodes.specs.Gathering.{Parts, no_parts, with_part};
 ghost use Rattle.al_overload_put.specs.Puts.{argument_read, arguments_of, image, image_checked, image_of, text_read, upper};
 ghost use Rattle.al_overload_put.specs.Seen.{pieces_model};
+ghost use Rattle.al_overload_put.specs.Worklists.{IsBelow, all_read, room, stepped};
+ghost use Rattle.al_view_typed.specs.StatementTrees.{PieceTree};
 ghost use Rattle.al_overload_types.specs.Leaves.{mark_type};
 
 use al_base::{Name, NoMemory, Place};
@@ -151,58 +153,107 @@ fn check_image(
     }
 }
 
-fn add_bytes(alloc: Global, bytes: &[u8], pieces: &mut Pieces) -> Result<(), NoMemory>
-    ensures { OnOk result (pieces_model pieces.new ≡ with_part (pieces_model pieces.old) None (Ok (TextPiece bytes.now))) }
+fn text_piece(alloc: Global, bytes: &[u8]) -> Result<CheckResult<Piece>, NoMemory>
+    ensures { IfOk result (λ piece. map_ok piece_model piece ≡ Ok (TextPiece bytes.now)) }
 {
     let bytes = Seq::new(Vec::from_slice(alloc, bytes)?);
-    pieces.add(Ok(Piece::Text(bytes)))
+    Ok(Ok(Piece::Text(bytes)))
+}
+
+/// A step into a string expression.
+#[derive(Drop)]
+enum Step<'a> {
+    /// Both operands of `&`.
+    Both(&'a Term, &'a Term),
+    /// What stands in parentheses.
+    Inside(&'a Term),
+    Found(CheckResult<Piece>),
 }
 
 /// What fits nothing.
-fn add_misfit(place: Place, pieces: &mut Pieces) -> Result<(), NoMemory>
-    ensures { OnOk result (pieces_model pieces.new ≡ with_part (pieces_model pieces.old) None (Err (nothing_fits place))) }
+fn misfit(place: Place) -> CheckResult<Piece>
+    ensures { map_ok piece_model result ≡ Err (nothing_fits place) }
 {
-    pieces.add(Err(nothing_fits(place)))
+    Err(nothing_fits(place))
 }
 
-/// The pieces of a string expression, in the order of the text.
-#[tactic(auto, using(al_overload_nodes::proofs::TermsSeen::terms_made))]
-fn read_text(labeller: &Labeller, term: &Term, pieces: &mut Pieces) -> Result<(), NoMemory>
-    ensures { OnOk result (pieces_model pieces.new ≡ text_read labeller.now.predefined labeller.now.own (term_model term.now) (pieces_model pieces.old)) }
+/// A step into a string expression.
+#[tactic(auto, using(al_overload_nodes::proofs::TermsSeen::terms_made, crate::proofs::Worklists::left_below, crate::proofs::Worklists::right_below, crate::proofs::Worklists::inner_below))]
+fn step_into<'a>(labeller: &Labeller, term: &'a Term) -> Result<Step<'a>, NoMemory>
+    ensures read { IfOk result (λ s. (pieces : Parts PieceTree) → stepped labeller.now.predefined labeller.now.own s pieces ≡ text_read labeller.now.predefined labeller.now.own (term_model term.now) pieces) }
+    ensures below { IfOk result (λ s. IsBelow term.now s) }
 {
     match term {
-        Term::Text { place: _, bytes } => add_bytes(labeller.alloc, bytes.as_slice(), pieces),
+        Term::Text { place: _, bytes } => {
+            let piece = text_piece(labeller.alloc, bytes.as_slice())?;
+            Ok(Step::Found(piece))
+        }
         Term::Image {
             place: _,
             subtype,
             argument,
         } => {
             let piece = check_image(labeller, subtype, argument)?;
-            pieces.add(piece)
+            Ok(Step::Found(piece))
         }
-        Term::Concatenation { left, right } => {
-            read_text(labeller, left, pieces)?;
-            read_text(labeller, right, pieces)
-        }
-        Term::Group { place: _, inner } => read_text(labeller, inner, pieces),
-        Term::Number { place, .. } => add_misfit(*place, pieces),
-        Term::Named { place, .. } => add_misfit(*place, pieces),
-        Term::Selected { prefix, .. } => add_misfit(first_place(prefix), pieces),
-        Term::Applied { name, .. } => add_misfit(first_place(name), pieces),
-        Term::Bound { place, .. } => add_misfit(*place, pieces),
-        Term::Length { place, .. } => add_misfit(*place, pieces),
-        Term::Conversion { place, .. } => add_misfit(*place, pieces),
-        Term::Qualified { place, .. } => add_misfit(*place, pieces),
-        Term::Attribute { place, .. } => add_misfit(*place, pieces),
-        Term::Prefixed { place, .. } => add_misfit(*place, pieces),
-        Term::Infix { left, .. } => add_misfit(first_place(left), pieces),
-        Term::ShortCircuit { left, .. } => add_misfit(first_place(left), pieces),
-        Term::Member { value, .. } => add_misfit(first_place(value), pieces),
-        Term::RangeMember { value, .. } => add_misfit(first_place(value), pieces),
-        Term::Aggregate { place, .. } => add_misfit(*place, pieces),
-        Term::Others { place, .. } => add_misfit(*place, pieces),
-        Term::Nothing { place } => add_misfit(*place, pieces),
+        Term::Concatenation { left, right } => Ok(Step::Both(left, right)),
+        Term::Group { place: _, inner } => Ok(Step::Inside(inner)),
+        Term::Number { place, .. } => Ok(Step::Found(misfit(*place))),
+        Term::Named { place, .. } => Ok(Step::Found(misfit(*place))),
+        Term::Selected { prefix, .. } => Ok(Step::Found(misfit(first_place(prefix)))),
+        Term::Applied { name, .. } => Ok(Step::Found(misfit(first_place(name)))),
+        Term::Bound { place, .. } => Ok(Step::Found(misfit(*place))),
+        Term::Length { place, .. } => Ok(Step::Found(misfit(*place))),
+        Term::Conversion { place, .. } => Ok(Step::Found(misfit(*place))),
+        Term::Qualified { place, .. } => Ok(Step::Found(misfit(*place))),
+        Term::Attribute { place, .. } => Ok(Step::Found(misfit(*place))),
+        Term::Prefixed { place, .. } => Ok(Step::Found(misfit(*place))),
+        Term::Infix { left, .. } => Ok(Step::Found(misfit(first_place(left)))),
+        Term::ShortCircuit { left, .. } => Ok(Step::Found(misfit(first_place(left)))),
+        Term::Member { value, .. } => Ok(Step::Found(misfit(first_place(value)))),
+        Term::RangeMember { value, .. } => Ok(Step::Found(misfit(first_place(value)))),
+        Term::Aggregate { place, .. } => Ok(Step::Found(misfit(*place))),
+        Term::Others { place, .. } => Ok(Step::Found(misfit(*place))),
+        Term::Nothing { place } => Ok(Step::Found(misfit(*place))),
     }
+}
+
+/// Reads what comes next: its piece, or what is in it waits.
+#[tactic(auto, using(crate::proofs::Worklists::last_read, crate::proofs::Worklists::last_room, crate::proofs::Worklists::some, crate::proofs::Worklists::one_within, crate::proofs::Worklists::two_within))]
+fn advance<'a>(
+    labeller: &Labeller,
+    next: &'a Term,
+    waiting: &mut Vec<&'a Term>,
+    pieces: &mut Pieces,
+) -> Result<(), NoMemory>
+    ensures read { OnOk result (all_read labeller.now.predefined labeller.now.own (map (λ t. term_model t.now) waiting.new.items) (pieces_model pieces.new) ≡ all_read labeller.now.predefined labeller.now.own (map (λ t. term_model t.now) waiting.old.items) (text_read labeller.now.predefined labeller.now.own (term_model next.now) (pieces_model pieces.old))) }
+    ensures less { OnOk result (sum_by (λ t. room t.now) waiting.new.items < sum_by (λ t. room t.now) waiting.old.items + room next.now) }
+{
+    match step_into(labeller, next)? {
+        Step::Both(left, right) => {
+            waiting.push(right)?;
+            waiting.push(left)?;
+            Ok(())
+        }
+        Step::Inside(inner) => {
+            waiting.push(inner)?;
+            Ok(())
+        }
+        Step::Found(piece) => pieces.add(piece),
+    }
+}
+
+/// The pieces of a string expression, in the order of the text. Operands wait in a list, so that a chain of `&` takes nothing of the stack.
+#[tactic(auto, using(crate::proofs::Worklists::last_read, crate::proofs::Worklists::last_room))]
+fn read_text(labeller: &Labeller, term: &Term, pieces: &mut Pieces) -> Result<(), NoMemory>
+    ensures { OnOk result (pieces_model pieces.new ≡ text_read labeller.now.predefined labeller.now.own (term_model term.now) (pieces_model pieces.old)) }
+{
+    let mut waiting = Vec::new(labeller.alloc);
+    waiting.push(term)?;
+    while let Some(next) = waiting.pop() {
+        advance(labeller, next, &mut waiting, pieces)?;
+    }
+    Ok(())
 }
 
 /// The pieces of the first argument, if there is one.

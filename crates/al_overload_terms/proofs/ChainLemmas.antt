@@ -11,7 +11,9 @@ use Rattle.al_overload_term.specs.TermViews.{term_model}
 use Rattle.al_overload_terms.proofs.ReadLemmas.{infix_read}
 use Rattle.al_overload_terms.specs.Chains.{chained, joint_read}
 use Rattle.al_overload_terms.specs.Texts.{read}
+use Rattle.al_overload_terms.specs.Noted.{NotedTree, all_linked, linked, settled}
 use Rattle.al_overload_terms.specs.declared.chain.Joint.{Joint}
+use Rattle.al_overload_terms.specs.declared.name.Link.{Link}
 use Rattle.al_tree.specs.ExpressionViews.{expression_model, infix_model, operator_model}
 use Rattle.al_tree.specs.declared.expression.Expression.{Expression, size-Expression}
 use Rattle.al_tree.specs.declared.expression.Expression.TheVariants as variants
@@ -36,10 +38,22 @@ pub infix_joined : (d : Denotations) (i : Infix) (joint : Joint) (rest left : Ex
     → next (read d rest) valued ≡ joint_read d joint (next (read d left) valued)
 infix_joined d i joint rest left seen left_is operator_is right_is =
     ap (λ (x : ExpressionTree). next (read d x) valued) seen
-    ∙ ap (λ (r : Result ReadTree Fault). next r valued) (infix_read d i)
+    ∙ ap (λ (r : Result ReadTree Fault). next r valued) (ap settled (infix_read d i))
     ∙ ap (λ (o : InfixOperator). next (joined_read d (operator_model o) (next (read d (expression_model (out-Infix i).left)) valued) (next (read d (expression_model (out-Infix i).right)) valued)) valued) (sym operator_is)
     ∙ ap (λ (x : ExpressionTree). next (joined_read d (operator_model joint.operator) (next (read d x) valued) (next (read d (expression_model (out-Infix i).right)) valued)) valued) (sym left_is)
     ∙ ap (λ (r : Result TermTree Fault). next (joined_read d (operator_model joint.operator) (next (read d left) valued) r) valued) (sym right_is)
+
+-- a name with one part more at its front
+pub first_linked : (d : Denotations) (links : List Link) (link : Link) (first : NotedTree)
+    → all_linked d (links ++ link ∷ []) first ≡ all_linked d links (linked d link first)
+first_linked d [] link first = refl
+first_linked d (x ∷ links) link first = ap (linked d x) (first_linked d links link first)
+
+-- a step down the parts of a name
+pub more_linked : (d : Denotations) (links new : List Link) (link : Link) (rest prefix whole : NotedTree)
+    → new ≡ links ++ link ∷ [] → linked d link prefix ≡ rest → all_linked d links rest ≡ whole → all_linked d new prefix ≡ whole
+more_linked d links new link rest prefix whole is step known =
+    ap (λ (ls : List Link). all_linked d ls prefix) is ∙ first_linked d links link prefix ∙ ap (λ (n : NotedTree). all_linked d links n) step ∙ known
 
 -- the left operand is no deeper
 pub infix_deeper : (rest : Expression) (boxed : Box Infix Global) (left whole : Expression)

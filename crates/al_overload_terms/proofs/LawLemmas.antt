@@ -12,7 +12,7 @@ use Rattle.al_overload_readings.specs.Signs.{joined, prefixed}
 use Rattle.al_overload_readings.specs.Steps.{joined_read, prefixed_read}
 use Rattle.al_overload_term.specs.Terms.{TermTree}
 use Rattle.al_overload_terms.specs.Laws.{FirstFaultsAreReported, MissingNamesAreReported, OwnFaultsAreReported}
-use Rattle.al_overload_terms.specs.Texts.{read, term_of}
+use Rattle.al_overload_terms.specs.Texts.{noted, term_of}
 
 both_fault : {A B C : Type 0} (h : A × B → C) (one : Result A Fault) (two : Result B Fault) → fault_in (map_ok h (both one two)) ≡ earlier (fault_in one) (fault_in two)
 both_fault h (Ok a) (Ok b) = refl
@@ -31,18 +31,18 @@ seen_fault h (Ok a) = refl
 seen_fault h (Err f) = refl
 
 pub first_faults : FirstFaultsAreReported
-unfolding read joined_read
+unfolding noted joined_read
 first_faults d left right operator =
     valued_fault (λ (x : TermTree × TermTree). joined d.visible operator x.0 x.1) (both (term_of d left) (term_of d right))
     ∙ both_fault (λ (x : TermTree × TermTree). joined d.visible operator x.0 x.1) (term_of d left) (term_of d right)
 
 pub own_faults : OwnFaultsAreReported
-unfolding read prefixed_read
+unfolding noted prefixed_read
 own_faults d operand operator =
     valued_fault (λ (t : TermTree). prefixed d.visible operator t) (term_of d operand)
     ∙ seen_fault (λ (t : TermTree). prefixed d.visible operator t) (term_of d operand)
 
 pub missing_names : MissingNamesAreReported
-unfolding read named
+unfolding noted named
 missing_names d l e =
     ap (λ (b : Bool). next (if b then Err (not_visible l) else Ok (reads.NameRead (place_of l) l.text (d.visible l.text))) valued) e

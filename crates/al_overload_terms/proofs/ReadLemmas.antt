@@ -7,13 +7,13 @@ use Rattle.al_base_fault.specs.Judging.{both, next, map_ok}
 use Rattle.al_base_fault.specs.declared.fault.Fault.{Fault}
 use Rattle.al_overload_keys.proofs.Fields.{infix_fields, longer_fields, member_fields, prefixed_fields}
 use Rattle.al_overload_keys.specs.Keys.{Denotations}
-use Rattle.al_overload_keys.specs.Places.{place_of}
+use Rattle.al_overload_keys.specs.Places.{group_place, place_of}
 use Rattle.al_tree_syntax.specs.ExpressionTrees.{ExpressionTree, ExpressionTree as e, ExpressionsTree, ExpressionsTree as es, GroupTree, GroupTree as g, PartTree as part}
 use Rattle.al_overload_term.specs.Terms.{TermTree, TermTree as terms}
-use Rattle.al_overload_readings.specs.Attributes.{attribute_named}
-use Rattle.al_overload_readings.specs.Readings.{ReadTree, ReadTree as reads, callable, marking, named, selected, valued}
-use Rattle.al_overload_readings.specs.Steps.{added, aggregated, applied_read, applied_to_read, grouped, joined_read, member_read, prefixed_read, qualified_read, range_member_read, repeated, started, with_attribute, with_range}
-use Rattle.al_overload_terms.specs.Texts.{group_term, is_name, is_range, is_range_attribute, is_selector, number_value, one_range, read, read_more, read_part}
+use Rattle.al_overload_readings.specs.Readings.{ReadTree, ReadTree as reads, named, valued}
+use Rattle.al_overload_readings.specs.Steps.{added, aggregated, grouped, joined_read, member_read, prefixed_read, range_member_read, repeated, started}
+use Rattle.al_overload_terms.specs.Noted.{NotedTree, attributed, plain, qualifying, ranged, with_argument, with_arguments, with_selector}
+use Rattle.al_overload_terms.specs.Texts.{group_term, is_name, is_range, is_range_attribute, is_selector, noted, number_value, one_range, read, read_more, with_part}
 use Rattle.al_tree.specs.ExpressionViews.{expression_model, expressions_of, infix_model, longer_model, member_of, member_model, operator_model, part_model, prefix_model, prefixed_model}
 use Rattle.al_tree.specs.Lexemes.{place_label}
 use Rattle.al_tree.specs.declared.expression.Expression.{Expression}
@@ -60,33 +60,33 @@ member_is_range m = ap is_range (member_fields m)
 
 -- ---- expressions
 
-pub number_read : (d : Denotations) (l : Label) → read d (e.Number l) ≡ Ok (reads.TermRead (terms.NumberTerm (place_of l) (number_value l)))
-unfolding read
+pub number_read : (d : Denotations) (l : Label) → noted d (e.Number l) ≡ plain (Ok (reads.TermRead (terms.NumberTerm (place_of l) (number_value l))))
+unfolding noted
 number_read d l = refl
 
-pub text_read : (d : Denotations) (l : Label) → read d (e.Text l) ≡ Ok (reads.TermRead (terms.TextTerm (place_of l) l.text))
-unfolding read
+pub text_read : (d : Denotations) (l : Label) → noted d (e.Text l) ≡ plain (Ok (reads.TermRead (terms.TextTerm (place_of l) l.text)))
+unfolding noted
 text_read d l = refl
 
-pub name_read : (d : Denotations) (l : Label) → read d (e.Name l) ≡ named (place_of l) l.text (d.visible l.text) l
-unfolding read
+pub name_read : (d : Denotations) (l : Label) → noted d (e.Name l) ≡ plain (named (place_of l) l.text (d.visible l.text) l)
+unfolding noted
 name_read d l = refl
 
-pub group_read : (d : Denotations) (x : GroupTree) → read d (e.Group x) ≡ map_ok reads.TermRead (group_term d x)
-unfolding read
+pub group_read : (d : Denotations) (x : GroupTree) → noted d (e.Group x) ≡ plain (map_ok reads.TermRead (group_term d x))
+unfolding noted
 group_read d x = refl
 
-pub longer_read : (d : Denotations) (n : Longer) → read d (longer_model n) ≡ read_part d (read d (expression_model (out-Longer n).prefix)) (part_model (out-Longer n).part)
-unfolding read
-longer_read d n = ap (read d) (longer_fields n)
+pub longer_read : (d : Denotations) (n : Longer) → noted d (longer_model n) ≡ with_part d (part_model (out-Longer n).part) (noted d (expression_model (out-Longer n).prefix))
+unfolding noted
+longer_read d n = ap (noted d) (longer_fields n)
 
-pub prefix_read : (d : Denotations) (p : Prefixed) → read d (prefixed_model p) ≡ prefixed_read d (prefix_model (out-Prefixed p).operator) (next (read d (expression_model (out-Prefixed p).operand)) valued)
-unfolding read
-prefix_read d p = ap (read d) (prefixed_fields p)
+pub prefix_read : (d : Denotations) (p : Prefixed) → noted d (prefixed_model p) ≡ plain (prefixed_read d (prefix_model (out-Prefixed p).operator) (next (read d (expression_model (out-Prefixed p).operand)) valued))
+unfolding noted
+prefix_read d p = ap (noted d) (prefixed_fields p)
 
-pub infix_read : (d : Denotations) (i : Infix) → read d (infix_model i) ≡ joined_read d (operator_model (out-Infix i).operator) (next (read d (expression_model (out-Infix i).left)) valued) (next (read d (expression_model (out-Infix i).right)) valued)
-unfolding read
-infix_read d i = ap (read d) (infix_fields i)
+pub infix_read : (d : Denotations) (i : Infix) → noted d (infix_model i) ≡ plain (joined_read d (operator_model (out-Infix i).operator) (next (read d (expression_model (out-Infix i).left)) valued) (next (read d (expression_model (out-Infix i).right)) valued))
+unfolding noted
+infix_read d i = ap (noted d) (infix_fields i)
 
 -- a membership test by its parts
 member_parts : Denotations → ExpressionTree → Bool → ExpressionTree → Option ExpressionTree → Result ReadTree Fault
@@ -97,53 +97,53 @@ is_some_map : {A B : Type 0} (f : A → B) (o : Option A) → is_some (option_ma
 is_some_map f None = refl
 is_some_map f (Some x) = refl
 
-member_split : (d : Denotations) (s : ExpressionTree) (n : Option Label) (t : ExpressionTree) (u : Option ExpressionTree) → read d (member_of s n t u) ≡ member_parts d s (is_some n) t u
-unfolding read member_parts
+member_split : (d : Denotations) (s : ExpressionTree) (n : Option Label) (t : ExpressionTree) (u : Option ExpressionTree) → noted d (member_of s n t u) ≡ plain (member_parts d s (is_some n) t u)
+unfolding noted member_parts
 member_split d s n t None = refl
 member_split d s n t (Some u) = refl
 
-member_fully : (d : Denotations) (m : Member) → read d (member_model m) ≡ member_parts d (expression_model (out-Member m).left) (is_some (out-Member m).not) (expression_model (out-Member m).low) (option_map expression_model (out-Member m).high)
-member_fully d m = ap (read d) (member_fields m)
+member_fully : (d : Denotations) (m : Member) → noted d (member_model m) ≡ plain (member_parts d (expression_model (out-Member m).left) (is_some (out-Member m).not) (expression_model (out-Member m).low) (option_map expression_model (out-Member m).high))
+member_fully d m = ap (noted d) (member_fields m)
     ∙ member_split d (expression_model (out-Member m).left) (option_map place_label (out-Member m).not) (expression_model (out-Member m).low) (option_map expression_model (out-Member m).high)
-    ∙ ap (λ (b : Bool). member_parts d (expression_model (out-Member m).left) b (expression_model (out-Member m).low) (option_map expression_model (out-Member m).high)) (is_some_map place_label (out-Member m).not)
+    ∙ ap (λ (b : Bool). plain (member_parts d (expression_model (out-Member m).left) b (expression_model (out-Member m).low) (option_map expression_model (out-Member m).high))) (is_some_map place_label (out-Member m).not)
 
-pub member_in_mark : (d : Denotations) (m : Member) → (out-Member m).high ≡ None → read d (member_model m) ≡ member_read (is_some (out-Member m).not) (next (read d (expression_model (out-Member m).left)) valued) (one_range (expression_model (out-Member m).low) (read d (expression_model (out-Member m).low)))
+pub member_in_mark : (d : Denotations) (m : Member) → (out-Member m).high ≡ None → noted d (member_model m) ≡ plain (member_read (is_some (out-Member m).not) (next (read d (expression_model (out-Member m).left)) valued) (one_range (expression_model (out-Member m).low) (read d (expression_model (out-Member m).low))))
 unfolding member_parts
 member_in_mark d m is = member_fully d m
-    ∙ ap (λ (u : Option Expression). member_parts d (expression_model (out-Member m).left) (is_some (out-Member m).not) (expression_model (out-Member m).low) (option_map expression_model u)) is
+    ∙ ap (λ (u : Option Expression). plain (member_parts d (expression_model (out-Member m).left) (is_some (out-Member m).not) (expression_model (out-Member m).low) (option_map expression_model u))) is
 
-pub member_in_range : (d : Denotations) (m : Member) (high : Expression) → (out-Member m).high ≡ Some high → read d (member_model m) ≡ range_member_read (is_some (out-Member m).not) (next (read d (expression_model (out-Member m).left)) valued) (both (next (read d (expression_model (out-Member m).low)) valued) (next (read d (expression_model high)) valued))
+pub member_in_range : (d : Denotations) (m : Member) (high : Expression) → (out-Member m).high ≡ Some high → noted d (member_model m) ≡ plain (range_member_read (is_some (out-Member m).not) (next (read d (expression_model (out-Member m).left)) valued) (both (next (read d (expression_model (out-Member m).low)) valued) (next (read d (expression_model high)) valued)))
 unfolding member_parts
 member_in_range d m high is = member_fully d m
-    ∙ ap (λ (u : Option Expression). member_parts d (expression_model (out-Member m).left) (is_some (out-Member m).not) (expression_model (out-Member m).low) (option_map expression_model u)) is
+    ∙ ap (λ (u : Option Expression). plain (member_parts d (expression_model (out-Member m).left) (is_some (out-Member m).not) (expression_model (out-Member m).low) (option_map expression_model u))) is
 
 -- ---- what stands after a name
 
-pub selector_read : (d : Denotations) (r : Result ReadTree Fault) (l : Label) → read_part d r (part.Selector l) ≡ next r (selected d l)
-unfolding read_part
-selector_read d r l = refl
+pub selector_part : (d : Denotations) (l : Label) (n : NotedTree) → with_part d (part.Selector l) n ≡ with_selector d l n
+unfolding with_part
+selector_part d l n = refl
 
-pub argument_read : (d : Denotations) (r : Result ReadTree Fault) (l : Label) (x : ExpressionTree) (xs : List Expression) → length xs < 1 → read_part d r (part.Arguments l x (expressions_of (map expression_model xs))) ≡ applied_read (next r callable) (next (read d x) valued)
-unfolding read_part
-argument_read d r l x [] h = refl
-argument_read d r l x (y ∷ ys) h = absurd (omega arith)
+pub argument_part : (d : Denotations) (l : Label) (x : ExpressionTree) (xs : List Expression) (n : NotedTree) → length xs < 1 → with_part d (part.Arguments l x (expressions_of (map expression_model xs))) n ≡ with_argument (place_of l) (next (read d x) valued) n
+unfolding with_part
+argument_part d l x [] n h = refl
+argument_part d l x (y ∷ ys) n h = absurd (omega arith)
 
-pub arguments_read : (d : Denotations) (r : Result ReadTree Fault) (l : Label) (x : ExpressionTree) (xs : List Expression) → 0 < length xs → read_part d r (part.Arguments l x (expressions_of (map expression_model xs))) ≡ applied_to_read (next r callable) (read_more d (started (next (read d x) valued)) (expressions_of (map expression_model xs)))
-unfolding read_part
-arguments_read d r l x [] h = absurd (omega arith)
-arguments_read d r l x (y ∷ ys) h = refl
+pub arguments_part : (d : Denotations) (l : Label) (x : ExpressionTree) (xs : List Expression) (n : NotedTree) → 0 < length xs → with_part d (part.Arguments l x (expressions_of (map expression_model xs))) n ≡ with_arguments (place_of l) (read_more d (started (next (read d x) valued)) (expressions_of (map expression_model xs))) n
+unfolding with_part
+arguments_part d l x [] n h = absurd (omega arith)
+arguments_part d l x (y ∷ ys) n h = refl
 
-pub attribute_read : (d : Denotations) (r : Result ReadTree Fault) (l : Label) → read_part d r (part.Attribute l) ≡ next r (with_attribute (attribute_named l.text))
-unfolding read_part
-attribute_read d r l = refl
+pub attribute_part : (d : Denotations) (l : Label) (n : NotedTree) → with_part d (part.Attribute l) n ≡ attributed l n
+unfolding with_part
+attribute_part d l n = refl
 
-pub range_attribute_read : (d : Denotations) (r : Result ReadTree Fault) → read_part d r part.RangeAttribute ≡ next r with_range
-unfolding read_part
-range_attribute_read d r = refl
+pub range_part : (d : Denotations) (n : NotedTree) → with_part d part.RangeAttribute n ≡ ranged n
+unfolding with_part
+range_part d n = refl
 
-pub operand_read : (d : Denotations) (r : Result ReadTree Fault) (x : GroupTree) → read_part d r (part.Operand x) ≡ qualified_read (next r marking) (group_term d x)
-unfolding read_part
-operand_read d r x = refl
+pub operand_part : (d : Denotations) (x : GroupTree) (n : NotedTree) → with_part d (part.Operand x) n ≡ qualifying (group_place x) (group_term d x) n
+unfolding with_part
+operand_part d x n = refl
 
 -- ---- what stands in parentheses
 

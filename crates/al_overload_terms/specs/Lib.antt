@@ -1,3 +1,4 @@
+pub mod Noted
 pub mod Texts
 pub mod RangeTerms
 pub mod Laws

@@ -9,9 +9,9 @@ use Rattle.al_overload_keys.specs.Places.{place_of}
 use Rattle.al_overload_keys.specs.Places as texts
 use Rattle.al_tree_syntax.specs.ExpressionTrees.{ExpressionTree, ExpressionTree as e, ExpressionsTree, ExpressionsTree as es, GroupTree, GroupTree as g, PartTree, PartTree as part, Operator, Prefix}
 use Rattle.al_overload_term.specs.Terms.{TermTree, TermTree as terms}
-use Rattle.al_overload_readings.specs.Attributes.{attribute_named}
-use Rattle.al_overload_readings.specs.Readings.{ReadTree, ReadTree as reads, callable, marking, named, ranging, selected, valued, wrong_kind}
-use Rattle.al_overload_readings.specs.Steps.{added, aggregated, applied_read, applied_to_read, grouped, joined_read, member_read, prefixed_read, qualified_read, range_member_read, repeated, started, with_attribute, with_range}
+use Rattle.al_overload_readings.specs.Readings.{ReadTree, ReadTree as reads, marking, named, ranging, valued, wrong_kind}
+use Rattle.al_overload_readings.specs.Steps.{added, aggregated, grouped, joined_read, member_read, prefixed_read, range_member_read, repeated, started}
+use Rattle.al_overload_terms.specs.Noted.{NotedTree, attributed, plain, qualifying, ranged, settled, with_argument, with_arguments, with_selector}
 use Rattle.al_view.specs.declared.types.StaticValue.{StaticValue}
 use Rattle.al_view.specs.declared.view.SubtypeView.{SubtypeView}
 
@@ -73,39 +73,44 @@ one_range x r = unless (unless_range x) (next r ranging)
 -- ---- whole texts
 
 unfoldable mutual
-  -- what an expression may be
-  pub read : Denotations → ExpressionTree → Result ReadTree Fault
-  read d (e.Number l) = Ok (reads.TermRead (terms.NumberTerm (place_of l) (number_value l)))
-  read d (e.Text l) = Ok (reads.TermRead (terms.TextTerm (place_of l) l.text))
-  read d (e.Name l) = named (place_of l) l.text (d.visible l.text) l
-  read d (e.Longer prefix p) = read_part d (read d prefix) p
-  read d (e.Prefixed operator operand) = prefixed_read d operator (next (read d operand) valued)
-  read d (e.Infix left operator right) = joined_read d operator (next (read d left) valued) (next (read d right) valued)
-  read d (e.InMark left n mark) = member_read (is_some n) (next (read d left) valued) (one_range mark (read d mark))
-  read d (e.InRange left n low high) = range_member_read (is_some n) (next (read d left) valued) (both (next (read d low) valued) (next (read d high) valued))
-  read d (e.Group group) = map_ok reads.TermRead (group_term d group)
+  -- what an expression may be, with the first fault in the arguments of a name
+  pub noted : Denotations → ExpressionTree → NotedTree
+  noted d (e.Number l) = plain (Ok (reads.TermRead (terms.NumberTerm (place_of l) (number_value l))))
+  noted d (e.Text l) = plain (Ok (reads.TermRead (terms.TextTerm (place_of l) l.text)))
+  noted d (e.Name l) = plain (named (place_of l) l.text (d.visible l.text) l)
+  noted d (e.Longer prefix p) = with_part d p (noted d prefix)
+  noted d (e.Prefixed operator operand) = plain (prefixed_read d operator (next (settled (noted d operand)) valued))
+  noted d (e.Infix left operator right) = plain (joined_read d operator (next (settled (noted d left)) valued) (next (settled (noted d right)) valued))
+  noted d (e.InMark left n mark) = plain (member_read (is_some n) (next (settled (noted d left)) valued) (one_range mark (settled (noted d mark))))
+  noted d (e.InRange left n low high) =
+      plain (range_member_read (is_some n) (next (settled (noted d left)) valued) (both (next (settled (noted d low)) valued) (next (settled (noted d high)) valued)))
+  noted d (e.Group group) = plain (map_ok reads.TermRead (group_term d group))
 
   -- with a part after it
-  pub read_part : Denotations → Result ReadTree Fault → PartTree → Result ReadTree Fault
-  read_part d name (part.Selector l) = next name (selected d l)
-  read_part d name (part.Arguments l first es.NoExpression) = applied_read (next name callable) (next (read d first) valued)
-  read_part d name (part.Arguments l first (es.MoreExpressions second others)) =
-      applied_to_read (next name callable) (read_more d (started (next (read d first) valued)) (es.MoreExpressions second others))
-  read_part d name (part.Attribute l) = next name (with_attribute (attribute_named l.text))
-  read_part d name part.RangeAttribute = next name with_range
-  read_part d name (part.Operand group) = qualified_read (next name marking) (group_term d group)
+  pub with_part : Denotations → PartTree → NotedTree → NotedTree
+  with_part d (part.Selector l) name = with_selector d l name
+  with_part d (part.Arguments l first es.NoExpression) name = with_argument (place_of l) (next (settled (noted d first)) valued) name
+  with_part d (part.Arguments l first (es.MoreExpressions second others)) name =
+      with_arguments (place_of l) (read_more d (started (next (settled (noted d first)) valued)) (es.MoreExpressions second others)) name
+  with_part d (part.Attribute l) name = attributed l name
+  with_part d part.RangeAttribute name = ranged name
+  with_part d (part.Operand group) name = qualifying (texts.group_place group) (group_term d group) name
 
   -- what stands in parentheses
   pub group_term : Denotations → GroupTree → Result TermTree Fault
-  group_term d (g.Positional l first es.NoExpression) = grouped (place_of l) (next (read d first) valued)
+  group_term d (g.Positional l first es.NoExpression) = grouped (place_of l) (next (settled (noted d first)) valued)
   group_term d (g.Positional l first (es.MoreExpressions second others)) =
-      aggregated (place_of l) (read_more d (started (next (read d first) valued)) (es.MoreExpressions second others))
-  group_term d (g.OthersAggregate l value) = repeated (place_of l) (next (read d value) valued)
+      aggregated (place_of l) (read_more d (started (next (settled (noted d first)) valued)) (es.MoreExpressions second others))
+  group_term d (g.OthersAggregate l value) = repeated (place_of l) (next (settled (noted d value)) valued)
 
   -- several terms after others
   pub read_more : Denotations → Result (List TermTree) Fault → ExpressionsTree → Result (List TermTree) Fault
   read_more d done es.NoExpression = done
-  read_more d done (es.MoreExpressions x xs) = read_more d (added done (next (read d x) valued)) xs
+  read_more d done (es.MoreExpressions x xs) = read_more d (added done (next (settled (noted d x)) valued)) xs
+
+-- what an expression may be, or the first fault of its names
+abbrev pub read : Denotations → ExpressionTree → Result ReadTree Fault
+read d x = settled (noted d x)
 
 -- the term of a whole text; E401 or E404 at the first of its names that isn't visible or isn't what is wanted
 abbrev pub term_of : Denotations → ExpressionTree → Result TermTree Fault

@@ -3,6 +3,7 @@
 
 mod chain;
 mod laws;
+mod name;
 mod range;
 mod text;
 

@@ -8,22 +8,26 @@ ghost use Rattle.al_overload_term.specs.TermViews.{term_model};
 ghost use Rattle.al_overload_readings.specs.ReadingViews.{reading_model};
 ghost use Rattle.al_overload_readings.specs.Readings.{named, ranging, valued};
 ghost use Rattle.al_overload_readings.specs.TermLists.{all_model};
-ghost use Rattle.al_overload_terms.specs.Texts.{group_term, is_name, is_range, is_range_attribute, is_selector, mark_of_text, number_value, one_range, read, read_more, read_part, term_of, unless_range};
+ghost use Rattle.al_overload_terms.specs.Texts.{group_term, is_name, is_range, is_range_attribute, is_selector, mark_of_text, noted, number_value, one_range, read, read_more, term_of, unless_range, with_part};
 ghost use Rattle.al_overload_readings.specs.Steps.{started};
-ghost use Rattle.al_tree.specs.ExpressionViews.{expression_model, expressions_of, group_model, member_model, part_model};
+ghost use Rattle.al_overload_terms.specs.Chains.{IsBelow, stepped};
+ghost use Rattle.al_overload_terms.specs.Noted.{NotedTree, linked, plain};
+ghost use Rattle.al_tree.specs.ExpressionViews.{expression_model, expressions_of, group_model, infix_model, member_model, part_model, prefixed_model};
 ghost use Rattle.al_tree.specs.Lexemes.{identifier_label, number_label, string_label};
 
 use crate::chain::{Joint, chained};
+use crate::name::{Link, Step, all_linked, plain, settled};
 use al_base::NoMemory;
 use al_base_fault::{CheckResult, Fault, unless};
-use al_overload_keys::{Names, first_place};
+use al_overload_keys::{Names, first_place, group_place};
 use al_overload_readings::{
-    Reading, added, aggregated, apply, apply_to, as_mark, as_single, as_value, attribute_of,
-    bounds, called, grouped, join, member, named, of_value, operate, qualify, range_attribute_of,
-    range_member, repeated, select, started, together, wrong_kind,
+    Reading, added, aggregated, as_mark, as_single, as_value, bounds, grouped, join, member, named,
+    of_value, operate, range_member, repeated, started, together, wrong_kind,
 };
 use al_overload_term::Term;
-use al_tree::{Expression, Group, Identifier, Member, NamePart, NumericLiteral, StringLiteral};
+use al_tree::{
+    Expression, Group, Identifier, Infix, Member, NamePart, NumericLiteral, Prefixed, StringLiteral,
+};
 use al_view::{StaticValue, SubtypeView};
 use al_view_predefined::StandardTypes;
 use std::alloc::Global;
@@ -163,9 +167,9 @@ fn as_range(
     Ok(unless(unless_range(expression), checked))
 }
 
-/// What an expression may be, until what stands round it is known; E401 or E404 where a name in it has one.
+/// What an expression may be, until what stands round it is known; E401 or E404 where a name in it has one. The parts of a name are gone down by a
+/// loop, so that they take no more of the stack than one does.
 #[cycle(text)]
-#[tactic(auto, using(crate::proofs::ReadLemmas::number_read, crate::proofs::ReadLemmas::text_read, crate::proofs::ReadLemmas::name_read, crate::proofs::ReadLemmas::longer_read, crate::proofs::ReadLemmas::prefix_read, crate::proofs::ReadLemmas::infix_read, crate::proofs::ReadLemmas::group_read, al_tree::proofs::ExpressionsMade::expression_numeric_model, al_tree::proofs::ExpressionsMade::expression_text_model, al_tree::proofs::ExpressionsMade::expression_name_model, al_tree::proofs::ExpressionsMade::expression_longer_model, al_tree::proofs::ExpressionsMade::expression_prefixed_model, al_tree::proofs::ExpressionsMade::expression_infix_model, al_tree::proofs::ExpressionsMade::expression_member_model, al_tree::proofs::ExpressionsMade::expression_group_model))]
 pub fn read(
     alloc: Global,
     standard: &StandardTypes,
@@ -174,33 +178,99 @@ pub fn read(
 ) -> Result<CheckResult<Reading>, NoMemory>
     ensures { IfOk result (λ checked. map_ok reading_model checked ≡ read (denoted names.now) (expression_model expression.now)) }
 {
-    match expression {
-        Expression::Numeric(literal) => Ok(Ok(Reading::Value(number(literal)))),
-        Expression::Text(literal) => {
-            let term = string(alloc, literal)?;
-            Ok(Ok(Reading::Value(term)))
-        }
-        Expression::Name(name) => read_identifier(alloc, names, name),
-        Expression::Longer(longer) => {
-            let name = read(alloc, standard, names, &longer.prefix)?;
-            read_part(alloc, standard, names, name, &longer.part)
-        }
-        Expression::Prefixed(prefixed) => {
-            let operand = term_of(alloc, standard, names, &prefixed.operand)?;
-            operate(alloc, names, &prefixed.operator, operand)
-        }
-        Expression::Infix(infix) => {
-            let left = term_of(alloc, standard, names, &infix.left);
-            let right = term_of(alloc, standard, names, &infix.right);
-            let (left, right) = together(left, right)?;
-            join(alloc, names, &infix.operator, left, right)
-        }
-        Expression::Member(tested) => read_member(alloc, standard, names, tested),
-        Expression::Group(group) => {
-            let term = group_term(alloc, standard, names, group)?;
-            Ok(of_value(term))
+    let mut links = Vec::new(alloc);
+    let mut rest = expression;
+    loop {
+        match step(alloc, standard, names, rest)? {
+            Step::Down(link, prefix) => {
+                links.push(link)?;
+                rest = prefix;
+            }
+            Step::Last(first) => {
+                let noted = all_linked(alloc, standard, names, links, first)?;
+                return Ok(settled(noted));
+            }
         }
     }
+}
+
+/// A step down: the last part of a name and what stands before it, or what is no name with parts.
+#[cycle(text)]
+#[tactic(auto, using(crate::proofs::ReadLemmas::number_read, crate::proofs::ReadLemmas::text_read, crate::proofs::ReadLemmas::name_read, crate::proofs::ReadLemmas::longer_read, crate::proofs::ReadLemmas::group_read, al_tree::proofs::ExpressionsMade::expression_numeric_model, al_tree::proofs::ExpressionsMade::expression_text_model, al_tree::proofs::ExpressionsMade::expression_name_model, al_tree::proofs::ExpressionsMade::expression_longer_model, al_tree::proofs::ExpressionsMade::expression_prefixed_model, al_tree::proofs::ExpressionsMade::expression_infix_model, al_tree::proofs::ExpressionsMade::expression_member_model, al_tree::proofs::ExpressionsMade::expression_group_model))]
+fn step<'a>(
+    alloc: Global,
+    standard: &StandardTypes,
+    names: &Names,
+    expression: &'a Expression,
+) -> Result<Step<'a>, NoMemory>
+    ensures noted { IfOk result (λ s. stepped (denoted names.now) s ≡ noted (denoted names.now) (expression_model expression.now)) }
+    ensures below { IfOk result (λ s. IsBelow expression.now s) }
+{
+    match expression {
+        Expression::Numeric(literal) => {
+            Ok(Step::Last(plain(Ok(Reading::Value(number(literal))))))
+        }
+        Expression::Text(literal) => {
+            let term = string(alloc, literal)?;
+            Ok(Step::Last(plain(Ok(Reading::Value(term)))))
+        }
+        Expression::Name(name) => {
+            let reading = read_identifier(alloc, names, name)?;
+            Ok(Step::Last(plain(reading)))
+        }
+        Expression::Longer(longer) => {
+            let link = link(alloc, standard, names, &longer.part)?;
+            Ok(Step::Down(link, &longer.prefix))
+        }
+        Expression::Prefixed(prefixed) => {
+            let reading = read_prefixed(alloc, standard, names, prefixed)?;
+            Ok(Step::Last(plain(reading)))
+        }
+        Expression::Infix(infix) => {
+            let reading = read_infix(alloc, standard, names, infix)?;
+            Ok(Step::Last(plain(reading)))
+        }
+        Expression::Member(tested) => {
+            let reading = read_member(alloc, standard, names, tested)?;
+            Ok(Step::Last(plain(reading)))
+        }
+        Expression::Group(group) => {
+            let term = group_term(alloc, standard, names, group)?;
+            Ok(Step::Last(plain(of_value(term))))
+        }
+    }
+}
+
+/// An operator with its operand.
+#[cycle(text)]
+#[tactic(auto, using(crate::proofs::ReadLemmas::prefix_read))]
+fn read_prefixed(
+    alloc: Global,
+    standard: &StandardTypes,
+    names: &Names,
+    prefixed: &Prefixed,
+) -> Result<CheckResult<Reading>, NoMemory>
+    ensures { IfOk result (λ checked. plain (map_ok reading_model checked) ≡ noted (denoted names.now) (prefixed_model prefixed.now)) }
+{
+    let operand = term_of(alloc, standard, names, &prefixed.operand)?;
+    operate(alloc, names, &prefixed.operator, operand)
+}
+
+/// An operator with both operands.
+#[cycle(text)]
+#[tactic(auto, using(crate::proofs::ReadLemmas::infix_read))]
+fn read_infix(
+    alloc: Global,
+    standard: &StandardTypes,
+    names: &Names,
+    infix: &Infix,
+) -> Result<CheckResult<Reading>, NoMemory>
+    ensures { IfOk result (λ checked. plain (map_ok reading_model checked) ≡ noted (denoted names.now) (infix_model infix.now)) }
+{
+    let left = term_of(alloc, standard, names, &infix.left);
+    let right = term_of(alloc, standard, names, &infix.right);
+    let (left, right) = together(left, right)?;
+    join(alloc, names, &infix.operator, left, right)
 }
 
 /// A membership test.
@@ -212,7 +282,7 @@ fn read_member(
     names: &Names,
     tested: &Member,
 ) -> Result<CheckResult<Reading>, NoMemory>
-    ensures { IfOk result (λ checked. map_ok reading_model checked ≡ read (denoted names.now) (member_model tested.now)) }
+    ensures { IfOk result (λ checked. plain (map_ok reading_model checked) ≡ noted (denoted names.now) (member_model tested.now)) }
 {
     let is_negated = tested.not.is_some();
     let value = term_of(alloc, standard, names, &tested.left);
@@ -245,43 +315,34 @@ pub fn one_range(
     as_range(alloc, expression, checked)
 }
 
-/// With a part after it.
+/// A part of a name, with what its arguments are.
 #[cycle(text)]
-#[tactic(auto, using(crate::proofs::ReadLemmas::selector_read, crate::proofs::ReadLemmas::argument_read, crate::proofs::ReadLemmas::arguments_read, crate::proofs::ReadLemmas::attribute_read, crate::proofs::ReadLemmas::range_attribute_read, crate::proofs::ReadLemmas::operand_read, al_tree::proofs::ExpressionsMade::part_selector_model, al_tree::proofs::ExpressionsMade::part_arguments_model, al_tree::proofs::ExpressionsMade::part_attribute_model, al_tree::proofs::ExpressionsMade::part_range_attribute_model, al_tree::proofs::ExpressionsMade::part_operand_model))]
-fn read_part(
+#[tactic(auto, using(crate::proofs::ReadLemmas::selector_part, crate::proofs::ReadLemmas::argument_part, crate::proofs::ReadLemmas::arguments_part, crate::proofs::ReadLemmas::attribute_part, crate::proofs::ReadLemmas::range_part, crate::proofs::ReadLemmas::operand_part, al_tree::proofs::ExpressionsMade::part_selector_model, al_tree::proofs::ExpressionsMade::part_arguments_model, al_tree::proofs::ExpressionsMade::part_attribute_model, al_tree::proofs::ExpressionsMade::part_range_attribute_model, al_tree::proofs::ExpressionsMade::part_operand_model))]
+fn link<'a>(
     alloc: Global,
     standard: &StandardTypes,
     names: &Names,
-    name: CheckResult<Reading>,
-    part: &NamePart,
-) -> Result<CheckResult<Reading>, NoMemory>
-    ensures { IfOk result (λ checked. map_ok reading_model checked ≡ read_part (denoted names.now) (map_ok reading_model name) (part_model part.now)) }
+    part: &'a NamePart,
+) -> Result<Link<'a>, NoMemory>
+    ensures { IfOk result (λ link. (name : NotedTree) → linked (denoted names.now) link name ≡ with_part (denoted names.now) (part_model part.now) name) }
 {
     match part {
-        NamePart::Selector(identifier) => select(alloc, names, identifier, name),
-        NamePart::Arguments(_, first, others) => {
-            let name = called(alloc, name);
+        NamePart::Selector(identifier) => Ok(Link::Selector(identifier)),
+        NamePart::Arguments(opening, first, others) => {
+            let first = term_of(alloc, standard, names, first)?;
             match others.as_slice() {
-                [] => {
-                    let first = term_of(alloc, standard, names, first);
-                    let (name, first) = together(name, first)?;
-                    apply(alloc, name, first)
-                }
+                [] => Ok(Link::Argument(*opening, first)),
                 [_, ..] => {
-                    let first = term_of(alloc, standard, names, first)?;
-                    let all = several(alloc, standard, names, others, first);
-                    let (name, all) = together(name, all)?;
-                    apply_to(alloc, name, all)
+                    let all = several(alloc, standard, names, others, first)?;
+                    Ok(Link::Arguments(*opening, all))
                 }
             }
         }
-        NamePart::Attribute(identifier) => attribute_of(alloc, standard, identifier, name),
-        NamePart::RangeAttribute => range_attribute_of(alloc, standard, name),
+        NamePart::Attribute(identifier) => Ok(Link::Attribute(identifier)),
+        NamePart::RangeAttribute => Ok(Link::RangeAttribute),
         NamePart::Operand(group) => {
-            let mark = as_mark(alloc, name);
-            let operand = group_term(alloc, standard, names, group);
-            let (mark, operand) = together(mark, operand)?;
-            qualify(alloc, mark, operand)
+            let operand = group_term(alloc, standard, names, group)?;
+            Ok(Link::Operand(group_place(group), operand))
         }
     }
 }

@@ -10,7 +10,8 @@ use Rattle.al_overload_lookup.specs.TextNames.{names_in, part_names, selected_na
 use Rattle.al_overload_lookup.specs.declared.name.TextName.{TextName}
 use Rattle.al_overload_readings.specs.Readings.{ReadTree, named, selected}
 use Rattle.al_tree_syntax.specs.ExpressionTrees.{ExpressionTree, ExpressionTree as e, PartTree as part}
-use Rattle.al_overload_terms.specs.Texts.{read, read_part}
+use Rattle.al_overload_terms.specs.Noted.{NotedTree, plain, with_selector as noted_selector}
+use Rattle.al_overload_terms.specs.Texts.{noted, with_part}
 use Rattle.al_overload_terms_at.specs.CompoundNames.{name_text, with_selector}
 use Rattle.al_tree.specs.Lexemes.{identifier_label}
 use Rattle.al_tree.specs.declared.names.Identifier.{Identifier}
@@ -32,9 +33,9 @@ names_more : (x : ExpressionTree) (l : Label) → names_in (with_selector x l) �
 unfolding names_in part_names
 names_more x l = refl
 
-read_more : (d : Denotations) (x : ExpressionTree) (l : Label) → read d (with_selector x l) ≡ next (read d x) (selected d l)
-unfolding read read_part
-read_more d x l = refl
+read_more : (d : Denotations) (x : ExpressionTree) (l : Label) (r : Result ReadTree Fault) → plain r ≡ noted d x → plain (next r (selected d l)) ≡ noted d (with_selector x l)
+unfolding noted with_part
+read_more d x l r is = ap (λ (n : NotedTree). noted_selector d l n) is
 
 pub found_more : (first : Label) (xs : List Identifier) (n i : ℕ) (d : Identifier) (before after : List TextName) (key : List ℕ) → n ≡ suc i → i < length xs → d ≡ get_or xs i d
     → before ≡ names_in (name_text (record { first = first; selectors = map identifier_label (take i xs) }))
@@ -61,15 +62,14 @@ key_more first xs n i d key longer is h here k a =
     ∙ ap key_of (sym (text_more first xs n i d is h here))
 
 pub checked_more : (names : Denotations) (first : Label) (xs : List Identifier) (n i : ℕ) (d : Identifier) (before after : Result ReadTree Fault) → n ≡ suc i → i < length xs → d ≡ get_or xs i d
-    → before ≡ read names (name_text (record { first = first; selectors = map identifier_label (take i xs) }))
+    → plain before ≡ noted names (name_text (record { first = first; selectors = map identifier_label (take i xs) }))
     → after ≡ next before (selected names (identifier_label d))
-    → after ≡ read names (name_text (record { first = first; selectors = map identifier_label (take n xs) }))
+    → plain after ≡ noted names (name_text (record { first = first; selectors = map identifier_label (take n xs) }))
 checked_more names first xs n i d before after is h here b a =
     let l = identifier_label d in
-    a
-    ∙ ap (λ (r : Result ReadTree Fault). next r (selected names l)) b
-    ∙ sym (read_more names (name_text (record { first = first; selectors = map identifier_label (take i xs) })) l)
-    ∙ ap (read names) (sym (text_more first xs n i d is h here))
+    ap (λ (r : Result ReadTree Fault). plain r) a
+    ∙ read_more names (name_text (record { first = first; selectors = map identifier_label (take i xs) })) l before b
+    ∙ ap (noted names) (sym (text_more first xs n i d is h here))
 
 -- the first identifier alone
 pub first_named : (first : Label) → names_in (name_text (record { first = first; selectors = [] })) ≡ sign_names (Some first.text)
@@ -80,6 +80,6 @@ pub first_keyed : (first : Label) → key_of (name_text (record { first = first;
 unfolding name_text
 first_keyed first = refl
 
-pub first_read : (d : Denotations) (first : Label) → read d (name_text (record { first = first; selectors = [] })) ≡ named (place_of first) first.text (d.visible first.text) first
-unfolding name_text read
+pub first_read : (d : Denotations) (first : Label) → noted d (name_text (record { first = first; selectors = [] })) ≡ plain (named (place_of first) first.text (d.visible first.text) first)
+unfolding name_text noted
 first_read d first = refl

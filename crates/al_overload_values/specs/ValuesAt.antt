@@ -1,22 +1,20 @@
 -- What expressions are where they stand (ARM 8.6): their labelled trees with the words of their temporaries, or the first rule that is
 -- broken in them. Their names are looked up by a table of answers.
-use Rattle.std.specs.Prelude.{ℕ, List, [], Option, Some, None, Result, Ok, Err}
-use Rattle.std.specs.Option.{option_map_or}
-use Rattle.al_overload_heads.specs.Parts.{part_of}
+use Rattle.std.specs.Prelude.{ℕ, List, [], Option, Some, None, Result}
 use Rattle.al_overload_heads.specs.declared.part.Nominal.{Nominal}
 use Rattle.al_base_fault.specs.Judging.{next, unless}
 use Rattle.al_base_fault.specs.declared.fault.Fault.{Fault}
 use Rattle.al_overload_label.specs.Contexts.{target_judged, term_checked}
-use Rattle.al_overload_label.specs.Ranges.{FoundTree, PairTree, bounds_checked, selector_checked}
+use Rattle.al_overload_label.specs.Ranges.{FoundTree, PairTree, bounds_checked, selector_checked, static_bounds_checked}
+use Rattle.al_overload_label.specs.Static.{static_term_checked}
+use Rattle.al_overload_label.specs.Variables.{target_part}
 use Rattle.al_overload_name.specs.Types.{value_type}
-use Rattle.al_overload.specs.Meanings.{nothing_fits}
 use Rattle.al_overload.specs.declared.context.Context.{Context}
 use Rattle.al_overload.specs.declared.context.Context.TheVariants as contexts
 use Rattle.al_overload_prefixes.specs.TextsAt.{With, bounds_with_at, context_with_at}
 use Rattle.al_query.specs.Reads.{Table}
 use Rattle.al_tree_syntax.specs.DeclarationTrees.{RangeTree}
 use Rattle.al_tree_syntax.specs.ExpressionTrees.{ExpressionTree}
-use Rattle.al_overload_term.specs.Places.{first_place}
 use Rattle.al_overload_term.specs.Terms.{TermTree}
 use Rattle.al_overload_terms_at.specs.TermsAt.{term_at}
 use Rattle.al_overload_types.specs.Leaves.{mark_type}
@@ -34,7 +32,12 @@ abbrev pub checked_at : Table → Surroundings → Context → Option Nominal �
 checked_at t s context allowed types x =
     next (context_with_at t s.place s.packages s.predefined s.own x) (λ (w : With TermTree). unless w.1 (term_checked s.predefined s.own context allowed types w.0))
 
--- the same with its words
+-- the same of an expression that must be static: E304 at its first token, too
+abbrev pub static_checked_at : Table → Surroundings → Context → List TypeView → ExpressionTree → Result TypedTree Fault
+static_checked_at t s context types x =
+    next (context_with_at t s.place s.packages s.predefined s.own x) (λ (w : With TermTree). unless w.1 (static_term_checked s.predefined s.own context types w.1 w.0))
+
+-- an expression with its words
 abbrev pub value_at : Table → Surroundings → Context → Option Nominal → List TypeView → ExpressionTree → ℕ → Worded TypedTree
 value_at t s context allowed types x word = with_words word (checked_at t s context allowed types x)
 
@@ -43,6 +46,12 @@ abbrev pub pair_judged_at : Table → Surroundings → Context → List TypeView
 pair_judged_at t s context types r =
     next (bounds_with_at t s.place s.packages s.predefined s.own r)
     (λ (b : With (TermTree × TermTree)). unless b.1 (bounds_checked s.predefined s.own context types b.0.0 b.0.1))
+
+-- the same of bounds that must be static: E304 at each that isn't, too
+abbrev pub static_pair_at : Table → Surroundings → Context → List TypeView → RangeTree → Result PairTree Fault
+static_pair_at t s context types r =
+    next (bounds_with_at t s.place s.packages s.predefined s.own r)
+    (λ (b : With (TermTree × TermTree)). unless b.1 (static_bounds_checked s.predefined s.own context types b.1 b.0.0 b.0.1))
 
 abbrev pub pair_at : Table → Surroundings → Context → List TypeView → RangeTree → ℕ → Worded PairTree
 pair_at t s context types r word = pair_with_words word (pair_judged_at t s context types r)
@@ -70,12 +79,8 @@ target_at t s x word =
 abbrev pub source_checked : Table → Surroundings → ExpressionTree → Nominal → Result TypedTree Fault
 source_checked t s x of = checked_at t s (contexts.Source (value_type of.types of.subtype.base)) (Some of) of.types x
 
--- the nominal subtype of a target; a term that is no part of an object is none
-unfoldable pub target_part : TermTree → Result Nominal Fault
-target_part term = option_map_or (λ (of : Nominal). Ok of) (part_of term) (Err (nothing_fits (first_place term)))
-
 abbrev pub source_at : Table → Surroundings → ExpressionTree → ExpressionTree → ℕ → Worded TypedTree
-source_at t s target x word = with_words word (next (next (term_at t s.place s.packages target) target_part) (source_checked t s x))
+source_at t s target x word = with_words word (next (next (term_at t s.place s.packages target) (target_part s.predefined)) (source_checked t s x))
 
 -- ---- selectors
 

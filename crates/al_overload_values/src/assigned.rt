@@ -3,6 +3,7 @@ ghost use Rattle.std.specs.Prelude.{◌≡◌, IfOk, [], Some};
 ghost use Rattle.al_overload_heads.specs.Parts.{nominal};
 ghost use Rattle.al_base_fault.specs.Judging.{next, map_ok, unless};
 ghost use Rattle.al_overload_label.specs.Contexts.{target_judged};
+ghost use Rattle.al_overload_label.specs.Variables.{target_part};
 ghost use Rattle.al_overload_name.specs.Types.{value_type};
 ghost use Rattle.al_overload.specs.declared.context.Context.TheVariants as contexts;
 ghost use Rattle.al_overload_prefixes.specs.TextsAt.{term_with_model};
@@ -13,7 +14,7 @@ ghost use Rattle.al_overload_terms_at.specs.TermsAt.{term_at};
 ghost use Rattle.al_tree.specs.ExpressionViews.{expression_model};
 ghost use Rattle.al_view_typed.specs.ExpressionViews.{typed_model};
 ghost use Rattle.al_overload_values.specs.Surroundings.{site_model, site_units};
-ghost use Rattle.al_overload_values.specs.ValuesAt.{source_at, source_checked, target_at, target_part, value_at};
+ghost use Rattle.al_overload_values.specs.ValuesAt.{source_at, source_checked, target_at, value_at};
 ghost use Rattle.al_overload_values.specs.Words.{with_words};
 
 use crate::context::no_types;
@@ -23,12 +24,12 @@ use crate::words::take_words;
 use al_base::NoMemory;
 use al_base_fault::{CheckResult, Fault, unless};
 use al_overload::Context;
-use al_overload_heads::{Nominal, part_of};
-use al_overload_label::check_target;
+use al_overload_heads::Nominal;
+use al_overload_label::{check_target, target_part};
 use al_overload_name::value_type;
-use al_overload_nodes::{Labeller, nothing_fits};
+use al_overload_nodes::Labeller;
 use al_overload_prefixes::context_with_at;
-use al_overload_term::{Term, first_place};
+use al_overload_term::Term;
 use al_overload_terms_at::term_at;
 use al_query::{Answers, Recorder};
 use al_tree::Expression;
@@ -87,29 +88,16 @@ fn nominal(labeller: &Labeller, subtype: &Subtype, types: &Types) -> Result<Nomi
     Ok(Nominal { subtype, types })
 }
 
-/// The nominal subtype of a target.
-#[tactic(auto, unfolding(crate::specs::ValuesAt::target_part))]
-fn part_in(labeller: &Labeller, term: &Term) -> Result<CheckResult<Nominal>, NoMemory>
-    ensures { IfOk result (λ checked. checked ≡ target_part (term_model term.now)) }
-{
-    match part_of(&labeller.predefined.standard, term) {
-        Some((subtype, types)) => {
-            let of = nominal(labeller, subtype, types)?;
-            Ok(Ok(of))
-        }
-        None => Ok(Err(nothing_fits(first_place(term)))),
-    }
-}
-
-fn target_part(
+/// The nominal subtype of a target that is judged.
+fn part_of_target(
     labeller: &Labeller,
     term: CheckResult<Term>,
 ) -> Result<CheckResult<Nominal>, NoMemory>
-    ensures { IfOk result (λ checked. checked ≡ next (map_ok term_model term) target_part) }
+    ensures { IfOk result (λ checked. checked ≡ next (map_ok term_model term) (target_part labeller.now.predefined)) }
 {
     match term {
         Ok(term) => {
-            let checked = part_in(labeller, &term);
+            let checked = target_part(labeller, &term);
             drop(term);
             checked
         }
@@ -184,14 +172,14 @@ fn target_part_at<A: Answers>(
     recorder: &mut Recorder<A>,
 ) -> Result<CheckResult<Nominal>, NoMemory>
     ensures asked { recorder.new.asked ≡ recorder.old.asked }
-    ensures answered { IfOk result (λ checked. FromAnswers recorder.old.log recorder.new.log (λ t. checked ≡ next (term_at t (site_model site.now).place (site_model site.now).packages (expression_model target.now)) target_part)) }
+    ensures answered { IfOk result (λ checked. FromAnswers recorder.old.log recorder.new.log (λ t. checked ≡ next (term_at t (site_model site.now).place (site_model site.now).packages (expression_model target.now)) (target_part (site_model site.now).predefined))) }
     ensures asks { IfOk result (λ _. AsksOf (site_units (site_model site.now)) by_some_name recorder.old.log recorder.new.log) }
 {
     let labeller = site.labeller;
     let standard = &labeller.predefined.standard;
     let (scope, packages) = (site.scope, site.packages);
     let term = term_at(labeller.alloc, standard, scope, packages, target, recorder)?;
-    target_part(labeller, term)
+    part_of_target(labeller, term)
 }
 
 /// What is assigned to this target (ARM 5.2), which is wanted at the type of the target's nominal subtype; an aggregate of that may stand

@@ -2,13 +2,14 @@
 ghost use Rattle.std.specs.Prelude.{◌≡◌, IfOk};
 ghost use Rattle.al_base_fault.specs.Judging.{next, map_ok, unless};
 ghost use Rattle.al_overload_label.specs.Contexts.{term_checked};
+ghost use Rattle.al_overload_label.specs.Static.{static_term_checked};
 ghost use Rattle.al_overload_prefixes.specs.TextsAt.{term_with_model};
 ghost use Rattle.al_query.specs.Asked.{AsksOf, by_some_name};
 ghost use Rattle.al_query.specs.Reads.{FromAnswers};
 ghost use Rattle.al_tree.specs.ExpressionViews.{expression_model};
 ghost use Rattle.al_view_typed.specs.ExpressionViews.{typed_model};
 ghost use Rattle.al_overload_values.specs.Surroundings.{site_model, site_units};
-ghost use Rattle.al_overload_values.specs.ValuesAt.{checked_at, value_at};
+ghost use Rattle.al_overload_values.specs.ValuesAt.{checked_at, static_checked_at, value_at};
 
 use crate::site::Site;
 use crate::words::take_words;
@@ -16,7 +17,7 @@ use al_base::NoMemory;
 use al_base_fault::{CheckResult, Fault, unless};
 use al_overload::Context;
 use al_overload_heads::Nominal;
-use al_overload_label::check_term;
+use al_overload_label::{check_static_term, check_term};
 use al_overload_nodes::Labeller;
 use al_overload_prefixes::context_with_at;
 use al_overload_term::Term;
@@ -66,7 +67,45 @@ pub fn checked_at<A: Answers>(
     check(labeller, context, allowed, types, term)
 }
 
-/// The same with the words of its temporaries, from `word` on, in which the next one stands then.
+#[tactic(auto, using(al_overload_prefixes::proofs::Seen::seen_unless))]
+fn check_static(
+    labeller: &Labeller,
+    context: &Context,
+    types: &Types,
+    term: CheckResult<(Term, Option<Fault>)>,
+) -> Result<CheckResult<Typed>, NoMemory>
+    ensures { IfOk result (λ checked. map_ok typed_model checked ≡ next (map_ok term_with_model term) (λ w. unless w.1 (static_term_checked labeller.now.predefined labeller.now.own context.now types.now w.1 w.0))) }
+{
+    match term {
+        Ok((term, fault)) => {
+            let checked = check_static_term(labeller, context, types, fault, &term);
+            drop(term);
+            Ok(unless(fault, checked?))
+        }
+        Err(fault) => Ok(Err(fault)),
+    }
+}
+
+/// The labelled tree of an expression that must be static in its context, or the first rule that is broken: as `checked_at`, and E304 at its first
+/// token.
+pub fn static_checked_at<A: Answers>(
+    site: &Site<'_>,
+    context: &Context,
+    types: &Types,
+    expression: &Expression,
+    recorder: &mut Recorder<A>,
+) -> Result<CheckResult<Typed>, NoMemory>
+    ensures asked { recorder.new.asked ≡ recorder.old.asked }
+    ensures answered { IfOk result (λ checked. FromAnswers recorder.old.log recorder.new.log (λ t. map_ok typed_model checked ≡ static_checked_at t (site_model site.now) context.now types.now (expression_model expression.now))) }
+    ensures asks { IfOk result (λ _. AsksOf (site_units (site_model site.now)) by_some_name recorder.old.log recorder.new.log) }
+{
+    let labeller = site.labeller;
+    let (scope, packages) = (site.scope, site.packages);
+    let term = context_with_at(labeller, scope, packages, expression, recorder)?;
+    check_static(labeller, context, types, term)
+}
+
+/// An expression as `checked_at` has it, with the words of its temporaries, from `word` on, in which the next one stands then.
 pub fn value_at<A: Answers>(
     site: &Site<'_>,
     context: &Context,

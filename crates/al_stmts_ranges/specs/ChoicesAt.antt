@@ -10,7 +10,7 @@ use Rattle.al_overload_heads.specs.declared.everywhere.Predefined.{Predefined}
 use Rattle.al_base_fault.specs.Judging.{both, next, map_ok, unless}
 use Rattle.al_base_fault.specs.declared.fault.Fault.{Fault}
 use Rattle.al_overload_keys.specs.Places.{first_place}
-use Rattle.al_overload_label.specs.Contexts.{term_checked}
+use Rattle.al_overload_label.specs.Static.{static_term_checked}
 use Rattle.al_overload_label.specs.Ranges.{FoundTree}
 use Rattle.al_overload_label.specs.declared.range.FoundType.{FoundType}
 use Rattle.al_overload_name.specs.Types.{value_type}
@@ -61,7 +61,7 @@ one_value v = choices.Range (record { low = v.word; high = v.word })
 
 abbrev pub value_choice : Predefined → Option Symbol → FoundType → Option Fault → TermTree → Result Choice Fault
 value_choice p own found fault term =
-    next (unless fault (term_checked p own (choice_context found) None found.types term)) (λ (x : TypedTree). map_ok one_value (static_of x))
+    next (unless fault (static_term_checked p own (choice_context found) found.types fault term)) (λ (x : TypedTree). map_ok one_value (static_of x))
 
 -- a subtype; one of another type than the selector's is none of its choices
 abbrev pub bounds_choice : Option Bounds → Choice

@@ -3,7 +3,7 @@ ghost use Rattle.std.specs.Prelude.{◌≡◌, IfOk, None, option_map};
 ghost use Rattle.al_decl_judged.specs.StaticPieces.{static_of};
 ghost use Rattle.al_base_fault.specs.Judging.{both, next, map_ok, unless};
 ghost use Rattle.al_overload_keys.specs.Places.{first_place};
-ghost use Rattle.al_overload_label.specs.Contexts.{term_checked};
+ghost use Rattle.al_overload_label.specs.Static.{static_term_checked};
 ghost use Rattle.al_overload_prefixes.specs.TextsAt.{read_with_at, reading_with_model};
 ghost use Rattle.al_query.specs.Asked.{AsksOf, by_some_name};
 ghost use Rattle.al_query.specs.Reads.{FromAnswers};
@@ -24,7 +24,7 @@ use al_decl_subtypes::static_at;
 use al_decl_type::{StaticRange, subtype_of};
 use al_overload::Context;
 use al_overload_keys::first_place;
-use al_overload_label::{FoundType, check_term};
+use al_overload_label::{FoundType, check_static_term};
 use al_overload_name::value_type;
 use al_overload_nodes::Labeller;
 use al_overload_picks::range_in;
@@ -51,12 +51,13 @@ fn choice_context(labeller: &Labeller, found: &FoundType) -> Result<Context, NoM
 fn check_value(
     labeller: &Labeller,
     found: &FoundType,
+    fault: Option<Fault>,
     term: &Term,
 ) -> Result<CheckResult<Typed>, NoMemory>
-    ensures { IfOk result (λ value. map_ok typed_model value ≡ term_checked labeller.now.predefined labeller.now.own (choice_context found.now) None found.now.types (term_model term.now)) }
+    ensures { IfOk result (λ value. map_ok typed_model value ≡ static_term_checked labeller.now.predefined labeller.now.own (choice_context found.now) found.now.types fault (term_model term.now)) }
 {
     let context = choice_context(labeller, found)?;
-    check_term(labeller, &context, &None, &found.types, term)
+    check_static_term(labeller, &context, &found.types, fault, term)
 }
 
 /// One value, which must be static.
@@ -84,7 +85,7 @@ fn value_choice(
 ) -> Result<CheckResult<Choice>, NoMemory>
     ensures { IfOk result (λ choice. choice ≡ value_choice labeller.now.predefined labeller.now.own found.now fault (term_model term.now)) }
 {
-    let value = check_value(labeller, found, term)?;
+    let value = check_value(labeller, found, fault, term)?;
     let checked = unless(fault, value);
     Ok(one_value(&checked))
 }

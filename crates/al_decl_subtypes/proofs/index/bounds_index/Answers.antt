@@ -6,7 +6,7 @@ use Rattle.al_overload.specs.declared.context.Context.TheVariants as contexts
 use Rattle.al_decl_subtypes.specs.SubtypesAt.{index_of_pair}
 use Rattle.al_tree.specs.DeclarationViews.{range_model}
 use Rattle.al_overload_values.specs.Surroundings.{site_model}
-use Rattle.al_overload_values.specs.ValuesAt.{pair_judged_at}
+use Rattle.al_overload_values.specs.ValuesAt.{static_pair_at}
 use Rattle.al_view.specs.declared.types.TypeView.{TypeView}
 use Rattle.al_decl_subtypes.proofs.index.bounds_index.Goals as goal
 
@@ -16,5 +16,5 @@ returns-clause-answered g c t h =
       answered.0,
       c.in_ok-subtype.ensures
           ∙ ap (λ (r : Result PairTree Fault). next r index_of_pair) answered.1
-          ∙ ap (λ (types : List TypeView). next (pair_judged_at t (site_model c.args.site.now) contexts.PairOfBounds types (range_model c.args.range.now)) index_of_pair) c.in_ok-types.ensures,
+          ∙ ap (λ (types : List TypeView). next (static_pair_at t (site_model c.args.site.now) contexts.PairOfBounds types (range_model c.args.range.now)) index_of_pair) c.in_ok-types.ensures,
     )

@@ -1,16 +1,18 @@
-use Rattle.std.proofs.Common.{◌≡◌, List, map, ap, ◌∙◌, arith}
+use Rattle.std.proofs.Common.{◌≡◌, List, map, sym, ap, subst, ◌∙◌, arith}
 use Rattle.std.proofs.lemmas.List.{take_all}
 use Rattle.al_base_fault.specs.Judging.{next, map_ok}
 use Rattle.al_overload_keys.specs.Keys.{denoted}
 use Rattle.al_overload_readings.specs.Readings.{valued}
 use Rattle.al_overload_readings.specs.Steps.{started}
 use Rattle.al_overload_term.specs.TermViews.{term_model}
-use Rattle.al_overload_terms.specs.Texts.{read, read_more}
+use Rattle.al_overload_terms.specs.Chains.{IsBelow, stepped}
+use Rattle.al_overload_terms.specs.Texts.{noted, read, read_more}
+use Rattle.al_overload_terms.specs.declared.name.Step.{Step}
 use Rattle.al_tree.specs.ExpressionViews.{expression_model, expressions_of}
 use Rattle.al_tree.specs.declared.expression.Expression.{Expression}
 use Rattle.al_tree.specs.declared.expression.Infix.{Infix, out-Infix}
 use Rattle.al_tree.proofs.ExpressionsMade.{expression_infix_model}
-use Rattle.al_overload_terms.proofs.ChainLemmas.{infix_deeper, infix_joined, longer}
+use Rattle.al_overload_terms.proofs.ChainLemmas.{infix_deeper, infix_joined, longer, more_linked}
 use Rattle.al_overload_terms.proofs.text.+text.Goals as goal
 
 pub several-returns : goal.several-returns
@@ -31,4 +33,16 @@ term_of-loop-rest-preserved t c =
           (c.in_ok-right.ensures ∙ ap (λ (i : Infix). next (read (denoted c.args.names.now) (expression_model (out-Infix i).right)) valued) c.deref.ensures))
           c.loop-rest.invariant.0,
       infix_deeper c.loop-rest.rest.now c.in-Infix.infix (out-Infix c.deref-in-Infix-2.result.now).left c.args.expression.now c.in-Infix.is left_is c.loop-rest.invariant.1,
+    )
+
+pub read-loop-links-preserved : goal.read-loop-links-preserved
+read-loop-links-preserved t c =
+    let d = denoted c.args.names.now in
+    let P : Step → Type 0 = λ s. IsBelow c.loop-links.rest.now s in let below = subst P c.in-Down.is c.in_ok-link.ensures.below in (
+      more_linked d c.loop-links.links.items c.push.new.self.items c.in-Down.link
+          (noted d (expression_model c.loop-links.rest.now)) (noted d (expression_model c.in-Down.prefix.now)) (noted d (expression_model c.args.expression.now))
+          c.in_ok-push-in-Down.ensures.items
+          (ap (λ (s : Step). stepped d s) (sym c.in-Down.is) ∙ c.in_ok-link.ensures.noted)
+          c.loop-links.invariant.0,
+      omega (arith, below, c.loop-links.invariant.1),
     )

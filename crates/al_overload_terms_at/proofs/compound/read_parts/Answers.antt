@@ -1,6 +1,7 @@
 use Rattle.std.proofs.Common.{ℕ, ◌+◌, List, map, ap, ◌∙◌, arith}
 use Rattle.std.proofs.lemmas.List.{take_all}
 use Rattle.al_overload_keys.specs.Keys.{denoted}
+use Rattle.al_overload_terms.specs.Noted.{settled}
 use Rattle.al_overload_terms.specs.Texts.{read}
 use Rattle.al_overload_terms_at.proofs.Compounds.{checked_more}
 use Rattle.al_overload_terms_at.specs.CompoundNames.{name_text}
@@ -15,6 +16,6 @@ loop-selector-preserved c =
 
 pub returns : goal.returns
 returns c =
-    c.loop-selector.invariant
+    ap settled c.loop-selector.invariant
     ∙ ap (λ (xs : List Identifier). read (denoted c.args.names.now) (name_text (record { first = identifier_label c.args.first.now; selectors = map identifier_label xs })))
     (take_all c.loop-selector.selector-index c.args.selectors.now (omega arith))

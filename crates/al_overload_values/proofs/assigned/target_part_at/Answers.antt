@@ -3,13 +3,13 @@ use Rattle.al_base_fault.specs.Judging.{next}
 use Rattle.al_base_fault.specs.declared.fault.Fault.{Fault}
 use Rattle.al_overload_term.specs.Terms.{TermTree}
 use Rattle.al_overload_terms_at.proofs.Composed.{if_ok}
-use Rattle.al_overload_values.specs.ValuesAt.{target_part}
+use Rattle.al_overload_label.specs.Variables.{target_part}
 use Rattle.al_overload_values.proofs.assigned.target_part_at.Goals as goal
 
 pub returns-clause-answered : goal.returns-clause-answered
 returns-clause-answered g c =
-    if_ok c.target_part.result _ _
+    if_ok c.part_of_target.result _ _
     (λ checked is t h.
     let answered = c.in_ok-term.ensures.answered t h in
-    (answered.0, is ∙ ap (λ (r : Result TermTree Fault). next r target_part) answered.1))
-    c.target_part.ensures
+    (answered.0, is ∙ ap (λ (r : Result TermTree Fault). next r (target_part c.args.site.now.labeller.now.predefined)) answered.1))
+    c.part_of_target.ensures

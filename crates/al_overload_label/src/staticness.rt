@@ -1,0 +1,69 @@
+// Expressions that must be static (ARM 4.9).
+ghost use Rattle.std.specs.Prelude.{◌≡◌};
+ghost use Rattle.al_base_fault.specs.Judging.{map_ok};
+ghost use Rattle.al_overload_label.specs.Static.{checked_as, stands_there, unless_static, wanted_after};
+ghost use Rattle.al_overload_nodes.specs.Views.{reading_model};
+ghost use Rattle.al_view_typed.specs.ExpressionViews.{typed_model};
+
+use al_base::{Place, Rule};
+use al_base_fault::{CheckResult, Fault, unless};
+use al_overload_nodes::{Reading, checked};
+use al_static::Known;
+use al_view_typed::Typed;
+
+/// What is wanted of an expression beside its type.
+#[derive(Clone, Copy)]
+pub(crate) enum Staticness {
+    Any,
+    /// It must be static.
+    Static,
+}
+
+/// E304 at the first token of what isn't static; what is static and has no value is E405.
+fn unless_static(place: Place, known: Known) -> Option<Fault>
+    ensures { result ≡ unless_static place known }
+{
+    match known {
+        Known::Value(_) => None,
+        Known::Fails(_) => None,
+        Known::Open(_) => Some(Fault {
+            place,
+            code: Rule::NotStatic.number(),
+        }),
+    }
+}
+
+/// Whether a fault stands there.
+fn stands_there(place: Place, found: Option<Fault>) -> bool
+    ensures { result ≡ stands_there place found }
+{
+    match found {
+        Some(fault) => fault.place.line == place.line && fault.place.col == place.col,
+        None => false,
+    }
+}
+
+/// What is wanted of a context that must be static and begins there, where this was found in the prefixes of its attributes: a fault at its
+/// first token says that it has no interpretation.
+pub(crate) fn wanted_after(place: Place, found: Option<Fault>) -> Staticness
+    ensures { result ≡ wanted_after place found }
+{
+    if stands_there(place, found) {
+        return Staticness::Any;
+    }
+    Staticness::Static
+}
+
+/// What has an interpretation and begins there: its labelled tree, or the first of the rules that it breaks, those of contexts inside it
+/// among them.
+pub(crate) fn checked_as(wanted: Staticness, place: Place, reading: Reading) -> CheckResult<Typed>
+    ensures { map_ok typed_model result ≡ checked_as wanted place (reading_model reading) }
+{
+    match wanted {
+        Staticness::Any => checked(reading),
+        Staticness::Static => {
+            let fault = unless_static(place, reading.known);
+            unless(fault, checked(reading))
+        }
+    }
+}
