@@ -18,9 +18,10 @@ and every other line is what the program writes next, on the standard output or 
 the next `$` and at the end, where its standard input ends.
 
 Then each program of tests/programs is built and run with its output on the standard output, and its end on the standard error; a folder of 401 units is
-built, edited and built; a program without end is interrupted; devices fail; damaged images are refused. Prints each failure, and last
-`N passed, M failed`.
+built, edited and built; a program without end is interrupted; devices fail; damaged images are refused; each growth of memory is refused in turn.
+Prints each failure, and last `N passed, M failed`.
 """
+import concurrent.futures
 import os
 import pathlib
 import re
@@ -30,6 +31,8 @@ import subprocess
 import sys
 import tempfile
 import time
+
+from memory import Refuser
 
 TESTS = pathlib.Path(__file__).resolve().parent
 TOP = TESTS.parent
@@ -312,6 +315,63 @@ def run_devices(program, count):
     count.check("an image to a full device", got, (1, b"", b"error: /dev/full can't be written: No space left on device (os error 28)\n"))
 
 
+def are_among(lines, others):
+    """Whether these lines are some of those, in their order."""
+    rest = iter(others)
+    return all(line in rest for line in lines)
+
+
+def may_come(plain, got, goes_on):
+    """Whether that may come of a run where one growth is refused: all as ever; or one error is told, want of memory or that a file can't be read or
+    written for it, beside a part of what is written else, with exit status 1; where a watch goes on after the second, with 0."""
+    if got == plain:
+        return True
+    lines = got[2].splitlines(True)
+    errors = [it for it in lines if it.startswith(b"error: ")]
+    told = re.fullmatch(rb"error: (.* can't be (read|written): )?out of memory\n", b"".join(errors))
+    if told is None or got[0] != (0 if goes_on and told[1] else 1):
+        return False
+    lines.remove(errors[0])
+    return are_among(lines, plain[2].splitlines(True)) and are_among(got[1].splitlines(True), plain[1].splitlines(True))
+
+
+def run_refused(program, count):
+    """Each growth of memory is refused in turn, in a build and its run, a run of the image, and a watch."""
+    counter = str(TOP / "crates/adabuild/data")
+    with tempfile.TemporaryDirectory() as folder, concurrent.futures.ThreadPoolExecutor(os.cpu_count()) as pool:
+        refuser = Refuser(program, folder)
+        image = f"{folder}/image"
+        count.check("the image", run(program, ["--image", image, "main", counter]), (0, b"", b""))
+        runs = (
+            (b"", ["--run", "--order", "--image", "/dev/null", "main", counter]),
+            (b"", ["--load", image]),
+            (b"order\nrun\nobsolete\nquit\n", ["--watch", "main", counter]),
+        )
+        for given, words in runs:
+            growths = sweep(lambda growth: refused_once(refuser, given, words, growth), pool)
+            plain = growths[-1]
+            count.check(f"{words[0]}, no growth refused", plain[0], 0)
+            for at, got in enumerate(growths):
+                count.check(f"{words[0]}, growth {at + 1}", got if not may_come(plain, got, words[0] == "--watch") else True, True)
+
+
+def refused_once(refuser, given, words, growth):
+    """What comes of it where this growth is refused, and whether one was."""
+    (status, output, told), refused = refuser.run(given, growth, words)
+    return (status, output, settled(told)), refused
+
+
+def sweep(once, pool):
+    """What comes of each growth in turn, and last of a run in which none is refused."""
+    outcomes = []
+    while True:
+        at = len(outcomes) + 1
+        for got, refused in pool.map(once, range(at, at + 64)):
+            outcomes.append(got)
+            if not refused:
+                return outcomes
+
+
 def main():
     program = str(pathlib.Path(sys.argv[1]).resolve())
     count = Count()
@@ -321,6 +381,7 @@ def main():
     run_endless(program, count)
     run_damaged(program, count)
     run_devices(program, count)
+    run_refused(program, count)
     print(f"{count.passed} passed, {count.failed} failed")
     return count.failed != 0
 

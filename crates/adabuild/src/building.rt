@@ -1,4 +1,8 @@
 // One build, and what is done with the program.
+ghost use Rattle.std.specs.Prelude.{◌≡◌, IfOk, OnOk};
+ghost use Rattle.al_folder_told.specs.declared.status.Ending.TheVariants.{NotBuilt};
+ghost use Rattle.adabuild.specs.Sources.{GaveNone, Holds, IsBuiltFrom};
+
 use crate::failure::Failure;
 use crate::image_files::save;
 use crate::library::{Library, bring, new_library};
@@ -18,7 +22,7 @@ pub struct Uses {
     pub run: bool,
 }
 
-/// Builds the folders once, and does what is asked for.
+/// Builds the folders once, and does what is asked for: the build is of the sources that were read, where all of them could be read.
 pub fn build_once<R: Files + AllocGlobal + Clone + Drop>(
     rt: &R,
     screen: &Screen,
@@ -45,7 +49,11 @@ fn build<R: Files + AllocGlobal>(
     request: &Request<'_>,
     library: &mut Library,
     sources: &Sources,
-) -> Result<Ending, Failure> {
+) -> Result<Ending, Failure>
+    requires { Holds library.old sources.now.texts }
+    ensures built { OnOk result (IsBuiltFrom library.new sources.now.texts request.now.unit) }
+    ensures without { GaveNone library.new → IfOk result (λ ending. ending ≡ NotBuilt) }
+{
     library.build(request.unit.as_slice())?;
     let uses = Uses {
         order: request.order,
@@ -54,7 +62,8 @@ fn build<R: Files + AllocGlobal>(
     finish_build(rt, screen, request, library, sources, uses)
 }
 
-/// Tells what the last build gave, and uses the program.
+/// Tells what the last build gave, which is of these sources and the unit that is asked for, and uses the program; without one it ends as
+/// one that isn't built.
 pub fn finish_build<R: Files + AllocGlobal>(
     rt: &R,
     screen: &Screen,
@@ -62,7 +71,10 @@ pub fn finish_build<R: Files + AllocGlobal>(
     library: &Library,
     sources: &Sources,
     uses: Uses,
-) -> Result<Ending, Failure> {
+) -> Result<Ending, Failure>
+    requires { IsBuiltFrom library.now sources.now.texts request.now.unit }
+    ensures { GaveNone library.now → IfOk result (λ ending. ending ≡ NotBuilt) }
+{
     if !tell_build(screen, library, sources, request.plain)? {
         return Ok(Ending::NotBuilt);
     }

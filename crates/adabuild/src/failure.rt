@@ -1,4 +1,6 @@
 // Why the program can't go on.
+ghost use Rattle.std.specs.Prelude.{◌≡◌};
+
 use crate::screen::Screen;
 use al_base::NoMemory;
 use al_session_stream::Device;
@@ -27,12 +29,20 @@ impl Failure {
 }
 
 impl From<NoMemory> for Failure {
+    ghost use Rattle.adabuild.specs.declared.failure.Failure.TheVariants.{Memory};
+
+    ghost from_gives = { λ _ e. e ≡ Memory };
+
     fn from(_error: NoMemory) -> Failure {
         Failure::Memory
     }
 }
 
 impl From<AllocError> for Failure {
+    ghost use Rattle.adabuild.specs.declared.failure.Failure.TheVariants.{Memory};
+
+    ghost from_gives = { λ _ e. e ≡ Memory };
+
     fn from(_error: AllocError) -> Failure {
         Failure::Memory
     }

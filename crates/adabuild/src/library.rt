@@ -1,5 +1,10 @@
 // The library, and what is handed to it.
+ghost use Rattle.std.specs.Prelude.{◌≡◌, ◌↔◌, [], Some, None, IfErr, IfOk, IsOk, IsTrue, OnOk};
+ghost use Rattle.al_base.specs.FileLaws.{Ascend};
+ghost use Rattle.al_base.specs.Files.{text_of};
 ghost use Rattle.al_unit_headers.specs.Headed.{ReadsHeaders};
+ghost use Rattle.adabuild.specs.Sources.{Holds, still_there};
+ghost use Rattle.adabuild.specs.declared.failure.Failure.TheVariants.{Memory};
 
 use crate::failure::Failure;
 use al_base::{Files, NoMemory, Refusal};
@@ -22,6 +27,7 @@ fn library_for<C: UnitCheck + Drop>(
     checker: C,
 ) -> Result<Engine<AdaFiles, C, PredefinedUnits>, NoMemory>
     requires { ReadsHeaders C.header }
+    ensures { IfOk result (λ library. Holds library []) }
 {
     AdaFiles::are_read();
     units_are_predefined();
@@ -35,25 +41,42 @@ fn library_for<C: UnitCheck + Drop>(
 }
 
 /// A library with no file and no build.
-pub fn new_library(alloc: Global) -> Result<Library, NoMemory> {
+pub fn new_library(alloc: Global) -> Result<Library, NoMemory>
+    ensures { IfOk result (λ library. Holds library []) }
+{
     headers_are_read();
     library_for(alloc, ada_check())
 }
 
-/// Brings a library with these files to those: what is gone is deleted, and what is new or has another text is put.
+/// Brings a library with these files to those: what is gone is deleted, and what is new or has another text is put. Its files are those
+/// then, each with its text, and no other; all else is as before.
+///
+/// # Errors
+///
+/// Where memory was wanted and not given.
 pub fn bring(
     alloc: Global,
     library: &mut Library,
     before: &Files,
     now: &Files,
-) -> Result<(), Failure> {
+) -> Result<(), Failure>
+    requires { Holds library.old before.now }
+    ensures ok { OnOk result (library.new ≡ record library.old { files = now.now }) }
+    ensures err { IfErr result (λ e. e ≡ Memory) }
+{
     delete_gone(library, before, now)?;
     put_changed(alloc, library, before, now)
 }
 
 // Deletes what is gone.
-fn delete_gone(library: &mut Library, before: &Files, now: &Files) -> Result<(), Failure> {
-    for (name, _text) in before.list()? {
+fn delete_gone(library: &mut Library, before: &Files, now: &Files) -> Result<(), Failure>
+    requires { Holds library.old before.now }
+    ensures ok { OnOk result (library.new ≡ record library.old { files = still_there now.now before.now }) }
+    ensures ascend { OnOk result (Ascend library.new.files) }
+    ensures err { IfErr result (λ e. e ≡ Memory) }
+{
+    let list = before.shared()?;
+    for (name, _text) in list.iter() {
         if now.get(name).is_none() {
             taken(library.delete(name))?;
         }
@@ -67,17 +90,25 @@ fn put_changed(
     library: &mut Library,
     before: &Files,
     now: &Files,
-) -> Result<(), Failure> {
-    for (name, text) in now.list()? {
-        if !has_text(before, name, text) {
-            taken(library.put(name, Vec::from_slice(alloc, text)?))?;
+) -> Result<(), Failure>
+    requires files { Holds library.old (still_there now.now before.now) }
+    requires ascend { Ascend library.old.files }
+    ensures ok { OnOk result (library.new ≡ record library.old { files = now.now }) }
+    ensures err { IfErr result (λ e. e ≡ Memory) }
+{
+    let list = now.shared()?;
+    for (name, text) in list.iter() {
+        if !has_text(before, name, text.as_slice()) {
+            taken(library.put(name, Vec::from_slice(alloc, text.as_slice())?))?;
         }
     }
     Ok(())
 }
 
 // Whether a file has this text.
-fn has_text(files: &Files, name: &[u8], text: &[u8]) -> bool {
+fn has_text(files: &Files, name: &[u8], text: &[u8]) -> bool
+    ensures { IsTrue result ↔ text_of files.now name.now ≡ Some text.now }
+{
     match files.get(name) {
         Some(found) => found == text,
         None => false,
@@ -85,7 +116,11 @@ fn has_text(files: &Files, name: &[u8], text: &[u8]) -> bool {
 }
 
 // A library takes what these files take, so that it can only find no memory.
-fn taken(answer: Result<(), Refusal>) -> Result<(), Failure> {
+fn taken(answer: Result<(), Refusal>) -> Result<(), Failure>
+    requires { IfErr answer (λ e. e ≡ Refusal.NoMemory) }
+    ensures ok { OnOk result (IsOk answer) }
+    ensures err { IfErr result (λ e. e ≡ Memory) }
+{
     match answer {
         Ok(()) => Ok(()),
         Err(_) => Err(Failure::Memory),

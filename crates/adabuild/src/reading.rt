@@ -1,4 +1,7 @@
 // Reading folders.
+ghost use Rattle.std.specs.Prelude.{◌≡◌, [], false, length, IsSome, IsTrue, OnOk};
+ghost use Rattle.al_base.specs.Files.{put_refusal, with_file};
+
 use crate::failure::Failure;
 use crate::screen::Screen;
 use al_base::{MAX_TEXT, Refusal, is_file_name};
@@ -20,7 +23,9 @@ pub struct Sources {
 }
 
 impl Sources {
-    pub fn new(alloc: Global) -> Sources {
+    pub fn new(alloc: Global) -> Sources
+        ensures { (result.texts ≡ []) × (result.folders ≡ []) × IsTrue result.are_whole }
+    {
         Sources {
             texts: al_base::Files::new(alloc),
             folders: al_base::Files::new(alloc),
@@ -29,7 +34,9 @@ impl Sources {
     }
 
     // Tells what keeps the sources from being whole.
-    fn spoil(&mut self, screen: &Screen, told: &String) -> Result<(), Failure> {
+    fn spoil(&mut self, screen: &Screen, told: &String) -> Result<(), Failure>
+        ensures { self.new ≡ record self.old { are_whole = false } }
+    {
         self.are_whole = false;
         screen.tell(told.as_bytes())
     }
@@ -169,7 +176,7 @@ fn text_in<R: Files + AllocGlobal>(rt: &R, folder: &str, name: &str) -> io::Resu
     Ok(text)
 }
 
-// Adds the text of a file of a folder.
+// Adds the text of a file of a folder. Where a library doesn't take it, that is told and the file left out, and the sources aren't whole.
 fn add_source(
     alloc: Global,
     screen: &Screen,
@@ -177,7 +184,10 @@ fn add_source(
     name: &str,
     text: Vec<u8>,
     sources: &mut Sources,
-) -> Result<(), Failure> {
+) -> Result<(), Failure>
+    ensures added { OnOk result (IsTrue sources.new.are_whole → sources.new ≡ record sources.old { texts = with_file sources.old.texts name.now text.items; folders = with_file sources.old.folders name.now folder.now }) }
+    ensures left_out { IsSome (put_refusal sources.old.texts name.now (length text.items)) → OnOk result (sources.new ≡ record sources.old { are_whole = false }) }
+{
     let place = Vec::from_slice(alloc, folder.as_bytes())?;
     if let Err(refusal) = sources.texts.put(name.as_bytes(), text) {
         return tell_refused(alloc, screen, folder, name, refusal, sources);
@@ -196,7 +206,9 @@ fn tell_refused(
     name: &str,
     refusal: Refusal,
     sources: &mut Sources,
-) -> Result<(), Failure> {
+) -> Result<(), Failure>
+    ensures { OnOk result (sources.new ≡ record sources.old { are_whole = false }) }
+{
     let why = match refusal {
         Refusal::TextTooLong => "it has more than 1048576 bytes",
         Refusal::TooManyFiles => "there are more than 4096 sources",

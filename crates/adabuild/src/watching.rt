@@ -1,4 +1,7 @@
 // A library that is built again and again, as lines of the standard input ask for it.
+ghost use Rattle.std.specs.Prelude.{◌≡◌, Ok, OnOk, false};
+ghost use Rattle.adabuild.specs.Sources.{Holds, IsBuiltFrom};
+
 use crate::building::{Uses, finish_build};
 use crate::failure::Failure;
 use crate::library::{Library, bring, image_units, new_library};
@@ -12,7 +15,7 @@ use std::alloc::Global;
 use std::rt::{Clock, Files};
 use std::time::Instant;
 
-// The library, and what it holds.
+// The library, and the sources that it holds.
 #[derive(Drop)]
 struct Watched {
     alloc: Global,
@@ -52,7 +55,9 @@ fn serve_lines<R: Files + Input + Clock + AllocGlobal + Clone + Drop>(
     screen: &Screen,
     request: &Request<'_>,
     watched: &mut Watched,
-) -> Result<(), Failure> {
+) -> Result<(), Failure>
+    requires { Holds watched.old.library watched.old.sources.texts }
+{
     for line in rt.lines(rt.alloc()) {
         if !serve_line(rt, screen, request, watched, line?.as_bytes())? {
             break;
@@ -68,7 +73,10 @@ fn serve_line<R: Files + Clock + AllocGlobal + Clone + Drop>(
     request: &Request<'_>,
     watched: &mut Watched,
     line: &[u8],
-) -> Result<bool, Failure> {
+) -> Result<bool, Failure>
+    requires { Holds watched.old.library watched.old.sources.texts }
+    ensures { OnOk result (Holds watched.new.library watched.new.sources.texts) }
+{
     let mut uses = uses_of(request);
     match watch_word(line) {
         WatchWord::Build => {}
@@ -90,14 +98,18 @@ fn serve_line<R: Files + Clock + AllocGlobal + Clone + Drop>(
     Ok(true)
 }
 
-// Reads the folders again, and hands the library what has changed; whether all could be read.
+// Reads the folders again, and hands the library what has changed; whether all could be read, else all is as before.
 fn read_again<R: Files + AllocGlobal + Clone + Drop>(
     rt: &R,
     screen: &Screen,
     request: &Request<'_>,
     watched: &mut Watched,
     is_first: bool,
-) -> Result<bool, Failure> {
+) -> Result<bool, Failure>
+    requires { Holds watched.old.library watched.old.sources.texts }
+    ensures holds { OnOk result (Holds watched.new.library watched.new.sources.texts) }
+    ensures kept { result ≡ Ok false → watched.new ≡ watched.old }
+{
     let now = read_folders(rt, screen, request.folders.as_slice(), is_first)?;
     if !now.are_whole {
         return Ok(false);
@@ -120,7 +132,10 @@ fn build_again<R: Files + Clock + AllocGlobal + Clone + Drop>(
     watched: &mut Watched,
     is_first: bool,
     uses: Uses,
-) -> Result<Ending, Failure> {
+) -> Result<Ending, Failure>
+    requires { Holds watched.old.library watched.old.sources.texts }
+    ensures { OnOk result (Holds watched.new.library watched.new.sources.texts) }
+{
     let start = Instant::now(rt)?;
     if !read_again(rt, screen, request, watched, is_first)? {
         return Ok(Ending::NotBuilt);
@@ -139,7 +154,10 @@ fn build_again<R: Files + Clock + AllocGlobal + Clone + Drop>(
 }
 
 // Builds; what that did to the image.
-fn rebuild(library: &mut Library, unit: &[u8]) -> Result<ImageChange, Failure> {
+fn rebuild(library: &mut Library, unit: &[u8]) -> Result<ImageChange, Failure>
+    ensures files { library.new.files ≡ library.old.files }
+    ensures built { OnOk result (IsBuiltFrom library.new library.old.files unit.now) }
+{
     let had = image_units(library).is_some();
     library.build(unit)?;
     let written = library.patched();
@@ -174,7 +192,10 @@ fn list_obsolete<R: Files + AllocGlobal + Clone + Drop>(
     screen: &Screen,
     request: &Request<'_>,
     watched: &mut Watched,
-) -> Result<(), Failure> {
+) -> Result<(), Failure>
+    requires { Holds watched.old.library watched.old.sources.texts }
+    ensures { OnOk result (Holds watched.new.library watched.new.sources.texts) }
+{
     if !read_again(rt, screen, request, watched, false)? {
         return Ok(());
     }

@@ -1,0 +1,3 @@
+pub mod SameFiles
+pub mod Brought
+pub mod Libraries
