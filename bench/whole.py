@@ -1,10 +1,11 @@
 #!/usr/bin/env python3
-"""whole.py PROGRAM [packages | statements]: times builds, beside GNAT where it is there.
+"""whole.py PROGRAM [packages [COUNT ..] | statements]: times builds, beside GNAT where it is there.
 
-packages: 200 packages with their bodies and a main unit: the first build, and builds behind no edit, the edit of a body and
-that of a declaration; gnatmake does the same by turns, over files. statements: a unit of so many assignments. Each figure is in
-milliseconds of the clock, with those of the processor in parentheses, the least of some runs. Programs that are built and run are
-timed by bench/machine/run. It is no test.
+packages: 200, 1,000 and 4,000 packages (or so many) with their bodies, and a main unit: the first build, and builds behind no edit, the
+edit of a body, of a declaration that nobody reads, and of one that all bodies read; gnatmake does the same by turns, over files, which
+takes it some minutes of 4,000 packages. Behind them how many times the figure of the number before each is. statements: a unit of so
+many assignments. Each figure is in milliseconds of the clock, with those of the processor in parentheses, the least of some runs.
+Programs that are built and run are timed by bench/machine/run. It is no test.
 """
 import os
 import pathlib
@@ -14,48 +15,63 @@ import tempfile
 
 from timings import doubled, procedure, put, spent_by
 
-PACKAGES = 200
+COUNTS = (200, 1000, 4000)
+TURNS = 3
 
 
 def least(run, runs=3):
     """The least time and the least processor time of some runs."""
-    times = [run() for _ in range(runs)]
+    return least_of([run() for _ in range(runs)])
+
+
+def least_of(times):
     return min(it[0] for it in times), min(it[1] for it in times)
 
 
 def tell(what, *figures):
-    print(f"{what:<44} " + "   ".join(f"{name} {max(0, clock):.1f} ({max(0, cpu):.1f})" for name, (clock, cpu) in figures), flush=True)
+    print(f"{what:<48} " + "   ".join(f"{name} {max(0, clock):.2f} ({max(0, cpu):.2f})" for name, (clock, cpu) in figures), flush=True)
 
 
 def less(one, other):
     return one[0] - other[0], one[1] - other[1]
 
 
-def package(number, more=""):
+def base(step=1, more=""):
+    """The package whose declaration all bodies read."""
+    return f"package Base is\n   Step : constant Integer := {step};{more}\nend Base;\n"
+
+
+def times(figure, before):
+    """How many times the processor's figure is the one before, to a microsecond."""
+    return max(figure[1], 0.001) / max(before[1], 0.001)
+
+
+def package(number):
     """The declaration and the body of a package that calls up to three of those before it."""
     named = range(max(0, number - 3), number)
     withs = "".join(f"with P{it}; " for it in named)
     calls = "".join(f" Sum := Sum + P{it}.Value;" for it in named)
-    declaration = f"package P{number} is\n   function Value return Integer;{more}\nend P{number};\n"
+    declaration = f"package P{number} is\n   function Value return Integer;\nend P{number};\n"
     body = (
-        f"{withs}\npackage body P{number} is\n   function Value return Integer is\n      Sum : Integer := {number};\n   begin\n"
+        f"with Base; {withs}\npackage body P{number} is\n   function Value return Integer is\n      Sum : Integer := {number} + Base.Step;\n   begin\n"
         f"     {calls}\n      return Sum mod 1_000;\n   end Value;\nend P{number};\n"
     )
     return declaration, body
 
 
-def library():
+def library(count):
     """The files, and those edits that the builds stand behind: each a file with its new text."""
-    files = {}
-    for number in range(PACKAGES):
+    files = {"base.ads": base()}
+    for number in range(count):
         files[f"p{number}.ads"], files[f"p{number}.adb"] = package(number)
-    last = PACKAGES - 1
+    last = count - 1
     files["main.adb"] = f"with Ada.Text_IO; with P{last};\nprocedure Main is\nbegin\n   Ada.Text_IO.Put_Line (Integer'Image (P{last}.Value));\nend Main;\n"
-    middle = PACKAGES // 2
+    middle = count // 2
     edits = {
         "no edit": {},
         "one body": {f"p{middle}.adb": package(middle)[1].replace("1_000", "1_001")},
-        "one declaration": {f"p{middle}.ads": package(middle, "\n   Limit : constant Integer := 7;")[0]},
+        "a declaration that nobody reads": {"base.ads": base(more="\n   Limit : constant Integer := 7;")},
+        "a declaration that all read": {"base.ads": base(step=2)},
     }
     return files, edits
 
@@ -65,41 +81,61 @@ def puts(files):
 
 
 def by_gnatmake(files, edits):
-    """What gnatmake takes for the first build, then behind each edit; each file's time is ahead of all that was made before."""
+    """What gnatmake takes for the first build, then behind each edit, which is taken back; each file's time is ahead of all that was made before."""
     with tempfile.TemporaryDirectory() as folder:
         when = 0
 
-        def write(changed):
+        def made(changed):
             nonlocal when
             when += 100
             for name, text in changed.items():
                 path = pathlib.Path(folder) / name
                 path.write_text(text)
                 os.utime(path, (path.stat().st_mtime + when,) * 2)
+            return spent_by(["gnatmake", "-q", "main.adb"], b"", folder)
 
-        times = []
-        for changed in (files, *edits.values()):
-            write(changed)
-            times.append(spent_by(["gnatmake", "-q", "main.adb"], b"", folder))
-    return times
+        times = [made(files)]
+        for changed in edits.values():
+            times.append(made(changed))
+            if changed:
+                made({name: files[name] for name in changed})
+        return times
 
 
-def packages(program):
-    files, edits = library()
+def by_program(program, files, edits):
+    """What the program takes for the first build, then behind each edit: these are made and taken back by turns in one session, as often as makes up for their size."""
     with tempfile.TemporaryDirectory() as folder:
 
         def of(stream):
-            return least(lambda: spent_by([program], stream, folder))
+            return spent_by([program], stream, folder)
 
-        base = of(puts(files))
-        built = of(puts(files) + b"build main\n")
-        ours = [less(built, base)] + [less(of(puts(files) + b"build main\n" + puts(it) + b"build main\n"), built) for it in edits.values()]
-    theirs = None
+        given = puts(files)
+        base_time = of(given)
+        built = of(given + b"build main\n")
+        times = [less(built, base_time)]
+        for what, changed in edits.items():
+            pairs = 2 if "all" in what else 20
+            turn = puts(changed) + b"build main\n" + puts({name: files[name] for name in changed}) + b"build main\n"
+            spent = less(of(given + b"build main\n" + turn * pairs), built)
+            times.append((spent[0] / (2 * pairs), spent[1] / (2 * pairs)))
+        return times
+
+
+def packages(program, counts):
+    tools = [("solbreog", lambda files, edits: by_program(program, files, edits))]
     if shutil.which("gnatmake"):
-        turns = [by_gnatmake(files, edits) for _ in range(2)]
-        theirs = [tuple(min(it) for it in zip(*row)) for row in zip(*turns)]
-    for at, what in enumerate(("first build", *edits)):
-        tell(f"{PACKAGES} packages: {what}", ("solbreog", ours[at]), *([("gnatmake", theirs[at])] if theirs else []))
+        tools.append(("gnatmake", by_gnatmake))
+    before = last = None
+    for count in counts:
+        files, edits = library(count)
+        turns = [[run(files, edits) for _, run in tools] for _ in range(TURNS if count < 1000 else 1)]
+        figures = [[least_of(rows) for rows in zip(*(turn[at] for turn in turns))] for at in range(len(tools))]
+        for row, what in enumerate(("first build", *edits)):
+            tell(f"{count} packages: {what}", *((name, figures[at][row]) for at, (name, _) in enumerate(tools)))
+            if before:
+                grown = ", ".join(f"{name} {times(figures[at][row], before[at][row]):.1f}" for at, (name, _) in enumerate(tools))
+                print(f"{'':<48} times the processor's figure of {last}: {grown}", flush=True)
+        before, last = figures, count
 
 
 def statements(program):
@@ -113,9 +149,11 @@ def statements(program):
 
 def main():
     program = str(pathlib.Path(sys.argv[1]).resolve())
-    parts = {"packages": packages, "statements": statements}
-    for part in sys.argv[2:] or parts:
-        parts[part](program)
+    part, counts = sys.argv[2:3], [int(it) for it in sys.argv[3:]] or COUNTS
+    if part != ["statements"]:
+        packages(program, counts)
+    if part != ["packages"]:
+        statements(program)
 
 
 if __name__ == "__main__":

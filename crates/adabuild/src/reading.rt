@@ -13,13 +13,22 @@ use std::io::Read;
 use std::rt::Files;
 
 /// The sources of some folders, by name.
-#[derive(Drop)]
 pub struct Sources {
     pub texts: al_base::Files,
     /// In which folder each stands.
     pub folders: al_base::Files,
     /// Whether each could be read.
     pub are_whole: bool,
+}
+
+impl Drop for Sources {
+    fn drop(self) {
+        let Sources {
+            texts: _,
+            folders: _,
+            are_whole: _,
+        } = self;
+    }
 }
 
 impl Sources {

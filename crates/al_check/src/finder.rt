@@ -201,8 +201,13 @@ fn find_in<A: Answers + Drop>(
 }
 
 /// Finds what the texts of Ada units say. It keeps nothing between checks.
-#[derive(Drop)]
 pub struct AdaFinder;
+
+impl Drop for AdaFinder {
+    fn drop(self) {
+        let AdaFinder = self;
+    }
+}
 
 impl UnitFinder for AdaFinder {
     ghost use Rattle.al_check.specs.Ada.{ada_names, ada_units, ada_verdict};

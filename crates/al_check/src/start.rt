@@ -70,16 +70,11 @@ pub(crate) fn begun_at(
 {
     let needs_body = needs_body(alloc, tree)?;
     let private_types = Seq::new(private_types(alloc, &tree.item)?);
-    let UnitStart {
-        own,
-        scope,
-        packages,
-        progress,
-        uncompleted,
-        parent,
-        view,
-        hidden,
-    } = start;
+    let parts = start.into_parts();
+    let (text, place, round) = parts;
+    let (own, packages, hidden) = text;
+    let (scope, progress, uncompleted) = place;
+    let (parent, view) = round;
     let text = text_of(alloc, packages, own, hidden, private_part)?;
     let line = item_line(&tree.item);
     let unit_facts = UnitFacts {

@@ -11,7 +11,7 @@ ghost use Rattle.al_check.specs.Ada.{ended_after, ended_text, item_walked_with, 
 
 use crate::start::{Begun, begun_at};
 use al_base::NoMemory;
-use al_check_here::{CheckState, Ends, UnitText, into_ends, into_private_part};
+use al_check_here::{CheckState, Ends, into_ends, into_private_part};
 use al_check_made::{EndedText, UnitFacts, found_after};
 use al_check_reading::AdaAnalyzer;
 use al_check_start::UnitStart;
@@ -27,15 +27,7 @@ use std::alloc::Global;
 fn without_text(ends: Ends) -> EndedText
     ensures { result ≡ ended_text ends }
 {
-    let Ends {
-        progress,
-        completions,
-        parts,
-        uses,
-        own: declared,
-        unit,
-    } = ends;
-    let UnitText { own, .. } = unit;
+    let (own, progress, completions, parts, uses, declared) = ends.into_parts();
     EndedText {
         own,
         progress,
@@ -76,7 +68,7 @@ fn found_by<A: Answers + Drop>(
     ensures log { IfOk result (λ found. found.log ≡ analyzer.recorder.log) }
     ensures finding { IfOk result (λ found. verdict_of found.finding ≡ ended_after unit_facts (analyzer.state, inside_model inside)) }
 {
-    let AdaAnalyzer { state, recorder } = analyzer;
+    let (state, recorder) = analyzer.into_parts();
     let log = recorder.into_log();
     match ended_at(alloc, unit_facts, state, inside) {
         Ok(finding) => Ok(UnitResult { finding, log }),
@@ -123,7 +115,8 @@ fn private_part_from<A: Answers + Drop>(
     match check_unit(&mut analyzer, alloc, item) {
         Ok(inside) => {
             drop(inside);
-            let AdaAnalyzer { state, recorder } = analyzer;
+            let parts = analyzer.into_parts();
+            let (state, recorder) = parts;
             Ok((into_private_part(alloc, state), recorder))
         }
         Err(error) => {

@@ -10,12 +10,14 @@ use Rattle.al_unit.specs.Readings.{Reading, reading_of}
 use Rattle.al_unit.specs.Readings.Reading.{Sentence, Fails}
 use Rattle.al_query.specs.Known.{Grounded}
 use Rattle.al_query.specs.Reads.{Log, Table}
+use Rattle.al_query_outcome.specs.Defines.{DefinesParts}
 use Rattle.al_query_outcome.specs.ReadsLaw.{named_by}
 use Rattle.al_query_outcome.specs.Results.{Outcome}
 use Rattle.al_check_promises.specs.Laws.{FaultsAreReported, Promised}
 use Rattle.al_check_promises.specs.SelfChecks.{checked_faults}
 use Rattle.al_check_within.specs.Verdicts.{Verdict}
 use Rattle.al_check_within.specs.Within.{IsChecked, meaning_within}
+use Rattle.al_check_within.proofs.LeftLemmas.{faulty_parts}
 use Rattle.al_check_bounded.specs.Meanings.{HeadersAreRead, header_if_read, header_in, meaning_if_read, text_meaning}
 
 pub headers_read : HeadersAreRead
@@ -44,6 +46,7 @@ module _ (units : UnitKey → Header → Table → List UnitKey) (names : UnitKe
       meaning = λ t h. is ∙ sym (means t);
       grounded = subst (λ (l : Log). Grounded (named_by (header_in text)) l) (sym none) tt;
       promised = subst (λ (o : Outcome). Promised unit (named_by (header_in text)) log o) (sym is) (answered unit (named_by (header_in text)) log []);
+      parts = λ t h. subst (λ (o : Outcome). DefinesParts unit (header_in text) t o) (sym is) (faulty_parts unit (header_in text) t []);
     }
 
     pub too_long : FaultsAreReported → log ≡ [] → outcome ≡ checked_faults unit [] → nat_le (length text) 4294967294 ≡ false → IsChecked unit (header_in text) (text_meaning units names verdict unit text) log outcome
@@ -58,4 +61,5 @@ module _ (units : UnitKey → Header → Table → List UnitKey) (names : UnitKe
       meaning = λ t a. checked.meaning t a ∙ sym (if_fits t (le_test (length text) 4294967294 h) ∙ ap (λ (r : Reading). meaning_if_read units names verdict unit text r t) reads);
       grounded = subst (λ (x : Header). Grounded (named_by x) log) (sym (headers_read text tree reads)) checked.grounded;
       promised = subst (λ (x : Header). Promised unit (named_by x) log outcome) (sym (headers_read text tree reads)) checked.promised;
+      parts = λ t a. subst (λ (x : Header). DefinesParts unit x t outcome) (sym (headers_read text tree reads)) (checked.parts t a);
     }

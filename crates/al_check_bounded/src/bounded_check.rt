@@ -1,11 +1,10 @@
 // The checker.
 ghost use Rattle.std.specs.Prelude.{◌≡◌, [], IfOk, OnOk};
-ghost use Rattle.al_query_outcome.specs.ReadsLaw.{AsksOthers};
+ghost use Rattle.al_query_outcome.specs.ReadsLaw.{AsksByNames, AsksOthers};
 ghost use Rattle.al_base_shortage.specs.Counts.{one_more};
 ghost use Rattle.al_query_outcome.specs.Results.{checked_model};
-ghost use Rattle.al_check_bounds.specs.Bounding.{AsksByNames};
 ghost use Rattle.al_check_within.specs.Within.{IsChecked};
-ghost use Rattle.al_check_within.specs.Words.{words_of};
+ghost use Rattle.al_query_outcome.specs.Words.{words_of};
 ghost use Rattle.al_check_bounded.specs.Meanings.{header_in, text_meaning};
 
 use crate::texts::check_text;
@@ -18,10 +17,18 @@ use al_query_outcome::Checked;
 use std::alloc::Global;
 
 /// Checks units with whoever finds what their texts say, and counts the checks.
-#[derive(Drop)]
 pub struct BoundedCheck<F: UnitFinder> {
     finder: F,
     checks: u64,
+}
+
+impl<F: UnitFinder + Drop> Drop for BoundedCheck<F> {
+    fn drop(self) {
+        let BoundedCheck {
+            finder: _,
+            checks: _,
+        } = self;
+    }
 }
 
 impl<F: UnitFinder> BoundedCheck<F> {

@@ -2,12 +2,11 @@
 ghost use Rattle.std.specs.Prelude.{◌≡◌, ◌≤◌, [], length, nat_le, IfOk, OnOk};
 ghost use Rattle.al_unit.specs.ReadingSeen.{reading_model};
 ghost use Rattle.al_unit.specs.Readings.{reading_of};
-ghost use Rattle.al_query_outcome.specs.ReadsLaw.{AsksOthers};
+ghost use Rattle.al_query_outcome.specs.ReadsLaw.{AsksByNames, AsksOthers};
 ghost use Rattle.al_query_outcome.specs.Results.{checked_model};
-ghost use Rattle.al_check_bounds.specs.Bounding.{AsksByNames};
 ghost use Rattle.al_check_promises.specs.SelfChecks.{checked_faults};
 ghost use Rattle.al_check_within.specs.Within.{IsChecked};
-ghost use Rattle.al_check_within.specs.Words.{words_of};
+ghost use Rattle.al_query_outcome.specs.Words.{words_of};
 ghost use Rattle.al_check_bounded.specs.Meanings.{header_in, text_meaning};
 
 use al_base::{NoMemory, UnitKey};

@@ -13,9 +13,9 @@ use Rattle.al_query.specs.declared.query.Query.{Query}
 use Rattle.al_query.specs.declared.answer.AnswerKind.{AnswerKind}
 use Rattle.al_query.proofs.AskLemmas.{asks_one}
 use Rattle.al_query.proofs.KnownLemmas.{has_unit-left}
-use Rattle.al_query_outcome.specs.ReadsLaw.{AsksOthers, is_of_another}
+use Rattle.al_query_outcome.specs.ReadsLaw.{AsksOthers, is_by_names, is_of_another}
 use Rattle.al_query_outcome.specs.Tables.{no_answer}
-use Rattle.al_check_bounds.specs.Bounding.{allowed, bounded, is_by_names, may_ask}
+use Rattle.al_check_bounds.specs.Bounding.{allowed, bounded, may_ask}
 use Rattle.al_check_bounds.specs.declared.bounds.Bounds.{Bounds}
 
 -- what may be asked is answered alike where the tables answer it alike
@@ -29,6 +29,14 @@ bounded-else b q t s h = at (may_ask b q) h
     at : (m : Bool) → m ≡ false → cond m (t q) (no_answer q) ≡ cond m (s q) (no_answer q)
     at true k = absurd (cc)
     at false k = refl
+
+-- what may be asked is answered by the table
+pub bounded-asked : (b : Bounds) (q : Query) (t : Table) → may_ask b q ≡ true → bounded b t q ≡ t q
+bounded-asked b q t h = ap (λ (m : Bool). if m then t q else no_answer q) h
+
+-- what may not isn't answered
+pub bounded-none : (b : Bounds) (q : Query) (t : Table) → may_ask b q ≡ false → bounded b t q ≡ no_answer q
+bounded-none b q t h = ap (λ (m : Bool). if m then t q else no_answer q) h
 
 -- a question that may be asked is one of those that are allowed
 pub asks-allowed : (b : Bounds) (q : Query) (a : AnswerKind) (old new : Log) → may_ask b q ≡ true → new ≡ logged old q a → AsksOf b.known (allowed b) old new

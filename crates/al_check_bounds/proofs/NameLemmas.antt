@@ -18,7 +18,8 @@ use Rattle.al_query.specs.declared.query.Query.{Query}
 use Rattle.al_query.specs.declared.query.Query.TheVariants.{Named, Of}
 use Rattle.al_query.proofs.KnownLemmas.{flat_map-join}
 use Rattle.al_query.proofs.ToldLemmas.{any-left, any-right}
-use Rattle.al_check_bounds.specs.Bounding.{AreWordsOrTold, AsksByNames, allowed, asks_by_names, is_by_names, may_ask}
+use Rattle.al_query_outcome.specs.ReadsLaw.{AsksByNames, asks_by_names, is_by_names}
+use Rattle.al_check_bounds.specs.Bounding.{AreWordsOrTold, allowed, may_ask}
 use Rattle.al_check_bounds.specs.declared.bounds.Bounds.{Bounds}
 
 pub by-property : (unit : UnitKey) (names : List (List ℕ)) (log : Log) (q : Query) → by_property log q ≡ true → is_by_names unit names q ≡ true

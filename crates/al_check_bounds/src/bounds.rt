@@ -4,7 +4,8 @@ ghost use Rattle.al_query.specs.Answers.{declaration};
 ghost use Rattle.al_query.specs.Known.{has_unit};
 ghost use Rattle.al_query.specs.Queries.{unit_of};
 ghost use Rattle.al_view.specs.Symbols.{same_unit};
-ghost use Rattle.al_check_bounds.specs.Bounding.{bounded, is_by_names, may_ask};
+ghost use Rattle.al_query_outcome.specs.ReadsLaw.{is_by_names};
+ghost use Rattle.al_check_bounds.specs.Bounding.{bounded, may_ask};
 
 use al_base::{NoMemory, UnitKey, UnitKind};
 use al_check_asked::NameSet;

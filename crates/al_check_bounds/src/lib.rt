@@ -5,4 +5,4 @@ mod bounds;
 mod replayed;
 
 pub use bounds::{Bounded, Bounds};
-pub use replayed::replay;
+pub use replayed::{answer_within, replay};

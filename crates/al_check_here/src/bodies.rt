@@ -1,6 +1,5 @@
 // Bodies of subprograms at a place.
 ghost use Rattle.std.specs.Prelude.{◌≡◌, ◌<◌, Some, None, length, map, IfOk, OnOk};
-ghost use Rattle.al_decl_body.specs.Regions.{outside_of, set_aside};
 ghost use Rattle.al_decl_type.specs.Objects.{is_input};
 ghost use Rattle.al_view_typed.specs.StatementViews.{statement_model};
 ghost use Rattle.al_view_typed.specs.UnitTrees.{body_model, elaboration_model};
@@ -9,24 +8,23 @@ ghost use Rattle.al_check_here.specs.BodiesHere.{body_opened, copied_words, fram
 ghost use Rattle.al_check_here.specs.Stacks.{innermost};
 
 use crate::kinds::kind_of;
-use crate::regions::{leave_region, take_back};
+use crate::regions::leave_region;
 use crate::state::{AnalyzedHeading, BodyRole, CheckState, OpenBody};
 use al_base::NoMemory;
-use al_decl_body::{OuterFrame, Outside, declare_all_formals, enter_subprogram};
-use al_decl_completion::Uncompleted;
-use al_decl_here::Environment;
+use al_decl_body::{
+    OuterFrame, Outside, declare_all_formals, enter_subprogram, set_aside, take_back,
+};
 use al_decl_profile::{Heading, ReturnedPart, enter_body, leave_body};
 use al_decl_type::words_of;
 use al_stmts::ReturnContext;
 use al_stmts_loops::EnclosingBody;
 use al_stmts_walk::BodyExtent;
-use al_view::{Interface, Mode, Seq, SubtypeView};
+use al_view::{Mode, Seq, SubtypeView};
 use al_view_predefined::StandardTypes;
 use al_view_typed::{
     BodyKind, Elaboration, FormalWords, TypedBody, TypedDeclaration, TypedStatement,
 };
 use std::alloc::Global;
-use std::mem;
 
 /// What returns stand in, in a body with that result.
 fn return_context(standard: &StandardTypes, returned: &ReturnedPart) -> ReturnContext
@@ -114,11 +112,7 @@ fn push_body(
 ) -> Result<(), NoMemory>
     ensures { OnOk result (state.new ≡ with_body state.old read outer outside formals) }
 {
-    let AnalyzedHeading {
-        role,
-        heading,
-        symbol,
-    } = read;
+    let (role, heading, symbol) = read.into_parts();
     let standard = &state.unit.labeller.predefined.standard;
     let returns = role_context(standard, role, &heading.returned);
     let result = result_in(heading);
@@ -166,19 +160,6 @@ pub fn enter_nested(
     open_body(alloc, state, read, outer, outside)
 }
 
-/// Nothing waits and nothing is declared from here on: what did.
-pub fn set_aside(alloc: Global, env: &mut Environment) -> Outside
-    ensures env { env.new ≡ set_aside env.old }
-    ensures outside { result ≡ outside_of env.old }
-{
-    let uncompleted = mem::replace(&mut env.uncompleted, Uncompleted::new(alloc));
-    let declared = mem::replace(&mut env.declared, Interface::new(alloc));
-    Outside {
-        uncompleted,
-        declared,
-    }
-}
-
 /// Enters the body of a unit that is one subprogram, in the unit's own region.
 pub fn enter_whole(
     alloc: Global,
@@ -207,10 +188,9 @@ fn leave_own_region(state: &mut CheckState)
 fn leave_open(state: &mut CheckState, body: OpenBody)
     ensures { state.new ≡ left_open state.old body }
 {
-    let OpenBody { outer, outside, .. } = body;
     leave_own_region(state);
-    leave_body(&mut state.env.progress, (outer.depth, outer.word));
-    take_back(&mut state.env, outside);
+    leave_body(&mut state.env.progress, (body.outer.depth, body.outer.word));
+    take_back(&mut state.env, body.into_outside());
 }
 
 /// Leaves the innermost body, if one is open: the frame round it, and what waited and was declared there, go on.

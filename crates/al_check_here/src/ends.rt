@@ -6,18 +6,17 @@ ghost use Rattle.al_check_here.specs.Ends.{ends_of, ends_told, hidden_by, hidden
 use crate::parts::copied_clause;
 use crate::state::{CheckState, UnitText, UseHere};
 use al_base::{Name, NoMemory};
-use al_decl_here::Environment;
 use al_decl_judged::Progress;
 use al_decl_type::Declaration;
 use al_query::{Completion, UseInPart};
 use al_query_outcome::{Parts, StubDeclarations};
 use al_scope_seen::{PrivateName, hidden, hidden_in};
+use al_scope_unit::OwnText;
 use al_view::{Interface, Part, Seq};
 use std::alloc::Global;
 use std::mem;
 
 /// What the walk over a unit's text leaves.
-#[derive(Drop)]
 pub struct Ends {
     /// Its words, its objects and its flags.
     pub progress: Progress,
@@ -30,6 +29,52 @@ pub struct Ends {
     /// Of a library subprogram, or of a body that acts as its declaration, its name with its own view.
     pub own: Seq<Declaration>,
     pub unit: UnitText,
+}
+
+impl Drop for Ends {
+    fn drop(self) {
+        let Ends {
+            progress: _,
+            completions: _,
+            parts: _,
+            uses: _,
+            own: _,
+            unit: _,
+        } = self;
+    }
+}
+
+impl Ends {
+    /// What the unit's own text says, and what the walk left, without what it stood on. It takes no memory.
+    pub fn into_parts(
+        self,
+    ) -> (
+        OwnText,
+        Progress,
+        Seq<Completion>,
+        Parts,
+        Seq<UseInPart>,
+        Seq<Declaration>,
+    )
+        ensures { result ≡ (self.unit.own, self.progress, self.completions, self.parts, self.uses, self.own) }
+    {
+        let Ends {
+            progress,
+            completions,
+            parts,
+            uses,
+            own: declared,
+            unit,
+        } = self;
+        (
+            unit.into_own(),
+            progress,
+            completions,
+            parts,
+            uses,
+            declared,
+        )
+    }
 }
 
 fn add_name(alloc: Global, names: &mut Seq<Name>, stub: &StubDeclarations) -> Result<(), NoMemory>
@@ -105,7 +150,7 @@ fn uses_inside(
     Ok(made)
 }
 
-fn parts_ended(
+pub(crate) fn parts_ended(
     alloc: Global,
     part: &Part,
     visible: Interface,
@@ -137,44 +182,14 @@ fn parts_ended(
     }
 }
 
-fn ended(alloc: Global, state: CheckState, uses: Seq<UseInPart>) -> Ends
-    ensures { result ≡ record (ends_of state) { uses = uses } }
-{
-    let CheckState {
-        unit,
-        env,
-        part,
-        visible,
-        stubs,
-        own,
-        ..
-    } = state;
-    let Environment {
-        progress,
-        uncompleted,
-        declared,
-        ..
-    } = env;
-    Ends {
-        progress,
-        completions: uncompleted.into_completions(),
-        parts: parts_ended(alloc, &part, visible, declared, stubs),
-        uses,
-        own,
-        unit,
-    }
-}
-
 /// What the private part declares, where the text ends in it.
 pub fn into_private_part(alloc: Global, state: CheckState) -> Interface
     ensures { result ≡ (ends_of state).parts.private_part }
 {
-    let CheckState { env, part, .. } = state;
-    let Environment { declared, .. } = env;
-    match part {
-        Part::Private => declared,
+    match state.part {
+        Part::Private => state.into_declared(),
         _ => {
-            drop(declared);
+            drop(state);
             Interface::new(alloc)
         }
     }
@@ -244,5 +259,5 @@ pub fn into_ends(alloc: Global, state: CheckState) -> Result<Ends, NoMemory>
     hide_visible(alloc, &mut state)?;
     hide_own(alloc, &mut state)?;
     let uses = uses_inside(alloc, state.stubs.as_slice(), state.uses.as_slice())?;
-    Ok(ended(alloc, state, uses))
+    Ok(state.ended(alloc, uses))
 }

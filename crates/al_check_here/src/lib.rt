@@ -11,7 +11,7 @@ mod stack;
 mod state;
 mod words;
 
-pub use bodies::{enter_nested, enter_whole, labelled, leave_innermost, returns_in, set_aside};
+pub use bodies::{enter_nested, enter_whole, labelled, leave_innermost, returns_in};
 pub use ends::{Ends, into_ends, into_private_part, stub_names};
 pub use faulty::{effect_list, end_list, settle_effect};
 pub use parts::{add_stub, add_uses, begin_private, copied_interface, enter_statements};

@@ -1,7 +1,6 @@
 // Loops and blocks at a place.
 ghost use Rattle.std.specs.Prelude.{◌≡◌, ◌<◌, ◌∷◌, [], Some, length, IfOk, OnOk};
 ghost use Rattle.al_decl_here.specs.Declaring.{with_declarations};
-ghost use Rattle.al_decl_body.specs.Regions.{taken_back};
 ghost use Rattle.al_decl_names.specs.Defining.{defined};
 ghost use Rattle.al_stmts.specs.LoopForms.{parameter_bounds, range_model};
 ghost use Rattle.al_tree.specs.Lexemes.{identifier_label};
@@ -9,7 +8,7 @@ ghost use Rattle.al_check_here.specs.RegionsHere.{in_block, in_loop, left_to, ou
 
 use crate::state::{CheckState, LoopType};
 use al_base::{Name, NoMemory};
-use al_decl_body::Outside;
+use al_decl_body::{Outside, take_back};
 use al_decl_here::{Environment, begin_one};
 use al_decl_names::defining_name;
 use al_decl_type::{Declaration, object_view};
@@ -27,18 +26,6 @@ pub fn leave_region(scope: &mut Scope)
         return;
     }
     scope.leave();
-}
-
-/// What waited and was declared goes on.
-pub(crate) fn take_back(env: &mut Environment, outside: Outside)
-    ensures { env.new ≡ taken_back env.old outside }
-{
-    let Outside {
-        uncompleted,
-        declared,
-    } = outside;
-    env.uncompleted = uncompleted;
-    env.declared = declared;
 }
 
 /// Enters a block: a region that continues nothing, in which nothing waits (ARM 5.6).

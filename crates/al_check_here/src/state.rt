@@ -1,7 +1,9 @@
 // Where the check of a unit stands.
 ghost use Rattle.std.specs.Prelude.{◌≡◌};
+ghost use Rattle.al_check_here.specs.Ends.{ends_of};
 ghost use Rattle.al_check_here.specs.Standings.{begun_at, first_part};
 
+use crate::ends::{Ends, parts_ended};
 use crate::stack::Stack;
 use al_base::{UnitKey, UnitKind};
 use al_decl_body::{OuterFrame, Outside};
@@ -11,7 +13,7 @@ use al_decl_judged::Progress;
 use al_decl_profile::Heading;
 use al_decl_type::Declaration;
 use al_overload_nodes::Labeller;
-use al_query::UseClause;
+use al_query::{UseClause, UseInPart};
 use al_query_outcome::StubDeclarations;
 use al_scope::Scope;
 use al_scope_seen::PrivateName;
@@ -19,9 +21,9 @@ use al_scope_unit::OwnText;
 use al_stmts::ReturnContext;
 use al_view::{Bounds, Interface, Part, Seq, SubtypeView, Symbol, Types, View};
 use al_view_typed::{EntryOf, FormalWords};
+use std::alloc::Global;
 
 /// What stays the same in a unit.
-#[derive(Drop)]
 pub struct UnitText {
     /// What every unit has, and the protected object in whose body the place is.
     pub labeller: Labeller,
@@ -33,6 +35,34 @@ pub struct UnitText {
     pub hidden: Seq<PrivateName>,
     /// What its private part was found to declare, where the words of its private types are known by it; nothing before.
     pub private_part: Interface,
+}
+
+impl Drop for UnitText {
+    fn drop(self) {
+        let UnitText {
+            labeller: _,
+            packages: _,
+            own: _,
+            hidden: _,
+            private_part: _,
+        } = self;
+    }
+}
+
+impl UnitText {
+    /// What the unit's own text says. It takes no memory.
+    pub fn into_own(self) -> OwnText
+        ensures { result ≡ self.own }
+    {
+        let UnitText {
+            labeller: _,
+            packages: _,
+            own,
+            hidden: _,
+            private_part: _,
+        } = self;
+        own
+    }
 }
 
 /// What a body is of.
@@ -49,15 +79,36 @@ pub enum BodyRole {
 }
 
 /// The head of a body that was read: what the body is of, what stands before its `is`, and what its code is known by.
-#[derive(Drop)]
 pub struct AnalyzedHeading {
     pub role: BodyRole,
     pub heading: Heading,
     pub symbol: Symbol,
 }
 
+impl Drop for AnalyzedHeading {
+    fn drop(self) {
+        let AnalyzedHeading {
+            role: _,
+            heading: _,
+            symbol: _,
+        } = self;
+    }
+}
+
+impl AnalyzedHeading {
+    pub(crate) fn into_parts(self) -> (BodyRole, Heading, Symbol)
+        ensures { result ≡ (self.role, self.heading, self.symbol) }
+    {
+        let AnalyzedHeading {
+            role,
+            heading,
+            symbol,
+        } = self;
+        (role, heading, symbol)
+    }
+}
+
 /// The protected object in whose body the place is (ARM 9.4).
-#[derive(Drop)]
 pub struct OpenObject {
     pub symbol: Symbol,
     /// As other units see it: its operations and its components.
@@ -68,8 +119,33 @@ pub struct OpenObject {
     pub outside: Outside,
 }
 
+impl Drop for OpenObject {
+    fn drop(self) {
+        let OpenObject {
+            symbol: _,
+            view: _,
+            entry: _,
+            outside: _,
+        } = self;
+    }
+}
+
+impl OpenObject {
+    /// What waited and was declared round its body. It takes no memory.
+    pub fn into_outside(self) -> Outside
+        ensures { result ≡ self.outside }
+    {
+        let OpenObject {
+            symbol: _,
+            view: _,
+            entry: _,
+            outside,
+        } = self;
+        outside
+    }
+}
+
 /// A body round the place.
-#[derive(Drop)]
 pub struct OpenBody {
     pub role: BodyRole,
     pub symbol: Symbol,
@@ -83,6 +159,40 @@ pub struct OpenBody {
     /// The frame round it, and what waits and is declared there.
     pub outer: OuterFrame,
     pub outside: Outside,
+}
+
+impl Drop for OpenBody {
+    fn drop(self) {
+        let OpenBody {
+            role: _,
+            symbol: _,
+            formals: _,
+            returns: _,
+            result: _,
+            after: _,
+            outer: _,
+            outside: _,
+        } = self;
+    }
+}
+
+impl OpenBody {
+    /// What waited and was declared round it. It takes no memory.
+    pub(crate) fn into_outside(self) -> Outside
+        ensures { result ≡ self.outside }
+    {
+        let OpenBody {
+            role: _,
+            symbol: _,
+            formals: _,
+            returns: _,
+            result: _,
+            after: _,
+            outer: _,
+            outside,
+        } = self;
+        outside
+    }
 }
 
 /// A use clause that stands immediately in a part of the unit, and how many stubs stand before it.
@@ -104,15 +214,23 @@ impl Drop for UseHere {
 
 /// The type of the range of a for loop, with the types among which it is: nothing where every unit has it. All values of the type are the parameter's where
 /// the bounds of the range aren't static.
-#[derive(Drop)]
 pub struct LoopType {
     pub of: Symbol,
     pub types: Types,
     pub values: Bounds,
 }
 
+impl Drop for LoopType {
+    fn drop(self) {
+        let LoopType {
+            of: _,
+            types: _,
+            values: _,
+        } = self;
+    }
+}
+
 /// Where the check of a unit stands.
-#[derive(Drop)]
 pub struct CheckState {
     pub unit: UnitText,
     /// The place, and how far the check has come there.
@@ -136,6 +254,25 @@ pub struct CheckState {
     pub uses: Seq<UseHere>,
     /// Of a library subprogram, or of a body that acts as its declaration, its name with its own view.
     pub own: Seq<Declaration>,
+}
+
+impl Drop for CheckState {
+    fn drop(self) {
+        let CheckState {
+            unit: _,
+            env: _,
+            blocks: _,
+            bodies: _,
+            object: _,
+            pending: _,
+            parameter: _,
+            part: _,
+            visible: _,
+            stubs: _,
+            uses: _,
+            own: _,
+        } = self;
+    }
 }
 
 /// In which part the text of a unit begins.
@@ -175,5 +312,63 @@ impl CheckState {
             uses: Seq::empty(alloc),
             own: Seq::empty(alloc),
         }
+    }
+}
+
+impl CheckState {
+    /// What is left of it where the text ends there, with the use clauses of its parts.
+    pub(crate) fn ended(self, alloc: Global, uses: Seq<UseInPart>) -> Ends
+        ensures { result ≡ record (ends_of self) { uses = uses } }
+    {
+        let CheckState {
+            unit,
+            env,
+            blocks: _,
+            bodies: _,
+            object: _,
+            pending: _,
+            parameter: _,
+            part,
+            visible,
+            stubs,
+            uses: _,
+            own,
+        } = self;
+        let Environment {
+            progress,
+            uncompleted,
+            declared,
+            ..
+        } = env;
+        Ends {
+            progress,
+            completions: uncompleted.into_completions(),
+            parts: parts_ended(alloc, &part, visible, declared, stubs),
+            uses,
+            own,
+            unit,
+        }
+    }
+
+    /// What is declared immediately where it stands.
+    pub(crate) fn into_declared(self) -> Interface
+        ensures { result ≡ self.env.declared }
+    {
+        let CheckState {
+            unit: _,
+            env,
+            blocks: _,
+            bodies: _,
+            object: _,
+            pending: _,
+            parameter: _,
+            part: _,
+            visible: _,
+            stubs: _,
+            uses: _,
+            own: _,
+        } = self;
+        let Environment { declared, .. } = env;
+        declared
     }
 }

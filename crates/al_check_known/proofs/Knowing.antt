@@ -8,7 +8,7 @@ use Rattle.al_base.specs.declared.unit_key.UnitKey.{UnitKey}
 use Rattle.al_base.specs.declared.unit_key.UnitKind.{UnitKind}
 use Rattle.al_base.specs.declared.unit_key.UnitKind.TheVariants.{Body, Decl}
 use Rattle.al_view.specs.Symbols.{same_unit}
-use Rattle.al_query.specs.Answers.{clause_units, context_of, context_units, names_told, parent_of, units_named}
+use Rattle.al_query.specs.Answers.{context_of, context_units, names_told, parent_of, units_named}
 use Rattle.al_query.specs.Asked.{AsksOf, OfKnown, by_property}
 use Rattle.al_query.specs.Known.{AreKnown, has_unit, known_after, learned, told_by}
 use Rattle.al_query.specs.Reads.{Log, Table}
@@ -206,7 +206,7 @@ unfolding units_named
 mentions-named (answers.Context d) c h =
     let same : d ≡ c = cc in
     subst (λ (x : ContextView). AreKnown (context_units d) (flat_map (λ u. declarations u.name) x.withs)) same
-    (known-first (flat_map (λ u. declarations u.name) d.withs) (flat_map clause_units d.uses) (flat_map (λ u. clause_units u.clause) d.uses_inside))
+    (subst (λ (l : List UnitKey). AreKnown l (context_units d)) (append-nil (context_units d)) (known-own (context_units d) []))
 mentions-named answers.Nothing c h = absurd (cc)
 mentions-named (answers.Parent p) c h = absurd (cc)
 mentions-named (answers.Views v) c h = absurd (cc)

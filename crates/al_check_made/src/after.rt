@@ -8,7 +8,7 @@ ghost use Rattle.al_check_made.specs.Ended.{ended, viewed, walked_unit};
 
 use crate::faults::faults_in;
 use crate::made::{WalkedUnit, finding_of};
-use crate::said::{SaidUnit, own_view, properties_of};
+use crate::said::{SaidUnit, own_view};
 use al_base::{Name, NoMemory, UnitKey};
 use al_check_within::UnitVerdict;
 use al_decl_judged::Progress;
@@ -23,7 +23,6 @@ use std::alloc::Global;
 
 /// What is known of a unit before its text is walked: whether it needs a body, the line of its first token, its parent, the view that
 /// it completes, and the private types that its visible part declares.
-#[derive(Drop)]
 pub struct UnitFacts {
     pub needs_body: bool,
     pub line: usize,
@@ -32,8 +31,35 @@ pub struct UnitFacts {
     pub private_types: Seq<Name>,
 }
 
+impl Drop for UnitFacts {
+    fn drop(self) {
+        let UnitFacts {
+            needs_body: _,
+            line: _,
+            parent: _,
+            view: _,
+            private_types: _,
+        } = self;
+    }
+}
+
+impl UnitFacts {
+    // Its parent and its private types.
+    fn into_parts(self) -> (Option<UnitKey>, Seq<Name>)
+        ensures { result ≡ (self.parent, self.private_types) }
+    {
+        let UnitFacts {
+            needs_body: _,
+            line: _,
+            parent,
+            view: _,
+            private_types,
+        } = self;
+        (parent, private_types)
+    }
+}
+
 /// What the walk over a unit's text left.
-#[derive(Drop)]
 pub struct EndedText {
     pub own: OwnText,
     /// The unit's words, its objects, its flags and its protected objects.
@@ -47,6 +73,36 @@ pub struct EndedText {
     pub declared: Seq<Declaration>,
 }
 
+impl Drop for EndedText {
+    fn drop(self) {
+        let EndedText {
+            own: _,
+            progress: _,
+            completions: _,
+            parts: _,
+            uses: _,
+            declared: _,
+        } = self;
+    }
+}
+
+impl EndedText {
+    // All but the declarations of its name.
+    fn into_parts(self) -> (OwnText, Progress, Seq<Completion>, Parts, Seq<UseInPart>)
+        ensures { result ≡ (self.own, self.progress, self.completions, self.parts, self.uses) }
+    {
+        let EndedText {
+            own,
+            progress,
+            completions,
+            parts,
+            uses,
+            declared: _,
+        } = self;
+        (own, progress, completions, parts, uses)
+    }
+}
+
 /// The unit that was walked, with its own view.
 fn walked_unit(
     unit_facts: UnitFacts,
@@ -58,30 +114,11 @@ fn walked_unit(
 ) -> WalkedUnit
     ensures { result ≡ walked_unit unit_facts kind ends declarations statements bodies }
 {
-    let UnitFacts {
-        needs_body,
-        line,
-        parent,
-        private_types,
-        ..
-    } = unit_facts;
-    let EndedText {
-        own,
-        progress,
-        completions,
-        parts,
-        uses,
-        ..
-    } = ends;
-    let Progress {
-        unit,
-        words,
-        objects,
-        flags,
-        protected_objects,
-        ..
-    } = progress;
-    let properties = properties_of(SaidUnit {
+    let (needs_body, line) = (unit_facts.needs_body, unit_facts.line);
+    let (parent, private_types) = unit_facts.into_parts();
+    let (own, progress, completions, parts, uses) = ends.into_parts();
+    let (unit, words, objects, flags, protected_objects) = progress.into_parts();
+    let said = SaidUnit {
         own,
         kind,
         parent,
@@ -89,10 +126,10 @@ fn walked_unit(
         uses_inside: uses,
         private_types,
         completions,
-    });
+    };
     WalkedUnit {
         unit,
-        properties,
+        properties: said.into_properties(),
         parts,
         line,
         frame: words.frame.saturating_sub(3),

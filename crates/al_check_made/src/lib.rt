@@ -13,4 +13,4 @@ pub use faults::{diagnostic, faults_in};
 pub use lines::item_line;
 pub use made::{WalkedUnit, finding_of};
 pub use predefined::predefined_everywhere;
-pub use said::{SaidUnit, own_view, properties_of};
+pub use said::{SaidUnit, own_view};

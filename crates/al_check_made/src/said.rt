@@ -50,7 +50,6 @@ pub fn own_view(
 }
 
 /// What its text and its place say of a unit, with its own view and its parent.
-#[derive(Drop)]
 pub struct SaidUnit {
     pub own: OwnText,
     pub kind: View,
@@ -61,36 +60,52 @@ pub struct SaidUnit {
     pub completions: Seq<Completion>,
 }
 
-/// What a unit says of itself. It takes no memory.
-pub fn properties_of(unit: SaidUnit) -> Properties
-    ensures { result ≡ said unit }
-{
-    let SaidUnit {
-        own,
-        kind,
-        parent,
-        needs_body,
-        uses_inside,
-        private_types,
-        completions,
-    } = unit;
-    let OwnText {
-        is_private,
-        withs,
-        uses,
-        ..
-    } = own;
-    Properties {
-        kind,
-        parent,
-        is_private,
-        context: ContextView {
-            withs,
-            uses,
+impl Drop for SaidUnit {
+    fn drop(self) {
+        let SaidUnit {
+            own: _,
+            kind: _,
+            parent: _,
+            needs_body: _,
+            uses_inside: _,
+            private_types: _,
+            completions: _,
+        } = self;
+    }
+}
+
+impl SaidUnit {
+    /// What a unit says of itself. It takes no memory.
+    pub fn into_properties(self) -> Properties
+        ensures { result ≡ said self }
+    {
+        let SaidUnit {
+            own,
+            kind,
+            parent,
+            needs_body,
             uses_inside,
             private_types,
-        },
-        needs_body,
-        completions,
+            completions,
+        } = self;
+        let OwnText {
+            is_private,
+            withs,
+            uses,
+            ..
+        } = own;
+        Properties {
+            kind,
+            parent,
+            is_private,
+            context: ContextView {
+                withs,
+                uses,
+                uses_inside,
+                private_types,
+            },
+            needs_body,
+            completions,
+        }
     }
 }

@@ -1,9 +1,7 @@
 // Protected bodies are entered and left.
 ghost use Rattle.std.specs.Prelude.{◌≡◌, Some, map, IfOk, OnOk};
-ghost use Rattle.std.specs.Option.{option_copied};
 ghost use Rattle.al_check_objects.specs.OpenObjects.{barrier_fault_here, fault_by, in_object, inside, is_of_object, object_left, object_opened, opened_object, out_of_object, renewed, renewed_by, renewed_in};
 ghost use Rattle.al_decl_body.specs.Regions.{outside_of};
-ghost use Rattle.al_decl_profile.specs.Headings.{is_function};
 ghost use Rattle.al_overload_readings.specs.Operations.{protected_of};
 ghost use Rattle.al_tree.specs.ExpressionViews.{expression_model};
 ghost use Rattle.al_tree.specs.StatementViews.{operation_bodies_of, operation_body_model};
@@ -13,35 +11,17 @@ use crate::entry::entry_of;
 use crate::region::enter_region;
 use al_base::NoMemory;
 use al_base_fault::Fault;
-use al_check_here::{
-    AnalyzedHeading, BodyRole, CheckState, OpenObject, leave_region, leave_to, set_aside,
-};
-use al_decl_body::Outside;
+use al_check_here::{AnalyzedHeading, BodyRole, CheckState, OpenObject, leave_region, leave_to};
+use al_decl_body::{Outside, set_aside};
 use al_decl_here::Environment;
-use al_decl_profile::ReturnedPart;
+use al_decl_profile::is_function;
 use al_decl_protected::operations_waiting;
+use al_overload_readings::protected_of;
 use al_tree::{Expression, OperationBody};
-use al_view::{ProtectedView, View, ViewKind};
+use al_view::{ProtectedView, View};
 use al_view_predefined::StandardTypes;
 use al_view_typed::EntryOf;
 use std::alloc::Global;
-
-fn protected_of(view: &View) -> Option<&ProtectedView>
-    ensures { option_copied result ≡ protected_of view.now }
-{
-    match view.kind() {
-        ViewKind::OfProtected(object) => Some(object),
-        ViewKind::OfType(_) => None,
-        ViewKind::OfSubtype(_) => None,
-        ViewKind::OfObject(_) => None,
-        ViewKind::OfComponent => None,
-        ViewKind::OfNumber(_) => None,
-        ViewKind::OfLiteral(_) => None,
-        ViewKind::OfSubprogram(_) => None,
-        ViewKind::OfTask(_) => None,
-        ViewKind::OfPackage(_) => None,
-    }
-}
 
 /// The region in which the operations wait for their bodies: what waits and is declared round it.
 fn enter_inside(
@@ -118,8 +98,7 @@ pub fn open_object(
 fn leave_open(state: &mut CheckState, object: OpenObject)
     ensures { state.new ≡ out_of_object state.old (Some object) }
 {
-    let OpenObject { outside, .. } = object;
-    leave_to(&mut state.env, outside);
+    leave_to(&mut state.env, object.into_outside());
     state.object = None;
     state.unit.labeller.own = None;
 }
@@ -131,15 +110,6 @@ pub fn leave_object(state: &mut CheckState)
     match state.object.take() {
         Some(object) => leave_open(state, object),
         None => {}
-    }
-}
-
-fn is_function(returned: &ReturnedPart) -> bool
-    ensures { result ≡ is_function returned.now }
-{
-    match returned {
-        ReturnedPart::NoValue => false,
-        ReturnedPart::Value(_) => true,
     }
 }
 

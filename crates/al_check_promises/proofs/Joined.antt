@@ -1,23 +1,24 @@
 -- What is tested part by part is what is tested as a whole.
-use Rattle.std.proofs.Common.{◌≡◌, Bool, true, false, ◌&&◌, ◌||◌, List, [], ◌∷◌, ◌++◌, append-nil, append_assoc, map, ℕ, Option, Some, None, refl, sym, ap, ◌∙◌, if◌then◌else◌}
+use Rattle.std.proofs.Common.{◌≡◌, Bool, true, false, ◌&&◌, ◌||◌, not, List, [], ◌∷◌, ◌++◌, append-nil, append_assoc, map, ℕ, Option, Some, None, refl, sym, ap, ◌∙◌, if◌then◌else◌}
 use Rattle.std.specs.Cmp.{both_ways}
 use Rattle.std.specs.List.{Contains, flat_map, list_all}
-use Rattle.std.proofs.lemmas.List.Folds.{list_all-append, list_all-map}
+use Rattle.std.proofs.lemmas.List.Folds.{list_all-append}
 use Rattle.al_base.specs.declared.unit_key.UnitKey.{UnitKey}
 use Rattle.al_view.specs.Symbols.{same_unit}
-use Rattle.al_view.specs.ViewUses.{link, view_uses}
-use Rattle.al_view.specs.declared.link.LinkKind.TheVariants.{Code}
+use Rattle.al_view.specs.ViewUses.{view_uses}
 use Rattle.al_view.specs.declared.link.LinkSymbol.{LinkSymbol}
 use Rattle.al_view.specs.declared.view.ViewKind.{ViewKind}
-use Rattle.al_query.specs.Answers.{context_units, units_named, view_units}
+use Rattle.al_query.specs.Answers.{context_units, units_named}
 use Rattle.al_base_graph.proofs.Members.{first, later}
 use Rattle.al_query.specs.Known.{has_unit}
 use Rattle.al_query.specs.declared.answer.AnswerKind.TheVariants as answers
+use Rattle.al_query.specs.declared.answer.Completion.{Completion}
 use Rattle.al_view_typed.specs.UnitTrees.{UnitTree}
-use Rattle.al_view_typed.specs.Uses.{unit_defines, unit_uses}
+use Rattle.al_view_typed.specs.Uses.{unit_uses}
 use Rattle.al_query_outcome.specs.Defines.{declared_uses, interface_uses}
-use Rattle.al_query_outcome.specs.ReadsLaw.{answer_uses, declarations_of, declared_units, outcome_units, property_answers}
-use Rattle.al_query_outcome.specs.Results.{Faulty, Sound}
+use Rattle.al_query_outcome.specs.Left.{is_of_body}
+use Rattle.al_query_outcome.specs.ReadsLaw.{answer_uses, outcome_units, property_answers}
+use Rattle.al_query_outcome.specs.Results.{Sound}
 use Rattle.al_query_outcome.specs.Tables.{interface_of}
 use Rattle.al_query_outcome.specs.declared.interface.Parts.{Parts}
 use Rattle.al_query_outcome.specs.declared.interface.Properties.{Properties}
@@ -26,13 +27,13 @@ use Rattle.al_query_outcome.proofs.Members.{all-at, contains-has, has-contains}
 use Rattle.al_view_used.specs.Links.{Gains, has_link, is_among}
 use Rattle.al_view_used.specs.declared.link_set.LinkSet.{LinkSet}
 use Rattle.al_query_named.specs.Sets.{Gathers}
-use Rattle.al_check_promises.specs.Parts.{parent_units, part_units, part_uses, property_units, property_uses}
-use Rattle.al_query_outcome.specs.declared.interface.UnitInterface.{UnitInterface}
-use Rattle.al_check_promises.specs.SelfChecks.{accounted, is_allowed, is_kept, is_well_formed, known_units, not_checked, self_checked}
+use Rattle.al_check_promises.specs.Parts.{parent_units, part_uses, property_units, property_uses}
+use Rattle.al_check_promises.specs.SelfChecks.{accounted, defined, is_allowed, is_completed, is_declared, is_kept, is_well_formed, left_shown}
 use Rattle.al_view_used.specs.Rules.{permits}
 use Rattle.al_view_used.specs.declared.rule.LinkRule.{LinkRule}
-use Rattle.al_check_promises.specs.declared.allowed.Known.{Known}
-use Rattle.al_check_promises.proofs.Used.{all_allowed_known, both, needless}
+use Rattle.al_check_promises.specs.Tests.{completes, declares}
+use Rattle.al_check_promises.specs.declared.completed.Completing.{Completing}
+use Rattle.al_check_promises.specs.declared.tested.Declared.{Declared}
 
 -- ---- lists
 
@@ -71,32 +72,17 @@ links_tested p q parts tree =
 property_named : (q : Properties) (parts : Parts) → flat_map units_named (property_answers (interface_of q parts)) ≡ property_units q
 unfolding units_named
 property_named q parts =
-    ap (λ xs. view_units q.kind ++ (units_named (answers.Parent q.parent) ++ (context_units q.context ++ xs))) (append-nil (flat_map (λ c. view_units c.view) q.completions))
-    ∙ ap (λ xs. view_units q.kind ++ (xs ++ (context_units q.context ++ flat_map (λ c. view_units c.view) q.completions))) (parent q.parent)
-    ∙ grouped (view_units q.kind) (parent_units q.parent) (context_units q.context) (flat_map (λ c. view_units c.view) q.completions)
+    ap (λ xs. units_named (answers.Parent q.parent) ++ xs) (append-nil (context_units q.context))
+    ∙ ap (λ xs. xs ++ context_units q.context) (parent q.parent)
   where
     parent : (o : Option UnitKey) → units_named (answers.Parent o) ≡ parent_units o
     parent (Some u) = refl
     parent None = refl
 
-part_named : (q : Properties) (parts : Parts) → flat_map declared_units (declarations_of (interface_of q parts)) ≡ part_units parts
-part_named q parts =
-    ap (λ ys. declared_units parts.visible ++ (declared_units parts.private_part ++ (declared_units parts.body ++ ys))) (stubs_flat declared_units parts.stubs)
-    ∙ grouped (declared_units parts.visible) (declared_units parts.private_part) (declared_units parts.body) (flat_map (λ s. declared_units s.before) parts.stubs)
-
--- whether units are known that a result names: those of its answers and its own, those of its labelled tree
-pub names_tested : (p : UnitKey → Bool) (q : Properties) (parts : Parts) (tree : UnitTree) → list_all p (outcome_units (Sound (interface_of q parts) tree)) ≡ ((list_all p (property_units q ++ part_units parts ++ tree.unit ∷ []) && list_all (λ x. p x.symbol.unit) (unit_uses tree)) && list_all (λ x. p x.symbol.unit) (unit_defines tree))
+-- whether units are known that a result names
+names_tested : (p : UnitKey → Bool) (q : Properties) (parts : Parts) (tree : UnitTree) → list_all p (outcome_units (Sound (interface_of q parts) tree)) ≡ list_all p (property_units q)
 unfolding outcome_units
-names_tested p q parts tree =
-    let answers = property_units q ++ part_units parts in
-    let used = unit_uses tree in
-    let defined = unit_defines tree in
-    ap (λ xs. list_all p ((xs ++ flat_map declared_units (declarations_of (interface_of q parts))) ++ tree.unit ∷ map (λ s. s.symbol.unit) (used ++ defined))) (property_named q parts)
-    ∙ ap (λ xs. list_all p ((property_units q ++ xs) ++ tree.unit ∷ map (λ s. s.symbol.unit) (used ++ defined))) (part_named q parts)
-    ∙ ap (list_all p) (sym (append_assoc answers (tree.unit ∷ []) (map (λ s. s.symbol.unit) (used ++ defined))))
-    ∙ list_all-append p (answers ++ tree.unit ∷ []) (map (λ s. s.symbol.unit) (used ++ defined))
-    ∙ ap (λ b. list_all p (answers ++ tree.unit ∷ []) && b) (list_all-map p (λ s. s.symbol.unit) (used ++ defined) ∙ list_all-append (λ x. p x.symbol.unit) used defined)
-    ∙ and_three (list_all p (answers ++ tree.unit ∷ [])) (list_all (λ x. p x.symbol.unit) used) (list_all (λ x. p x.symbol.unit) defined)
+names_tested p q parts tree = ap (list_all p) (property_named q parts)
 
 -- ---- sets
 
@@ -139,44 +125,47 @@ allowed_by a unit own shown is one two x =
     ∙ ap (λ (b : Bool). if same_unit x.symbol.unit unit then b else has_link a.others x) (one x)
     ∙ ap (λ (b : Bool). if same_unit x.symbol.unit unit then is_among own x else b) (two x)
 
-pub gained_accounted : (none set : LinkSet) (q : Properties) (parts : Parts) (tree : UnitTree) → ((x : LinkSymbol) → has_link none x ≡ false) → Gains none set (unit_defines tree ++ (flat_map (λ c. view_uses c.view) q.completions ++ map (λ s. link Code s.symbol) parts.stubs)) → (x : LinkSymbol) → has_link set x ≡ is_among (accounted (interface_of q parts) tree) x
-unfolding answer_uses
-gained_accounted none set q parts tree empty gains x = gained none set (unit_defines tree ++ (flat_map (λ c. view_uses c.view) q.completions ++ map (λ s. link Code s.symbol) parts.stubs)) empty gains x
+-- what is declared, by a set
+pub declared_by : (d : Declared) (links : List LinkSymbol) → ((x : LinkSymbol) → has_link d.links x ≡ is_among links x) → (x : LinkSymbol) → declares d x ≡ is_declared links x
+unfolding declares
+declared_by d links one x = ap (λ (b : Bool). is_of_body x.kind || b) (one x)
+
+-- what is completed, by a set
+pub completed_by : (c : Completing) (links : List LinkSymbol) → ((x : LinkSymbol) → has_link c.links x ≡ is_among links x) → (x : LinkSymbol) → completes c x ≡ is_completed links x
+unfolding completes
+completed_by c links one x = ap (λ (b : Bool). not (is_of_body x.kind) || b) (one x)
+
+-- by no set nothing of a body is
+pub nothing_completed : (c : Completing) → ((x : LinkSymbol) → has_link c.links x ≡ false) → (x : LinkSymbol) → completes c x ≡ not (is_of_body x.kind)
+unfolding completes
+nothing_completed c empty x = ap (λ (b : Bool). not (is_of_body x.kind) || b) (empty x) ∙ or_false (not (is_of_body x.kind))
+
+-- the views of completions
+pub flat_viewed : (cs : List Completion) → flat_map (λ c. view_uses c.view) cs ≡ flat_map view_uses (map (λ c. c.view) cs)
+flat_viewed [] = refl
+flat_viewed (c ∷ cs) = ap (λ xs. view_uses c.view ++ xs) (flat_viewed cs)
 
 -- ---- the whole test
 
-pub kept_by : (unit : UnitKey) (known : List UnitKey) (shown : List ViewKind) (q : Properties) (parts : Parts) (tree : UnitTree) (k : Known) (a : LinkRule) (names links code : Bool)
-    → ((u : UnitKey) → has_unit k.units u ≡ has_unit (known_units unit known shown) u)
-    → names ≡ (list_all (has_unit k.units) (property_units q ++ part_units parts ++ tree.unit ∷ []) && list_all (λ x. has_unit k.units x.symbol.unit) (unit_defines tree))
+pub kept_by : (unit : UnitKey) (known : List UnitKey) (shown : List ViewKind) (q : Properties) (parts : Parts) (tree : UnitTree) (units : List UnitKey) (a : LinkRule) (names links declared code : Bool)
+    → ((u : UnitKey) → has_unit units u ≡ has_unit (unit ∷ known) u)
+    → names ≡ list_all (has_unit units) (property_units q)
     → ((x : LinkSymbol) → permits a x ≡ is_allowed unit (flat_map view_uses shown) (accounted (interface_of q parts) tree) x)
     → links ≡ ((list_all (permits a) (unit_uses tree) && list_all (permits a) (property_uses q)) && list_all (permits a) (part_uses parts))
+    → declared ≡ list_all (is_declared (defined (interface_of q parts) tree)) (left_shown (interface_of q parts))
     → code ≡ (same_unit tree.unit unit && is_well_formed tree)
-    → (names && (links && code)) ≡ is_kept unit known shown (interface_of q parts) tree
+    → (names && (links && (declared && code))) ≡ is_kept unit known shown (interface_of q parts) tree
 unfolding is_kept
-kept_by unit known shown q parts tree k a names links code by_known is_names by_allowed is_links is_code =
-    let those = known_units unit known shown in
-    let named = property_units q ++ part_units parts ++ tree.unit ∷ [] in
+kept_by unit known shown q parts tree units a names links declared code by_known is_names by_allowed is_links is_left is_code =
+    let known_all = list_all (has_unit (unit ∷ known)) (outcome_units (Sound (interface_of q parts) tree)) in
     let allowed = is_allowed unit (flat_map view_uses shown) (accounted (interface_of q parts) tree) in
     let whole = list_all (is_allowed unit (flat_map view_uses shown) (accounted (interface_of q parts) tree)) (unit_uses tree ++ interface_uses (interface_of q parts)) in
-    let used = list_all (λ x. has_unit (known_units unit known shown) x.symbol.unit) (unit_uses tree) in
-    let defined = list_all (λ x. has_unit (known_units unit known shown) x.symbol.unit) (unit_defines tree) in
-    let one : names ≡ (list_all (has_unit those) named && defined) =
-    is_names ∙ ap (λ (b : Bool). b && list_all (λ x. has_unit k.units x.symbol.unit) (unit_defines tree)) (all_alike (has_unit k.units) (has_unit those) by_known named)
-    ∙ ap (λ (b : Bool). list_all (has_unit those) named && b) (all_alike (λ x. has_unit k.units x.symbol.unit) (λ x. has_unit those x.symbol.unit) (λ x. by_known x.symbol.unit) (unit_defines tree)) in
+    let left = list_all (is_declared (defined (interface_of q parts) tree)) (left_shown (interface_of q parts)) in
+    let one : names ≡ known_all =
+    is_names ∙ all_alike (has_unit units) (has_unit (unit ∷ known)) by_known (property_units q) ∙ sym (names_tested (has_unit (unit ∷ known)) q parts tree) in
     let two : links ≡ whole =
     is_links ∙ sym (links_tested (permits a) q parts tree) ∙ all_alike (permits a) allowed by_allowed (unit_uses tree ++ interface_uses (interface_of q parts)) in
-    ap (λ (b : Bool). b && (links && code)) one
-    ∙ ap (λ (b : Bool). (list_all (has_unit those) named && defined) && (b && code)) two
-    ∙ ap (λ (b : Bool). (list_all (has_unit those) named && defined) && (whole && b)) is_code
-    ∙ needless (list_all (has_unit those) named) used defined whole (same_unit tree.unit unit && is_well_formed tree)
-    (λ h. all_allowed_known unit known shown (accounted (interface_of q parts) tree) (unit_uses tree) (both (list_all allowed (unit_uses tree)) (list_all allowed (interface_uses (interface_of q parts))) (sym (list_all-append allowed (unit_uses tree) (interface_uses (interface_of q parts))) ∙ h)).0)
-    ∙ ap (λ (b : Bool). b && (whole && (same_unit tree.unit unit && is_well_formed tree))) (sym (names_tested (has_unit those) q parts tree))
-
--- the result by the test
-pub when_kept : (unit : UnitKey) (known : List UnitKey) (shown : List ViewKind) (i : UnitInterface) (tree : UnitTree) (b : Bool) → b ≡ is_kept unit known shown i tree → b ≡ true → Sound i tree ≡ self_checked unit known shown i tree
-unfolding self_checked
-when_kept unit known shown i tree b is kept = ap (λ (c : Bool). if c then Sound i tree else Faulty (not_checked unit)) (sym kept ∙ is)
-
-pub when_not : (unit : UnitKey) (known : List UnitKey) (shown : List ViewKind) (i : UnitInterface) (tree : UnitTree) (b : Bool) → b ≡ is_kept unit known shown i tree → b ≡ false → Faulty (not_checked unit) ≡ self_checked unit known shown i tree
-unfolding self_checked
-when_not unit known shown i tree b is not_kept = ap (λ (c : Bool). if c then Sound i tree else Faulty (not_checked unit)) (sym not_kept ∙ is)
+    ap (λ (b : Bool). b && (links && (declared && code))) one
+    ∙ ap (λ (b : Bool). known_all && (b && (declared && code))) two
+    ∙ ap (λ (b : Bool). known_all && (whole && (b && code))) is_left
+    ∙ ap (λ (b : Bool). known_all && (whole && (left && b))) is_code

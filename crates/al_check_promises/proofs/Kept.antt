@@ -9,66 +9,103 @@ use Rattle.al_base.specs.FileNames.{file_name_of}
 use Rattle.al_base.specs.declared.diagnostic.Diagnostic.{Diagnostic}
 use Rattle.al_base.specs.declared.unit_key.UnitKey.{UnitKey}
 use Rattle.al_base_graph.proofs.Members.{first, first_or_later, later, nowhere}
+use Rattle.al_unit_graph.proofs.Lists.{into_filter}
 use Rattle.al_view.specs.Symbols.{same_unit}
 use Rattle.al_view.proofs.SymbolLemmas.{same_unit-one, same_unit-self}
 use Rattle.al_view.specs.ViewUses.{link, view_uses}
 use Rattle.al_view.specs.declared.link.LinkKind.TheVariants as kind
 use Rattle.al_view.specs.declared.link.LinkSymbol.{LinkSymbol}
 use Rattle.al_view.specs.declared.view.ViewKind.{ViewKind}
-use Rattle.al_query.specs.Answers.{view_units}
 use Rattle.al_query.specs.Known.{AreAmong, has_unit, known_after}
 use Rattle.al_query.specs.Reads.{Log}
 use Rattle.al_query.proofs.KnownLemmas.{has_unit-cases, has_unit-first, has_unit-right}
 use Rattle.al_view_typed.specs.UnitTrees.{UnitTree}
 use Rattle.al_view_typed.specs.Uses.{unit_defines, unit_uses}
 use Rattle.al_view_typed.specs.WellFormed.{IsWellFormed}
-use Rattle.al_query_outcome.specs.Defines.{DefinesOwn, ShowsOnly, interface_uses}
-use Rattle.al_query_outcome.specs.ReadsLaw.{FaultsFit, NamesOnly, UsesOnly, answer_uses, is_fault_of, log_uses, outcome_units}
+use Rattle.al_query_outcome.specs.Defines.{DefinesOwn, IsAccounted, IsStubs, ShowsOnly, interface_uses}
+use Rattle.al_query_outcome.specs.Left.{is_of_body}
+use Rattle.al_query_outcome.specs.ReadsLaw.{FaultsFit, NamesOnly, UsesOnly, is_fault_of, log_uses, outcome_units}
 use Rattle.al_query_outcome.specs.Results.{Faulty, Sound}
 use Rattle.al_query_outcome.specs.declared.interface.StubDeclarations.{StubDeclarations}
 use Rattle.al_query_outcome.specs.declared.interface.UnitInterface.{UnitInterface}
 use Rattle.al_query_outcome.proofs.Members.{all-at}
 use Rattle.al_view_used.specs.Links.{is_among}
 use Rattle.al_check_promises.specs.Laws.{FaultsAreReported, Promised, WhatIsTestedKeeps}
-use Rattle.al_check_promises.specs.SelfChecks.{accounted, checked_faults, is_allowed, is_kept, is_well_formed, known_units, not_checked, self_checked}
+use Rattle.al_check_promises.specs.SelfChecks.{accounted, checked_faults, defined, is_allowed, is_declared, is_kept, is_well_formed, left_shown, not_checked, self_checked, stub_codes}
 use Rattle.al_check_promises.specs.Shown.{WereShown}
 use Rattle.al_check_promises.proofs.Used.{among-contains, both}
 
 -- ---- a result that was kept
 
-module _ (unit : UnitKey) (first_known known : List UnitKey) (log : Log) (shown : List ViewKind) (i : UnitInterface) (tree : UnitTree) (among : AreAmong known (known_after first_known log)) (were : WereShown unit first_known log shown) where
+stub_of : (stubs : List StubDeclarations) (x : LinkSymbol) → Contains (map (λ s. link kind.Code s.symbol) stubs) x → (stub : StubDeclarations) × Contains stubs stub × (x ≡ link kind.Code stub.symbol)
+stub_of [] x c = absurd (nowhere x c)
+stub_of (s ∷ stubs) x c =
+    elim (first_or_later (link kind.Code s.symbol) (map (λ s. link kind.Code s.symbol) stubs) x c) [
+      | inl is ↦ (s, first s stubs, sym is)
+      | inr k ↦ let r = stub_of stubs x k in (r.0, later s stubs r.0 r.1, r.2)
+    ]
+
+-- what is defined, by the unit or by its stubs
+pub defined_is : (i : UnitInterface) (tree : UnitTree) (x : LinkSymbol) → Contains (defined i tree) x → Contains (unit_defines tree) x ⊎ IsStubs i x
+defined_is i tree x c =
+    elim (Contains-append_cases (unit_defines tree) (stub_codes i) x c) [
+      | inl d ↦ inl d
+      | inr s ↦ inr (stub_of i.parts.stubs x s)
+    ]
+
+either : (a b : Bool) → a ≡ false → (a || b) ≡ true → b ≡ true
+either true b other h = absurd (cc)
+either false b other h = h
+
+module _ (i : UnitInterface) (tree : UnitTree) (x : LinkSymbol) where
+  of_defined : Contains (defined i tree) x → IsAccounted i tree x
+  of_defined c =
+      elim (defined_is i tree x c) as (λ _. IsAccounted i tree x) [
+        | inl d ↦ inl d
+        | inr s ↦ inr (inr s)
+      ]
+
+  of_left : (b : Bool) → is_of_body x.kind ≡ b → (is_of_body x.kind ≡ false → is_among (defined i tree) x ≡ true) → Contains (left_shown i) x → IsAccounted i tree x
+  of_left true is other c = inr (inl (into_filter (λ (y : LinkSymbol). is_of_body y.kind) (left_shown i) x c is))
+  of_left false is other c = of_defined (among-contains (defined i tree) x (other is))
+
+  -- what is accounted for; what is left and isn't of a body is defined
+  pub accounted_is : (Contains (left_shown i) x → is_of_body x.kind ≡ false → is_among (defined i tree) x ≡ true) → is_among (accounted i tree) x ≡ true → IsAccounted i tree x
+  accounted_is other h =
+      elim (Contains-append_cases (defined i tree) (left_shown i) x (among-contains (accounted i tree) x h)) as (λ _. IsAccounted i tree x) [
+        | inl d ↦ of_defined d
+        | inr l ↦ of_left (is_of_body x.kind) refl (other l) l
+      ]
+
+  pub declared_is : list_all (is_declared (defined i tree)) (left_shown i) ≡ true → Contains (left_shown i) x → is_of_body x.kind ≡ false → is_among (defined i tree) x ≡ true
+  declared_is declared c other = either (is_of_body x.kind) (is_among (defined i tree) x) other (all-at (is_declared (defined i tree)) (left_shown i) x declared c)
+
+module _ (unit : UnitKey) (first_known known : List UnitKey) (log : Log) (shown : List ViewKind) (i : UnitInterface) (tree : UnitTree) (among : AreAmong known (known_after first_known log)) (were : WereShown unit log shown) where
   abbrev Allowed : LinkSymbol → Bool
   Allowed x = is_allowed unit (flat_map view_uses shown) (accounted i tree) x
 
   self : (u : UnitKey) → u ≡ unit → has_unit (unit ∷ known_after first_known log) u ≡ true
   self u is = subst (λ (v : UnitKey). has_unit (unit ∷ known_after first_known log) v ≡ true) (sym is) (has_unit-first unit (known_after first_known log))
 
-  after : (u : UnitKey) → has_unit (known_after first_known log) u ≡ true → has_unit (unit ∷ known_after first_known log) u ≡ true
-  after u h = has_unit-right (unit ∷ []) (known_after first_known log) u h
-
   -- a unit that may be named is known
-  is_known : (u : UnitKey) → has_unit (known_units unit known shown) u ≡ true → has_unit (unit ∷ known_after first_known log) u ≡ true
+  is_known : (u : UnitKey) → has_unit (unit ∷ known) u ≡ true → has_unit (unit ∷ known_after first_known log) u ≡ true
   is_known u h =
-      elim (has_unit-cases (unit ∷ known) (flat_map view_units shown) u h) [
-        | inl a ↦
-            elim (has_unit-cases (unit ∷ []) known u a) [
-              | inl o ↦ self u (one_of (same_unit u unit) refl o)
-              | inr k ↦ after u (among u k)
-            ]
-        | inr s ↦ elim (were.1 u s) [ inl own ↦ self u own | inr k ↦ after u k ]
+      elim (has_unit-cases (unit ∷ []) known u h) [
+        | inl o ↦ self u (one_of (same_unit u unit) refl o)
+        | inr k ↦ has_unit-right (unit ∷ []) (known_after first_known log) u (among u k)
       ]
     where
       one_of : (b : Bool) → same_unit u unit ≡ b → (b || false) ≡ true → u ≡ unit
       one_of true is o = same_unit-one u unit is
       one_of false is o = absurd (cc)
 
-  names : list_all (has_unit (known_units unit known shown)) (outcome_units (Sound i tree)) ≡ true → NamesOnly (unit ∷ known_after first_known log) (Sound i tree)
+  names : list_all (has_unit (unit ∷ known)) (outcome_units (Sound i tree)) ≡ true → NamesOnly (unit ∷ known_after first_known log) (Sound i tree)
   names h = weaker (outcome_units (Sound i tree)) h
     where
-      weaker : (xs : List UnitKey) → list_all (has_unit (known_units unit known shown)) xs ≡ true → list_all (has_unit (unit ∷ known_after first_known log)) xs ≡ true
+      weaker : (xs : List UnitKey) → list_all (has_unit (unit ∷ known)) xs ≡ true → list_all (has_unit (unit ∷ known_after first_known log)) xs ≡ true
       weaker [] h = refl
       weaker (x ∷ xs) h =
-          let two = both (has_unit (known_units unit known shown) x) (list_all (has_unit (known_units unit known shown)) xs) h in
+          let two = both (has_unit (unit ∷ known) x) (list_all (has_unit (unit ∷ known)) xs) h in
           ap (λ b. b && list_all (has_unit (unit ∷ known_after first_known log)) xs) (is_known x two.0) ∙ weaker xs two.1
 
   -- what is allowed is the unit's own, or was shown
@@ -77,26 +114,18 @@ module _ (unit : UnitKey) (first_known known : List UnitKey) (log : Log) (shown 
     where
       by : (b : Bool) → same_unit x.symbol.unit unit ≡ b → (if b then is_among (accounted i tree) x else is_among (flat_map view_uses shown) x) ≡ true → (x.symbol.unit ≡ unit) ⊎ Contains (log_uses log) x
       by true is h = inl (same_unit-one x.symbol.unit unit is)
-      by false is h = were.0 x (among-contains (flat_map view_uses shown) x h)
+      by false is h = were x (among-contains (flat_map view_uses shown) x h)
 
   -- what is allowed of its own is accounted for
-  own_accounted : (x : LinkSymbol) → x.symbol.unit ≡ unit → Allowed x ≡ true → Contains (accounted i tree) x
-  own_accounted x own h = by (same_unit x.symbol.unit unit) refl h
+  own_accounted : list_all (is_declared (defined i tree)) (left_shown i) ≡ true → (x : LinkSymbol) → x.symbol.unit ≡ unit → Allowed x ≡ true → IsAccounted i tree x
+  own_accounted declared x own h = by (same_unit x.symbol.unit unit) refl h
     where
       itself : same_unit x.symbol.unit unit ≡ true
       itself = subst (λ (u : UnitKey). same_unit x.symbol.unit u ≡ true) own (same_unit-self x.symbol.unit)
 
-      by : (b : Bool) → same_unit x.symbol.unit unit ≡ b → (if b then is_among (accounted i tree) x else is_among (flat_map view_uses shown) x) ≡ true → Contains (accounted i tree) x
-      by true is h = among-contains (accounted i tree) x h
+      by : (b : Bool) → same_unit x.symbol.unit unit ≡ b → (if b then is_among (accounted i tree) x else is_among (flat_map view_uses shown) x) ≡ true → IsAccounted i tree x
+      by true is h = accounted_is i tree x (declared_is i tree x declared) h
       by false is h = absurd (cc (itself, is))
-
-  stub_of : (stubs : List StubDeclarations) (x : LinkSymbol) → Contains (map (λ s. link kind.Code s.symbol) stubs) x → (stub : StubDeclarations) × Contains stubs stub × (x ≡ link kind.Code stub.symbol)
-  stub_of [] x c = absurd (nowhere x c)
-  stub_of (s ∷ stubs) x c =
-      elim (first_or_later (link kind.Code s.symbol) (map (λ s. link kind.Code s.symbol) stubs) x c) [
-        | inl is ↦ (s, first s stubs, sym is)
-        | inr k ↦ let r = stub_of stubs x k in (r.0, later s stubs r.0 r.1, r.2)
-      ]
 
   module _ (allowed : list_all Allowed (unit_uses tree ++ interface_uses i) ≡ true) where
     uses : UsesOnly unit log (Sound i tree)
@@ -105,16 +134,8 @@ module _ (unit : UnitKey) (first_known known : List UnitKey) (log : Log) (shown 
     shows : ShowsOnly unit log (Sound i tree)
     shows x c = own_or_shown x (all-at Allowed (unit_uses tree ++ interface_uses i) x allowed (Contains-append_right (unit_uses tree) (interface_uses i) x c))
 
-    defines : DefinesOwn unit (Sound i tree)
-    defines x own c =
-        elim (Contains-append_cases (unit_defines tree) (answer_uses i.properties.completions ++ map (λ s. link kind.Code s.symbol) i.parts.stubs) x (own_accounted x own (all-at Allowed (unit_uses tree ++ interface_uses i) x allowed c))) [
-          | inl d ↦ inl d
-          | inr r ↦
-              elim (Contains-append_cases (answer_uses i.properties.completions) (map (λ s. link kind.Code s.symbol) i.parts.stubs) x r) [
-                | inl l ↦ inr (inl l)
-                | inr s ↦ inr (inr (stub_of i.parts.stubs x s))
-              ]
-        ]
+    defines : list_all (is_declared (defined i tree)) (left_shown i) ≡ true → DefinesOwn unit (Sound i tree)
+    defines declared x own c = own_accounted declared x own (all-at Allowed (unit_uses tree ++ interface_uses i) x allowed c)
 
 -- ---- code
 
@@ -163,18 +184,20 @@ faults_told unit known log faults =
 
 pub tested_keeps : WhatIsTestedKeeps
 unfolding is_kept self_checked
-tested_keeps unit first_known known log shown i tree among were = by (is_kept unit known shown i tree) refl
+tested_keeps unit first_known known log shown i tree complete among were = by (is_kept unit known shown i tree) complete refl
   where
-    by : (b : Bool) → is_kept unit known shown i tree ≡ b → Promised unit first_known log (if b then Sound i tree else Faulty (not_checked unit))
-    by false is = not_yet unit first_known log
-    by true is =
-        let a = both (list_all (has_unit (known_units unit known shown)) (outcome_units (Sound i tree))) _ is in
+    by : (b c : Bool) → is_kept unit known shown i tree ≡ b → Promised unit first_known log (if b && c then Sound i tree else Faulty (not_checked unit))
+    by false c is = not_yet unit first_known log
+    by true false is = not_yet unit first_known log
+    by true true is =
+        let a = both (list_all (has_unit (unit ∷ known)) (outcome_units (Sound i tree))) _ is in
         let b = both (list_all (is_allowed unit (flat_map view_uses shown) (accounted i tree)) (unit_uses tree ++ interface_uses i)) _ a.1 in
-        let c = both (same_unit tree.unit unit) (is_well_formed tree) b.1 in
+        let d = both (list_all (is_declared (defined i tree)) (left_shown i)) (same_unit tree.unit unit && is_well_formed tree) b.1 in
+        let c = both (same_unit tree.unit unit) (is_well_formed tree) d.1 in
         record {
           names = names unit first_known known log shown i tree among were a.0;
           uses = uses unit first_known known log shown i tree among were b.0;
-          defines = defines unit first_known known log shown i tree among were b.0;
+          defines = defines unit first_known known log shown i tree among were b.0 d.0;
           shows = shows unit first_known known log shown i tree among were b.0;
           code = (same_unit-one tree.unit unit c.0, well_formed tree c.1);
           faults = tt;

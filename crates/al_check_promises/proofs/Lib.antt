@@ -1,6 +1,7 @@
+pub mod Recorded
 pub mod Items
 pub mod Joined
 pub mod Kept
-pub mod Recorded
-pub mod Used
+pub mod PartsKept
 pub mod More
+pub mod Used

@@ -1,5 +1,5 @@
 -- Who was shown more keeps what was kept.
-use Rattle.std.proofs.Common.{◌≡◌, Bool, true, false, ◌&&◌, inl, inr, List, [], ◌∷◌, ◌++◌, refl, sym, ap, ◌∙◌, if◌then◌else◌}
+use Rattle.std.proofs.Common.{◌≡◌, Bool, true, false, ◌&&◌, List, [], ◌∷◌, ◌++◌, refl, sym, ◌∙◌, if◌then◌else◌}
 use Rattle.std.specs.List.{Contains, flat_map, list_all}
 use Rattle.al_base.specs.declared.unit_key.UnitKey.{UnitKey}
 use Rattle.al_base_graph.proofs.Members.{any_into, from_flat_map, into_flat_map}
@@ -10,18 +10,15 @@ use Rattle.al_view.specs.declared.link.LinkKind.{LinkKind}
 use Rattle.al_view.specs.declared.link.LinkKind.TheVariants as kind
 use Rattle.al_view.specs.declared.link.LinkSymbol.{LinkSymbol}
 use Rattle.al_view.specs.declared.view.ViewKind.{ViewKind}
-use Rattle.al_query.specs.Answers.{view_units}
 use Rattle.al_query.specs.Known.{has_unit}
-use Rattle.al_query.proofs.KnownLemmas.{has_unit-cases, has_unit-left, has_unit-right}
 use Rattle.al_view_typed.specs.UnitTrees.{UnitTree}
 use Rattle.al_view_typed.specs.Uses.{unit_uses}
 use Rattle.al_query_outcome.specs.Defines.{interface_uses}
 use Rattle.al_query_outcome.specs.ReadsLaw.{outcome_units}
-use Rattle.al_query_outcome.specs.Results.{Faulty, Sound}
+use Rattle.al_query_outcome.specs.Results.{Sound}
 use Rattle.al_query_outcome.specs.declared.interface.UnitInterface.{UnitInterface}
-use Rattle.al_query_outcome.proofs.Members.{contains-has, has-contains}
 use Rattle.al_view_used.specs.Links.{is_among, same_link, same_link_kind}
-use Rattle.al_check_promises.specs.SelfChecks.{accounted, is_allowed, is_kept, is_well_formed, known_units, not_checked, self_checked}
+use Rattle.al_check_promises.specs.SelfChecks.{accounted, defined, is_allowed, is_declared, is_kept, is_well_formed, left_shown}
 use Rattle.al_check_promises.proofs.Used.{among-contains, both}
 
 kind-self : (k : LinkKind) → same_link_kind k k ≡ true
@@ -49,13 +46,6 @@ module _ (unit : UnitKey) (known : List UnitKey) (shown more : List ViewKind) (a
   into : {X : Type 0} (f : ViewKind → List X) (x : X) → Contains (flat_map f shown) x → Contains (flat_map f more) x
   into f x c = let r = from_flat_map f shown x c in into_flat_map f more r.0 x (among r.0 r.1) r.2
 
-  more_known : (u : UnitKey) → has_unit (known_units unit known shown) u ≡ true → has_unit (known_units unit known more) u ≡ true
-  more_known u h =
-      elim (has_unit-cases (unit ∷ known) (flat_map view_units shown) u h) [
-        | inl a ↦ has_unit-left (unit ∷ known) (flat_map view_units more) u a
-        | inr s ↦ has_unit-right (unit ∷ known) (flat_map view_units more) u (contains-has (flat_map view_units more) u (into view_units u (has-contains (flat_map view_units shown) u s)))
-      ]
-
   more_allowed : (own : List LinkSymbol) (x : LinkSymbol) → is_allowed unit (flat_map view_uses shown) own x ≡ true → is_allowed unit (flat_map view_uses more) own x ≡ true
   more_allowed own x h = by (same_unit x.symbol.unit unit) h
     where
@@ -66,16 +56,14 @@ module _ (unit : UnitKey) (known : List UnitKey) (shown more : List ViewKind) (a
   pub more_kept : (i : UnitInterface) (tree : UnitTree) → is_kept unit known shown i tree ≡ true → is_kept unit known more i tree ≡ true
   unfolding is_kept
   more_kept i tree h =
-      let a = both (list_all (has_unit (known_units unit known shown)) (outcome_units (Sound i tree))) _ h in
+      let a = both (list_all (has_unit (unit ∷ known)) (outcome_units (Sound i tree))) _ h in
       let b = both (list_all (is_allowed unit (flat_map view_uses shown) (accounted i tree)) (unit_uses tree ++ interface_uses i)) _ a.1 in
-      and_both (list_all (has_unit (known_units unit known more)) (outcome_units (Sound i tree)))
-      (list_all (is_allowed unit (flat_map view_uses more) (accounted i tree)) (unit_uses tree ++ interface_uses i) && (same_unit tree.unit unit && is_well_formed tree))
-      (all_weaker (has_unit (known_units unit known shown)) (has_unit (known_units unit known more)) more_known (outcome_units (Sound i tree)) a.0)
-      (and_both (list_all (is_allowed unit (flat_map view_uses more) (accounted i tree)) (unit_uses tree ++ interface_uses i)) (same_unit tree.unit unit && is_well_formed tree)
+      and_both (list_all (has_unit (unit ∷ known)) (outcome_units (Sound i tree)))
+      (list_all (is_allowed unit (flat_map view_uses more) (accounted i tree)) (unit_uses tree ++ interface_uses i) && (list_all (is_declared (defined i tree)) (left_shown i) && (same_unit tree.unit unit && is_well_formed tree)))
+      a.0
+      (and_both (list_all (is_allowed unit (flat_map view_uses more) (accounted i tree)) (unit_uses tree ++ interface_uses i)) (list_all (is_declared (defined i tree)) (left_shown i) && (same_unit tree.unit unit && is_well_formed tree))
       (all_weaker (is_allowed unit (flat_map view_uses shown) (accounted i tree)) (is_allowed unit (flat_map view_uses more) (accounted i tree)) (more_allowed (accounted i tree)) (unit_uses tree ++ interface_uses i) b.0) b.1)
 
--- so the result is the same, whether the views are these or more
-pub same_result : (unit : UnitKey) (known : List UnitKey) (shown more : List ViewKind) (i : UnitInterface) (tree : UnitTree) → ((v : ViewKind) → Contains shown v → Contains more v) → is_kept unit known shown i tree ≡ true → self_checked unit known shown i tree ≡ self_checked unit known more i tree
-unfolding self_checked
-same_result unit known shown more i tree among kept =
-    ap (λ (b : Bool). if b then Sound i tree else Faulty (not_checked unit)) (kept ∙ sym (more_kept unit known shown more among i tree kept))
+-- so the test is the same, whether the views are these or more
+pub same_test : (unit : UnitKey) (known : List UnitKey) (shown more : List ViewKind) (i : UnitInterface) (tree : UnitTree) → ((v : ViewKind) → Contains shown v → Contains more v) → is_kept unit known shown i tree ≡ true → is_kept unit known shown i tree ≡ is_kept unit known more i tree
+same_test unit known shown more i tree among kept = kept ∙ sym (more_kept unit known shown more among i tree kept)

@@ -8,7 +8,7 @@ use Rattle.al_base_graph.proofs.Members.{first, into_flat_map, later, nowhere}
 use Rattle.al_view.specs.ViewUses.{view_uses}
 use Rattle.al_view.specs.declared.link.LinkSymbol.{LinkSymbol}
 use Rattle.al_view.specs.declared.view.ViewKind.{ViewKind}
-use Rattle.al_query.specs.Answers.{units_named, view_units}
+use Rattle.al_query.specs.Answers.{units_named}
 use Rattle.al_query.specs.Known.{has_unit, known_after, learned, told_by}
 use Rattle.al_query.specs.Queries.{same_query}
 use Rattle.al_query.specs.QueryLaws.{same_query-one, same_query-self}
@@ -103,9 +103,6 @@ only unit first_known known log t views shown units agree answered come named_to
     let a : Agrees v log = agrees t log agree in
     let is : shown ≡ views v = answered v a in
     let those : known ≡ units v = named_told v a in (
-      (
-        λ x c. elim ((come v).0 x (subst (λ (ws : List ViewKind). Contains (flat_map view_uses ws) x) is c)) [ inl own ↦ inl own | inr q ↦ inr (used_by_log log q.0 x q.1) ],
-        λ u h. elim ((come v).1 u (subst (λ (ws : List ViewKind). has_unit (flat_map view_units ws) u ≡ true) is h)) [ inl own ↦ inl own | inr q ↦ inr (named_by_log first_known log q.0 u q.1) ],
-      ),
+      λ x c. elim (come v x (subst (λ (ws : List ViewKind). Contains (flat_map view_uses ws) x) is c)) [ inl own ↦ inl own | inr q ↦ inr (used_by_log log q.0 x q.1) ],
       λ u h. elim (named v u (subst (λ (us : List UnitKey). has_unit us u ≡ true) those h)) [ inl f ↦ has_unit-left first_known (flat_map (λ (e : Query × AnswerKind). learned e.0 e.1) log) u f | inr q ↦ named_by_log first_known log q.0 u q.1 ],
     )

@@ -4,9 +4,8 @@ use Rattle.std.specs.List.{flat_map}
 use Rattle.al_base.specs.declared.unit_key.UnitKey.{UnitKey}
 use Rattle.al_view.specs.ViewUses.{view_uses}
 use Rattle.al_view.specs.declared.link.LinkSymbol.{LinkSymbol}
-use Rattle.al_query.specs.Answers.{context_units, view_units}
+use Rattle.al_query.specs.Answers.{context_units}
 use Rattle.al_query_outcome.specs.Defines.{declared_uses}
-use Rattle.al_query_outcome.specs.ReadsLaw.{declared_units}
 use Rattle.al_query_outcome.specs.declared.interface.Parts.{Parts}
 use Rattle.al_query_outcome.specs.declared.interface.Properties.{Properties}
 
@@ -21,7 +20,4 @@ parent_units (Some unit) = unit ∷ []
 parent_units None = []
 
 abbrev pub property_units : Properties → List UnitKey
-property_units p = view_units p.kind ++ parent_units p.parent ++ context_units p.context ++ flat_map (λ c. view_units c.view) p.completions
-
-abbrev pub part_units : Parts → List UnitKey
-part_units p = declared_units p.visible ++ declared_units p.private_part ++ declared_units p.body ++ flat_map (λ s. declared_units s.before) p.stubs
+property_units p = parent_units p.parent ++ context_units p.context

@@ -1,34 +1,60 @@
 -- What is tested of the result of a check.
-use Rattle.std.specs.Prelude.{◌+◌, Bool, ◌&&◌, List, [], ◌∷◌, ◌++◌, length, map, nat_le, nat_lt, if◌then◌else◌}
-use Rattle.std.specs.List.{flat_map, list_all}
+use Rattle.std.specs.Prelude.{◌+◌, Bool, ◌&&◌, ◌||◌, not, List, [], ◌∷◌, ◌++◌, length, map, nat_le, nat_lt, if◌then◌else◌}
+use Rattle.std.specs.List.{flat_map, list_all, list_any}
+use Rattle.std.specs.Option.{is_none}
+use Rattle.std.specs.Str.{bytes_eq}
 use Rattle.al_base.specs.Batch.{key_of}
 use Rattle.al_base.specs.FileNames.{file_name_of}
 use Rattle.al_base.specs.declared.diagnostic.Diagnostic.{Diagnostic}
 use Rattle.al_base.specs.declared.unit_key.UnitKey.{UnitKey}
-use Rattle.al_view.specs.Symbols.{same_unit}
+use Rattle.al_base.specs.declared.unit_key.UnitKind.TheVariants.{Decl, Body}
+use Rattle.al_view.specs.Interfaces.{views_of}
+use Rattle.al_view.specs.Symbols.{same_kind, same_unit}
 use Rattle.al_view.specs.ViewUses.{link, view_uses}
 use Rattle.al_view.specs.declared.link.LinkKind.TheVariants.{Code}
 use Rattle.al_view.specs.declared.link.LinkSymbol.{LinkSymbol}
+use Rattle.al_view.specs.declared.part.Part.TheVariants.{Stub}
 use Rattle.al_view.specs.declared.view.ViewKind.{ViewKind}
-use Rattle.al_query.specs.Answers.{view_units}
+use Rattle.al_unit_graph.specs.Headers.{Header}
+use Rattle.al_query.specs.Answers.{declaration, own_view_of}
 use Rattle.al_query.specs.Known.{has_unit}
+use Rattle.al_query.specs.Reads.{Table}
+use Rattle.al_query.specs.declared.query.Property.TheVariants.{Kind}
+use Rattle.al_query.specs.declared.query.Query.TheVariants.{Of}
 use Rattle.al_view_typed.specs.UnitTrees.{UnitTree}
 use Rattle.al_view_typed.specs.Uses.{unit_defines, unit_uses}
-use Rattle.al_query_outcome.specs.Defines.{interface_uses}
-use Rattle.al_query_outcome.specs.ReadsLaw.{answer_uses, is_fault_of, outcome_units}
+use Rattle.al_query_outcome.specs.Defines.{interface_uses, is_simple}
+use Rattle.al_query_outcome.specs.Left.{completed_views, first_view, is_of_body, one_view, own_code, separate}
+use Rattle.al_query_outcome.specs.ReadsLaw.{is_fault_of, outcome_units}
 use Rattle.al_query_outcome.specs.Results.{Outcome, Faulty, Sound}
+use Rattle.al_query_outcome.specs.Tables.{part_of}
+use Rattle.al_query_outcome.specs.declared.interface.StubDeclarations.{StubDeclarations}
 use Rattle.al_query_outcome.specs.declared.interface.UnitInterface.{UnitInterface}
 use Rattle.al_view_used.specs.Links.{is_among}
 
--- the unit, the units that its check knows of, and those that the views name that it was shown
-abbrev pub known_units : UnitKey → List UnitKey → List ViewKind → List UnitKey
-known_units unit known shown = unit ∷ known ++ flat_map view_units shown
+-- ---- what a unit names, uses and shows
 
--- what the unit defines, what it leaves to its body, and the code of its stubs
+-- the code that stubs stand for
+abbrev pub stub_codes : UnitInterface → List LinkSymbol
+stub_codes i = map (λ s. link Code s.symbol) i.parts.stubs
+
+-- what the unit defines, and the code of its stubs
+abbrev pub defined : UnitInterface → UnitTree → List LinkSymbol
+defined i tree = unit_defines tree ++ stub_codes i
+
+-- what is shown of what its body must complete
+abbrev pub left_shown : UnitInterface → List LinkSymbol
+left_shown i = flat_map view_uses (completed_views i.properties.completions)
+
+-- what the unit accounts for: what it leaves to its body too, where that is of a body
 abbrev pub accounted : UnitInterface → UnitTree → List LinkSymbol
-accounted i tree = unit_defines tree ++ (answer_uses i.properties.completions ++ map (λ s. link Code s.symbol) i.parts.stubs)
+accounted i tree = defined i tree ++ left_shown i
 
--- what is the unit's own is accounted for; what isn't was shown
+-- what isn't of a body is one of these
+abbrev pub is_declared : List LinkSymbol → LinkSymbol → Bool
+is_declared links x = is_of_body x.kind || is_among links x
+
+-- what is the unit's own is one of those, what isn't was shown
 abbrev pub is_allowed : UnitKey → List LinkSymbol → List LinkSymbol → LinkSymbol → Bool
 is_allowed unit shown own x = if same_unit x.symbol.unit unit then is_among own x else is_among shown x
 
@@ -41,17 +67,54 @@ is_well_formed tree =
 -- whether the result is what the check of a unit promises, where it knows of these units and was shown these views
 unfoldable pub is_kept : UnitKey → List UnitKey → List ViewKind → UnitInterface → UnitTree → Bool
 is_kept unit known shown i tree =
-    list_all (has_unit (known_units unit known shown)) (outcome_units (Sound i tree))
+    list_all (has_unit (unit ∷ known)) (outcome_units (Sound i tree))
     && (list_all (is_allowed unit (flat_map view_uses shown) (accounted i tree)) (unit_uses tree ++ interface_uses i)
-    && (same_unit tree.unit unit && is_well_formed tree))
+    && (list_all (is_declared (defined i tree)) (left_shown i) && (same_unit tree.unit unit && is_well_formed tree)))
+
+-- ---- what a unit completes, and what it leaves to others
+
+-- what a body may count as completed has its stubs in it
+abbrev pub completing : UnitKey → UnitInterface → UnitTree → List LinkSymbol
+completing unit i tree = if same_kind unit.kind Body then defined i tree else unit_defines tree
+
+-- where it is of a body, it is one of these
+abbrev pub is_completed : List LinkSymbol → LinkSymbol → Bool
+is_completed links x = not (is_of_body x.kind) || is_among links x
+
+-- only a declaration that needs a body leaves something to it
+abbrev pub leaves_rightly : UnitKey → Header → UnitInterface → Bool
+leaves_rightly unit h i = (same_kind unit.kind Decl && h.needs_body) || list_all (λ x. not (is_of_body x.kind)) (left_shown i)
+
+-- the name of the stub is one of the text's, and what stands before it has what it stands for
+abbrev pub is_told_stub : UnitKey → Header → UnitInterface → StubDeclarations → Bool
+is_told_stub unit h i s =
+    not (same_kind unit.kind Decl)
+    && (list_any (bytes_eq s.stub) h.stubs
+    && (is_simple s.stub && is_among (flat_map view_uses (one_view (first_view (views_of (part_of i.parts (Stub s.stub)) separate)))) (link Code s.symbol)))
+
+-- a procedure that can be the main one has its code, or leaves it to its body
+abbrev pub has_main : UnitKey → Header → Bool → UnitInterface → UnitTree → Bool
+has_main unit h declares i tree = not (h.is_parameterless_procedure && declares) || is_among (accounted i tree) (own_code unit)
+
+-- whether the unit with this header completes these views, and leaves to others what it may; its text is that of its declaration or not
+unfoldable pub is_complete : UnitKey → Header → List ViewKind → Bool → UnitInterface → UnitTree → Bool
+is_complete unit h views declares i tree =
+    leaves_rightly unit h i
+    && (list_all (is_completed (completing unit i tree)) (flat_map view_uses views) && (list_all (is_told_stub unit h i) i.parts.stubs && has_main unit h declares i tree))
+
+-- the unit is a declaration, or a body without one
+abbrev pub declares_itself : UnitKey → Table → Bool
+declares_itself unit t = same_kind unit.kind Decl || (same_kind unit.kind Body && is_none (own_view_of (t (Of (declaration unit.name) Kind))))
+
+-- ---- results
 
 -- E700 at the first place of the unit's file: it isn't checked yet
 abbrev pub not_checked : UnitKey → List Diagnostic
 not_checked unit = record { file = file_name_of (key_of unit); place = record { line = 1; col = 1 }; code = 700 } ∷ []
 
 -- the result, where it is what the check promises
-unfoldable pub self_checked : UnitKey → List UnitKey → List ViewKind → UnitInterface → UnitTree → Outcome
-self_checked unit known shown i tree = if is_kept unit known shown i tree then Sound i tree else Faulty (not_checked unit)
+unfoldable pub self_checked : UnitKey → List UnitKey → List ViewKind → Bool → UnitInterface → UnitTree → Outcome
+self_checked unit known shown complete i tree = if is_kept unit known shown i tree && complete then Sound i tree else Faulty (not_checked unit)
 
 -- what is wrong, where that is what a check may tell
 unfoldable pub checked_faults : UnitKey → List Diagnostic → Outcome

@@ -5,8 +5,8 @@ use Rattle.al_base.specs.declared.unit_key.UnitKey.{UnitKey}
 use Rattle.al_view.specs.ViewUses.{view_uses}
 use Rattle.al_view.specs.declared.link.LinkSymbol.{LinkSymbol}
 use Rattle.al_view.specs.declared.view.ViewKind.{ViewKind}
-use Rattle.al_query.specs.Answers.{units_named, view_units}
-use Rattle.al_query.specs.Known.{has_unit, known_after}
+use Rattle.al_query.specs.Answers.{units_named}
+use Rattle.al_query.specs.Known.{has_unit}
 use Rattle.al_query.specs.Reads.{Log, Table, recorded}
 use Rattle.al_query.specs.declared.query.Query.{Query}
 use Rattle.al_query_outcome.specs.ReadsLaw.{answer_uses, log_uses}
@@ -16,17 +16,13 @@ use Rattle.al_query_outcome.specs.Tables.{no_answer}
 abbrev pub only_recorded : Log → Table
 only_recorded log q = unwrap_or (recorded log q) (no_answer q)
 
--- these views are the unit's own, or stand in answers of the table: they show nothing else, and name no other units
+-- these views are the unit's own, or stand in answers of the table: they show nothing else
 abbrev pub ComeOf : UnitKey → Table → List ViewKind → Type 0
-ComeOf unit t views =
-    ((x : LinkSymbol) → Contains (flat_map view_uses views) x → (x.symbol.unit ≡ unit) ⊎ ((q : Query) × Contains (answer_uses (t q)) x))
-    × ((u : UnitKey) → has_unit (flat_map view_units views) u ≡ true → (u ≡ unit) ⊎ ((q : Query) × (has_unit (units_named (t q)) u ≡ true)))
+ComeOf unit t views = (x : LinkSymbol) → Contains (flat_map view_uses views) x → (x.symbol.unit ≡ unit) ⊎ ((q : Query) × Contains (answer_uses (t q)) x)
 
 -- these views are the unit's own, or stand in the recorded answers
-abbrev pub WereShown : UnitKey → List UnitKey → Log → List ViewKind → Type 0
-WereShown unit known log views =
-    ((x : LinkSymbol) → Contains (flat_map view_uses views) x → (x.symbol.unit ≡ unit) ⊎ Contains (log_uses log) x)
-    × ((u : UnitKey) → has_unit (flat_map view_units views) u ≡ true → (u ≡ unit) ⊎ (has_unit (known_after known log) u ≡ true))
+abbrev pub WereShown : UnitKey → Log → List ViewKind → Type 0
+WereShown unit log views = (x : LinkSymbol) → Contains (flat_map view_uses views) x → (x.symbol.unit ≡ unit) ⊎ Contains (log_uses log) x
 
 -- these units are known at first, or answers of the table name them
 abbrev pub AreNamedBy : List UnitKey → Table → List UnitKey → Type 0

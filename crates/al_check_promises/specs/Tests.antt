@@ -1,9 +1,15 @@
 -- Tests over sets that the code makes.
-use Rattle.std.specs.Prelude.{Bool}
+use Rattle.std.specs.Prelude.{Bool, ◌||◌, not}
 use Rattle.al_view.specs.declared.link.LinkSymbol.{LinkSymbol}
-use Rattle.al_query.specs.Known.{has_unit}
-use Rattle.al_check_promises.specs.declared.allowed.Known.{Known}
+use Rattle.al_query_outcome.specs.Left.{is_of_body}
+use Rattle.al_view_used.specs.Links.{has_link}
+use Rattle.al_check_promises.specs.declared.completed.Completing.{Completing}
+use Rattle.al_check_promises.specs.declared.tested.Declared.{Declared}
 
--- what is of a known unit
-abbrev pub knows : Known → LinkSymbol → Bool
-knows k x = has_unit k.units x.symbol.unit
+-- where it is of a body, it is completed
+unfoldable pub completes : Completing → LinkSymbol → Bool
+completes c x = not (is_of_body x.kind) || has_link c.links x
+
+-- where it isn't of a body, it is there
+unfoldable pub declares : Declared → LinkSymbol → Bool
+declares d x = is_of_body x.kind || has_link d.links x

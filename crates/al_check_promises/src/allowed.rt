@@ -1,43 +1,42 @@
-// What a unit may use, and the units that its check knows.
-ghost use Rattle.std.specs.Prelude.{◌≡◌, ◌++◌, map, OnOk};
+// What a unit may use.
+ghost use Rattle.std.specs.Prelude.{◌≡◌, ◌++◌, map, IfOk, OnOk};
 ghost use Rattle.std.specs.List.{flat_map};
 ghost use Rattle.al_view.specs.ViewUses.{link, view_uses};
 ghost use Rattle.al_view.specs.declared.link.LinkKind.TheVariants.{Code};
+ghost use Rattle.al_view.specs.declared.link.LinkSymbol.{LinkSymbol};
 ghost use Rattle.al_view_typed.specs.UnitTrees.{unit_model};
 ghost use Rattle.al_view_typed.specs.Uses.{unit_defines};
-ghost use Rattle.al_view_used.specs.Links.{Gains};
+ghost use Rattle.al_query_outcome.specs.Left.{is_of_body};
+ghost use Rattle.al_query_outcome.specs.Tables.{interface_of};
+ghost use Rattle.al_view_used.specs.Links.{Gains, has_link, is_among};
+ghost use Rattle.al_view_used.specs.Rules.{permits};
+ghost use Rattle.al_check_promises.specs.SelfChecks.{accounted, defined, is_allowed};
 
-use al_base::NoMemory;
+use crate::checked::SoundUnit;
+use al_base::{NoMemory, UnitKey};
 use al_query::Completion;
-use al_query_named::UnitSet;
-use al_query_outcome::{Parts, Properties, StubDeclarations};
-use al_view::{LinkKind, Symbol, View};
+use al_query_outcome::{Parts, StubDeclarations};
+use al_view::{LinkKind, View, copied_unit};
 use al_view_typed::TypedUnit;
-use al_view_used::{LinkSet, LinkTest, add_defines, add_shown};
+use al_view_used::{LinkRule, LinkSet, add_defines, add_shown};
+use std::alloc::Global;
 
-/// The units that a check knows of.
-pub(crate) struct Known {
-    pub(crate) units: UnitSet,
-}
-
-impl Drop for Known {
-    fn drop(self) {
-        let Known { units: _ } = self;
-    }
-}
-
-impl LinkTest for Known {
-    ghost use Rattle.al_check_promises.specs.Tests.{knows};
-
-    ghost passing = { knows };
-
-    fn passes(&self, _kind: LinkKind, symbol: &Symbol) -> bool {
-        self.units.contains(&symbol.unit)
+/// Whether a body defines it; flags, words and protected objects are its declaration's.
+pub(crate) fn is_of_body(kind: LinkKind) -> bool
+    ensures { result ≡ is_of_body kind }
+{
+    match kind {
+        LinkKind::Code => true,
+        LinkKind::Gate => true,
+        LinkKind::EntryBody => true,
+        LinkKind::Flag => false,
+        LinkKind::Data => false,
+        LinkKind::Protected => false,
     }
 }
 
 /// What views show.
-pub(crate) fn add_all_shown(set: &mut LinkSet, views: &[View]) -> Result<(), NoMemory>
+fn add_all_shown(set: &mut LinkSet, views: &[View]) -> Result<(), NoMemory>
     ensures { OnOk result (Gains set.old set.new (flat_map view_uses views.now)) }
 {
     for view in views {
@@ -66,25 +65,66 @@ fn add_stubs(set: &mut LinkSet, stubs: &[StubDeclarations]) -> Result<(), NoMemo
     Ok(())
 }
 
-/// What a unit leaves to its body and to its subunits.
+/// What a unit defines, and the code of its stubs.
 #[tactic(auto, using(al_view_used::proofs::Gained::gains_both))]
-fn add_left(set: &mut LinkSet, properties: &Properties, parts: &Parts) -> Result<(), NoMemory>
-    ensures { OnOk result (Gains set.old set.new (flat_map (λ c. view_uses c.view) properties.now.completions ++ map (λ s. link Code s.symbol) parts.now.stubs)) }
-{
-    add_completions(set, properties.completions.as_slice())?;
-    add_stubs(set, parts.stubs.as_slice())
-}
-
-/// What a unit defines, what it leaves to its body, and the code of its stubs.
-#[tactic(auto, using(al_view_used::proofs::Gained::gains_both))]
-pub(crate) fn add_accounted(
+pub(crate) fn add_defined(
     set: &mut LinkSet,
-    properties: &Properties,
     parts: &Parts,
     tree: &TypedUnit,
 ) -> Result<(), NoMemory>
-    ensures { OnOk result (Gains set.old set.new (unit_defines (unit_model tree.now) ++ (flat_map (λ c. view_uses c.view) properties.now.completions ++ map (λ s. link Code s.symbol) parts.now.stubs))) }
+    ensures { OnOk result (Gains set.old set.new (unit_defines (unit_model tree.now) ++ map (λ s. link Code s.symbol) parts.now.stubs)) }
 {
     add_defines(set, tree)?;
-    add_left(set, properties, parts)
+    add_stubs(set, parts.stubs.as_slice())
+}
+
+/// What a unit accounts for.
+#[tactic(auto, using(al_view_used::proofs::Gained::gains_both))]
+fn add_accounted(set: &mut LinkSet, sound: &SoundUnit) -> Result<(), NoMemory>
+    ensures { OnOk result (Gains set.old set.new (accounted (interface_of sound.now.properties sound.now.parts) (unit_model sound.now.tree))) }
+{
+    add_defined(set, &sound.parts, &sound.tree)?;
+    add_completions(set, sound.properties.completions.as_slice())
+}
+
+/// What a unit defines, and the code of its stubs.
+pub(crate) fn defined_of(alloc: Global, sound: &SoundUnit) -> Result<LinkSet, NoMemory>
+    ensures { IfOk result (λ own. (x : LinkSymbol) → has_link own x ≡ is_among (defined (interface_of sound.now.properties sound.now.parts) (unit_model sound.now.tree)) x) }
+{
+    let mut own = LinkSet::new(alloc);
+    add_defined(&mut own, &sound.parts, &sound.tree)?;
+    Ok(own)
+}
+
+/// What a unit accounts for.
+pub(crate) fn own_of(alloc: Global, sound: &SoundUnit) -> Result<LinkSet, NoMemory>
+    ensures { IfOk result (λ own. (x : LinkSymbol) → has_link own x ≡ is_among (accounted (interface_of sound.now.properties sound.now.parts) (unit_model sound.now.tree)) x) }
+{
+    let mut own = LinkSet::new(alloc);
+    add_accounted(&mut own, sound)?;
+    Ok(own)
+}
+
+/// What views show.
+pub(crate) fn shown_of(alloc: Global, views: &[View]) -> Result<LinkSet, NoMemory>
+    ensures { IfOk result (λ shown. (x : LinkSymbol) → has_link shown x ≡ is_among (flat_map view_uses views.now) x) }
+{
+    let mut shown = LinkSet::new(alloc);
+    add_all_shown(&mut shown, views)?;
+    Ok(shown)
+}
+
+/// What a unit may use that was shown these views.
+pub(crate) fn allowed_of(
+    alloc: Global,
+    unit: &UnitKey,
+    shown: &[View],
+    sound: &SoundUnit,
+) -> Result<LinkRule, NoMemory>
+    ensures { IfOk result (λ a. (x : LinkSymbol) → permits a x ≡ is_allowed unit.now (flat_map view_uses shown.now) (accounted (interface_of sound.now.properties sound.now.parts) (unit_model sound.now.tree)) x) }
+{
+    let own = own_of(alloc, sound)?;
+    let others = shown_of(alloc, shown)?;
+    let unit = copied_unit(alloc, unit)?;
+    Ok(LinkRule { unit, own, others })
 }

@@ -1,5 +1,5 @@
 // Results that their own check has tested.
-ghost use Rattle.std.specs.Prelude.{◌≡◌, IfOk, if◌then◌else◌};
+ghost use Rattle.std.specs.Prelude.{◌≡◌, ◌&&◌, IfOk, if◌then◌else◌};
 ghost use Rattle.al_view_typed.specs.UnitTrees.{unit_model};
 ghost use Rattle.al_query_outcome.specs.Results.{checked_model, Faulty as Wrong, Sound};
 ghost use Rattle.al_query_outcome.specs.Tables.{interface_of};
@@ -56,21 +56,28 @@ fn answered(
     }
 }
 
+fn both_hold(kept: bool, complete: bool) -> bool
+    ensures { result ≡ (kept && complete) }
+{
+    kept && complete
+}
+
 /// The result of a check in which no fault was found, where it is what the check promises: it names only units that the check
-/// knows of at the end (these, and those that the views name that it was shown); it uses and shows nothing of other units but what
-/// these views show; what it uses and shows of its own is defined, left to its body, or the code of a stub; and there is code for
-/// it. Else E700, as something is compiled that can't be yet.
+/// knows of; it uses and shows nothing of other units but what these views show; what it uses and shows of its own is defined, left to
+/// its body, or the code of a stub; there is code for it; and it completes what it must, as was tested before. Else E700, as something is
+/// compiled that can't be yet.
 pub fn self_checked(
     alloc: Global,
     unit: &UnitKey,
     known: &[UnitKey],
     shown: &[View],
+    complete: bool,
     sound: SoundUnit,
 ) -> Result<Checked, NoMemory>
-    ensures { IfOk result (λ checked. checked_model checked ≡ self_checked unit.now known.now shown.now (interface_of sound.properties sound.parts) (unit_model sound.tree)) }
+    ensures { IfOk result (λ checked. checked_model checked ≡ self_checked unit.now known.now shown.now complete (interface_of sound.properties sound.parts) (unit_model sound.tree)) }
 {
     match is_kept(alloc, unit, known, shown, &sound) {
-        Ok(kept) => answered(alloc, unit, kept, sound),
+        Ok(kept) => answered(alloc, unit, both_hold(kept, complete), sound),
         Err(error) => {
             drop(sound);
             Err(error)

@@ -22,7 +22,7 @@ pub(crate) fn views_at(interface: &Interface, i: usize) -> &[View]
     }
 }
 
-fn views_pass<T: LinkTest>(views: &[View], test: &T) -> bool
+pub(crate) fn views_pass<T: LinkTest>(views: &[View], test: &T) -> bool
     ensures { result ≡ list_all (T.passing test.now) (flat_map view_uses views.now) }
 {
     for view in views {
@@ -65,7 +65,7 @@ pub(crate) fn parts_pass<T: LinkTest>(parts: &Parts, test: &T) -> bool
         && stubs_pass(parts.stubs.as_slice(), test)
 }
 
-fn completions_pass<T: LinkTest>(completions: &[Completion], test: &T) -> bool
+pub(crate) fn completions_pass<T: LinkTest>(completions: &[Completion], test: &T) -> bool
     ensures { result ≡ list_all (T.passing test.now) (flat_map (λ c. view_uses c.view) completions.now) }
 {
     for completion in completions {

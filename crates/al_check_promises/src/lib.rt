@@ -4,12 +4,14 @@
 mod allowed;
 mod checked;
 mod code;
+mod completed;
 mod faults;
-mod gathered;
 mod interfaces;
 pub mod laws;
+mod stubs;
 mod tested;
 
 pub use checked::{SoundUnit, self_checked};
+pub use completed::is_complete;
 pub use faults::checked_faults;
 pub use tested::is_kept;

@@ -1,117 +1,71 @@
 // The tests of a result.
-ghost use Rattle.std.specs.Prelude.{◌≡◌, ◌&&◌, ◌∷◌, ◌++◌, [], IfOk, OnOk};
-ghost use Rattle.std.specs.List.{flat_map, list_all};
-ghost use Rattle.al_view.specs.ViewUses.{view_uses};
-ghost use Rattle.al_query.specs.Answers.{view_units};
+ghost use Rattle.std.specs.Prelude.{◌≡◌, ◌&&◌, ◌∷◌, ◌++◌, IfOk, OnOk};
+ghost use Rattle.std.specs.List.{list_all};
+ghost use Rattle.al_base.specs.declared.unit_key.UnitKey.{UnitKey};
+ghost use Rattle.al_view.specs.declared.link.LinkSymbol.{LinkSymbol};
 ghost use Rattle.al_query.specs.Known.{has_unit};
 ghost use Rattle.al_view_typed.specs.UnitTrees.{unit_model};
-ghost use Rattle.al_view_typed.specs.Uses.{unit_defines, unit_uses};
+ghost use Rattle.al_view_typed.specs.Uses.{unit_uses};
 ghost use Rattle.al_query_outcome.specs.Tables.{interface_of};
 ghost use Rattle.al_query_named.specs.Sets.{Gathers};
-ghost use Rattle.al_view.specs.declared.link.LinkSymbol.{LinkSymbol};
-ghost use Rattle.al_base.specs.declared.unit_key.UnitKey.{UnitKey};
-ghost use Rattle.al_view_used.specs.Links.{has_link, is_among};
+ghost use Rattle.al_check_promises.specs.Parts.{parent_units, part_uses, property_units, property_uses};
 ghost use Rattle.al_view_used.specs.Rules.{permits};
-ghost use Rattle.al_check_promises.specs.Parts.{part_units, part_uses, property_units, property_uses};
-ghost use Rattle.al_check_promises.specs.SelfChecks.{accounted, is_allowed, is_kept, known_units};
-ghost use Rattle.al_check_promises.specs.Tests.{knows};
+ghost use Rattle.al_check_promises.specs.SelfChecks.{defined, is_declared, is_kept, left_shown};
+ghost use Rattle.al_check_promises.specs.Tests.{declares};
 
-use crate::allowed::{Known, add_accounted, add_all_shown};
+use crate::allowed::{allowed_of, defined_of, is_of_body};
 use crate::checked::SoundUnit;
 use crate::code::has_code;
-use crate::gathered::{add_parts, add_properties};
-use crate::interfaces::{parts_pass, properties_pass};
+use crate::interfaces::{completions_pass, parts_pass, properties_pass};
 use al_base::{NoMemory, UnitKey};
-use al_query_named::{UnitSet, add_views};
-use al_view::{View, copied_unit};
-use al_view_typed::TypedUnit;
-use al_view_used::{LinkRule, LinkSet, defines_pass, uses_pass};
+use al_query_named::{UnitSet, add_context};
+use al_query_outcome::Properties;
+use al_view::{LinkKind, Symbol, View};
+use al_view_used::{LinkRule, LinkSet, LinkTest, uses_pass};
 use std::alloc::Global;
 
-/// The unit, those that its check knows of, and those that views name.
-#[tactic(auto, using(crate::proofs::Items::gathers_three))]
-fn add_known(
-    set: &mut UnitSet,
-    unit: &UnitKey,
-    known: &[UnitKey],
-    shown: &[View],
-) -> Result<(), NoMemory>
-    ensures { OnOk result (Gathers set.old set.new (known_units unit.now known.now shown.now)) }
+/// The unit, and those that its check knows of.
+#[tactic(auto, using(al_query_named::proofs::Gathered::gathers_both))]
+fn add_known(set: &mut UnitSet, unit: &UnitKey, known: &[UnitKey]) -> Result<(), NoMemory>
+    ensures { OnOk result (Gathers set.old set.new (unit.now ∷ known.now)) }
 {
     set.insert(unit)?;
-    set.insert_all(known)?;
-    add_views(set, shown)
+    set.insert_all(known)
 }
 
-fn known_of(
-    alloc: Global,
-    unit: &UnitKey,
-    known: &[UnitKey],
-    shown: &[View],
-) -> Result<Known, NoMemory>
-    ensures { IfOk result (λ k. (u : UnitKey) → has_unit k.units u ≡ has_unit (known_units unit.now known.now shown.now) u) }
+fn known_of(alloc: Global, unit: &UnitKey, known: &[UnitKey]) -> Result<UnitSet, NoMemory>
+    ensures { IfOk result (λ units. (u : UnitKey) → has_unit units u ≡ has_unit (unit.now ∷ known.now) u) }
 {
     let mut units = UnitSet::new(alloc);
-    add_known(&mut units, unit, known, shown)?;
-    Ok(Known { units })
+    add_known(&mut units, unit, known)?;
+    Ok(units)
 }
 
-/// The units that a result names, but for those in its labelled tree.
-#[tactic(auto, using(crate::proofs::Items::gathers_three), unfolding(al_view_typed::specs::UnitTrees::unit_model))]
-fn add_named(alloc: Global, set: &mut UnitSet, sound: &SoundUnit) -> Result<(), NoMemory>
-    ensures { OnOk result (Gathers set.old set.new (property_units sound.now.properties ++ part_units sound.now.parts ++ (unit_model sound.now.tree).unit ∷ [])) }
+fn add_parent(set: &mut UnitSet, parent: &Option<UnitKey>) -> Result<(), NoMemory>
+    ensures { OnOk result (Gathers set.old set.new (parent_units parent.now)) }
 {
-    add_properties(alloc, set, &sound.properties)?;
-    add_parts(set, &sound.parts)?;
-    set.insert(&sound.tree.unit)
+    match parent {
+        Some(unit) => set.insert(unit),
+        None => Ok(()),
+    }
 }
 
-/// Whether units are known, and those of what a labelled tree defines.
-fn all_known(known: &Known, named: &UnitSet, tree: &TypedUnit) -> bool
-    ensures { result ≡ (list_all (has_unit known.now.units) named.now && list_all (knows known.now) (unit_defines (unit_model tree.now))) }
+/// The units that the properties of a unit name.
+#[tactic(auto, using(al_query_named::proofs::Gathered::gathers_both))]
+fn add_named(alloc: Global, set: &mut UnitSet, properties: &Properties) -> Result<(), NoMemory>
+    ensures { OnOk result (Gathers set.old set.new (property_units properties.now)) }
 {
-    named.is_within(&known.units) && defines_pass(tree, known)
+    add_parent(set, &properties.parent)?;
+    add_context(alloc, set, &properties.context)
 }
 
-/// Whether a result names only units that are known, but for what its labelled tree uses, which follows from what it may use.
-fn names_known(alloc: Global, known: &Known, sound: &SoundUnit) -> Result<bool, NoMemory>
-    ensures { IfOk result (λ b. b ≡ (list_all (has_unit known.now.units) (property_units sound.now.properties ++ part_units sound.now.parts ++ (unit_model sound.now.tree).unit ∷ []) && list_all (knows known.now) (unit_defines (unit_model sound.now.tree)))) }
+/// Whether a unit names only units that are known.
+fn names_known(alloc: Global, known: &UnitSet, properties: &Properties) -> Result<bool, NoMemory>
+    ensures { IfOk result (λ b. b ≡ list_all (has_unit known.now) (property_units properties.now)) }
 {
     let mut named = UnitSet::new(alloc);
-    add_named(alloc, &mut named, sound)?;
-    Ok(all_known(known, &named, &sound.tree))
-}
-
-/// What a unit accounts for.
-fn own_of(alloc: Global, sound: &SoundUnit) -> Result<LinkSet, NoMemory>
-    ensures { IfOk result (λ own. (x : LinkSymbol) → has_link own x ≡ is_among (accounted (interface_of sound.now.properties sound.now.parts) (unit_model sound.now.tree)) x) }
-{
-    let mut own = LinkSet::new(alloc);
-    add_accounted(&mut own, &sound.properties, &sound.parts, &sound.tree)?;
-    Ok(own)
-}
-
-/// What views show.
-fn shown_of(alloc: Global, views: &[View]) -> Result<LinkSet, NoMemory>
-    ensures { IfOk result (λ shown. (x : LinkSymbol) → has_link shown x ≡ is_among (flat_map view_uses views.now) x) }
-{
-    let mut shown = LinkSet::new(alloc);
-    add_all_shown(&mut shown, views)?;
-    Ok(shown)
-}
-
-fn allowed_of(
-    alloc: Global,
-    unit: &UnitKey,
-    shown: &[View],
-    sound: &SoundUnit,
-) -> Result<LinkRule, NoMemory>
-    ensures { IfOk result (λ a. (x : LinkSymbol) → permits a x ≡ is_allowed unit.now (flat_map view_uses shown.now) (accounted (interface_of sound.now.properties sound.now.parts) (unit_model sound.now.tree)) x) }
-{
-    let own = own_of(alloc, sound)?;
-    let others = shown_of(alloc, shown)?;
-    let unit = copied_unit(alloc, unit)?;
-    Ok(LinkRule { unit, own, others })
+    add_named(alloc, &mut named, properties)?;
+    Ok(named.is_within(known))
 }
 
 /// Whether a result uses and shows only what is allowed.
@@ -123,10 +77,47 @@ fn links_allowed(allowed: &LinkRule, sound: &SoundUnit) -> bool
         && parts_pass(&sound.parts, allowed)
 }
 
-fn all_hold(names: bool, links: bool, code: bool) -> bool
-    ensures { result ≡ (names && (links && code)) }
+/// What a unit's own text defines.
+struct Declared {
+    links: LinkSet,
+}
+
+impl Drop for Declared {
+    fn drop(self) {
+        let Declared { links: _ } = self;
+    }
+}
+
+impl LinkTest for Declared {
+    ghost use Rattle.al_check_promises.specs.Tests.{declares};
+
+    ghost passing = { declares };
+
+    #[tactic(auto, unfolding(crate::specs::Tests::declares))]
+    fn passes(&self, kind: LinkKind, symbol: &Symbol) -> bool {
+        is_of_body(kind) || self.links.contains(kind, symbol)
+    }
+}
+
+fn declared_of(alloc: Global, sound: &SoundUnit) -> Result<Declared, NoMemory>
+    ensures { IfOk result (λ d. (x : LinkSymbol) → declares d x ≡ is_declared (defined (interface_of sound.now.properties sound.now.parts) (unit_model sound.now.tree)) x) }
 {
-    names && links && code
+    let links = defined_of(alloc, sound)?;
+    Ok(Declared { links })
+}
+
+/// Whether a unit defines what its completions show of other things than bodies.
+fn declares_left(alloc: Global, sound: &SoundUnit) -> Result<bool, NoMemory>
+    ensures { IfOk result (λ b. b ≡ list_all (is_declared (defined (interface_of sound.now.properties sound.now.parts) (unit_model sound.now.tree))) (left_shown (interface_of sound.now.properties sound.now.parts))) }
+{
+    let declared = declared_of(alloc, sound)?;
+    Ok(completions_pass(sound.properties.completions.as_slice(), &declared))
+}
+
+fn all_hold(names: bool, links: bool, declared: bool, code: bool) -> bool
+    ensures { result ≡ (names && (links && (declared && code))) }
+{
+    names && (links && (declared && code))
 }
 
 /// Whether a result is what the check of a unit promises, where it knows of these units and was shown these views.
@@ -139,10 +130,11 @@ pub fn is_kept(
 ) -> Result<bool, NoMemory>
     ensures { IfOk result (λ b. b ≡ is_kept unit.now known.now shown.now (interface_of sound.now.properties sound.now.parts) (unit_model sound.now.tree)) }
 {
-    let units = known_of(alloc, unit, known, shown)?;
-    let names = names_known(alloc, &units, sound)?;
+    let units = known_of(alloc, unit, known)?;
+    let names = names_known(alloc, &units, &sound.properties)?;
     let allowed = allowed_of(alloc, unit, shown, sound)?;
     let links = links_allowed(&allowed, sound);
+    let declared = declares_left(alloc, sound)?;
     let code = has_code(unit, &sound.tree);
-    Ok(all_hold(names, links, code))
+    Ok(all_hold(names, links, declared, code))
 }

@@ -43,10 +43,18 @@ fn incomplete_here(state: &CheckState, end: Place) -> Option<Fault>
 }
 
 /// Reads the text of a unit where it stands, by what a recorder answers.
-#[derive(Drop)]
 pub struct AdaAnalyzer<A: Answers> {
     pub state: CheckState,
     pub recorder: Recorder<A>,
+}
+
+impl<A: Answers + Drop> Drop for AdaAnalyzer<A> {
+    fn drop(self) {
+        let AdaAnalyzer {
+            state: _,
+            recorder: _,
+        } = self;
+    }
 }
 
 impl<A: Answers> AdaAnalyzer<A> {
@@ -58,6 +66,14 @@ impl<A: Answers> AdaAnalyzer<A> {
         ensures recorder { result.recorder ≡ recorder }
     {
         AdaAnalyzer { state, recorder }
+    }
+
+    /// Where the check stands, and what was asked. It takes no memory.
+    pub fn into_parts(self) -> (CheckState, Recorder<A>)
+        ensures { result ≡ (self.state, self.recorder) }
+    {
+        let AdaAnalyzer { state, recorder } = self;
+        (state, recorder)
     }
 
     fn alloc(&self) -> Global {

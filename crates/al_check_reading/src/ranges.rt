@@ -26,7 +26,7 @@ fn keep_type(state: &mut CheckState, found: CheckResult<FoundRange>) -> CheckRes
         Ok(found) => {
             let FoundRange { range, found } = found;
             let values = all_values(&state.unit.labeller.predefined.standard, &found);
-            let FoundType { of, types } = found;
+            let (of, types) = found.into_parts();
             state.parameter = Some(LoopType { of, types, values });
             Ok(range)
         }

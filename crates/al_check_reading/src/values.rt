@@ -159,10 +159,7 @@ fn value_of(found: CheckResult<DeterminedValue>) -> CheckResult<Typed>
     ensures { map_ok typed_model result ≡ map_ok value_found (map_ok found_model found) }
 {
     match found {
-        Ok(found) => {
-            let DeterminedValue { value, .. } = found;
-            Ok(value)
-        }
+        Ok(found) => Ok(found.into_value()),
         Err(fault) => Err(fault),
     }
 }

@@ -7,7 +7,8 @@ use Rattle.al_scope.specs.Places.{Place}
 use Rattle.al_scope.specs.declared.region.Region.{Region}
 use Rattle.al_scope.specs.declared.region.UnitPart.{UnitPart}
 use Rattle.al_view.specs.Named.{Declarations}
-use Rattle.al_check_start.specs.Subunits.{last_of, next_body, stubs_in}
+use Rattle.al_query_outcome.specs.Left.{last_of}
+use Rattle.al_check_start.specs.Subunits.{next_body, stubs_in}
 use Rattle.al_scope_unit.specs.UnitPlaces.{part_of}
 use Rattle.al_view.specs.declared.part.Part.TheVariants.{Stub}
 

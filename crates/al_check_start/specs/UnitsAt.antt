@@ -38,7 +38,8 @@ use Rattle.al_view.specs.declared.view.CallKind.{CallKind}
 use Rattle.al_view.specs.declared.view.CallKind.TheVariants as calls
 use Rattle.al_view.specs.declared.view.ViewKind.{ViewKind}
 use Rattle.al_view.specs.declared.view.ViewKind.TheVariants.{OfPackage, OfSubprogram}
-use Rattle.al_check_start.specs.Subunits.{body_named, last_of, stub_view, stubs_round}
+use Rattle.al_query_outcome.specs.Left.{body_named, last_of, stub_view}
+use Rattle.al_check_start.specs.Subunits.{stubs_round}
 use Rattle.al_check_start.specs.declared.completed.Completed.{Completed}
 use Rattle.al_check_start.specs.declared.unit.UnitStart.{UnitStart}
 

@@ -8,16 +8,16 @@ ghost use Rattle.al_query.specs.Answers.{declaration, views_of};
 ghost use Rattle.al_query.specs.Reads.{FromAnswers};
 ghost use Rattle.al_query.specs.declared.query.Query.TheVariants.{Named};
 ghost use Rattle.al_tree.specs.UnitViews.{library_item_model};
-ghost use Rattle.al_check_start.specs.Subunits.{last_of};
+ghost use Rattle.al_query_outcome.specs.Left.{last_of};
 ghost use Rattle.al_check_start.specs.UnitsAt.{declares, has_views, name_fault, taken_in};
 ghost use Rattle.al_unit_graph.specs.Names as names;
 
 use crate::item::item_name;
-use crate::names::last_of;
 use al_base::{Name, NoMemory, Rule, UnitKey, UnitKind};
 use al_base_fault::Fault;
 use al_overload_keys::is_none;
 use al_query::{Answers, Query, Recorder};
+use al_query_outcome::last_of;
 use al_tree::LibraryItem;
 use al_unit_graph::parent_of;
 use al_view::{Part, View};

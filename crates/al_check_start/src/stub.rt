@@ -9,11 +9,12 @@ ghost use Rattle.al_query.specs.declared.query.Property.TheVariants.{Parent};
 ghost use Rattle.al_query.specs.declared.query.Query.TheVariants.{Named, Of};
 ghost use Rattle.al_scope_unit.specs.UnitPlaces.{is_subunit, part_of};
 ghost use Rattle.al_view.specs.declared.part.Part.TheVariants.{Stub};
-ghost use Rattle.al_check_start.specs.Subunits.{body_named, first_view, last_of, next_body, stub_view, stubs_in, stubs_round};
+ghost use Rattle.al_query_outcome.specs.Left.{body_named, first_view, last_of, stub_view};
+ghost use Rattle.al_check_start.specs.Subunits.{next_body, stubs_in, stubs_round};
 
-use crate::names::last_of;
 use al_base::{Name, NoMemory, UnitKey, UnitKind};
 use al_query::{Answers, Property, Query, Recorder};
+use al_query_outcome::last_of;
 use al_scope::UnitPart;
 use al_scope_context::view_of;
 use al_view::{Part, Seq, View, copied_unit};

@@ -24,7 +24,6 @@ use al_view::{Seq, View};
 use std::alloc::Global;
 
 /// Where the check of a unit begins.
-#[derive(Drop)]
 pub struct UnitStart {
     /// What its text says of its place.
     pub own: OwnText,
@@ -41,6 +40,53 @@ pub struct UnitStart {
     pub view: Option<View>,
     /// The private types that its visible part hides.
     pub hidden: Seq<PrivateName>,
+}
+
+impl Drop for UnitStart {
+    fn drop(self) {
+        let UnitStart {
+            own: _,
+            scope: _,
+            packages: _,
+            progress: _,
+            uncompleted: _,
+            parent: _,
+            view: _,
+            hidden: _,
+        } = self;
+    }
+}
+
+impl UnitStart {
+    /// What its text says and mentions, with what its visible part hides; where the check stands; its parent and the view that it completes. It takes no
+    /// memory.
+    pub fn into_parts(
+        self,
+    ) -> (
+        (OwnText, Seq<UnitKey>, Seq<PrivateName>),
+        (Scope, Progress, Uncompleted),
+        (Option<UnitKey>, Option<View>),
+    )
+        ensures text { result.0 ≡ (self.own, self.packages, self.hidden) }
+        ensures place { result.1 ≡ (self.scope, self.progress, self.uncompleted) }
+        ensures round { result.2 ≡ (self.parent, self.view) }
+    {
+        let UnitStart {
+            own,
+            scope,
+            packages,
+            progress,
+            uncompleted,
+            parent,
+            view,
+            hidden,
+        } = self;
+        (
+            (own, packages, hidden),
+            (scope, progress, uncompleted),
+            (parent, view),
+        )
+    }
 }
 
 /// What waits at the place of a unit, and the private types that its visible part hides.

@@ -8,12 +8,12 @@ ghost use Rattle.al_query.specs.declared.query.Query.TheVariants.{Of};
 ghost use Rattle.al_tree.specs.UnitViews.{library_item_model};
 ghost use Rattle.al_check_start.specs.UnitsAt.{call_depth, completion, depth_of, homonyms_at, progress_at, waiting};
 
-use crate::names::last_of;
 use al_base::{Name, NoMemory, UnitKey, UnitKind};
 use al_decl_completion::Uncompleted;
 use al_decl_judged::Progress;
 use al_decl_type::{Homonyms, Words};
 use al_query::{Answers, Completion, Property, Query, Recorder};
+use al_query_outcome::last_of;
 use al_scope::Scope;
 use al_scope_seen::completions_seen_at;
 use al_tree::LibraryItem;

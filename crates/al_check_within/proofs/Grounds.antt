@@ -7,7 +7,8 @@ use Rattle.al_query.specs.Reads.{Log}
 use Rattle.al_query.specs.declared.query.Query.{Query}
 use Rattle.al_query.proofs.AskLemmas.{asks_of-grounded, asks_of-known, asks_of-wanted, asks_then}
 use Rattle.al_query.proofs.KnownLemmas.{are_known, known_after-more}
-use Rattle.al_check_bounds.specs.Bounding.{AreWordsOrTold, AsksByNames, allowed}
+use Rattle.al_query_outcome.specs.ReadsLaw.{AsksByNames}
+use Rattle.al_check_bounds.specs.Bounding.{AreWordsOrTold, allowed}
 use Rattle.al_check_bounds.specs.declared.bounds.Bounds.{Bounds}
 use Rattle.al_check_bounds.proofs.NameLemmas.{asks-by-names, by-property, no_names, told-later, within-bounds}
 

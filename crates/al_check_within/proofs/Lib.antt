@@ -2,3 +2,4 @@ pub mod Bounding
 pub mod Grounds
 pub mod WereShown
 pub mod WordLemmas
+pub mod LeftLemmas

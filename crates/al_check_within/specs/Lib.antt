@@ -1,3 +1,4 @@
 pub mod Verdicts
 pub mod Within
-pub mod Words
+pub mod Segments
+pub mod LeftHere

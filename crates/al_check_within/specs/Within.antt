@@ -12,18 +12,21 @@ use Rattle.al_query.specs.Asked.{AsksOf, by_property}
 use Rattle.al_query.specs.Known.{AreKnown, Grounded, known_after}
 use Rattle.al_query.specs.Reads.{HoldsBy, Log, Table}
 use Rattle.al_view_typed.specs.UnitTrees.{UnitTree}
+use Rattle.al_query_outcome.specs.Defines.{DefinesParts}
 use Rattle.al_query_outcome.specs.ReadsLaw.{AsksOthers, named_by}
 use Rattle.al_query_outcome.specs.Results.{Outcome}
 use Rattle.al_query_outcome.specs.declared.interface.UnitInterface.{UnitInterface}
 use Rattle.al_check_bounds.specs.Bounding.{AreWordsOrTold, bounded}
 use Rattle.al_check_bounds.specs.declared.bounds.Bounds.{Bounds}
 use Rattle.al_check_promises.specs.Laws.{Promised}
-use Rattle.al_check_promises.specs.SelfChecks.{checked_faults, self_checked}
+use Rattle.al_check_promises.specs.SelfChecks.{checked_faults, is_kept, self_checked}
 use Rattle.al_check_asked.specs.Questions.{shown_by}
 use Rattle.al_check_asked.specs.declared.wanted.Wanted.{Wanted}
+use Rattle.al_check_within.specs.LeftHere.{completed_by}
 use Rattle.al_check_within.specs.Verdicts.{Verdict}
 use Rattle.al_check_within.specs.Verdicts.Verdict.{Wrong, Right}
-use Rattle.al_check_within.specs.Words.{segments_from, words_of}
+use Rattle.al_query_outcome.specs.Words.{words_of}
+use Rattle.al_check_within.specs.Segments.{segments_from}
 
 -- which questions may show a unit what it uses of others: of the units that it knows, by the names that it may ask for, also before
 -- the stubs whose names its own name has
@@ -31,13 +34,13 @@ abbrev pub wanted_of : Bounds → Wanted
 wanted_of b = record { units = b.known; stubs = segments_from [] b.unit.name; names = b.names }
 
 -- what the check gives with what was found, under a table within the bounds
-abbrev pub concluded : Bounds → Verdict → Table → Outcome
-concluded b (Wrong faults) t = checked_faults b.unit faults
-concluded b (Right i tree) t = self_checked b.unit b.known (shown_by (wanted_of b) t) i tree
+abbrev pub concluded : Bounds → Header → Verdict → Table → Outcome
+concluded b h (Wrong faults) t = checked_faults b.unit faults
+concluded b h (Right i tree) t = self_checked b.unit b.known (shown_by (wanted_of b) t) (completed_by b h i tree t) i tree
 
 -- the same under a table, with what is found under it within the bounds
-abbrev pub concluded_in : Bounds → (Table → Verdict) → Table → Outcome
-concluded_in b verdict t = concluded b (verdict (bounded b t)) (bounded b t)
+abbrev pub concluded_in : Bounds → Header → (Table → Verdict) → Table → Outcome
+concluded_in b h verdict t = concluded b h (verdict (bounded b t)) (bounded b t)
 
 -- the bounds of a unit with that text that knows these units, and these names from answers: it asks by the words of the text and by those names
 abbrev pub bounds_of : UnitKey → List ℕ → List UnitKey → List (List ℕ) → Bounds
@@ -45,12 +48,12 @@ bounds_of unit text known told = record { unit = unit; known = known; names = in
 
 -- the check of a unit with a text that is read as this tree, by who is known, which names answers tell, and what is found
 abbrev pub meaning_within : (UnitKey → Header → Table → List UnitKey) → (UnitKey → Header → Table → List (List ℕ)) → (UnitKey → List ℕ → CompilationUnitTree → Table → Verdict) → UnitKey → List ℕ → CompilationUnitTree → Table → Outcome
-meaning_within units names verdict unit text tree t = concluded_in (bounds_of unit text (units unit (header_of tree) t) (names unit (header_of tree) t)) (verdict unit text tree) t
+meaning_within units names verdict unit text tree t = concluded_in (bounds_of unit text (units unit (header_of tree) t) (names unit (header_of tree) t)) (header_of tree) (verdict unit text tree) t
 
--- these views are some of those, and the unit is kept with these where it is with those
+-- these views are some of those, and the unit is kept with these just where it is with those
 pub record IsAsGood (b : Bounds) (i : UnitInterface) (tree : UnitTree) (views all : List ViewKind) : Type 0 where
   pub among : (v : ViewKind) → Contains views v → Contains all v
-  pub same : self_checked b.unit b.known views i tree ≡ self_checked b.unit b.known all i tree
+  pub same : is_kept b.unit b.known views i tree ≡ is_kept b.unit b.known all i tree
 
 -- these are the bounds of a unit with that header and that text, after what was asked for them
 pub record AreBounds (units : Table → List UnitKey) (names : Table → List (List ℕ)) (h : Header) (unit : UnitKey) (text : List ℕ) (log : Log) (b : Bounds) : Type 0 where
@@ -61,9 +64,10 @@ pub record AreBounds (units : Table → List UnitKey) (names : Table → List (L
   pub others : AsksOthers unit log
   pub known : AreKnown (known_after (named_by h) log) b.known
 
--- the check of a unit with that header gave this, by what was asked: what it means under every table that agrees, and what a check
--- promises
+-- the check of a unit with that header gave this, by what was asked: what it means under every table that agrees, what a check
+-- promises, and what it completes
 pub record IsChecked (unit : UnitKey) (h : Header) (means : Table → Outcome) (log : Log) (outcome : Outcome) : Type 0 where
   pub meaning : HoldsBy log (λ t. outcome ≡ means t)
   pub grounded : Grounded (named_by h) log
   pub promised : Promised unit (named_by h) log outcome
+  pub parts : HoldsBy log (λ t. DefinesParts unit h t outcome)

@@ -7,12 +7,12 @@ ghost use Rattle.al_unit_header.specs.Units as headers;
 ghost use Rattle.al_unit_graph.specs.Views.{header_model};
 ghost use Rattle.al_query.specs.Asked.{AsksOf, by_property};
 ghost use Rattle.al_query.specs.Reads.{Agrees, FromAnswers};
-ghost use Rattle.al_query_outcome.specs.ReadsLaw.{AsksOthers, named_by};
+ghost use Rattle.al_query_outcome.specs.ReadsLaw.{AsksByNames, AsksOthers, named_by};
 ghost use Rattle.al_query_outcome.specs.Results.{checked_model};
-ghost use Rattle.al_check_bounds.specs.Bounding.{AreWordsOrTold, AsksByNames, allowed, bounded};
+ghost use Rattle.al_check_bounds.specs.Bounding.{AreWordsOrTold, allowed, bounded};
 ghost use Rattle.al_check_within.specs.Verdicts.{verdict_of};
 ghost use Rattle.al_check_within.specs.Within.{AreBounds, IsChecked, meaning_within};
-ghost use Rattle.al_check_within.specs.Words.{words_of};
+ghost use Rattle.al_query_outcome.specs.Words.{words_of};
 
 use crate::concluding::concluded_within;
 use crate::finder::UnitFinder;
@@ -57,17 +57,16 @@ fn bounds_of<F: UnitFinder, A: Answers>(
     finder: &F,
     unit: &UnitKey,
     text: &[u8],
-    tree: &CompilationUnit,
+    header: &Header,
     recorder: &mut Recorder<A>,
 ) -> Result<Bounds, NoMemory>
     requires text { length text.now ≤ 4294967294 }
     requires log { recorder.old.log ≡ [] }
     ensures asked { recorder.new.asked ≡ recorder.old.asked }
-    ensures bounds { IfOk result (λ bounds. AreBounds (F.units unit.now (headers.header_of (unit_model tree.now))) (F.names unit.now (headers.header_of (unit_model tree.now))) (headers.header_of (unit_model tree.now)) unit.now text.now recorder.new.log bounds) }
+    ensures bounds { IfOk result (λ bounds. AreBounds (F.units unit.now (header_model header.now)) (F.names unit.now (header_model header.now)) (header_model header.now) unit.now text.now recorder.new.log bounds) }
 {
-    let header = header_of(alloc, tree)?;
-    let known = finder.units_known(alloc, unit, &header, recorder)?;
-    let names = names_of(alloc, finder, unit, text, &header, recorder)?;
+    let known = finder.units_known(alloc, unit, header, recorder)?;
+    let names = names_of(alloc, finder, unit, text, header, recorder)?;
     let unit = copied_unit(alloc, unit)?;
     Ok(Bounds {
         unit,
@@ -122,8 +121,9 @@ pub fn check_within<F: UnitFinder, A: Answers>(
     ensures others { OnOk result (AsksOthers unit.now recorder.new.log) }
     ensures names { OnOk result (AsksByNames unit.now (words_of text.now) recorder.new.log) }
 {
-    let bounds = bounds_of(alloc, finder, unit, text, tree, recorder)?;
+    let header = header_of(alloc, tree)?;
+    let bounds = bounds_of(alloc, finder, unit, text, &header, recorder)?;
     let found = found_within(alloc, finder, &bounds, text, tree, recorder)?;
-    let checked = concluded_within(alloc, &bounds, found, recorder)?;
+    let checked = concluded_within(alloc, &bounds, &header, found, recorder)?;
     Ok(checked)
 }

@@ -5,6 +5,7 @@ mod checking;
 mod concluding;
 mod finder;
 mod finding;
+mod left;
 mod segments;
 mod shown;
 mod words;

@@ -1,6 +1,6 @@
 // The identifiers of a unit's name.
 ghost use Rattle.std.specs.Prelude.{◌≡◌, ℕ, List, ◌∷◌, ◌++◌, [], IfOk, OnOk};
-ghost use Rattle.al_check_within.specs.Words.{segments_from};
+ghost use Rattle.al_check_within.specs.Segments.{segments_from};
 
 use al_base::{Name, NoMemory};
 use al_view::Seq;

@@ -3,7 +3,7 @@ ghost use Rattle.std.specs.Prelude.{◌≡◌, ◌≤◌, [], length, map, IfOk,
 ghost use Rattle.std.specs.Str.{bytes_eq};
 ghost use Rattle.std.specs.Char.{to_ascii_lowercase};
 ghost use Rattle.indexmap.specs.IndexSet.{insert_all, insert_key};
-ghost use Rattle.al_check_within.specs.Words.{word_of, words_of};
+ghost use Rattle.al_query_outcome.specs.Words.{word_of, words_of};
 
 use al_base::{Name, NoMemory};
 use al_check_asked::NameSet;
@@ -31,7 +31,7 @@ fn words_in(alloc: Global, text: &[u8], tokens: &[Token]) -> Result<NameSet, NoM
 }
 
 /// The words of a text in lower case, each once; none of a text with a lexical fault.
-#[tactic(auto, unfolding(crate::specs::Words::words_of))]
+#[tactic(auto, unfolding(al_query_outcome::specs::Words::words_of))]
 pub(crate) fn words_of(alloc: Global, text: &[u8]) -> Result<NameSet, NoMemory>
     requires { length text.now ≤ 4294967294 }
     ensures { IfOk result (λ words. words ≡ words_of text.now) }

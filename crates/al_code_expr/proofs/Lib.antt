@@ -2,3 +2,4 @@ pub mod Copies
 pub mod Layers
 pub mod Lists
 pub mod CodelessLemmas
+pub mod ChainLemmas

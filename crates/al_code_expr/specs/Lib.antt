@@ -1,3 +1,4 @@
 pub mod Pieces
 pub mod Templates
 pub mod Codeless
+pub mod Chains

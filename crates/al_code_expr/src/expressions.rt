@@ -2,10 +2,12 @@
 ghost use Rattle.std.specs.Prelude.{◌≡◌, OnOk, map};
 ghost use Rattle.al_view_typed.specs.ExpressionViews.{actual_model, actuals_of, call_model, form_model, name_model, typed_model, value_model, values_of};
 ghost use Rattle.al_code_output.specs.Written.{written};
+ghost use Rattle.al_code_expr.specs.Chains.{sign_code};
 ghost use Rattle.al_code_expr.specs.Pieces.{times};
 ghost use Rattle.al_code_expr.specs.Templates.{address_of, all_passed_code, call_code, checked_code, components_code, converted_code, form_code, passed_code, short_code, value_of, variable_code, variables_code};
 
 use crate::calls::{emit_copies, emit_flag, emit_formal, emit_mark, emit_routine};
+use crate::chain::{Chain, Sign, chain_of};
 use crate::codeless::is_codeless_value;
 use crate::operators::{
     emit_above, emit_below, emit_binary, emit_index, emit_kept, emit_negation, emit_step,
@@ -22,10 +24,42 @@ use al_view_typed::{
     Actual, CheckedValue, Conversion, Form, ShortCircuit, Typed, TypedCall, TypedName,
 };
 
-/// The value of an expression, in a body of so much nesting.
+/// The value of an expression, in a body of so much nesting. A chain of operators takes nothing of the stack for each.
+#[cycle(expression)]
+#[tactic(auto, using(al_code_output::proofs::Writing::written_append, crate::proofs::ChainLemmas::next_written, crate::proofs::ChainLemmas::popped_below))]
+pub fn emit_value(out: &mut Output, depth: u32, typed: &Typed) -> Result<(), NoMemory>
+    ensures { OnOk result (out.new ≡ written out.old (value_of depth (typed_model typed.now))) }
+{
+    let Some(chain) = chain_of(out.alloc(), typed)? else {
+        return emit_single(out, depth, typed);
+    };
+    let Chain { first, mut joints } = chain;
+    emit_value(out, depth, first)?;
+    while let Some(joint) = joints.pop() {
+        emit_joint(out, depth, joint.sign, joint.right)?;
+    }
+    Ok(())
+}
+
+/// What follows the left operand of a link.
+#[cycle(expression)]
+#[tactic(auto, using(al_code_output::proofs::Writing::written_append))]
+fn emit_joint(out: &mut Output, depth: u32, sign: Sign, right: &Typed) -> Result<(), NoMemory>
+    ensures { OnOk result (out.new ≡ written out.old (sign_code sign (value_of depth (typed_model right.now)))) }
+{
+    match sign {
+        Sign::Operator(operator, words) => {
+            emit_value(out, depth, right)?;
+            emit_binary(out, operator, words)
+        }
+        Sign::ShortCircuit(operator) => emit_short(out, depth, operator, right),
+    }
+}
+
+/// The value of an expression by its form.
 #[cycle(expression)]
 #[tactic(auto, using(crate::proofs::Layers::typed_layers))]
-pub fn emit_value(out: &mut Output, depth: u32, typed: &Typed) -> Result<(), NoMemory>
+fn emit_single(out: &mut Output, depth: u32, typed: &Typed) -> Result<(), NoMemory>
     ensures { OnOk result (out.new ≡ written out.old (value_of depth (typed_model typed.now))) }
 {
     match &typed.labels.value {

@@ -2,6 +2,7 @@
 #![tactic(auto)]
 
 mod calls;
+mod chain;
 mod codeless;
 mod expressions;
 mod operators;

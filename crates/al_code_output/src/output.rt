@@ -79,6 +79,11 @@ impl Output {
         }
     }
 
+    /// What takes its memory.
+    pub fn alloc(&self) -> Global {
+        self.alloc
+    }
+
     /// How many bytes were written.
     pub fn len(&self) -> usize
         ensures { IfSome self.now (λ b. result ≡ length b.code) }

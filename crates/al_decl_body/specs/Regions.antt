@@ -5,11 +5,10 @@ use Rattle.al_decl_here.specs.Inner.{in_region}
 use Rattle.al_decl_here.specs.declared.env.Environment.{Environment}
 use Rattle.al_scope.specs.Places.{Place, entered_construct}
 use Rattle.al_scope.specs.declared.region.Region.{Region}
-use Rattle.al_decl_profile.specs.Frames.{entered, formal_declarations, left_body, with_formals}
+use Rattle.al_decl_profile.specs.Frames.{entered, formal_declarations, with_formals}
 use Rattle.al_decl_profile.specs.declared.frame.NewFormal.{NewFormal}
 use Rattle.al_view.specs.declared.symbol.Symbol.{Symbol}
 use Rattle.al_decl_body.specs.declared.block.Outside.{Outside}
-use Rattle.al_decl_body.specs.declared.body.OuterFrame.{OuterFrame}
 
 -- what waits and what is declared at a place
 abbrev pub outside_of : Environment → Outside
@@ -45,6 +44,3 @@ subprogram_entered h symbol = set_aside (record h {
 -- the formals take the first words of the frame, and are visible
 abbrev pub with_formals_declared : Environment → List NewFormal → Environment
 with_formals_declared h formals = with_declarations (record h { progress = with_formals h.progress formals }) (formal_declarations h.progress formals)
-
-abbrev pub subprogram_left : Environment → List Region → OuterFrame → Outside → Environment
-subprogram_left h outer f o = taken_back (record h { scope = in_regions h.scope outer; progress = left_body f.depth f.word h.progress }) o

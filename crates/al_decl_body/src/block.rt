@@ -1,11 +1,10 @@
 // Blocks at a place (ARM 5.6, 8.1).
-ghost use Rattle.std.specs.Prelude.{◌≡◌, ◌<◌, ◌++◌, ◌∷◌, [], List, length, IfOk, OnOk};
-ghost use Rattle.al_decl_body.specs.Regions.{block_entered, block_left, outside_of, set_aside, taken_back};
-ghost use Rattle.al_scope.specs.declared.region.Region.{Region};
+ghost use Rattle.std.specs.Prelude.{◌≡◌, IfOk, OnOk};
+ghost use Rattle.al_decl_body.specs.Regions.{block_entered, outside_of, set_aside, taken_back};
 
 use al_base::NoMemory;
 use al_decl_completion::Uncompleted;
-use al_decl_here::{Environment, enter_region, leave_region};
+use al_decl_here::{Environment, enter_region};
 use al_view::Interface;
 use std::alloc::Global;
 use std::mem;
@@ -17,8 +16,8 @@ pub struct Outside {
     pub declared: Interface,
 }
 
-/// Nothing waits and nothing is declared from here on.
-pub(crate) fn set_aside(alloc: Global, env: &mut Environment) -> Outside
+/// Nothing waits and nothing is declared from here on: what did.
+pub fn set_aside(alloc: Global, env: &mut Environment) -> Outside
     ensures env { env.new ≡ set_aside env.old }
     ensures outside { result ≡ outside_of env.old }
 {
@@ -31,7 +30,7 @@ pub(crate) fn set_aside(alloc: Global, env: &mut Environment) -> Outside
 }
 
 /// What waited and was declared goes on.
-pub(crate) fn take_back(env: &mut Environment, outside: Outside)
+pub fn take_back(env: &mut Environment, outside: Outside)
     ensures { env.new ≡ taken_back env.old outside }
 {
     let Outside {
@@ -49,13 +48,4 @@ pub fn enter_block(alloc: Global, env: &mut Environment) -> Result<Outside, NoMe
 {
     enter_region(alloc, &mut env.scope)?;
     Ok(set_aside(alloc, env))
-}
-
-/// Leaves it: the regions round it, what waited there and what was declared are as they were; the words that it took are taken.
-pub fn leave_block(env: &mut Environment, outside: Outside)
-    requires { 0 < length env.old.scope.regions }
-    ensures { (outer : List Region) (inner : Region) → env.old.scope.regions ≡ outer ++ inner ∷ [] → env.new ≡ block_left env.old outer outside }
-{
-    leave_region(&mut env.scope);
-    take_back(env, outside);
 }

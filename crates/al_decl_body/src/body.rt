@@ -1,17 +1,14 @@
 // Bodies of subprograms at a place (ARM 6.3, 8.1).
-ghost use Rattle.std.specs.Prelude.{◌≡◌, ◌<◌, ◌++◌, ◌∷◌, [], List, length, IfOk, OnOk};
+ghost use Rattle.std.specs.Prelude.{◌≡◌, ◌<◌, length, IfOk, OnOk};
 ghost use Rattle.std.specs.List.{filter_map};
 ghost use Rattle.al_decl_here.specs.Declaring.{with_declarations};
-ghost use Rattle.al_decl_body.specs.Regions.{outside_of, subprogram_entered, subprogram_left, with_formals_declared};
-ghost use Rattle.al_scope.specs.declared.region.Region.{Region};
+ghost use Rattle.al_decl_body.specs.Regions.{outside_of, subprogram_entered, with_formals_declared};
 ghost use Rattle.al_decl_profile.specs.Frames.{formal_words, new_formal};
 
-use crate::block::{Outside, set_aside, take_back};
+use crate::block::{Outside, set_aside};
 use al_base::NoMemory;
-use al_decl_here::{Environment, leave_region};
-use al_decl_profile::{
-    Formals, Heading, NewFormal, declare_formals, enter_body, leave_body, new_formals,
-};
+use al_decl_here::Environment;
+use al_decl_profile::{Formals, Heading, NewFormal, declare_formals, enter_body, new_formals};
 use al_view::{Seq, Symbol};
 use al_view_predefined::StandardTypes;
 use al_view_typed::FormalWords;
@@ -83,14 +80,4 @@ pub fn declare_all_formals(
 {
     let formals = new_formals(alloc, heading.formals.as_slice())?;
     declare_each(alloc, standard, env, formals.as_slice())
-}
-
-/// Leaves the body: what stands round it is as it was; the names and the unit's words that it took are taken.
-pub fn leave_subprogram(env: &mut Environment, frame: OuterFrame, outside: Outside)
-    requires { 0 < length env.old.scope.regions }
-    ensures { (outer : List Region) (inner : Region) → env.old.scope.regions ≡ outer ++ inner ∷ [] → env.new ≡ subprogram_left env.old outer frame outside }
-{
-    leave_region(&mut env.scope);
-    leave_body(&mut env.progress, (frame.depth, frame.word));
-    take_back(env, outside);
 }

@@ -4,5 +4,5 @@
 mod block;
 mod body;
 
-pub use block::{Outside, enter_block, leave_block};
-pub use body::{OuterFrame, declare_all_formals, enter_subprogram, leave_subprogram};
+pub use block::{Outside, enter_block, set_aside, take_back};
+pub use body::{OuterFrame, declare_all_formals, enter_subprogram};

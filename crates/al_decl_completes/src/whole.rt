@@ -8,8 +8,8 @@ ghost use Rattle.al_decl_completes.specs.CompletingFound.{conformance, unit_comp
 use al_base::{NoMemory, Place, Rule};
 use al_base_fault::Fault;
 use al_decl_completion::{Specification, Uncompleted, conformance_fault};
-use al_decl_profile::{Completing, Heading, specification_of};
-use al_view::{ObjectPlace, Profile, SubprogramView, ViewKind};
+use al_decl_profile::{Completing, Heading, copied_flag, specification_of};
+use al_view::{Profile, SubprogramView, ViewKind};
 use std::alloc::Global;
 
 /// E303 at that place, unless the specification conforms.
@@ -17,18 +17,6 @@ fn conformance(place: Place, specification: &Specification, profile: &Profile) -
     ensures { result ≡ conformance place specification.now profile.now }
 {
     conformance_fault(place, specification, profile)
-}
-
-fn copied_flag(alloc: Global, flag: &Option<ObjectPlace>) -> Result<Option<ObjectPlace>, NoMemory>
-    ensures { IfOk result (λ copy. copy ≡ flag.now) }
-{
-    match flag {
-        Some(flag) => {
-            let copy = flag.copy(alloc)?;
-            Ok(Some(copy))
-        }
-        None => Ok(None),
-    }
 }
 
 /// What waits first is this subprogram.

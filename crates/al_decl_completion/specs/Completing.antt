@@ -2,7 +2,6 @@
 use Rattle.std.specs.Prelude.{◌≡◌, ℕ, ◌<◌, Bool, true, false, List, length, IsTrue, IsFalse, slice_index_or}
 use Rattle.al_view.specs.declared.view.CallKind.{CallKind}
 use Rattle.al_view.specs.declared.view.CallKind.TheVariants as call
-use Rattle.al_view.specs.declared.view.Operation.{Operation}
 use Rattle.al_view.specs.declared.view.SubprogramView.{SubprogramView}
 use Rattle.al_view.specs.declared.view.ViewKind.{ViewKind}
 use Rattle.al_view.specs.declared.view.ViewKind.TheVariants.{OfSubprogram, OfTask, OfProtected}
@@ -32,10 +31,6 @@ IsBodyOf _ _ = ⊥
 -- a body of this name completes a declaration
 abbrev pub Completes : List ℕ → BodyHead → Completion → Type 0
 Completes name h c = (c.name ≡ name) × IsBodyOf h c.view
-
--- a body of this name, in a protected body, completes an operation of the protected object (ARM 9.4(11))
-abbrev pub CompletesOperation : List ℕ → BodyHead → Operation → Type 0
-CompletesOperation name h o = (o.name ≡ name) × IsSubprogramBodyOf h o.subprogram
 
 -- the first element of a list of which P holds
 pub record IsFirst {X : Type 0} (P : X → Type 0) (xs : List X) (i : ℕ) : Type 0 where

@@ -1,12 +1,12 @@
 // Which declaration a body completes.
 ghost use Rattle.std.specs.Prelude.{◌≡◌, ◌↔◌, IsTrue, MatchOption};
 ghost use Rattle.std.specs.List.{All};
-ghost use Rattle.al_decl_completion.specs.Completing.{Completes, CompletesOperation, IsBodyOf, IsFirst, IsSubprogramBodyOf, is_entry};
+ghost use Rattle.al_decl_completion.specs.Completing.{Completes, IsBodyOf, IsFirst, IsSubprogramBodyOf, is_entry};
 
 use crate::conformance::has_types_of;
 use crate::specification::BodyHead;
 use al_query::Completion;
-use al_view::{CallKind, Operation, SubprogramView, ViewKind};
+use al_view::{CallKind, SubprogramView, ViewKind};
 
 fn is_entry(call: &CallKind) -> bool
     ensures { result ≡ is_entry call.now }
@@ -51,28 +51,6 @@ pub(crate) fn completed_of(declared: &[Completion], name: &[u8], head: &BodyHead
 {
     for i in 0..declared.len() {
         if completes(name, head, &declared[i]) {
-            return Some(i);
-        }
-    }
-    None
-}
-
-fn completes_operation(name: &[u8], head: &BodyHead, operation: &Operation) -> bool
-    ensures { IsTrue result ↔ CompletesOperation name.now head.now operation.now }
-{
-    operation.name.as_slice() == name && is_subprogram_body_of(head, &operation.subprogram)
-}
-
-/// The operation of a protected object that a body in its protected body completes, by its number; none where it completes none.
-pub fn operation_completed_by(
-    operations: &[Operation],
-    name: &[u8],
-    head: &BodyHead,
-) -> Option<usize>
-    ensures { MatchOption result (All (λ o. CompletesOperation name.now head.now o → ⊥) operations.now) (IsFirst (CompletesOperation name.now head.now) operations.now) }
-{
-    for i in 0..operations.len() {
-        if completes_operation(name, head, &operations[i]) {
             return Some(i);
         }
     }

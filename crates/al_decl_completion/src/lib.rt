@@ -8,7 +8,7 @@ mod specification;
 mod standing;
 mod uncompleted;
 
-pub use completing::{completes, operation_completed_by};
+pub use completing::completes;
 pub use conformance::{conformance_fault, conforms, has_types_of};
 pub use laws::a_specification_has_the_types_of_one_signature;
 pub use specification::{BodyHead, Formal, Returned, Specification};

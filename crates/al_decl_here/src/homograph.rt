@@ -1,7 +1,7 @@
 // Homographs of what is declared (ARM 8.3(26)).
 ghost use Rattle.std.specs.Prelude.{◌≡◌, ◌<◌, ◌∷◌, [], length, not, IfOk};
 ghost use Rattle.std.specs.List.{list_any};
-ghost use Rattle.al_decl_judged.specs.DefiningNames.{duplicate_at, names_of};
+ghost use Rattle.al_decl_judged.specs.DefiningNames.{names_of};
 ghost use Rattle.al_decl_here.specs.Declaring.{duplicate, duplicates, overloaded_duplicate, overloaded_duplicates};
 ghost use Rattle.al_query.specs.Asked.{AsksOf, by_name};
 ghost use Rattle.al_query.specs.Reads.{FromAnswers};
@@ -9,23 +9,13 @@ ghost use Rattle.al_scope.specs.Places.{inner_parts, part_units};
 ghost use Rattle.al_view.specs.Homographs.{may_be_overloaded};
 ghost use Rattle.al_view.specs.declared.view.ViewKind.TheVariants.{OfComponent};
 
-use al_base::{NoMemory, Rule};
+use al_base::NoMemory;
 use al_base_fault::{Fault, earlier};
-use al_decl_judged::DefiningName;
+use al_decl_judged::{DefiningName, duplicate_at};
 use al_query::{Answers, Recorder};
 use al_scope::Scope;
 use al_view::{View, ViewKind};
 use std::alloc::Global;
-
-fn duplicate_at(name: &DefiningName) -> Fault
-    ensures { result ≡ duplicate_at name.now }
-{
-    let code = Rule::Duplicate.number();
-    Fault {
-        place: name.place,
-        code,
-    }
-}
 
 /// E301 at a name of which the innermost region has a homograph of that view.
 pub fn duplicate<A: Answers>(

@@ -14,7 +14,7 @@ mod type_kind;
 
 pub use declared::Declared;
 pub use mark::{index_of_bounds, index_of_mark, indication};
-pub use names::{DefiningName, TypeName, named_so, repeated};
+pub use names::{DefiningName, TypeName, duplicate_at, named_so, repeated};
 pub use new_object::{NewObject, ObjectType, copied_subtype, new_objects};
 pub use number::declare_numbers;
 pub use object::declare_objects;

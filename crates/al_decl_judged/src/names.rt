@@ -1,7 +1,5 @@
 // Names that a declaration declares, and those that stand twice in it (ARM 8.3(26)).
 ghost use Rattle.std.specs.Prelude.{◌≡◌, [], IfOk, OnOk};
-ghost use Rattle.std.specs.List.{list_any};
-ghost use Rattle.std.specs.Str.{bytes_eq};
 ghost use Rattle.al_decl_judged.specs.DefiningNames.{duplicate_at, named_so, names_of, repeated};
 ghost use Rattle.al_decl_judged.specs.Progressing.{with_all_counted};
 
@@ -9,6 +7,7 @@ use crate::progress::Progress;
 use al_base::{Name, NoMemory, Place, Rule};
 use al_base_fault::Fault;
 use al_view::{Seq, Symbol};
+use indexmap::IndexSet;
 use std::alloc::Global;
 
 /// A defining name in lower case, and where it stands.
@@ -38,7 +37,8 @@ impl Drop for TypeName {
     }
 }
 
-fn duplicate_at(name: &DefiningName) -> Fault
+/// E301 at that name.
+pub fn duplicate_at(name: &DefiningName) -> Fault
     ensures { result ≡ duplicate_at name.now }
 {
     let code = Rule::Duplicate.number();
@@ -48,24 +48,19 @@ fn duplicate_at(name: &DefiningName) -> Fault
     }
 }
 
-fn is_among(names: &[DefiningName], name: &DefiningName) -> bool
-    ensures { result ≡ list_any (λ m. bytes_eq m.name name.now.name) names.now }
-{
-    let spelled = name.name.as_slice();
-    names.iter().any(|other| other.name.as_slice() == spelled)
-}
-
 /// E301 at the first of these names that stands before it among them.
-pub fn repeated(names: &[DefiningName]) -> Option<Fault>
-    ensures { result ≡ repeated [] names.now }
+pub fn repeated(alloc: Global, names: &[DefiningName]) -> Result<Option<Fault>, NoMemory>
+    ensures { IfOk result (λ fault. fault ≡ repeated [] names.now) }
 {
-    for i in 0..names.len() {
-        let name = &names[i];
-        if is_among(&names[..i], name) {
-            return Some(duplicate_at(name));
+    let mut seen: IndexSet<Name> = IndexSet::new(alloc);
+    for name in names {
+        if seen.contains(&name.name) {
+            return Ok(Some(duplicate_at(name)));
         }
+        let spelled = Name::from_slice(alloc, name.name.as_slice())?;
+        seen.insert(spelled)?;
     }
-    None
+    Ok(None)
 }
 
 /// E301 at the first of these names that is this one.

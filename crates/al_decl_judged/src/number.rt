@@ -51,7 +51,8 @@ pub fn declare_numbers(
 ) -> Result<CheckResult<Declared>, NoMemory>
     ensures { IfOk result (λ checked. joined progress.new (map_ok declared_model checked) ≡ numbers_declared progress.old names.now duplicate value) }
 {
-    let value = match unless(earlier(duplicate, repeated(names)), value) {
+    let twice = repeated(alloc, names)?;
+    let value = match unless(earlier(duplicate, twice), value) {
         Ok(value) => value,
         Err(fault) => return Ok(Err(fault)),
     };

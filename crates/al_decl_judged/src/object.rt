@@ -27,17 +27,18 @@ use al_view_typed::{CheckedValue, DeclarationForm, Typed, TypedDeclaration};
 use std::alloc::Global;
 
 fn objects_fault(
+    alloc: Global,
     is_constant: bool,
     has_value: bool,
     duplicate: Option<Fault>,
     names: &[DefiningName],
-) -> Option<Fault>
-    ensures { result ≡ objects_fault is_constant has_value duplicate names.now }
+) -> Result<Option<Fault>, NoMemory>
+    ensures { IfOk result (λ fault. fault ≡ objects_fault is_constant has_value duplicate names.now) }
 {
-    let twice = earlier(duplicate, repeated(names));
+    let twice = earlier(duplicate, repeated(alloc, names)?);
     match names.first() {
-        Some(name) => earlier(twice, missing_value(is_constant, has_value, name.place)),
-        None => twice,
+        Some(name) => Ok(earlier(twice, missing_value(is_constant, has_value, name.place))),
+        None => Ok(twice),
     }
 }
 
@@ -230,7 +231,7 @@ pub fn declare_objects(
 ) -> Result<CheckResult<Declared>, NoMemory>
     ensures { IfOk result (λ checked. joined progress.new (map_ok declared_model checked) ≡ objects_declared progress.old line is_constant duplicate names.now objects (option_map (map_ok typed_model) value)) }
 {
-    let fault = objects_fault(is_constant, value.is_some(), duplicate, names);
+    let fault = objects_fault(alloc, is_constant, value.is_some(), duplicate, names)?;
     match unless(fault, both(objects, optional_value(value))) {
         Ok((objects, value)) => {
             let objects = objects.as_slice();

@@ -10,7 +10,6 @@ use al_view_typed::{DataPlace, ProtectedWords};
 use std::alloc::Global;
 
 /// How far the check of a unit's text has come: what the declarations before a place have taken.
-#[derive(Drop)]
 pub struct Progress {
     pub unit: UnitKey,
     /// In how many bodies the place stands; 0 is library level, where there is no frame.
@@ -27,7 +26,45 @@ pub struct Progress {
     pub protected_objects: Seq<ProtectedWords>,
 }
 
+impl Drop for Progress {
+    fn drop(self) {
+        let Progress {
+            unit: _,
+            depth: _,
+            words: _,
+            homonyms: _,
+            objects: _,
+            flags: _,
+            protected_objects: _,
+        } = self;
+    }
+}
+
 impl Progress {
+    /// The unit, the next words, and the unit's objects, flags and protected objects. It takes no memory.
+    pub fn into_parts(
+        self,
+    ) -> (
+        UnitKey,
+        Words,
+        Seq<DataPlace>,
+        Seq<DataPlace>,
+        Seq<ProtectedWords>,
+    )
+        ensures { result ≡ (self.unit, self.words, self.objects, self.flags, self.protected_objects) }
+    {
+        let Progress {
+            unit,
+            depth: _,
+            words,
+            homonyms: _,
+            objects,
+            flags,
+            protected_objects,
+        } = self;
+        (unit, words, objects, flags, protected_objects)
+    }
+
     /// Whether what is declared here is at library level.
     pub fn is_library_level(&self) -> bool
         ensures { result ≡ is_library_level self.now }

@@ -117,10 +117,15 @@ pub fn declare_integer(
     with_type(alloc, progress, name, duplicate, &literals, types)
 }
 
-fn literals_fault(name: &DefiningName, literals: &[DefiningName]) -> Option<Fault>
-    ensures { result ≡ literals_fault name.now literals.now }
+fn literals_fault(
+    alloc: Global,
+    name: &DefiningName,
+    literals: &[DefiningName],
+) -> Result<Option<Fault>, NoMemory>
+    ensures { IfOk result (λ fault. fault ≡ literals_fault name.now literals.now) }
 {
-    earlier(named_so(name.name.as_slice(), literals), repeated(literals))
+    let twice = repeated(alloc, literals)?;
+    Ok(earlier(named_so(name.name.as_slice(), literals), twice))
 }
 
 /// `type N is (L, L, ..)` (ARM 3.5.1). `duplicate` is E301 at the first of the name and the literals whose region has a homograph.
@@ -133,7 +138,8 @@ pub fn declare_enumeration(
 ) -> Result<CheckResult<Declared>, NoMemory>
     ensures { IfOk result (λ checked. joined progress.new (map_ok declared_model checked) ≡ enumeration_declared progress.old name.now duplicate literals.now) }
 {
-    let fault = earlier(duplicate, literals_fault(&name.defining, literals));
+    let fault = literals_fault(alloc, &name.defining, literals)?;
+    let fault = earlier(duplicate, fault);
     let symbol = progress.type_symbol(alloc, name)?;
     let literals = Names::new(alloc, names_of(alloc, literals)?)?;
     let types = enumeration_type(alloc, &symbol, &literals)?;

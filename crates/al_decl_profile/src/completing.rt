@@ -45,7 +45,11 @@ fn subprogram_in(view: &ViewKind) -> &SubprogramView
     }
 }
 
-fn copied_flag(alloc: Global, flag: &Option<ObjectPlace>) -> Result<Option<ObjectPlace>, NoMemory>
+/// The same flag once more.
+pub fn copied_flag(
+    alloc: Global,
+    flag: &Option<ObjectPlace>,
+) -> Result<Option<ObjectPlace>, NoMemory>
     ensures { IfOk result (λ copy. copy ≡ flag.now) }
 {
     match flag {

@@ -37,7 +37,8 @@ pub struct Heading {
     pub returned: ReturnedPart,
 }
 
-fn is_function(returned: &ReturnedPart) -> bool
+/// Whether what returns this is a function.
+pub fn is_function(returned: &ReturnedPart) -> bool
     ensures { result ≡ is_function returned.now }
 {
     match returned {
@@ -103,11 +104,12 @@ pub fn heading_fault(alloc: Global, heading: &Heading) -> Result<Option<Fault>, 
     ensures { IfOk result (λ fault. fault ≡ heading_fault heading.now) }
 {
     let names = formal_names(alloc, heading.formals.as_slice())?;
+    let twice = repeated(alloc, names.as_slice())?;
     let dotted = dotted_name_fault(heading.name.place, heading.is_dotted, false);
     let of_function = is_function(&heading.returned);
     let formals = formals_fault(of_function, heading.formals.as_slice());
     Ok(earlier(
-        earlier(dotted, repeated(names.as_slice())),
+        earlier(dotted, twice),
         earlier(formals, returned_fault(&heading.returned)),
     ))
 }

@@ -107,7 +107,8 @@ pub fn names_fault<A: Answers>(
     ensures answered { IfOk result (λ fault. FromAnswers recorder.old.log recorder.new.log (λ t. fault ≡ names_fault t scope.now names.now)) }
 {
     let duplicate = fixed_duplicates(alloc, scope, names, recorder)?;
-    Ok(earlier(duplicate, repeated(names)))
+    let twice = repeated(alloc, names)?;
+    Ok(earlier(duplicate, twice))
 }
 
 /// The components of these names after others: the names are begun, and then visible.

@@ -98,7 +98,10 @@ fn pair_index(
 {
     let bounds = static_pair(&pair);
     match pair {
-        Ok(pair) => index_of_bounds(labeller.alloc, pair.range.of, pair.range.types, bounds),
+        Ok(pair) => {
+            let (of, types) = pair.into_range().into_parts();
+            index_of_bounds(labeller.alloc, of, types, bounds)
+        }
         Err(fault) => Ok(Err(fault)),
     }
 }

@@ -48,7 +48,7 @@ neither true b h = absurd (cc)
 neither false b h = (refl, h)
 
 -- after one more type
-has-push : (types : List TypeView) (t : TypeView) (s : Symbol) → has (types ++ t ∷ []) s ≡ (has types s || (same_symbol t.symbol s || false))
+pub has-push : (types : List TypeView) (t : TypeView) (s : Symbol) → has (types ++ t ∷ []) s ≡ (has types s || (same_symbol t.symbol s || false))
 has-push types t s = list_any-append (λ u. same_symbol u.symbol s) types (t ∷ [])
 
 from_has : (types : List TypeView) (s : Symbol) → has types s ≡ true → is_known types s ≡ true

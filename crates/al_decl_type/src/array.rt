@@ -1,7 +1,7 @@
 // Array types (ARM 3.6).
 ghost use Rattle.std.specs.Prelude.{◌≡◌, ◌*◌, IfOk, option_map, unwrap_or};
 ghost use Rattle.al_decl_type.specs.Layouts.{limited, values_in};
-ghost use Rattle.al_decl_type.specs.Types.{array_type};
+ghost use Rattle.al_decl_type.specs.Types.{array_type, array_view};
 
 use crate::subtype::{bounds_of, is_null};
 use crate::type_list::{add_types, words_of};
@@ -43,6 +43,25 @@ fn array_words(index: Option<Bounds>, component: u32) -> Option<u32>
     }
 }
 
+fn array_view(
+    alloc: Global,
+    symbol: &Symbol,
+    index: &SubtypeView,
+    component: &SubtypeView,
+    layout: Layout,
+) -> Result<TypeView, NoMemory>
+    ensures { IfOk result (λ view. view ≡ record (array_view symbol.now index.now component.now) { layout = layout }) }
+{
+    let symbol = symbol.copy(alloc)?;
+    let index = index.subtype.copy(alloc)?;
+    let component = component.subtype.copy(alloc)?;
+    Ok(TypeView {
+        symbol,
+        definition: TypeDefinition::Array { index, component },
+        layout,
+    })
+}
+
 /// An array type after the types that it is of (ARM 3.6), each once and those of Standard left out: of an index subtype
 /// and a component subtype. E305 at its defining name where a value would have more than 4,096 words.
 pub fn array_type(
@@ -65,17 +84,11 @@ pub fn array_type(
     let mut types = Seq::empty(alloc);
     add_types(alloc, standard, &mut types, index.types.as_slice())?;
     add_types(alloc, standard, &mut types, component.types.as_slice())?;
-    let symbol = symbol.copy(alloc)?;
-    let index = index.subtype.copy(alloc)?;
-    let component = component.subtype.copy(alloc)?;
-    types.push(TypeView {
-        symbol,
-        definition: TypeDefinition::Array { index, component },
-        layout: Layout::Array {
-            component: each,
-            words,
-        },
-    })?;
+    let layout = Layout::Array {
+        component: each,
+        words,
+    };
+    types.push(array_view(alloc, symbol, index, component, layout)?)?;
     let types = Types::new(alloc, types)?;
     Ok(Ok(types))
 }

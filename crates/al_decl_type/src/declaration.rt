@@ -2,7 +2,7 @@
 ghost use Rattle.std.specs.Prelude.{◌≡◌, ◌-◌, ◌++◌, [], ◌∷◌, IfOk, OnOk, length, slice_get};
 ghost use Rattle.std.specs.Option.{option_copied};
 ghost use Rattle.al_view_predefined.specs.Operators.{operator_view, spelling};
-ghost use Rattle.al_view_predefined.specs.Standard.{literal};
+ghost use Rattle.al_view_predefined.specs.Standard.{literal, of_type};
 ghost use Rattle.al_decl_type.specs.Homonyms.{count_of, with_name};
 ghost use Rattle.al_decl_type.specs.TypeDeclarations.{declared_as, declared_by, declared_with, full_declared_by, later_signs, literals_from, next_symbol, operators_from, signs_of, spellings, with_names};
 
@@ -128,6 +128,21 @@ fn declare_signs(
     Ok(())
 }
 
+/// The type itself, with its literals.
+fn declare_type(
+    alloc: Global,
+    declared: &mut Seq<Declaration>,
+    types: &Types,
+    of: &TypeView,
+    literals: &Names,
+) -> Result<(), NoMemory>
+    ensures { OnOk result (declared.new ≡ declared.old ++ declared_as of.now.symbol.name (of_type types.now literals.now) ∷ []) }
+{
+    let view = of_type(alloc, types, literals.share()?)?;
+    declared.push(declared_as(alloc, of.symbol.name.as_slice(), view)?)?;
+    Ok(())
+}
+
 /// What the declaration of a type with these operators declares.
 fn declared_with(
     alloc: Global,
@@ -141,8 +156,7 @@ fn declared_with(
     ensures counted { OnOk result (homonyms.new ≡ with_names (with_names homonyms.old literals.now) (spellings signs.now)) }
 {
     let mut declared = Seq::empty(alloc);
-    let view = of_type(alloc, types, literals.share()?)?;
-    declared.push(declared_as(alloc, of.symbol.name.as_slice(), view)?)?;
+    declare_type(alloc, &mut declared, types, of, literals)?;
     let symbol = &of.symbol;
     declare_literals(
         alloc,

@@ -1,15 +1,11 @@
 // What declarations of objects declare (ARM 3.3.1, 3.3.2, 6.1).
 ghost use Rattle.std.specs.Prelude.{◌≡◌, IfOk};
-ghost use Rattle.al_decl_type.specs.Objects.{constant_value, formal_view, is_input, missing_value, number_view, object_view, subtype_view, whole_subtype};
+ghost use Rattle.al_decl_type.specs.Objects.{constant_value, formal_view, is_input, missing_value, number_view, object_view, subtype_view};
 
 use crate::subtype::is_within;
 use al_base::{NoMemory, Place};
 use al_base_fault::Fault;
-use al_view::{
-    Bounds, Mode, ObjectPlace, ObjectView, StaticValue, Subtype, SubtypeView, TypeView, Types,
-    View, ViewKind,
-};
-use al_view_predefined::no_names;
+use al_view::{Bounds, Mode, ObjectPlace, ObjectView, StaticValue, SubtypeView, View, ViewKind};
 use std::alloc::Global;
 
 /// A constant without a value is E309 at its name (ARM 3.3.1(6)).
@@ -104,18 +100,4 @@ pub fn subtype_view(alloc: Global, subtype: SubtypeView) -> Result<View, NoMemor
 {
     let view = View::new(alloc, ViewKind::OfSubtype(subtype))?;
     Ok(view)
-}
-
-/// All values of the last of these types, as an object of an anonymous array type has them (ARM 3.3.1(7)).
-pub fn whole_subtype(alloc: Global, types: &Types, of: &TypeView) -> Result<SubtypeView, NoMemory>
-    ensures { IfOk result (λ subtype. subtype ≡ whole_subtype types.now of.now) }
-{
-    Ok(SubtypeView {
-        subtype: Subtype {
-            base: of.symbol.copy(alloc)?,
-            bounds: of.definition.bounds(),
-        },
-        types: types.share()?,
-        literals: no_names(alloc)?,
-    })
 }

@@ -1,7 +1,7 @@
 // Record types (ARM 3.8).
-ghost use Rattle.std.specs.Prelude.{◌≡◌, ◌≤◌, IfOk, map, sum};
+ghost use Rattle.std.specs.Prelude.{◌≡◌, ◌≤◌, ◌++◌, [], ◌∷◌, IfOk, map, sum};
 ghost use Rattle.al_decl_type.specs.Layouts.{limited, offsets_from};
-ghost use Rattle.al_decl_type.specs.Types.{component_of, components_of, part_types, record_type, words_of};
+ghost use Rattle.al_decl_type.specs.Types.{component_of, components_of, part_types, record_type, record_view, words_of};
 
 use crate::array::MOST_WORDS;
 use crate::type_list::{add_types, words_of};
@@ -94,6 +94,39 @@ fn part_types(
     Ok(types)
 }
 
+fn record_view(
+    alloc: Global,
+    symbol: &Symbol,
+    parts: &[Part],
+    layout: Layout,
+) -> Result<TypeView, NoMemory>
+    ensures { IfOk result (λ view. view ≡ record (record_view symbol.now parts.now) { layout = layout }) }
+{
+    let symbol = symbol.copy(alloc)?;
+    let components = components_of(alloc, parts)?;
+    Ok(TypeView {
+        symbol,
+        definition: TypeDefinition::Record(components),
+        layout,
+    })
+}
+
+/// What a record type of these components is of and, last, the type itself.
+fn record_types(
+    alloc: Global,
+    standard: &StandardTypes,
+    symbol: &Symbol,
+    parts: &[Part],
+    layout: Layout,
+) -> Result<Types, NoMemory>
+    ensures { IfOk result (λ types. types ≡ part_types parts.now ++ record (record_view symbol.now parts.now) { layout = layout } ∷ []) }
+{
+    let mut types = part_types(alloc, standard, parts)?;
+    types.push(record_view(alloc, symbol, parts, layout)?)?;
+    let types = Types::new(alloc, types)?;
+    Ok(types)
+}
+
 /// A record type after the types that it is of (ARM 3.8), each once and those of Standard left out: of these
 /// components, none of a null record. E305 at its defining name where a value would have more than 4,096 words.
 pub fn record_type(
@@ -113,14 +146,7 @@ pub fn record_type(
         }));
     };
     let offsets = offsets(alloc, each.as_slice())?;
-    let mut types = part_types(alloc, standard, parts)?;
-    let symbol = symbol.copy(alloc)?;
-    let components = components_of(alloc, parts)?;
-    types.push(TypeView {
-        symbol,
-        definition: TypeDefinition::Record(components),
-        layout: Layout::Record { offsets, words },
-    })?;
-    let types = Types::new(alloc, types)?;
+    let layout = Layout::Record { offsets, words };
+    let types = record_types(alloc, standard, symbol, parts, layout)?;
     Ok(Ok(types))
 }

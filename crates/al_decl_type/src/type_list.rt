@@ -1,10 +1,10 @@
 // Lists of types that views hold: each type once, those of Standard left out.
-ghost use Rattle.std.specs.Prelude.{◌≡◌, [], IfOk, OnOk, length};
+ghost use Rattle.std.specs.Prelude.{◌≡◌, [], ◌∷◌, ◌++◌, IfOk, OnOk, length};
 ghost use Rattle.std.specs.List.{list_any};
-ghost use Rattle.al_view.specs.Symbols.{same_symbol};
-ghost use Rattle.al_decl_type.specs.TypeLists.{is_known, joined, other_types, with_type};
+ghost use Rattle.al_decl_type.specs.TypeLists.{AreSymbolsOf, is_known, joined, other_types, with_type};
 ghost use Rattle.al_decl_type.specs.Types.{enumeration_type, integer_type, words_of};
 
+use crate::symbol_set::SymbolSet;
 use al_base::NoMemory;
 use al_view::{Bounds, Names, Seq, SubtypeView, Symbol, TypeDefinition, TypeView, Types};
 use al_view_predefined::{StandardTypes, copied_type, scalar};
@@ -42,19 +42,31 @@ fn is_standard(standard: &StandardTypes, none: &Types, symbol: &Symbol) -> bool
     standard.type_of(none, symbol).is_some()
 }
 
-/// Whether a type is one of these.
-fn is_listed(types: &[TypeView], symbol: &Symbol) -> bool
-    ensures { result ≡ list_any (λ of. same_symbol of.symbol symbol.now) types.now }
+/// The symbols of types.
+fn symbols_of(alloc: Global, types: &[TypeView]) -> Result<SymbolSet, NoMemory>
+    ensures { IfOk result (AreSymbolsOf types.now) }
 {
-    types.iter().any(|of| of.symbol.is(symbol))
+    let mut symbols = SymbolSet::new(alloc);
+    for of in types {
+        symbols.insert(&of.symbol)?;
+    }
+    Ok(symbols)
 }
 
-/// Whether a type is known where these are: it is one of them, or one of Standard's.
-fn is_known(standard: &StandardTypes, none: &Types, types: &[TypeView], symbol: &Symbol) -> bool
-    requires { none.now ≡ [] }
+/// Whether a type is known where these are, which have these symbols: it is one of them, or one of Standard's.
+fn is_known(
+    standard: &StandardTypes,
+    none: &Types,
+    types: &[TypeView],
+    symbols: &SymbolSet,
+    symbol: &Symbol,
+) -> bool
+    requires none { none.now ≡ [] }
+    requires symbols { AreSymbolsOf types.now symbols.now }
     ensures { result ≡ is_known types.now symbol.now }
 {
-    is_listed(types, symbol) || is_standard(standard, none, symbol)
+    let _types = types;
+    symbols.contains(symbol) || is_standard(standard, none, symbol)
 }
 
 /// Whether one of Standard's types is among these.
@@ -102,24 +114,54 @@ fn copied_others(
     Ok(others)
 }
 
+/// One more type.
+fn push_copy(alloc: Global, types: &mut Seq<TypeView>, of: &TypeView) -> Result<(), NoMemory>
+    ensures { OnOk result (types.new ≡ types.old ++ of.now ∷ []) }
+{
+    let copy = copied_type(alloc, of)?;
+    types.push(copy)?;
+    Ok(())
+}
+
+/// One more type, and its symbol.
+fn push_type(
+    alloc: Global,
+    types: &mut Seq<TypeView>,
+    symbols: &mut SymbolSet,
+    of: &TypeView,
+) -> Result<(), NoMemory>
+    requires { AreSymbolsOf types.old symbols.old }
+    ensures types { OnOk result (types.new ≡ types.old ++ of.now ∷ []) }
+    ensures symbols { OnOk result (AreSymbolsOf types.new symbols.new) }
+{
+    push_copy(alloc, types, of)?;
+    symbols.insert(&of.symbol)?;
+    Ok(())
+}
+
 /// One more type, unless it is known there.
 fn add_type(
     alloc: Global,
     standard: &StandardTypes,
     none: &Types,
     types: &mut Seq<TypeView>,
+    symbols: &mut SymbolSet,
     of: &TypeView,
 ) -> Result<(), NoMemory>
-    requires { none.now ≡ [] }
-    ensures { OnOk result (types.new ≡ with_type types.old of.now) }
+    requires none { none.now ≡ [] }
+    requires symbols { AreSymbolsOf types.old symbols.old }
+    ensures types { OnOk result (types.new ≡ with_type types.old of.now) }
+    ensures symbols { OnOk result (AreSymbolsOf types.new symbols.new) }
 {
-    if !is_known(standard, none, types.as_slice(), &of.symbol) {
-        types.push(copied_type(alloc, of)?)?;
+    if is_known(standard, none, types.as_slice(), symbols, &of.symbol) {
+        return Ok(());
     }
+    push_type(alloc, types, symbols, of)?;
     Ok(())
 }
 
-/// The other types after these, those apart that are known there: among these, or Standard's, which every unit has.
+/// The other types after these, those apart that are known there: among these, or Standard's, which every unit has. A type among these is
+/// found without a walk.
 pub fn add_types(
     alloc: Global,
     standard: &StandardTypes,
@@ -129,8 +171,9 @@ pub fn add_types(
     ensures { OnOk result (types.new ≡ joined types.old others.now) }
 {
     let none = Types::new(alloc, Seq::empty(alloc))?;
+    let mut symbols = symbols_of(alloc, types.as_slice())?;
     for of in others {
-        add_type(alloc, standard, &none, types, of)?;
+        add_type(alloc, standard, &none, types, &mut symbols, of)?;
     }
     Ok(())
 }

@@ -1,3 +1,5 @@
 mod Again
 mod Taken
+mod Clean
+mod Edited
 mod Obsolete

@@ -1,6 +1,7 @@
 -- What a build takes over of the last one.
 use Rattle.std.proofs.Common.{◌≡◌, ℕ, List, map, Bor, Option, Some, None, IfSome, sym, subst, ◌∙◌}
-use Rattle.al_base.specs.Batch.{key_of}
+use Rattle.std.specs.List.{Contains}
+use Rattle.al_base.specs.Batch.{Key, key_of}
 use Rattle.al_base.specs.declared.unit_key.UnitKey.{UnitKey}
 use Rattle.al_unit_graph.specs.Headers.{Library}
 use Rattle.al_bind.specs.Binding.{IsElaboration}
@@ -28,6 +29,18 @@ pub second_of : {X B : Type 0} (last : Option B) (now : X → B) (A C : B → Ty
 second_of last now A C Q None is has = tt
 second_of {X} {B} last now A C Q (Some b) is has = ((subst (λ (o : Option B). IfSome o (λ b. A b × C b)) is.0 has).1, is.1)
 
+pub of_last : {X B : Type 0} (last : Option B) (now : X → B) (A : B → Type 0) (Q : X → Type 0) (same : Option X) → IfSome same (λ b. (last ≡ Some (now b)) × Q b) → IfSome last A → IfSome same (λ b. A (now b))
+of_last last now A Q None is has = tt
+of_last {X} {B} last now A Q (Some b) is has = subst (λ (o : Option B). IfSome o A) is.0 has
+
+pub graphs_of : {B : Type 0} (last : Option B) (A C : B → Type 0) → IfSome last (λ b. A b × C b) → IfSome last A
+graphs_of None A C has = tt
+graphs_of (Some b) A C has = has.0
+
+pub besides : {X B : Type 0} (last : Option B) (now : X → B) (Q : X → Type 0) (same : Option X) → IfSome same (λ b. (last ≡ Some (now b)) × Q b) → IfSome same Q
+besides last now Q None is = tt
+besides last now Q (Some b) is = is.1
+
 module _ (lib : Library) (f : UnitKey → Option Outcome) (main : List ℕ) where
   some_is : {X : Type 0} (P : X → Type 0) (x y : X) → P x → Some x ≡ Some y → P y
   some_is {X} P x y p e = subst P (cc) p
@@ -50,6 +63,7 @@ pub graph_stays : (old new : Library) (graph : UnitGraph) → HaveOneGraph old n
 graph_stays old new graph one same is = record {
   faults = is.faults ∙ (λ i. map (λ file. (file, one.faults file i)) (same.files i));
   order = one.dependence (map key_of graph.order.items) is.order;
+  bases = λ key d t c. is.bases key d (one.faultless key ∙ t) (subst (λ (ks : List Key). Contains ks d) (sym (one.dependences key)) c);
 }
 
 pub order_stays : (old new : Library) (main : List ℕ) (compiled : Compiled) (found : Option (Bor (List UnitKey))) → HaveOneGraph old new → IsOrdered old main compiled → option_map (λ order. order.now) found ≡ order_of compiled

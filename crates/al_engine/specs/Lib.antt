@@ -1,4 +1,5 @@
 pub mod Graphs
+pub mod Edits
 pub mod States
 pub mod Builds
 pub mod Reports

@@ -6,7 +6,9 @@ ghost use Rattle.al_unit_obsolete.specs.Obsolete.{obsolete_of};
 ghost use Rattle.al_engine_reported.specs.Gave.{files_reported};
 ghost use Rattle.al_unit_map.specs.Units.{at_unit};
 ghost use Rattle.al_engine_refresh.specs.Builds.{raised};
+ghost use Rattle.al_engine_graph.specs.Graphs.{HaveSameHeaders};
 ghost use Rattle.al_engine_graph.specs.Kept.{IsGraphOf};
+ghost use Rattle.al_engine_graph.specs.Texts.{HaveTextsBut};
 ghost use Rattle.al_engine_setting.specs.Settings.{ArePredefined};
 ghost use Rattle.al_engine_recheck.specs.Rechecks.{setting_of};
 ghost use Rattle.al_engine_batch.specs.Batches.{IsCompiled};
@@ -14,14 +16,15 @@ ghost use Rattle.al_engine_batch.specs.Patches.{IsPatched, linked_in};
 ghost use Rattle.al_engine_rebuild.specs.Prepared.{IsPrepared};
 ghost use Rattle.al_engine_rebuild.specs.Rebuilds.{IsRebuilt};
 ghost use Rattle.al_engine.specs.Graphs.{IsOrdered};
-ghost use Rattle.al_engine.specs.States.{AreReadFor};
+ghost use Rattle.al_engine.specs.States.{AreReadFor, IsSettledBy};
 
+use crate::edits::edited_now;
 use crate::graphs::{alike, graph_now, order_now};
 use crate::last_build::LastBuild;
 use crate::read_files::ReadFiles;
 use al_base::{Files, Name, NoMemory, UnitKey};
 use al_engine_batch::Compiled;
-use al_engine_graph::UnitGraph;
+use al_engine_graph::{Edited, UnitGraph};
 use al_engine_rebuild::laws::rebuilds_are_compiled;
 use al_engine_rebuild::{PreparedBuild, Rebuilt, prepare};
 use al_engine_recheck::UnitCache;
@@ -46,6 +49,22 @@ pub(crate) fn read_now<R: ReadFiles>(
     }
 }
 
+/// The files as they are, with what they are read as; and of which of them the texts may be other ones than in the last build, where it is
+/// known that each has the header that it had.
+pub(crate) fn read_again<R: ReadFiles>(
+    alloc: Global,
+    now: &Files,
+    last: &Option<LastBuild<R>>,
+) -> Result<(R, Option<Edited>), NoMemory>
+    ensures files { IfOk result (λ r. R.files r.0 ≡ now.now) }
+    ensures edited { IfOk result (λ r. IfSome r.1 (λ e. IfSome last.now (λ b. HaveSameHeaders (R.library (R.files b.read)) (R.library (R.files r.0)) × HaveTextsBut (R.library (R.files b.read)) (R.library (R.files r.0)) e))) }
+{
+    match last {
+        Some(last) => R::again(alloc, now, &last.read),
+        None => Ok((R::of(alloc, now)?, None)),
+    }
+}
+
 /// A build that is done but for its image, with the graph of its units.
 #[derive(Drop)]
 struct Begun {
@@ -54,7 +73,7 @@ struct Begun {
 }
 
 /// Begins a build of files that are read. Of the last build, which gave this, it takes over the graph of the units and the order of
-/// elaboration, where these are as they were.
+/// elaboration, where the headers are known to be as they were; and where one unit alone was edited, no other one is looked at.
 fn begin<R: ReadFiles, C: UnitCheck, P: Answers>(
     alloc: Global,
     cache: &mut UnitCache<C>,
@@ -62,25 +81,33 @@ fn begin<R: ReadFiles, C: UnitCheck, P: Answers>(
     last: &Option<LastBuild<R>>,
     gave: &Rebuilt,
     read: &R,
+    edited: Option<Edited>,
     main: &[u8],
 ) -> Result<Begun, NoMemory>
     requires reading { AreReadFor C.header R.library }
     requires predefined { ArePredefined (P.table predefined.now) }
     requires last { IfSome last.now (λ b. IsGraphOf (R.library (R.files b.read)) b.graph.value × IsOrdered (R.library (R.files b.read)) b.main gave.now.compiled) }
+    requires settled { IfSome last.now (λ b. IsSettledBy C.meaning C.header (P.table predefined.now) R.library (at_unit cache.old.entries) (record { files = R.files b.read; main = b.main; gave = gave.now })) }
+    requires edited { IfSome edited (λ e. IfSome last.now (λ b. HaveSameHeaders (R.library (R.files b.read)) (R.library (R.files read.now)) × HaveTextsBut (R.library (R.files b.read)) (R.library (R.files read.now)) e)) }
     ensures graph { IfOk result (λ b. IsGraphOf (R.library (R.files read.now)) b.graph.value) }
     ensures prepared { IfOk result (λ b. IsPrepared C.meaning C.header (P.table predefined.now) (R.library (R.files read.now)) main.now (at_unit cache.old.entries) b.prepared.planned (at_unit b.prepared.entries) b.prepared.checked.items) }
     ensures counted { IfOk result (λ b. C.count cache.new.checker ≡ raised (C.count cache.old.checker) (length b.prepared.checked.items)) }
     ensures entries { cache.new.entries ≡ cache.old.entries }
 {
-    let same = alike(read, last)?;
+    let found = alike(read, last, edited);
+    let (same, edited) = found;
     let graph = graph_now(alloc, read, same)?;
     let order = order_now(main, read, same, gave);
+    let unit = edited_now(alloc, cache, predefined, read, same, &edited, gave)?;
     let sources = read.sources();
-    let prepared = prepare(alloc, cache, predefined, sources, main, &graph, order)?;
+    let prepared = prepare(
+        alloc, cache, predefined, sources, main, &graph, order, &unit,
+    )?;
     Ok(Begun { graph, prepared })
 }
 
-/// Builds a main unit of files that are read, over what is kept of the units and what the last build gave.
+/// Builds a main unit of files that are read, over what is kept of the units and what the last build gave. It may be known of which files
+/// the texts are other ones than those of that build.
 pub(crate) fn build_read<R: ReadFiles, C: UnitCheck, P: Answers>(
     alloc: Global,
     cache: &mut UnitCache<C>,
@@ -88,11 +115,14 @@ pub(crate) fn build_read<R: ReadFiles, C: UnitCheck, P: Answers>(
     last: &Option<LastBuild<R>>,
     gave: &mut Rebuilt,
     read: R,
+    edited: Option<Edited>,
     main: &[u8],
 ) -> Result<LastBuild<R>, NoMemory>
     requires reading { AreReadFor C.header R.library }
     requires predefined { ArePredefined (P.table predefined.now) }
     requires last { IfSome last.now (λ b. IsGraphOf (R.library (R.files b.read)) b.graph.value × IsOrdered (R.library (R.files b.read)) b.main gave.old.compiled) }
+    requires settled { IfSome last.now (λ b. IsSettledBy C.meaning C.header (P.table predefined.now) R.library (at_unit cache.old.entries) (record { files = R.files b.read; main = b.main; gave = gave.old })) }
+    requires edited { IfSome edited (λ e. IfSome last.now (λ b. HaveSameHeaders (R.library (R.files b.read)) (R.library (R.files read)) × HaveTextsBut (R.library (R.files b.read)) (R.library (R.files read)) e)) }
     ensures files { IfOk result (λ b. R.files b.read ≡ R.files read) }
     ensures graph { IfOk result (λ b. IsGraphOf (R.library (R.files b.read)) b.graph.value) }
     ensures main { IfOk result (λ b. b.main ≡ main.now) }
@@ -104,7 +134,7 @@ pub(crate) fn build_read<R: ReadFiles, C: UnitCheck, P: Answers>(
 {
     rebuilds_are_compiled();
     let name = Name::from_slice(alloc, main)?;
-    let begun = begin(alloc, cache, predefined, last, gave, &read, main)?;
+    let begun = begin(alloc, cache, predefined, last, gave, &read, edited, main)?;
     let Begun { graph, prepared } = begun;
     prepared.finish(alloc, cache, gave)?;
     Ok(LastBuild {

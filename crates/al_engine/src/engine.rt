@@ -12,7 +12,7 @@ ghost use Rattle.al_engine.specs.Builds.{IsBuild};
 ghost use Rattle.al_engine.specs.Reports.{found_last, gave_last, obsolete_refusal, obsolete_since, reported};
 ghost use Rattle.al_engine.specs.Runs.{AnswersRun};
 
-use crate::building::{build_read, obsolete_since, read_now};
+use crate::building::{build_read, obsolete_since, read_again, read_now};
 use crate::last_build::LastBuild;
 use crate::read_files::ReadFiles;
 use al_base::{Diagnostic, Files, Name, NoMemory, Refusal, UnitKey};
@@ -179,7 +179,8 @@ impl<R: ReadFiles, C: UnitCheck, P: Answers> Engine<R, C, P> {
             self.repeat();
             return Ok(());
         }
-        let read = read_now(self.alloc, &self.files, &self.last)?;
+        let again = read_again(self.alloc, &self.files, &self.last)?;
+        let (read, edited) = again;
         let last = build_read(
             self.alloc,
             &mut self.cache,
@@ -187,6 +188,7 @@ impl<R: ReadFiles, C: UnitCheck, P: Answers> Engine<R, C, P> {
             &self.last,
             &mut self.gave,
             read,
+            edited,
             main,
         )?;
         self.is_edited = false;

@@ -4,32 +4,49 @@ ghost use Rattle.al_base.specs.Batch.{key_of};
 ghost use Rattle.al_bind.specs.Binding.{IsElaboration};
 ghost use Rattle.al_engine_graph.specs.Graphs.{HaveSameHeaders};
 ghost use Rattle.al_engine_graph.specs.Kept.{IsGraphOf};
+ghost use Rattle.al_engine_graph.specs.Texts.{HaveTextsBut};
 ghost use Rattle.al_engine.specs.Graphs.{IsOrdered};
 
 use crate::last_build::LastBuild;
 use crate::read_files::ReadFiles;
 use al_base::{NoMemory, UnitKey};
 use al_engine_graph::laws::graphs_go_by_headers;
-use al_engine_graph::{UnitGraph, have_same_headers};
+use al_engine_graph::{Edited, UnitGraph};
 use al_engine_rebuild::Rebuilt;
 use al_engine_reported::order_of;
 use std::alloc::Global;
 use std::rc::Rc;
 
-/// The last build, where its files are those that were read now, and each is read as the same.
+/// The last build, where there was one, of whose files it is known which may have other texts now; and these.
+fn with_last<'a, R: ReadFiles>(
+    read: &R,
+    last: &'a Option<LastBuild<R>>,
+    edited: Edited,
+) -> (Option<&'a LastBuild<R>>, Edited)
+    requires { IfSome last.now (λ b. HaveSameHeaders (R.library (R.files b.read)) (R.library (R.files read.now)) × HaveTextsBut (R.library (R.files b.read)) (R.library (R.files read.now)) edited) }
+    ensures found { IfSome result.0 (λ b. (last.now ≡ Some b.now) × HaveSameHeaders (R.library (R.files b.now.read)) (R.library (R.files read.now))) }
+    ensures edited { IfSome result.0 (λ b. HaveTextsBut (R.library (R.files b.now.read)) (R.library (R.files read.now)) result.1) }
+{
+    let _read = read;
+    match last {
+        Some(last) => (Some(last), edited),
+        None => (None, edited),
+    }
+}
+
+/// The last build, where its files are known to be those that were read now, each read as the same; and which of them may have other texts.
 pub(crate) fn alike<'a, R: ReadFiles>(
     read: &R,
     last: &'a Option<LastBuild<R>>,
-) -> Result<Option<&'a LastBuild<R>>, NoMemory>
-    ensures { IfOk result (λ found. IfSome found (λ b. (last.now ≡ Some b.now) × HaveSameHeaders (R.library (R.files b.now.read)) (R.library (R.files read.now)))) }
+    edited: Option<Edited>,
+) -> (Option<&'a LastBuild<R>>, Edited)
+    requires { IfSome edited (λ e. IfSome last.now (λ b. HaveSameHeaders (R.library (R.files b.read)) (R.library (R.files read.now)) × HaveTextsBut (R.library (R.files b.read)) (R.library (R.files read.now)) e)) }
+    ensures found { IfSome result.0 (λ b. (last.now ≡ Some b.now) × HaveSameHeaders (R.library (R.files b.now.read)) (R.library (R.files read.now))) }
+    ensures edited { IfSome result.0 (λ b. HaveTextsBut (R.library (R.files b.now.read)) (R.library (R.files read.now)) result.1) }
 {
-    let Some(last) = last else {
-        return Ok(None);
-    };
-    if have_same_headers(last.read.sources(), read.sources())? {
-        Ok(Some(last))
-    } else {
-        Ok(None)
+    match edited {
+        Some(edited) => with_last(read, last, edited),
+        None => (None, Edited::Several),
     }
 }
 

@@ -3,6 +3,7 @@
 #![tactic(auto)]
 
 mod building;
+mod edits;
 mod engine;
 mod graphs;
 mod last_build;

@@ -1,7 +1,10 @@
 // Files with what they are read as.
-ghost use Rattle.std.specs.Prelude.{◌≡◌, IfOk};
+ghost use Rattle.std.specs.Prelude.{◌≡◌, IfOk, IfSome};
+ghost use Rattle.al_engine_graph.specs.Graphs.{HaveSameHeaders};
+ghost use Rattle.al_engine_graph.specs.Texts.{HaveTextsBut};
 
 use al_base::{Files, NoMemory};
+use al_engine_graph::Edited;
 use al_unit_graph::Sources;
 use std::alloc::Global;
 
@@ -31,6 +34,16 @@ pub trait ReadFiles: Drop {
     /// `NoMemory` where memory was wanted and not given.
     fn after(alloc: Global, now: &Files, before: &Self) -> Result<Self, NoMemory>
         ensures { IfOk result (λ read. files read ≡ now.now) };
+
+    /// Reads files again, as [`Self::after`] does. Where they are files of the same names, each with the header that it had or with the same
+    /// fault, it can tell of which files the texts may be other ones; where it tells nothing, more is done than need be.
+    ///
+    /// # Errors
+    ///
+    /// `NoMemory` where memory was wanted and not given. What is wrong with the files is no error.
+    fn again(alloc: Global, now: &Files, before: &Self) -> Result<(Self, Option<Edited>), NoMemory>
+        ensures files { IfOk result (λ r. files r.0 ≡ now.now) }
+        ensures edited { IfOk result (λ r. IfSome r.1 (λ edited. HaveSameHeaders (library (files before.now)) (library (files r.0)) × HaveTextsBut (library (files before.now)) (library (files r.0)) edited)) };
 
     /// The files as the graph of units has them.
     fn sources(&self) -> &Sources

@@ -1,16 +1,18 @@
 -- What the linker takes, and what is linked.
-use Rattle.std.proofs.Common.{◌≡◌, ◌<◌, ◌≤◌, ℕ, nat_lt, nat_le, true, ◌&&◌, List, [], ◌∷◌, ◌++◌, map, length, Option, Some, None, refl, sym, ap, subst, ◌∙◌, arith}
+use Rattle.std.proofs.Common.{◌≡◌, ◌<◌, ◌≤◌, ℕ, nat_lt, nat_le, true, ◌&&◌, List, [], ◌∷◌, map, length, Option, Some, None, refl, sym, ap, subst, ◌∙◌, arith}
 use Rattle.std.specs.List.{All, list_all, list_any}
-use Rattle.std.proofs.lemmas.List.Sums.{AllPass-from_list_all, fold-append}
+use Rattle.std.proofs.lemmas.List.Sums.{AllPass-from_list_all}
 use Rattle.std.proofs.lemmas.List.Folds.{list_all-map}
 use Rattle.std.proofs.lemmas.Bool.Decides.{nat_tests}
 use Rattle.al_base.specs.Batch.{Key, key_of}
 use Rattle.al_base.specs.declared.unit_key.UnitKey.{UnitKey}
 use Rattle.al_view.proofs.SymbolLemmas.{both}
+use Rattle.al_link.specs.Closed.{AreClosed, AreClosedUnits}
 use Rattle.al_link.specs.Partitions.{AreLinkable, compiled_units, is_large, some_large}
-use Rattle.al_link.specs.Units.{AreWithin}
+use Rattle.al_link.specs.Units.{AreWithin, UnitObject}
 use Rattle.al_link.specs.declared.linking.CompiledUnit.{CompiledUnit}
 use Rattle.al_link_image.specs.Images.{IsUnitName, is_name_byte}
+use Rattle.al_query_outcome.specs.Defines.{main_symbol}
 use Rattle.al_query_outcome.specs.Equations.{unit_named}
 use Rattle.al_view.specs.declared.link.LinkSymbol.{LinkSymbol}
 use Rattle.al_link.specs.Images.{image_of}
@@ -19,13 +21,13 @@ use Rattle.al_unit_graph.specs.Headers.{Library}
 use Rattle.al_bind.specs.Binding.{IsElaboration}
 use Rattle.al_link_placed.specs.Placed.{ArePlaced}
 use Rattle.al_query_outcome.specs.Results.{Outcome}
-use Rattle.al_engine_batch.specs.Objects.{IsLinkable, WithObject, is_unit_name, last_identifier, linked_units, main_symbol, objects_at, with_byte}
+use Rattle.al_engine_batch.specs.Objects.{IsLinkable, WithObject, is_unit_name, linked_units, objects_at}
 use Rattle.al_engine_found.specs.Found.{findings_of}
 use Rattle.al_engine_batch.specs.Batches.{IsBatch}
 use Rattle.al_engine_batch.specs.Links.{IsLinkedAs}
 use Rattle.al_engine_batch.specs.ObjectsSeen.{left_model, object_model}
 use Rattle.al_engine_batch.specs.Partitions.{IsPartition}
-use Rattle.al_engine_batch.specs.Plans.{IsPlanned}
+use Rattle.al_engine_batch.specs.Plans.{AreClosedObjects, IsClosedPlan, IsPlanned}
 use Rattle.al_engine_batch.specs.declared.compiled.Compiled.{Compiled}
 use Rattle.al_engine_batch.specs.declared.compiled.Compiled.TheVariants.{Faulty, Unbound, TooLarge, Made}
 use Rattle.al_engine_batch.specs.declared.planned.Partition.{Partition}
@@ -69,16 +71,18 @@ module _ (left : List CompiledUnit) (us : List WithObject) (same : map left_mode
     within = subst AreWithin (sym units-are) is.within;
   }
 
+  pub closed-of : (main : LinkSymbol) → AreClosedObjects main us → AreClosedUnits main left
+  closed-of main closed none =
+      subst (λ (l : List UnitObject). AreClosed main l) (sym units-are)
+      (closed (ap (list_any (λ (u : WithObject). is_large u.1)) (sym same) ∙ sym (large-left left) ∙ none))
+
 -- units by their keys
 pub named-keys : (us : List UnitKey) → map unit_named (map key_of us) ≡ us
 named-keys [] = refl
 named-keys (u ∷ us) = ap (λ (l : List UnitKey). u ∷ l) (named-keys us)
 
-pub last-more : (name : List ℕ) (b : ℕ) → last_identifier (name ++ b ∷ []) ≡ with_byte (last_identifier name) b
-last-more name b = fold-append with_byte [] name (b ∷ [])
-
 -- what linking a partition gives is what compiling gives
-module _ (lib : Library) (f : UnitKey → Option Outcome) (main : List ℕ) (p : Partition) (none : findings_of lib f ≡ []) (is : IsPartition lib f main (map key_of p.order.items) p.main (map object_model p.objects.items)) where
+module _ (lib : Library) (f : UnitKey → Option Outcome) (main : List ℕ) (p : Partition) (none : findings_of lib f ≡ []) (is : IsPartition lib f main (map key_of p.order.items) p.main (map object_model p.objects.items)) (closed : AreClosedObjects p.main (map object_model p.objects.items)) where
   abbrev us : List WithObject
   us = map object_model p.objects.items
 
@@ -110,11 +114,12 @@ module _ (lib : Library) (f : UnitKey → Option Outcome) (main : List ℕ) (p :
           placed = is.placed;
           are_placed = are_placed program.order.items linked.0;
           linkable = subst IsLinkable is.objects_are linked.1.0;
+          closed = subst (λ (x : LinkSymbol). AreClosed x (linked_units (objects_at f (map unit_named is.placed)))) is.symbol_is (subst (λ (l : List WithObject). AreClosed p.main (linked_units l)) is.objects_are (closed linked.1.0.none_large));
           image_is = ap (λ (x : LinkSymbol). image_of x l.units) symbol ∙ ap (image_of (main_symbol lib main)) units;
           bytes_are = refl;
         },
       )
 
 pub partition-batch : (lib : Library) (f : UnitKey → Option Outcome) (main : List ℕ) (p : Partition) (compiled : Compiled)
-    → IsPlanned lib f main (Linkable p) → IsLinkedAs p.main (map object_model p.objects.items) p.order.items compiled → IsBatch lib f main compiled
-partition-batch lib f main p compiled planned linked = linked-batch lib f main p planned.0 planned.1 compiled linked
+    → IsClosedPlan (Linkable p) → IsPlanned lib f main (Linkable p) → IsLinkedAs p.main (map object_model p.objects.items) p.order.items compiled → IsBatch lib f main compiled
+partition-batch lib f main p compiled closed planned linked = linked-batch lib f main p planned.0 planned.1 closed compiled linked

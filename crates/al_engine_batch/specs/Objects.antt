@@ -1,18 +1,12 @@
 -- What of the units of a library is linked.
-use Rattle.std.specs.Prelude.{ℕ, ◌≡◌, ◌==◌, Bool, true, false, ◌&&◌, nat_lt, nat_le, List, [], ◌∷◌, ◌++◌, length, Option, Some, None, unwrap_or, if◌then◌else◌}
-use Rattle.std.specs.List.{flat_map, fold, list_all, list_any}
+use Rattle.std.specs.Prelude.{ℕ, ◌≡◌, Bool, true, false, ◌&&◌, nat_lt, nat_le, List, [], ◌∷◌, length, Option, Some, None}
+use Rattle.std.specs.List.{flat_map, list_all, list_any}
 use Rattle.al_base.specs.declared.unit_key.UnitKey.{UnitKey}
-use Rattle.al_base.specs.declared.unit_key.UnitKind.TheVariants.{Body}
-use Rattle.al_unit_graph.specs.Headers.{Library}
-use Rattle.al_unit_graph.specs.Library.{declaration_of}
-use Rattle.al_view.specs.declared.link.LinkKind.TheVariants.{Code}
-use Rattle.al_view.specs.declared.link.LinkSymbol.{LinkSymbol}
 use Rattle.al_code_object.specs.declared.object.Object.{Object}
 use Rattle.al_code.specs.ObjectOf.{object_of}
 use Rattle.al_link.specs.Partitions.{is_large, with_object}
 use Rattle.al_link.specs.Units.{AreWithin, UnitObject}
 use Rattle.al_link_image.specs.Images.{is_name_byte}
-use Rattle.al_query_outcome.specs.Equations.{unit_named}
 use Rattle.al_query_outcome.specs.ReadsLaw.{HasCode}
 use Rattle.al_query_outcome.specs.Results.{Outcome, Faulty, Sound}
 use Rattle.al_entries.specs.Stored.{Stored, outcome_of}
@@ -43,20 +37,6 @@ pub record IsLinkable (us : List WithObject) : Type 0 where
   pub named : list_all (λ u. is_unit_name u.0.name) us ≡ true
   pub none_large : list_any (λ u. is_large u.1) us ≡ false
   pub within : AreWithin (linked_units us)
-
--- what stands after the last dot of a name: each dot begins it anew
-abbrev pub with_byte : List ℕ → ℕ → List ℕ
-with_byte found b = if b == 46 then [] else found ++ b ∷ []
-
-abbrev pub last_identifier : List ℕ → List ℕ
-last_identifier name = fold with_byte [] name
-
--- the symbol of a main subprogram's code: that of its declaration, or of the body that acts as one
-abbrev pub main_symbol : Library → List ℕ → LinkSymbol
-main_symbol lib main = record {
-  symbol = record { unit = unit_named (unwrap_or (declaration_of lib main) (main, Body)); name = last_identifier main; number = 0 };
-  kind = Code;
-}
 
 -- code can be made of the labelled tree of each entry
 abbrev pub AreCoded : (UnitKey → Option Stored) → Type 0

@@ -1,11 +1,16 @@
 -- What compiling gives before anything is linked.
-use Rattle.std.specs.Prelude.{ℕ, ◌≡◌, ◌<◌, List, [], length, map, Option}
+use Rattle.std.specs.Prelude.{ℕ, ◌≡◌, ◌<◌, false, ⊤, List, [], length, map, Option}
+use Rattle.std.specs.List.{list_any}
 use Rattle.al_base.specs.Batch.{finding_of, key_of}
 use Rattle.al_base.specs.declared.unit_key.UnitKey.{UnitKey}
 use Rattle.al_unit_graph.specs.Headers.{Library}
 use Rattle.al_bind.specs.Binding.{IsBindFault}
+use Rattle.al_view.specs.declared.link.LinkSymbol.{LinkSymbol}
+use Rattle.al_link.specs.Closed.{AreClosed}
+use Rattle.al_link.specs.Partitions.{is_large}
 use Rattle.al_query_outcome.specs.Results.{Outcome}
 use Rattle.al_engine_found.specs.Found.{findings_of}
+use Rattle.al_engine_batch.specs.Objects.{WithObject, linked_units}
 use Rattle.al_engine_batch.specs.ObjectsSeen.{object_model}
 use Rattle.al_engine_batch.specs.Partitions.{IsPartition}
 use Rattle.al_engine_batch.specs.declared.planned.Planned.{Planned}
@@ -16,3 +21,13 @@ abbrev pub IsPlanned : Library → (UnitKey → Option Outcome) → List ℕ →
 IsPlanned lib f main (Faulty diagnostics) = (map finding_of diagnostics.items ≡ findings_of lib f) × (0 < length diagnostics.items)
 IsPlanned lib f main (Unbound fault) = (findings_of lib f ≡ []) × IsBindFault lib main fault
 IsPlanned lib f main (Linkable p) = (findings_of lib f ≡ []) × IsPartition lib f main (map key_of p.order.items) p.main (map object_model p.objects.items)
+
+-- the main subprogram's code and all that the units' code uses are defined by these units, where each of them has an object
+abbrev pub AreClosedObjects : LinkSymbol → List WithObject → Type 0
+AreClosedObjects symbol us = list_any (λ u. is_large u.1) us ≡ false → AreClosed symbol (linked_units us)
+
+-- so is what is to be linked
+abbrev pub IsClosedPlan : Planned → Type 0
+IsClosedPlan (Faulty diagnostics) = ⊤
+IsClosedPlan (Unbound fault) = ⊤
+IsClosedPlan (Linkable p) = AreClosedObjects p.main (map object_model p.objects.items)

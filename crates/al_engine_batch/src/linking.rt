@@ -8,7 +8,7 @@ ghost use Rattle.al_engine_batch.specs.Batches.{IsBatch};
 ghost use Rattle.al_engine_batch.specs.Objects.{is_unit_name};
 ghost use Rattle.al_engine_batch.specs.ObjectsSeen.{left_model, object_model};
 ghost use Rattle.al_engine_batch.specs.Patches.{IsPatched, linked_in};
-ghost use Rattle.al_engine_batch.specs.Plans.{IsPlanned};
+ghost use Rattle.al_engine_batch.specs.Plans.{AreClosedObjects, IsClosedPlan, IsPlanned};
 ghost use Rattle.al_engine_batch.specs.Links.{IsLinkedAgain, IsLinkedAnew, IsLinkedAs};
 
 use crate::compiled::{Compiled, Program};
@@ -53,7 +53,8 @@ fn linked_anew(
     main: &LinkSymbol,
     objects: &[UnitObject],
 ) -> Result<Option<Linked>, NoMemory>
-    requires { list_all (λ u. is_unit_name u.0.name) (map object_model objects.now) ≡ true }
+    requires named { list_all (λ u. is_unit_name u.0.name) (map object_model objects.now) ≡ true }
+    requires closed { AreClosedObjects main.now (map object_model objects.now) }
     ensures { IfOk result (IsLinkedAnew main.now (map object_model objects.now)) }
 {
     let left = left(alloc, objects)?;
@@ -73,7 +74,8 @@ fn linked_again(
     main: &LinkSymbol,
     objects: &[UnitObject],
 ) -> Result<bool, NoMemory>
-    requires { list_all (λ u. is_unit_name u.0.name) (map object_model objects.now) ≡ true }
+    requires named { list_all (λ u. is_unit_name u.0.name) (map object_model objects.now) ≡ true }
+    requires closed { AreClosedObjects main.now (map object_model objects.now) }
     ensures again { IfOk result (IsLinkedAgain main.now (map object_model objects.now) linked.old linked.new) }
     ensures err { OnErr result (linked.new ≡ linked.old) }
 {
@@ -93,6 +95,7 @@ fn program_anew(
     compiled: &mut Compiled,
 ) -> Result<usize, NoMemory>
     requires named { list_all (λ u. is_unit_name u.0.name) (map object_model partition.objects.items) ≡ true }
+    requires closed { AreClosedObjects partition.main (map object_model partition.objects.items) }
     requires none { linked_in compiled.old ≡ None }
     ensures linked { OnOk result (IsLinkedAs partition.main (map object_model partition.objects.items) partition.order.items compiled.new) }
     ensures patched { IfOk result (IsPatched (linked_in compiled.old) (linked_in compiled.new)) }
@@ -114,6 +117,7 @@ fn program_of(
     compiled: &mut Compiled,
 ) -> Result<usize, NoMemory>
     requires named { list_all (λ u. is_unit_name u.0.name) (map object_model partition.objects.items) ≡ true }
+    requires closed { AreClosedObjects partition.main (map object_model partition.objects.items) }
     ensures linked { OnOk result (IsLinkedAs partition.main (map object_model partition.objects.items) partition.order.items compiled.new) }
     ensures patched { IfOk result (IsPatched (linked_in compiled.old) (linked_in compiled.new)) }
     ensures err { OnErr result (compiled.new ≡ compiled.old) }
@@ -138,6 +142,7 @@ fn link_partition(
     partition: Partition,
     compiled: &mut Compiled,
 ) -> Result<usize, NoMemory>
+    requires { AreClosedObjects partition.main (map object_model partition.objects.items) }
     ensures linked { OnOk result (IsLinkedAs partition.main (map object_model partition.objects.items) partition.order.items compiled.new) }
     ensures patched { IfOk result (IsPatched (linked_in compiled.old) (linked_in compiled.new)) }
     ensures err { OnErr result (compiled.new ≡ compiled.old) }
@@ -152,12 +157,14 @@ fn link_partition(
 
 /// Makes of what compiling gave before what it gives now. Where it gave an image and gives one, the image is linked again in its place:
 /// where the units and their lengths, counts, symbols and lines are as before, only what differs is written. Of how many units
-/// code was written: so many as differ where all is as before but for bytes, else all; 0 where there was no image or is none.
+/// code was written: so many as differ where all is as before but for bytes, else all; 0 where there was no image or is none. What is
+/// to be linked defines the main subprogram's code and all that its units use.
 ///
 /// # Errors
 ///
 /// `NoMemory` where memory was wanted and not given: all is as before.
 pub fn link(alloc: Global, planned: Planned, compiled: &mut Compiled) -> Result<usize, NoMemory>
+    requires closed { IsClosedPlan planned }
     ensures batch { OnOk result ((lib : Library) (f : UnitKey → Option Outcome) (main : List ℕ) → IsPlanned lib f main planned → IsBatch lib f main compiled.new) }
     ensures patched { IfOk result (IsPatched (linked_in compiled.old) (linked_in compiled.new)) }
     ensures err { OnErr result (compiled.new ≡ compiled.old) }

@@ -1,12 +1,15 @@
 // Names that images can hold, and the name of a main subprogram's code.
-ghost use Rattle.std.specs.Prelude.{◌≡◌, IfOk, OnOk, unwrap_or};
+ghost use Rattle.std.specs.Prelude.{◌≡◌, IfOk, unwrap_or};
 ghost use Rattle.std.specs.List.{list_all};
 ghost use Rattle.al_link_image.specs.Images.{is_name_byte};
 ghost use Rattle.al_base.specs.declared.unit_key.UnitKind.TheVariants.{Body};
 ghost use Rattle.al_unit_graph.specs.Library.{declaration_of};
-ghost use Rattle.al_engine_batch.specs.Objects.{is_unit_name, last_identifier, main_symbol, with_byte};
+ghost use Rattle.al_query_outcome.specs.Defines.{main_symbol};
+ghost use Rattle.al_query_outcome.specs.Left.{own_code};
+ghost use Rattle.al_engine_batch.specs.Objects.{is_unit_name};
 
 use al_base::{Name, NoMemory, UnitKey, UnitKind};
+use al_query_outcome::last_of;
 use al_unit_graph::Sources;
 use al_view::{LinkKind, LinkSymbol, Symbol};
 use std::alloc::Global;
@@ -31,29 +34,6 @@ pub(crate) fn is_unit_name(name: &[u8]) -> bool
     0 < name.len() && (name.len() <= 255 && is_of_name_bytes(name))
 }
 
-/// Adds a byte; a dot begins anew.
-fn add_byte(found: &mut Vec<u8>, b: u8) -> Result<(), NoMemory>
-    ensures { OnOk result (found.new.items ≡ with_byte found.old.items b) }
-{
-    if b == b'.' {
-        found.clear();
-        return Ok(());
-    }
-    found.push(b)?;
-    Ok(())
-}
-
-/// What stands after the last dot of a name.
-fn last_identifier(alloc: Global, name: &[u8]) -> Result<Name, NoMemory>
-    ensures { IfOk result (λ found. found ≡ last_identifier name.now) }
-{
-    let mut found = Vec::new(alloc);
-    for b in name {
-        add_byte(&mut found, *b)?;
-    }
-    Ok(Name::new(found))
-}
-
 /// Which part of the unit declares it; its body where nothing does.
 fn declaring(sources: &Sources, name: &[u8]) -> UnitKind
     ensures { (name.now, result) ≡ unwrap_or (declaration_of sources.now name.now) (name.now, Body) }
@@ -62,6 +42,22 @@ fn declaring(sources: &Sources, name: &[u8]) -> UnitKind
         Some(kind) => kind,
         None => UnitKind::Body,
     }
+}
+
+/// The symbol of the code of a library subprogram.
+fn own_code(alloc: Global, unit: UnitKey) -> Result<LinkSymbol, NoMemory>
+    ensures { IfOk result (λ symbol. symbol ≡ own_code unit) }
+{
+    let name = Name::from_slice(alloc, last_of(unit.name.as_slice()))?;
+    let symbol = Symbol {
+        unit,
+        name,
+        number: 0,
+    };
+    Ok(LinkSymbol {
+        symbol,
+        kind: LinkKind::Code,
+    })
 }
 
 /// The symbol of a main subprogram's code.
@@ -73,17 +69,8 @@ pub(crate) fn main_symbol(
     ensures { IfOk result (λ symbol. symbol ≡ main_symbol sources.now main.now) }
 {
     let kind = declaring(sources, main);
-    let unit = UnitKey {
-        name: Name::from_slice(alloc, main)?,
-        kind,
-    };
-    let symbol = Symbol {
-        unit,
-        name: last_identifier(alloc, main)?,
-        number: 0,
-    };
-    Ok(LinkSymbol {
-        symbol,
-        kind: LinkKind::Code,
-    })
+    let name = Name::from_slice(alloc, main)?;
+    let unit = UnitKey { name, kind };
+    let symbol = own_code(alloc, unit)?;
+    Ok(symbol)
 }

@@ -1,11 +1,12 @@
 // Compiling the files of a library whose units are checked, as far as to what is linked.
-ghost use Rattle.std.specs.Prelude.{◌≡◌, map, IfOk, IfSome, MatchResult};
+ghost use Rattle.std.specs.Prelude.{◌≡◌, [], map, IfOk, IfSome, IsTrue, MatchResult};
 ghost use Rattle.std.specs.Map.{keys_of};
-ghost use Rattle.al_base.specs.Batch.{key_of};
+ghost use Rattle.al_base.specs.Batch.{finding_of, key_of};
 ghost use Rattle.al_bind.specs.Binding.{IsBindFault, IsElaboration};
 ghost use Rattle.al_unit_faults.specs.FilesSeen.{file_faults_model};
 ghost use Rattle.al_unit_faults.specs.GraphFaults.{file_faults};
 ghost use Rattle.al_unit_map.specs.Units.{at_unit};
+ghost use Rattle.al_engine_found.specs.Found.{findings_of};
 ghost use Rattle.al_engine_refresh.specs.Builds.{results_of};
 ghost use Rattle.al_engine_batch.specs.Objects.{AreCoded};
 ghost use Rattle.al_engine_batch.specs.ObjectsSeen.{object_model};
@@ -15,7 +16,7 @@ ghost use Rattle.al_engine_batch.specs.Plans.{IsPlanned};
 use crate::names::main_symbol;
 use crate::objects::objects_at;
 use crate::planned::{Partition, Planned};
-use al_base::{NoMemory, UnitKey};
+use al_base::{Diagnostic, NoMemory, UnitKey};
 use al_bind::{BindFault, bind};
 use al_engine_found::findings_of;
 use al_entries::Entry;
@@ -75,8 +76,26 @@ fn partition_of(
     })
 }
 
+/// All that is wrong with the files; it isn't looked for where it is known to be nothing.
+fn found_in(
+    alloc: Global,
+    sources: &Sources,
+    entries: &UnitMap<Entry>,
+    faults: &[FileFaults],
+    is_clean: bool,
+) -> Result<Vec<Diagnostic>, NoMemory>
+    requires faults { map file_faults_model faults.now ≡ map (λ file. (file, file_faults sources.now file)) (keys_of sources.now) }
+    requires clean { IsTrue is_clean → findings_of sources.now (results_of (at_unit entries.now)) ≡ [] }
+    ensures { IfOk result (λ found. map finding_of found.items ≡ findings_of sources.now (results_of (at_unit entries.now))) }
+{
+    if is_clean {
+        return Ok(Vec::new(alloc));
+    }
+    findings_of(alloc, sources, entries, faults)
+}
+
 /// What compiling the files gives for a main unit, where the units have these entries, up to the image. An order of elaboration that
-/// is known isn't looked for again.
+/// is known isn't looked for again, and no fault where it is known that there is none.
 ///
 /// # Errors
 ///
@@ -88,13 +107,15 @@ pub fn plan(
     faults: &[FileFaults],
     main: &[u8],
     known: Option<&[UnitKey]>,
+    is_clean: bool,
 ) -> Result<Planned, NoMemory>
     requires faults { map file_faults_model faults.now ≡ map (λ file. (file, file_faults sources.now file)) (keys_of sources.now) }
     requires coded { AreCoded (at_unit entries.now) }
     requires known { IfSome known (λ order. IsElaboration sources.now main.now (map key_of order.now)) }
+    requires clean { IsTrue is_clean → findings_of sources.now (results_of (at_unit entries.now)) ≡ [] }
     ensures { IfOk result (IsPlanned sources.now (results_of (at_unit entries.now)) main.now) }
 {
-    let found = findings_of(alloc, sources, entries, faults)?;
+    let found = found_in(alloc, sources, entries, faults, is_clean)?;
     if !found.is_empty() {
         return Ok(Planned::Faulty(found));
     }

@@ -11,13 +11,14 @@ use Rattle.al_bind.proofs.PlaceLemmas.{key_exact, key_total}
 use Rattle.al_bind_laws.proofs.Orders.{one_sorted}
 use Rattle.al_bind_laws.proofs.Bound.{one_elaboration, one_fault, order_or_fault}
 use Rattle.al_link_placed.specs.Placed.{ArePlaced, AreSubunits, nothing, item}
+use Rattle.al_query_outcome.specs.Defines.{main_symbol}
 use Rattle.al_query_outcome.specs.Equations.{unit_named}
 use Rattle.al_query_outcome.specs.Results.{Outcome}
 use Rattle.al_link.specs.Images.{image_of}
 use Rattle.al_link_image.specs.Images.{Image, image_bytes}
 use Rattle.al_engine_found.specs.Found.{findings_of}
 use Rattle.al_engine_batch.specs.Batches.{IsBatch}
-use Rattle.al_engine_batch.specs.Objects.{IsLinkable, linked_units, main_symbol, objects_at}
+use Rattle.al_engine_batch.specs.Objects.{IsLinkable, linked_units, objects_at}
 use Rattle.al_engine_batch.specs.Partitions.{IsProgram, IsTooLarge}
 use Rattle.al_engine_batch.specs.Programs.{bytes_in, image_in}
 use Rattle.al_engine_batch.specs.declared.compiled.Compiled.{Compiled}

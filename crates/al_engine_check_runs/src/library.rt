@@ -65,7 +65,7 @@ impl Library {
         let before = self.kept.checks();
         let sources = sources_of(self.alloc, &self.files)?;
         let graph = UnitGraph::of(self.alloc, &sources)?;
-        let given = check_library(&mut self.kept, &predefined, &sources, &graph)?;
+        let given = check_library(&mut self.kept, &predefined, &sources, &graph, &None)?;
         let more = self.kept.checks().saturating_sub(before);
         let found = findings_of(
             self.alloc,
@@ -74,7 +74,7 @@ impl Library {
             graph.faults.as_slice(),
         )?;
         let printed = printed(self.alloc, found.as_slice(), given.checked.as_slice(), more)?;
-        let entries = self.kept.staying(&sources, given.entries)?;
+        let entries = self.kept.staying(&sources, given.entries, &None)?;
         self.kept.take_over(entries);
         Ok(printed)
     }

@@ -2,9 +2,10 @@
 ghost use Rattle.al_unit.specs.Libraries.{library_of};
 ghost use Rattle.al_engine_files.specs.AdaFiles.{FilesAreRead};
 
-use crate::sources::sources_after;
+use crate::sources::{sources_after, sources_again};
 use al_base::{Files, NoMemory};
 use al_engine::ReadFiles;
+use al_engine_graph::Edited;
 use al_unit::texts_are_read_alike;
 use al_unit_graph::Sources;
 use al_unit_headers::laws::texts_are_headed;
@@ -58,6 +59,16 @@ impl ReadFiles for AdaFiles {
     fn after(alloc: Global, now: &Files, before: &Self) -> Result<Self, NoMemory> {
         let sources = sources_after(alloc, now, &before.sources)?;
         Ok(AdaFiles { sources })
+    }
+
+    fn again(
+        alloc: Global,
+        now: &Files,
+        before: &Self,
+    ) -> Result<(Self, Option<Edited>), NoMemory> {
+        let again = sources_again(alloc, now, &before.sources)?;
+        let (sources, edited) = again;
+        Ok((AdaFiles { sources }, edited))
     }
 
     fn sources(&self) -> &Sources {

@@ -1,13 +1,16 @@
 // What the graph of units has of Ada files.
-ghost use Rattle.std.specs.Prelude.{◌≡◌, ◌≤◌, IfOk, IfSome, OnOk, length};
+ghost use Rattle.std.specs.Prelude.{◌≡◌, ◌≤◌, ℕ, true, false, List, Some, IfOk, IfSome, IsTrue, MatchOption, OnOk, length};
 ghost use Rattle.std.specs.BTreeMap.{insert_entry};
 ghost use Rattle.al_base.specs.Files.{name_cmp};
 ghost use Rattle.al_unit_graph.specs.Views.{contents_model, source_model};
 ghost use Rattle.al_unit.specs.Libraries.{contents_of, library_of, source_of};
 ghost use Rattle.al_unit.specs.ReadingSeen.{reading_model};
-ghost use Rattle.al_engine_files.specs.AdaFiles.{AreOfTexts};
+ghost use Rattle.al_engine_graph.specs.Graphs.{HaveSameHeaders, contents_at};
+ghost use Rattle.al_engine_graph.specs.Texts.{HaveTextsBut, may_differ};
+ghost use Rattle.al_engine_files.specs.AdaFiles.{AreOfTexts, IsKnown, WasKept, WereRead};
 
 use al_base::{Files, Name, NoMemory};
+use al_engine_graph::{Edited, have_same_files, is_read_as, note};
 use al_unit::{Reading, read};
 use al_unit_graph::{Contents, Source, Sources};
 use al_unit_header::header_of;
@@ -35,12 +38,14 @@ fn contents_in(alloc: Global, text: &[u8]) -> Result<Contents, NoMemory>
     contents
 }
 
-/// The file of a text, which is read.
-fn source_of(alloc: Global, text: &Rc<Vec<u8>>) -> Result<Rc<Source>, NoMemory>
-    requires { length text.now.value.items ≤ 1048576 }
-    ensures { IfOk result (λ source. source_model source.value ≡ source_of text.now.value.items) }
+/// The file of a text that is read as this.
+fn shared_source(
+    alloc: Global,
+    text: &Rc<Vec<u8>>,
+    contents: Contents,
+) -> Result<Rc<Source>, NoMemory>
+    ensures { IfOk result (λ source. source_model source.value ≡ record { text = text.now.value.items; contents = contents_model contents }) }
 {
-    let contents = contents_in(alloc, text.as_slice())?;
     let text = text.clone()?;
     match Rc::new(alloc, Source { text, contents }) {
         Ok(source) => Ok(source),
@@ -48,10 +53,39 @@ fn source_of(alloc: Global, text: &Rc<Vec<u8>>) -> Result<Rc<Source>, NoMemory>
     }
 }
 
+/// No where a file was read as this before: its text is another one. None where it was read as something else.
+fn kept_as(before: &Sources, file: &[u8], contents: &Contents) -> Option<bool>
+    ensures { IfSome result (λ same. (contents_at before.now file.now ≡ Some (contents_model contents.now)) × (same ≡ false)) }
+{
+    if is_read_as(before, file, contents) {
+        Some(false)
+    } else {
+        None
+    }
+}
+
+/// The file of a text, which is read. Where it is read as before, whether the text is known to be as it was: it isn't.
+fn source_read(
+    alloc: Global,
+    before: &Sources,
+    file: &[u8],
+    text: &Rc<Vec<u8>>,
+) -> Result<(Rc<Source>, Option<bool>), NoMemory>
+    requires { length text.now.value.items ≤ 1048576 }
+    ensures source { IfOk result (λ held. source_model held.0.value ≡ source_of text.now.value.items) }
+    ensures kept { IfOk result (λ held. IfSome held.1 (WasKept before.now file.now text.now.value.items)) }
+{
+    let contents = contents_in(alloc, text.as_slice())?;
+    let kept = kept_as(before, file, &contents);
+    let source = shared_source(alloc, text, contents)?;
+    Ok((source, kept))
+}
+
 /// What is held of a file, where it has this text.
 fn held_with<'a>(before: &'a Sources, file: &[u8], text: &[u8]) -> Option<&'a Rc<Source>>
     requires { AreOfTexts before.now }
-    ensures { IfSome result (λ source. source_model source.now.value ≡ source_of text.now) }
+    ensures source { IfSome result (λ source. source_model source.now.value ≡ source_of text.now) }
+    ensures kept { IfSome result (λ _. WasKept before.now file.now text.now true) }
 {
     let source = before.shared_at(file)?;
     if source.text.as_slice() != text {
@@ -60,40 +94,109 @@ fn held_with<'a>(before: &'a Sources, file: &[u8], text: &[u8]) -> Option<&'a Rc
     Some(source)
 }
 
-/// The file of a text: shared where the file had this text before, and else read.
+/// What is held of a file, where it has this text, which is shared.
+fn held_as<'a>(before: &'a Sources, file: &[u8], text: &Rc<Vec<u8>>) -> Option<&'a Rc<Source>>
+    requires { AreOfTexts before.now }
+    ensures source { IfSome result (λ source. source_model source.now.value ≡ source_of text.now.value.items) }
+    ensures kept { IfSome result (λ _. WasKept before.now file.now text.now.value.items true) }
+{
+    held_with(before, file, text.as_slice())
+}
+
+/// The file of a text: shared where the file had this text before, and else read. Where it is read as it was, whether it has the text that
+/// it had.
 fn held_after(
     alloc: Global,
     before: &Sources,
     file: &[u8],
     text: &Rc<Vec<u8>>,
-) -> Result<Rc<Source>, NoMemory>
+) -> Result<(Rc<Source>, Option<bool>), NoMemory>
     requires texts { AreOfTexts before.now }
     requires text { length text.now.value.items ≤ 1048576 }
-    ensures { IfOk result (λ source. source_model source.value ≡ source_of text.now.value.items) }
+    ensures source { IfOk result (λ held. source_model held.0.value ≡ source_of text.now.value.items) }
+    ensures kept { IfOk result (λ held. IfSome held.1 (WasKept before.now file.now text.now.value.items)) }
 {
-    if let Some(source) = held_with(before, file, text.as_slice()) {
+    if let Some(source) = held_as(before, file, text) {
         let source = source.clone()?;
-        return Ok(source);
+        return Ok((source, Some(true)));
     }
-    source_of(alloc, text)
+    source_read(alloc, before, file, text)
 }
 
-/// Puts a file in.
+/// Notes a file that is read as it was, unless it has the text that it had; whether it is read so.
+fn note_kept(
+    alloc: Global,
+    file: &[u8],
+    kept: Option<bool>,
+    edited: &mut Edited,
+) -> Result<bool, NoMemory>
+    ensures kept { OnOk result ((f : List ℕ) → may_differ edited.old f → may_differ edited.new f) }
+    ensures noted { IfOk result (λ is. IsTrue is → MatchOption kept ⊥ (λ same. same ≡ false → may_differ edited.new file.now)) }
+{
+    let Some(is_same) = kept else {
+        return Ok(false);
+    };
+    note(alloc, file, is_same, edited)?;
+    Ok(true)
+}
+
+/// Puts a file in, and notes it where its text may be another one. Whether it is known to be read as it was.
 fn add_file(
     alloc: Global,
     before: &Sources,
     file: &[u8],
     text: &Rc<Vec<u8>>,
     sources: &mut Sources,
-) -> Result<(), NoMemory>
+    edited: &mut Edited,
+) -> Result<bool, NoMemory>
     requires texts { AreOfTexts before.now }
     requires name { length file.now ≤ 255 }
     requires text { length text.now.value.items ≤ 1048576 }
-    ensures { OnOk result (sources.new ≡ insert_entry name_cmp sources.old file.now (source_of text.now.value.items)) }
+    ensures sources { OnOk result (sources.new ≡ insert_entry name_cmp sources.old file.now (source_of text.now.value.items)) }
+    ensures kept { OnOk result ((f : List ℕ) → may_differ edited.old f → may_differ edited.new f) }
+    ensures known { IfOk result (λ is. IsTrue is → IsKnown before.now edited.new (file.now, text.now.value.items)) }
 {
     let name = Name::from_slice(alloc, file)?;
-    let source = held_after(alloc, before, file, text)?;
-    sources.insert(name, source)
+    let held = held_after(alloc, before, file, text)?;
+    let (source, kept) = held;
+    sources.insert(name, source)?;
+    let is_alike = note_kept(alloc, file, kept, edited)?;
+    Ok(is_alike)
+}
+
+fn both(a: bool, b: bool) -> bool
+    ensures { IsTrue result → IsTrue a × IsTrue b }
+{
+    a && b
+}
+
+/// Files that were read again, with those of which the texts may be other ones; and whether each is known to be read as it was.
+#[derive(Drop)]
+struct ReadAgain {
+    sources: Sources,
+    edited: Edited,
+    are_alike: bool,
+}
+
+/// The files of these texts.
+fn read_each(alloc: Global, files: &Files, before: &Sources) -> Result<ReadAgain, NoMemory>
+    requires { AreOfTexts before.now }
+    ensures sources { IfOk result (λ r. r.sources ≡ library_of files.now) }
+    ensures known { IfOk result (λ r. IsTrue r.are_alike → WereRead before.now r.edited files.now) }
+{
+    let list = files.shared()?;
+    let mut sources = Sources::new(alloc);
+    let mut edited = Edited::Nothing;
+    let mut are_alike = true;
+    for (name, text) in list.iter() {
+        let is_alike = add_file(alloc, before, name, text, &mut sources, &mut edited)?;
+        are_alike = both(are_alike, is_alike);
+    }
+    Ok(ReadAgain {
+        sources,
+        edited,
+        are_alike,
+    })
 }
 
 /// The files of these texts. What was read before of a file with the same text is shared.
@@ -109,10 +212,40 @@ pub(crate) fn sources_after(
     requires { AreOfTexts before.now }
     ensures { IfOk result (λ sources. sources ≡ library_of files.now) }
 {
-    let list = files.shared()?;
-    let mut sources = Sources::new(alloc);
-    for (name, text) in list.iter() {
-        add_file(alloc, before, name, text, &mut sources)?;
-    }
+    let read = read_each(alloc, files, before)?;
+    let ReadAgain {
+        sources,
+        edited: _,
+        are_alike: _,
+    } = read;
     Ok(sources)
+}
+
+/// The files of these texts, as [`sources_after`] gives them. Where they are files of the same names, each with the header that it had or
+/// with the same fault, of which of them the texts may be other ones. Of a file that is shared nothing is compared.
+///
+/// # Errors
+///
+/// `NoMemory` where memory was wanted and not given. What is wrong with the files is no error.
+pub(crate) fn sources_again(
+    alloc: Global,
+    files: &Files,
+    before: &Sources,
+) -> Result<(Sources, Option<Edited>), NoMemory>
+    requires { AreOfTexts before.now }
+    ensures sources { IfOk result (λ r. r.0 ≡ library_of files.now) }
+    ensures edited { IfOk result (λ r. IfSome r.1 (λ edited. HaveSameHeaders before.now r.0 × HaveTextsBut before.now r.0 edited)) }
+{
+    let read = read_each(alloc, files, before)?;
+    let ReadAgain {
+        sources,
+        edited,
+        are_alike,
+    } = read;
+    let are_same = have_same_files(before, &sources)?;
+    if both(are_alike, are_same) {
+        Ok((sources, Some(edited)))
+    } else {
+        Ok((sources, None))
+    }
 }

@@ -1,4 +1,5 @@
-mod Files
+mod Bases
+pub mod Files
 mod SameUnits
 mod SameFaults
 mod SamePartitions

@@ -136,7 +136,7 @@ module _ (old new : Library) (same : HaveSameHeaders old new) where
       ∙ (λ i. option_map_or (λ contents. of_read file contents i) (same.contents file i) [])
       ∙ sym (of_contents new file (source_at new file)))
 
-  faultless : (key : Key) → is_faultless old key ≡ is_faultless new key
+  pub faultless : (key : Key) → is_faultless old key ≡ is_faultless new key
   unfolding is_faultless
   faultless key = λ i. is_a_unit old new same key i && is_none_found (the_faults (file_name_of key) i)
 

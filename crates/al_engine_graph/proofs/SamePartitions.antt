@@ -24,7 +24,7 @@ use Rattle.al_bind.specs.declared.binding.Line.{Line}
 use Rattle.al_bind.specs.declared.lacking.MissingItem.{MissingItem}
 use Rattle.al_bind.specs.declared.lacking.MissingItem.TheVariants as lacks
 use Rattle.al_engine_graph.specs.Graphs.{GraphsGoByHeaders, HaveSameHeaders}
-use Rattle.al_engine_graph.proofs.SameFaults.{same_dependence, the_faults}
+use Rattle.al_engine_graph.proofs.SameFaults.{faultless, same_dependence, the_faults}
 use Rattle.al_engine_graph.proofs.SameUnits.{back, is_a_unit, the_body_of, the_declaration, the_subunits_of, the_unit_at, what_directly}
 
 -- what is equal in both
@@ -210,6 +210,9 @@ module _ (old new : Library) (same : HaveSameHeaders old new) where
 
 pub graphs_go_by_headers : GraphsGoByHeaders
 graphs_go_by_headers old new same = record {
+  units = the_unit_at old new same;
+  dependences = what_directly old new same;
+  faultless = faultless old new same;
   faults = the_faults old new same;
   dependence = same_dependence old new same;
   elaboration = same_elaboration old new same;

@@ -4,9 +4,10 @@ use Rattle.std.specs.Map.{keys_of}
 use Rattle.std.specs.Option.{option_map}
 use Rattle.al_base.specs.Batch.{Key}
 use Rattle.al_unit_graph.specs.Headers.{Contents, Library}
-use Rattle.al_unit_graph.specs.Library.{source_at}
+use Rattle.al_unit_graph.specs.Dependence.{direct}
+use Rattle.al_unit_graph.specs.Library.{source_at, unit_at}
 use Rattle.al_unit_faults.specs.GraphFaults.{file_faults}
-use Rattle.al_unit_order.specs.Reached.{IsDependenceOrder}
+use Rattle.al_unit_order.specs.Reached.{IsDependenceOrder, is_faultless}
 use Rattle.al_bind.specs.Binding.{IsBindFault, IsElaboration}
 use Rattle.al_bind.specs.declared.binding.BindFault.{BindFault}
 
@@ -21,6 +22,9 @@ pub record HaveSameHeaders (old new : Library) : Type 0 where
 
 -- what holds of the graph of the one library holds of that of the other
 pub record HaveOneGraph (old new : Library) : Type 0 where
+  pub units : (key : Key) → unit_at old key ≡ unit_at new key
+  pub dependences : (key : Key) → direct old key ≡ direct new key
+  pub faultless : (key : Key) → is_faultless old key ≡ is_faultless new key
   pub faults : (file : List ℕ) → file_faults old file ≡ file_faults new file
   pub dependence : (order : List Key) → IsDependenceOrder old order → IsDependenceOrder new order
   pub elaboration : (main : List ℕ) (items : List Key) → IsElaboration old main items → IsElaboration new main items

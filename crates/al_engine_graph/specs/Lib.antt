@@ -1,3 +1,4 @@
 pub mod Graphs
 pub mod Headers
 pub mod Kept
+pub mod Texts

@@ -1,12 +1,20 @@
 // The graph of a library's units.
-ghost use Rattle.std.specs.Prelude.{IfOk};
-ghost use Rattle.al_engine_graph.specs.Kept.{IsGraphOf};
+ghost use Rattle.std.specs.Prelude.{◌≡◌, true, IfOk, OnOk, map};
+ghost use Rattle.std.specs.List.{Contains};
+ghost use Rattle.std.specs.Option.{is_some};
+ghost use Rattle.al_base.specs.Batch.{Key, key_of};
+ghost use Rattle.al_base.specs.declared.unit_key.UnitKey.{UnitKey};
+ghost use Rattle.al_unit_graph.specs.Dependence.{direct};
+ghost use Rattle.al_unit_map.specs.Units.{at_unit};
+ghost use Rattle.al_engine_graph.specs.Kept.{IsGraphOf, unit_of};
 
 use al_base::{NoMemory, UnitKey};
 use al_base_shortage::AllocFailures;
 use al_unit_faults::{FileFaults, faults_by_file};
 use al_unit_graph::Sources;
+use al_unit_map::UnitMap;
 use al_unit_order::dependence_order;
+use al_view::copied_unit;
 use std::alloc::Global;
 
 /// What a build needs to know of a library's units as a graph.
@@ -15,6 +23,8 @@ pub struct UnitGraph {
     pub faults: Vec<FileFaults>,
     /// The units that break no rule of the graph, each after all on which it depends.
     pub order: Vec<UnitKey>,
+    /// The units on which one of these depends by itself.
+    pub bases: UnitMap<()>,
 }
 
 impl Drop for UnitGraph {
@@ -22,8 +32,46 @@ impl Drop for UnitGraph {
         let UnitGraph {
             faults: _,
             order: _,
+            bases: _,
         } = self;
     }
+}
+
+/// Adds a unit.
+fn add_base(alloc: Global, base: &UnitKey, bases: &mut UnitMap<()>) -> Result<(), NoMemory>
+    ensures kept { OnOk result ((u : UnitKey) → is_some (at_unit bases.old u) ≡ true → is_some (at_unit bases.new u) ≡ true) }
+    ensures added { OnOk result (is_some (at_unit bases.new base.now) ≡ true) }
+{
+    bases.insert(copied_unit(alloc, base)?, ())?;
+    Ok(())
+}
+
+/// Adds the units on which a unit depends by itself.
+fn add_bases(
+    alloc: Global,
+    sources: &Sources,
+    unit: &UnitKey,
+    bases: &mut UnitMap<()>,
+) -> Result<(), NoMemory>
+    ensures kept { OnOk result ((u : UnitKey) → is_some (at_unit bases.old u) ≡ true → is_some (at_unit bases.new u) ≡ true) }
+    ensures added { OnOk result ((d : Key) → Contains (direct sources.now (key_of unit.now)) d → is_some (at_unit bases.new (unit_of d)) ≡ true) }
+{
+    let units = sources.direct(unit)?;
+    for base in units.as_slice() {
+        add_base(alloc, base, bases)?;
+    }
+    Ok(())
+}
+
+/// The units on which one of these depends by itself.
+fn bases_of(alloc: Global, sources: &Sources, units: &[UnitKey]) -> Result<UnitMap<()>, NoMemory>
+    ensures { IfOk result (λ bases. (w d : Key) → Contains (map key_of units.now) w → Contains (direct sources.now w) d → is_some (at_unit bases (unit_of d)) ≡ true) }
+{
+    let mut bases = UnitMap::new(alloc);
+    for unit in units {
+        add_bases(alloc, sources, unit, &mut bases)?;
+    }
+    Ok(bases)
 }
 
 impl UnitGraph {
@@ -37,6 +85,11 @@ impl UnitGraph {
     {
         let faults = faults_by_file(alloc, sources, &mut AllocFailures::new())?;
         let order = dependence_order(alloc, sources, faults.as_slice())?;
-        Ok(UnitGraph { faults, order })
+        let bases = bases_of(alloc, sources, order.as_slice())?;
+        Ok(UnitGraph {
+            faults,
+            order,
+            bases,
+        })
     }
 }

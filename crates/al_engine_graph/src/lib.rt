@@ -7,5 +7,5 @@ mod graph;
 mod headers;
 pub mod laws;
 
-pub use alike::have_same_headers;
+pub use alike::{Edited, edited_between, have_same_files, is_read_as, note};
 pub use graph::UnitGraph;

@@ -9,14 +9,15 @@ use Rattle.al_entries.specs.EntryLaw.{AllKeepLaw, TextMeaning}
 use Rattle.al_entries.specs.Stored.{Stored}
 use Rattle.al_engine_keep.specs.Staying.{staying}
 use Rattle.al_engine_recheck.specs.Rechecks.{IsRechecked, setting_of}
-use Rattle.al_engine_batch.specs.Plans.{IsPlanned}
+use Rattle.al_engine_batch.specs.Plans.{IsClosedPlan, IsPlanned}
 use Rattle.al_engine_batch.specs.declared.planned.Planned.{Planned}
 
 -- the units that it checked and the entries that it made of those of before; what compiling with the outcomes in these gives up to the
--- image; and which entries there will be
+-- image, which is closed; and which entries there will be
 pub record IsPrepared (meaning : TextMeaning) (header : List ℕ → Header) (predefined : Query → AnswerKind) (lib : Library) (main : List ℕ) (old : UnitKey → Option Stored) (planned : Planned) (new : UnitKey → Option Stored) (checked : List UnitKey) : Type 0 where
   pub made : UnitKey → Option Stored
   pub rechecked : IsRechecked meaning header (setting_of header predefined lib) old made checked
   pub is_planned : IsPlanned lib (results_of made) main planned
+  pub closed : IsClosedPlan planned
   pub entries : (u : UnitKey) → new u ≡ staying lib old made u
   pub law : AllKeepLaw meaning header new

@@ -1,5 +1,5 @@
 // A build of a library's units over what is kept of them.
-ghost use Rattle.std.specs.Prelude.{ℕ, ◌≡◌, List, Option, IfOk, IfSome, None, OnErr, OnOk, length, map};
+ghost use Rattle.std.specs.Prelude.{ℕ, ◌≡◌, true, List, Option, IfOk, IfSome, IsTrue, MatchOption, None, OnErr, OnOk, length, map};
 ghost use Rattle.al_base.specs.Batch.{key_of};
 ghost use Rattle.al_base.specs.declared.unit_key.UnitKey.{UnitKey};
 ghost use Rattle.al_bind.specs.Binding.{IsElaboration};
@@ -8,20 +8,26 @@ ghost use Rattle.al_unit_map.specs.Units.{at_unit};
 ghost use Rattle.al_unit_order.specs.Read.{AreHeaded, NameParentBodies};
 ghost use Rattle.al_query.specs.declared.answer.AnswerKind.{AnswerKind};
 ghost use Rattle.al_query.specs.declared.query.Query.{Query};
+ghost use Rattle.al_query_outcome.specs.Equations.{is_sound};
 ghost use Rattle.al_entries.specs.EntryLaw.{AllKeepLaw, TextMeaning};
 ghost use Rattle.al_entries.specs.Stored.{Stored};
 ghost use Rattle.al_engine_graph.specs.Kept.{IsGraphOf};
 ghost use Rattle.al_engine_setting.specs.Settings.{ArePredefined};
-ghost use Rattle.al_engine_refresh.specs.Builds.{raised};
+ghost use Rattle.al_engine_refresh.specs.Builds.{raised, results_of};
 ghost use Rattle.al_engine_batch.specs.Patches.{IsPatched, linked_in};
+ghost use Rattle.al_engine_batch.specs.Plans.{IsClosedPlan};
+ghost use Rattle.al_engine_recheck.specs.Renewals.{IsRenewable};
 ghost use Rattle.al_engine_rebuild.specs.Prepared.{IsPrepared};
 ghost use Rattle.al_engine_rebuild.specs.Rebuilds.{IsRebuilt};
+ghost use Rattle.al_engine_rebuild.specs.Renewed.{IsCleanBut};
 
 use al_base::{NoMemory, UnitKey};
 use al_engine_batch::{Compiled, Planned, link, plan};
 use al_engine_check::{CheckedLibrary, check_library};
+use al_engine_closed::laws::partitions_are_closed;
 use al_engine_graph::UnitGraph;
 use al_engine_recheck::UnitCache;
+use al_engine_refresh::has_sound;
 use al_entries::Entry;
 use al_query::Answers;
 use al_query_check::UnitCheck;
@@ -81,10 +87,22 @@ impl Drop for PreparedBuild {
     }
 }
 
+/// Whether one unit alone was edited, and has an entry without faults now.
+fn is_clean(entries: &UnitMap<Entry>, edited: &Option<UnitKey>) -> bool
+    ensures { IsTrue result → MatchOption edited.now ⊥ (λ unit. is_sound (results_of (at_unit entries.now) unit) ≡ true) }
+{
+    match edited {
+        Some(unit) => has_sound(entries, unit),
+        None => false,
+    }
+}
+
 /// Does all of a build of a main unit but for its image: each unit is checked that is reached and has no entry for its text, or one with
 /// an answer that differs now, and what all units give then is compiled. The library's graph is given, and the order of elaboration
-/// where it is known. What is kept of the units stays as it is.
-/// - `prepared`: which units were checked, what compiling gives up to the image, which entries there will be.
+/// where it is known; and the unit that alone was edited since a build that found nothing wrong, where no other one depends on it by itself.
+/// What is kept of the units stays as it is.
+/// - `prepared`: which units were checked, what compiling gives up to the image, which entries there will be. Where there is something to
+///   link, its units define the main subprogram's code and all that they use.
 /// - `counted`: so many checks were made.
 ///
 /// # Errors
@@ -98,21 +116,26 @@ pub fn prepare<C: UnitCheck, P: Answers>(
     main: &[u8],
     graph: &UnitGraph,
     known: Option<&[UnitKey]>,
+    edited: &Option<UnitKey>,
 ) -> Result<PreparedBuild, NoMemory>
     requires headed { AreHeaded C.header sources.now }
     requires bodies { NameParentBodies sources.now }
     requires predefined { ArePredefined (P.table predefined.now) }
     requires graph { IsGraphOf sources.now graph.now }
     requires known { IfSome known (λ order. IsElaboration sources.now main.now (map key_of order.now)) }
+    requires edited { IfSome edited.now (λ unit. IsRenewable C.meaning C.header (P.table predefined.now) sources.now (at_unit cache.old.entries) unit) }
+    requires clean { IfSome edited.now (IsCleanBut sources.now (at_unit cache.old.entries)) }
     ensures prepared { IfOk result (λ p. IsPrepared C.meaning C.header (P.table predefined.now) sources.now main.now (at_unit cache.old.entries) p.planned (at_unit p.entries) p.checked.items) }
     ensures counted { IfOk result (λ p. C.count cache.new.checker ≡ raised (C.count cache.old.checker) (length p.checked.items)) }
     ensures entries { cache.new.entries ≡ cache.old.entries }
 {
-    let given = check_library(cache, predefined, sources, graph)?;
+    partitions_are_closed();
+    let given = check_library(cache, predefined, sources, graph, edited)?;
     let CheckedLibrary { entries, checked } = given;
     let faults = graph.faults.as_slice();
-    let planned = plan(alloc, sources, &entries, faults, main, known)?;
-    let entries = cache.staying(sources, entries)?;
+    let clean = is_clean(&entries, edited);
+    let planned = plan(alloc, sources, &entries, faults, main, known, clean)?;
+    let entries = cache.staying(sources, entries, edited)?;
     Ok(PreparedBuild {
         planned,
         entries,
@@ -135,7 +158,8 @@ impl PreparedBuild {
         cache: &mut UnitCache<C>,
         gave: &mut Rebuilt,
     ) -> Result<(), NoMemory>
-        requires { AllKeepLaw C.meaning C.header (at_unit self.entries) }
+        requires law { AllKeepLaw C.meaning C.header (at_unit self.entries) }
+        requires closed { IsClosedPlan self.planned }
         ensures rebuilt { OnOk result ((header : List ℕ → Header) (predefined : Query → AnswerKind) (lib : Library) (main : List ℕ) (old : UnitKey → Option Stored) → IsPrepared C.meaning header predefined lib main old self.planned (at_unit self.entries) self.checked.items → IsRebuilt C.meaning header predefined lib main old (at_unit cache.new.entries) gave.new) }
         ensures patched { OnOk result (IsPatched (linked_in gave.old.compiled) (linked_in gave.new.compiled) gave.new.patched) }
         ensures checked { OnOk result (gave.new.checked ≡ self.checked.items) }

@@ -1,2 +1,3 @@
 pub mod Rechecks
 pub mod UnitCache
+pub mod Renewals

@@ -1,13 +1,16 @@
 // What is kept from build to build.
-ghost use Rattle.std.specs.Prelude.{◌≡◌, [], IfOk, length};
+ghost use Rattle.std.specs.Prelude.{◌≡◌, [], Some, IfOk, IfSome, IsTrue, length};
 ghost use Rattle.al_base.specs.declared.unit_key.UnitKey.{UnitKey};
 ghost use Rattle.al_unit_map.specs.Units.{at_unit};
 ghost use Rattle.al_entries.specs.EntryLaw.{AllKeepLaw};
-ghost use Rattle.al_engine_refresh.specs.Builds.{raised};
+ghost use Rattle.al_engine_refresh.specs.Builds.{raised, text_of};
+ghost use Rattle.al_entries.specs.Stored.{Stored};
 ghost use Rattle.al_engine_keep.specs.Staying.{staying};
 ghost use Rattle.al_engine_recheck.specs.Rechecks.{HasOrder, IsRechecked, setting_of};
+ghost use Rattle.al_engine_recheck.specs.Renewals.{IsRenewable, IsRenewal};
 
-use crate::rechecking::{Rechecked, recheck};
+use crate::rechecking::Rechecked;
+use crate::renewing::{has_text, update};
 use al_base::{NoMemory, UnitKey};
 use al_engine_keep::keep;
 use al_engine_keep::laws::staying_keep_the_law;
@@ -71,7 +74,18 @@ impl<C: UnitCheck> UnitCache<C> {
         self.checker.checks()
     }
 
-    /// What a build of a library makes, in an order of dependence of its units. What is kept stays as it is until [`Self::take_over`].
+    /// Whether a unit has an entry for another text than its file has.
+    pub fn is_edited(&self, sources: &Sources, unit: &UnitKey) -> bool
+        ensures { IsTrue result → (e : Stored) × (at_unit self.now.entries unit.now ≡ Some e) × (e.text ≡ text_of sources.now unit.now → ⊥) }
+    {
+        match self.entries.get(unit) {
+            Some(entry) => !has_text(sources, unit, entry.text()),
+            None => false,
+        }
+    }
+
+    /// What a build of a library makes, in an order of dependence of its units. Where one unit is given, it alone was edited, and no other
+    /// unit is looked at. What is kept stays as it is until [`Self::take_over`].
     ///
     /// # Errors
     ///
@@ -81,28 +95,28 @@ impl<C: UnitCheck> UnitCache<C> {
         predefined: &P,
         sources: &Sources,
         order: &[UnitKey],
+        edited: &Option<UnitKey>,
     ) -> Result<Rechecked, NoMemory>
-        requires { HasOrder C.header (P.table predefined.now) sources.now order.now }
+        requires order { HasOrder C.header (P.table predefined.now) sources.now order.now }
+        requires edited { IfSome edited.now (λ unit. IsRenewable C.meaning C.header (P.table predefined.now) sources.now (at_unit self.old.entries) unit) }
         ensures rechecked { IfOk result (λ r. IsRechecked C.meaning C.header (setting_of C.header (P.table predefined.now) sources.now) (at_unit self.old.entries) (at_unit r.entries) r.checked.items) }
+        ensures renewed { IfSome edited.now (λ unit. IfOk result (λ r. IsRenewal (at_unit self.old.entries) unit (at_unit r.entries))) }
         ensures counted { IfOk result (λ r. C.count self.new.checker ≡ raised (C.count self.old.checker) (length r.checked.items)) }
         ensures entries { self.new.entries ≡ self.old.entries }
     {
-        recheck(
+        update(
             self.alloc,
             &mut self.checker,
             predefined,
             sources,
             &self.entries,
             order,
+            edited,
         )
     }
 
-    /// The entries of a library's units after a build that made these: with those of before that stay.
-    ///
-    /// # Errors
-    ///
-    /// `NoMemory` where memory was wanted and not given.
-    pub fn staying(
+    /// These entries with those of before that stay.
+    fn with_staying(
         &self,
         sources: &Sources,
         made: UnitMap<Entry>,
@@ -115,6 +129,32 @@ impl<C: UnitCheck> UnitCache<C> {
         let mut entries = made;
         keep(self.alloc, sources, &self.entries, &mut entries)?;
         Ok(entries)
+    }
+
+    /// The entries of a library's units after a build that made these: with those of before that stay. Where one unit is given, it alone
+    /// has another entry than before, and none is looked for.
+    ///
+    /// # Errors
+    ///
+    /// `NoMemory` where memory was wanted and not given.
+    pub fn staying(
+        &self,
+        sources: &Sources,
+        made: UnitMap<Entry>,
+        edited: &Option<UnitKey>,
+    ) -> Result<UnitMap<Entry>, NoMemory>
+        requires law { AllKeepLaw C.meaning C.header (at_unit made) }
+        requires renewed { IfSome edited.now (λ unit. IsRenewal (at_unit self.now.entries) unit (at_unit made)) }
+        ensures law { IfOk result (λ entries. AllKeepLaw C.meaning C.header (at_unit entries)) }
+        ensures entries { IfOk result (λ entries. (u : UnitKey) → at_unit entries u ≡ staying sources.now (at_unit self.now.entries) (at_unit made) u) }
+    {
+        match edited {
+            Some(unit) => {
+                let _unit = unit;
+                Ok(made)
+            }
+            None => self.with_staying(sources, made),
+        }
     }
 
     /// Has these entries from here on, in the place of those of before. It takes no memory.

@@ -1,8 +1,15 @@
-//! Laws of what is kept after a build. The function does nothing: its contract is the law.
+//! Laws of what is kept after a build. The functions do nothing: their contracts are the laws.
 ghost use Rattle.al_engine_recheck.specs.Rechecks.{StayingAreSettled};
+ghost use Rattle.al_engine_recheck.specs.Renewals.{RenewalsAreRechecked};
 
 /// A unit that a build reached has an entry for its text with the answers of now, and its outcome. A unit of the library that it didn't
 /// reach has the entry of before, if any. A unit that isn't in the library has none.
 pub fn staying_are_settled()
     ensures { StayingAreSettled }
+{}
+
+/// Where the entries are those that a build made, and since then the text of one unit alone was edited, on which no other one depends by
+/// itself, all that a build makes is a new entry of that unit, under the answers that there are.
+pub fn renewals_are_rechecked()
+    ensures { RenewalsAreRechecked }
 {}

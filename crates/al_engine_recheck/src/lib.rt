@@ -4,6 +4,7 @@
 mod kept_units;
 pub mod laws;
 mod rechecking;
+mod renewing;
 mod sorted;
 
 pub use kept_units::UnitCache;

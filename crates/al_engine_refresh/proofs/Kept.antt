@@ -115,14 +115,14 @@ module _ (meaning : TextMeaning) (header : List ℕ → Header) (u : UnitKey) wh
   no_check : (h : Header) (t : Table) → CheckOf u h t (λ v. Faulty [])
   no_check h t = ([], tt, λ v a. refl, refl, tt, names-none (u ∷ known_after (named_by h) []))
 
-  entry_check : (e : Stored) → KeepsLaw meaning header u e → (t : Table) → CheckOf u (header e.text) t (λ v. by_log (outcome_of e) e.log v (agreeing v e.log))
-  entry_check e k t = (
+  entry_check : (e : Stored) → KeepsLaw meaning header u e → (text : List ℕ) → e.text ≡ text → (t : Table) → CheckOf u (header text) t (λ v. by_log (outcome_of e) e.log v (agreeing v e.log))
+  entry_check e k text is t = (
     heard t e.log,
     heard-agrees t e.log,
     λ v a. alike v (heard-decides t v e.log a) (agreeing t e.log) (agreeing v e.log),
     heard-others t u e.log k.others,
-    heard-grounded t (named_by (header e.text)) e.log k.grounded,
-    names (agreeing t e.log),
+    subst (λ (x : List ℕ). Grounded (named_by (header x)) (heard t e.log)) is (heard-grounded t (named_by (header e.text)) e.log k.grounded),
+    subst (λ (x : List ℕ). NamesOnly (u ∷ known_after (named_by (header x)) (heard t e.log)) (by_log (outcome_of e) e.log t (agreeing t e.log))) is (names (agreeing t e.log)),
   )
     where
       alike : (v : Table) → (Agrees t e.log → Agrees v e.log) × (Agrees v e.log → Agrees t e.log) → (c : Agrees t e.log ⊎ (Agrees t e.log → ⊥)) (d : Agrees v e.log ⊎ (Agrees v e.log → ⊥)) → by_log (outcome_of e) e.log t c ≡ by_log (outcome_of e) e.log v d
@@ -135,15 +135,34 @@ module _ (meaning : TextMeaning) (header : List ℕ → Header) (u : UnitKey) wh
       names (inl a) = subst (λ (l : Log). NamesOnly (u ∷ known_after (named_by (header e.text)) l) (outcome_of e)) (sym (heard-same t e.log a)) k.names
       names (inr n) = names-none (u ∷ known_after (named_by (header e.text)) (heard t e.log))
 
+  checked_by : (e : Stored) → KeepsLaw meaning header u e → (text : List ℕ) (t : Table) (b : Bool) → bytes_eq e.text text ≡ b → CheckOf u (header text) t (λ v. by_text e v b)
+  checked_by e k text t true is = entry_check e k text ((bytes_eq-Decides e.text text).0 is) t
+  checked_by e k text t false is = no_check (header text) t
+
   any_check : (o : Option Stored) → ((e : Stored) → o ≡ Some e → KeepsLaw meaning header u e) → (text : List ℕ) (t : Table) → CheckOf u (header text) t (λ v. outcome_by o text v)
   any_check None k text t = no_check (header text) t
-  any_check (Some e) k text t = at (bytes_eq e.text text) refl
-    where
-      at : (b : Bool) → bytes_eq e.text text ≡ b → CheckOf u (header text) t (λ v. by_text e v b)
-      at true is = subst (λ (x : List ℕ). CheckOf u (header x) t (λ v. by_log (outcome_of e) e.log v (agreeing v e.log))) ((bytes_eq-Decides e.text text).0 is) (entry_check e (k e refl) t)
-      at false is = no_check (header text) t
+  any_check (Some e) k text t = checked_by e (k e refl) text t (bytes_eq e.text text) refl
+
+  -- where an entry is used its log is the check's
+  log_by : (e : Stored) (k : KeepsLaw meaning header u e) (text : List ℕ) (t : Table) (b : Bool) (is : bytes_eq e.text text ≡ b) → b ≡ true → Agrees t e.log → (checked_by e k text t b is).0 ≡ e.log
+  unfolding checked_by entry_check
+  log_by e k text t true is used a = heard-same t e.log a
+  log_by e k text t false is used a = absurd (cc)
+
+  log_of : (o : Option Stored) (k : (e : Stored) → o ≡ Some e → KeepsLaw meaning header u e) (text : List ℕ) (t : Table) (e : Stored) → o ≡ Some e → IsCurrent e text t → (any_check o k text t).0 ≡ e.log
+  unfolding any_check
+  log_of None k text t e is c = absurd (cc)
+  log_of (Some x) k text t e is c =
+      let same : x ≡ e = cc in
+      let d : IsCurrent x text t = subst (λ (y : Stored). IsCurrent y text t) (sym same) c in
+      log_by x (k x refl) text t (bytes_eq x.text text) refl ((bytes_eq-Decides x.text text).1 d.0) d.1 ∙ ap (λ (y : Stored). y.log) same
 
 pub kept-keeps : (meaning : TextMeaning) (header : List ℕ → Header) (at : UnitKey → Option Stored) (texts : UnitKey → List ℕ) → AllKeepLaw meaning header at → KeepsReads (kept at texts) (λ u. header (texts u))
 kept-keeps meaning header at texts law u t =
     let c = any_check meaning header u (at u) (law u) (texts u) t in
     record { log = c.0; agrees = c.1; reads = c.2; others = c.3; grounded = c.4; names = c.5 }
+
+-- of an entry for the text whose answers a table gives, the check has the log
+pub kept-log : (meaning : TextMeaning) (header : List ℕ → Header) (at : UnitKey → Option Stored) (texts : UnitKey → List ℕ) (law : AllKeepLaw meaning header at) (u : UnitKey) (t : Table) (e : Stored) → at u ≡ Some e → IsCurrent e (texts u) t → (kept-keeps meaning header at texts law u t).log ≡ e.log
+unfolding kept-keeps
+kept-log meaning header at texts law u t e is c = log_of meaning header u (at u) (law u) (texts u) t e is c

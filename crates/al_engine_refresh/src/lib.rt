@@ -5,4 +5,6 @@ mod present;
 mod refreshed;
 mod unit;
 
+pub use present::{Present, has_sound, text_of};
 pub use refreshed::{Refreshed, refresh};
+pub use unit::check_unit;

@@ -21,7 +21,7 @@ use std::rc::Rc;
 
 /// What the predefined units and the entries of a build answer.
 #[derive(Drop)]
-pub(crate) struct Present<'a, P: Answers> {
+pub struct Present<'a, P: Answers> {
     pub alloc: Global,
     pub predefined: &'a P,
     pub entries: &'a UnitMap<Entry>,
@@ -68,7 +68,7 @@ fn is_sound(held: Option<&Entry>) -> bool
 }
 
 /// Whether a unit has an entry without faults.
-fn has_sound(entries: &UnitMap<Entry>, unit: &UnitKey) -> bool
+pub fn has_sound(entries: &UnitMap<Entry>, unit: &UnitKey) -> bool
     ensures { result ≡ is_sound (results_of (at_unit entries.now) unit.now) }
 {
     is_sound(entries.get(unit))
@@ -94,11 +94,11 @@ pub(crate) fn rests_on_sound(
 }
 
 /// The text of a unit's file, shared; no bytes where it has none.
-pub(crate) fn text_of(
-    alloc: Global,
-    sources: &Sources,
-    unit: &UnitKey,
-) -> Result<Rc<Vec<u8>>, NoMemory>
+///
+/// # Errors
+///
+/// `NoMemory` where memory was wanted and not given.
+pub fn text_of(alloc: Global, sources: &Sources, unit: &UnitKey) -> Result<Rc<Vec<u8>>, NoMemory>
     ensures { IfOk result (λ text. text.value.items ≡ text_of sources.now unit.now) }
 {
     let file = al_base::file_name_of(alloc, unit)?;

@@ -37,8 +37,12 @@ fn current_entry<A: Answers>(
     }
 }
 
-/// A new entry of a unit, by a check.
-fn check_unit<C: UnitCheck, A: Answers + Drop>(
+/// A new entry of a unit, by a check that asks these answers.
+///
+/// # Errors
+///
+/// `NoMemory` where memory was wanted and not given; the check is counted all the same.
+pub fn check_unit<C: UnitCheck, A: Answers + Drop>(
     alloc: Global,
     checker: &mut C,
     unit: &UnitKey,

@@ -1,7 +1,10 @@
 -- A library of the small language and its texts.
-use Rattle.std.proofs.Common.{◌≡◌, [], ◌∷◌, refl, sym, ap, ◌∙◌}
+use Rattle.std.proofs.Common.{◌≡◌, [], ◌∷◌, Option, Some, None, IfSome, refl, sym, ap, subst, ◌∙◌}
 use Rattle.al_base.specs.Files.{Texts}
 use Rattle.al_unit_graph.specs.Headers.{Library}
+use Rattle.al_engine_graph.specs.Graphs.{HaveSameHeaders}
+use Rattle.al_engine_graph.specs.Texts.{HaveTextsBut}
+use Rattle.al_engine_graph.specs.declared.alike.Edited.{Edited}
 use Rattle.al_engine_toy.specs.Toys.{AreToys, texts_of, toy_library}
 
 texts_of-library : (files : Texts) → texts_of (toy_library files) ≡ files
@@ -16,3 +19,10 @@ texts_are lib files is = ap texts_of is ∙ texts_of-library files
 -- and is that of its own texts
 pub are_toys : (lib : Library) (files : Texts) → lib ≡ toy_library files → AreToys lib
 are_toys lib files is = is ∙ ap toy_library (sym (texts_are lib files is))
+
+-- what is so of two libraries is so of those of their texts
+pub edited_as : (before now : Library) → AreToys before → AreToys now → (found : Option Edited) → IfSome found (λ edited. HaveSameHeaders before now × HaveTextsBut before now edited) → IfSome found (λ edited. HaveSameHeaders (toy_library (texts_of before)) (toy_library (texts_of now)) × HaveTextsBut (toy_library (texts_of before)) (toy_library (texts_of now)) edited)
+edited_as before now of_before of_now None is = tt
+edited_as before now of_before of_now (Some edited) is =
+    subst (λ (l : Library). HaveSameHeaders l (toy_library (texts_of now)) × HaveTextsBut l (toy_library (texts_of now)) edited) of_before
+    (subst (λ (l : Library). HaveSameHeaders before l × HaveTextsBut before l edited) of_now is)

@@ -4,6 +4,7 @@ ghost use Rattle.al_engine_toy.specs.Toys.{header_in, toy_library};
 
 use al_base::{Files, NoMemory};
 use al_engine::ReadFiles;
+use al_engine_graph::{Edited, edited_between};
 use al_engine_toy::{sources_after, sources_of, toys_are_read};
 use al_unit_graph::Sources;
 use std::alloc::Global;
@@ -48,6 +49,16 @@ impl ReadFiles for ToyFiles {
     fn after(alloc: Global, now: &Files, before: &Self) -> Result<Self, NoMemory> {
         let sources = sources_after(alloc, now, &before.sources)?;
         Ok(ToyFiles { sources })
+    }
+
+    fn again(
+        alloc: Global,
+        now: &Files,
+        before: &Self,
+    ) -> Result<(Self, Option<Edited>), NoMemory> {
+        let sources = sources_after(alloc, now, &before.sources)?;
+        let edited = edited_between(alloc, &before.sources, &sources)?;
+        Ok((ToyFiles { sources }, edited))
     }
 
     fn sources(&self) -> &Sources {

@@ -1,5 +1,6 @@
 mod Known
 mod CheckResult
+mod Judged
 mod ToyFiles
 mod Predefined
 mod Results

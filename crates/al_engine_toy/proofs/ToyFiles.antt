@@ -12,11 +12,11 @@ use Rattle.std.proofs.lemmas.Map.Made.{lookup-map_values}
 use Rattle.al_base.specs.FileLaws.{Ascend}
 use Rattle.al_base.specs.Files.{Texts, name_cmp, text_of}
 use Rattle.al_base.specs.declared.unit_key.UnitKind.TheVariants.{Sub}
-use Rattle.al_unit_graph.specs.Headers.{Header, Headed, Library, Source, kind_of}
+use Rattle.al_unit_graph.specs.Headers.{Header, Headed, Library, Mention, Source, kind_of}
 use Rattle.al_unit_graph.specs.Library.{is_kind, source_at}
 use Rattle.al_unit_graph.specs.Traces.{text_at}
 use Rattle.al_unit_graph.specs.declared.header.UnitForm.TheVariants.{PackageDeclaration, SubprogramBody}
-use Rattle.al_unit_order.specs.Read.{AreHeaded, NameParentBodies}
+use Rattle.al_unit_order.specs.Read.{AreHeaded, NameParentBodies, NamesParentBody}
 use Rattle.al_engine_toy.specs.Toys.{AreToys, ToysAreRead, header_in, header_of, is_main, source_of, texts_of, toy_library, words_from}
 
 -- ---- what is put in by ascending names stands in that order
@@ -88,8 +88,23 @@ named_by [] = refl
 named_by (a ∷ []) = refl
 named_by (a ∷ b ∷ rest) = named_in a (words_from [] rest)
 
-parents_are : (lib : Library) → AreToys lib → (file : List ℕ) (source : Source) (h : Header) → source_at lib file ≡ Some source → source.contents ≡ Headed h → is_some h.parent_body ≡ is_kind (kind_of h.form) Sub
-parents_are lib are file source h is headed = subst (λ (x : Header). is_some x.parent_body ≡ is_kind (kind_of x.form) Sub) (headed_is lib are file source h is headed) (named_by source.text)
+none_in : (form : ℕ) (names : List (List ℕ)) → (header_of form names).parent_body ≡ None
+none_in form [] = refl
+none_in form (n ∷ ns) = refl
+
+none_by : (text : List ℕ) → (header_in text).parent_body ≡ None
+none_by [] = refl
+none_by (a ∷ []) = refl
+none_by (a ∷ b ∷ rest) = none_in a (words_from [] rest)
+
+no_mention : (m : Mention) (o : Option Mention) → o ≡ None → o ≡ Some m → ⊥
+no_mention m o none some = cc
+
+names_by : (text : List ℕ) → NamesParentBody (header_in text)
+names_by text = record { has = named_by text; name = λ m is. absurd (no_mention m (header_in text).parent_body (none_by text) is) }
+
+parents_are : (lib : Library) → AreToys lib → (file : List ℕ) (source : Source) (h : Header) → source_at lib file ≡ Some source → source.contents ≡ Headed h → NamesParentBody h
+parents_are lib are file source h is headed = subst (λ (x : Header). NamesParentBody x) (headed_is lib are file source h is headed) (names_by source.text)
 
 pub toys_name_parents : (lib : Library) → AreToys lib → NameParentBodies lib
 toys_name_parents lib are = parents_are lib are

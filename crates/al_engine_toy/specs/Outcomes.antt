@@ -16,6 +16,7 @@ use Rattle.al_view_typed.specs.StatementTrees.StatementFormTree.{PutStatement}
 use Rattle.al_view_typed.specs.StatementTrees.{StatementTree}
 use Rattle.al_view_typed.specs.UnitTrees.{BodyTree, ElaborationTree, UnitTree}
 use Rattle.al_view_typed.specs.declared.unit.BodyKind.TheVariants.{Procedure}
+use Rattle.al_query_outcome.specs.Left.{last_of}
 use Rattle.al_query_outcome.specs.Results.{Outcome, Faulty, Sound}
 use Rattle.al_query_outcome.specs.Tables.{interface_of}
 use Rattle.al_query_outcome.specs.declared.interface.Parts.{Parts}
@@ -23,7 +24,7 @@ use Rattle.al_query_outcome.specs.declared.interface.Properties.{Properties}
 
 -- what a unit is known by
 abbrev pub own_symbol : UnitKey → Symbol
-own_symbol unit = record { unit = unit; name = unit.name; number = 0 }
+own_symbol unit = record { unit = unit; name = last_of unit.name; number = 0 }
 
 abbrev pub properties : UnitKey → Option UnitKey → Bool → Properties
 properties unit parent marked = record {
@@ -47,7 +48,7 @@ does statements = record { line = 1; frame = 0; declarations = []; statements = 
 abbrev pub puts_name : UnitKey → StatementTree
 puts_name unit = Numbered 1 (PutStatement (TextPiece unit.name ∷ []) true)
 
--- a procedure of the unit's name that does nothing
+-- a procedure of the unit's last name that does nothing
 abbrev pub own_body : UnitKey → BodyTree
 own_body unit = record { symbol = own_symbol unit; kind = Procedure 0; depth = 1; formals = []; inside = does [] }
 

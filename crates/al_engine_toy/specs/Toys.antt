@@ -1,23 +1,30 @@
 -- The toy checker and its language. A text is a byte for what the unit is, a byte for whether it is marked, its name, and the names
 -- of the units that it mentions, with blanks between names. A unit's parent is the first unit that it mentions, and a unit is faulty
--- where the parent of its parent is marked. So a check asks a unit of which its text says nothing.
-use Rattle.std.specs.Prelude.{ℕ, ◌≡◌, ◌==◌, Bool, true, false, List, [], ◌∷◌, ◌++◌, map, Option, Some, None, if◌then◌else◌}
+-- where the parent of its parent is marked, or where it is a body to which its declaration leaves something, or no unit of the
+-- language. So a check asks a unit of which its text says nothing.
+use Rattle.std.specs.Prelude.{ℕ, ◌≡◌, ◌==◌, Bool, true, false, ◌&&◌, List, [], ◌∷◌, ◌++◌, map, Option, Some, None, if◌then◌else◌}
+use Rattle.std.specs.Str.{bytes_eq}
 use Rattle.al_base.specs.Files.{Texts}
 use Rattle.al_base.specs.declared.unit_key.UnitKey.{UnitKey}
-use Rattle.al_unit_graph.specs.Headers.{Header, Headed, Library, Mention, Source}
+use Rattle.al_base.specs.declared.unit_key.UnitKind.{UnitKind}
+use Rattle.al_base.specs.declared.unit_key.UnitKind.TheVariants.{Decl, Body, Sub}
+use Rattle.al_unit_graph.specs.Headers.{Header, Headed, Library, Mention, Source, is_subprogram_body}
 use Rattle.al_unit_graph.specs.Traces.{AreReadAlike}
 use Rattle.al_unit_graph.specs.declared.header.UnitForm.{UnitForm}
 use Rattle.al_unit_graph.specs.declared.header.UnitForm.TheVariants.{PackageDeclaration, SubprogramBody}
 use Rattle.al_unit_order.specs.Read.{AreHeaded, NameParentBodies}
 use Rattle.al_view.specs.Symbols.{same_unit}
-use Rattle.al_query.specs.Answers.{declaration, is_private_of, parent_of}
-use Rattle.al_query.specs.Known.{Grounded, known_after}
-use Rattle.al_query.specs.Reads.{Agrees}
+use Rattle.al_query.specs.Answers.{completions_of, declaration, is_private_of, parent_of}
+use Rattle.al_query.specs.Asked.{AsksOf}
+use Rattle.al_query.specs.Known.{Learns, known_after}
+use Rattle.al_query.specs.Reads.{FromAnswers, HoldsBy, Log, Table}
 use Rattle.al_query.specs.declared.answer.AnswerKind.{AnswerKind}
-use Rattle.al_query.specs.declared.query.Property.TheVariants.{IsPrivate, Parent}
+use Rattle.al_query.specs.declared.answer.Completion.{Completion}
+use Rattle.al_query.specs.declared.query.Property.TheVariants.{Completions, IsPrivate, Parent}
 use Rattle.al_query.specs.declared.query.Query.{Query}
 use Rattle.al_query.specs.declared.query.Query.TheVariants.{Of}
-use Rattle.al_query_outcome.specs.ReadsLaw.{AsksOthers, NamesOnly, named_by}
+use Rattle.al_query_outcome.specs.Defines.{DefinesParts}
+use Rattle.al_query_outcome.specs.ReadsLaw.{NamesOnly, is_by_names, is_of_another, named_by}
 use Rattle.al_query_outcome.specs.Results.{Outcome}
 use Rattle.al_engine_toy.specs.Outcomes.{faulty, plain}
 
@@ -119,19 +126,61 @@ abbrev pub by_first : UnitKey → Bool → Option UnitKey → (Query → AnswerK
 by_first unit marked None t = plain unit None marked
 by_first unit marked (Some first) t = by_second unit first marked (another unit (parent_of (t (Of first Parent)))) t
 
+-- a declaration leaves nothing to its body
+abbrev pub is_nothing : List Completion → Bool
+is_nothing [] = true
+is_nothing (c ∷ cs) = false
+
+-- the text is that of a library subprogram's body with this name
+abbrev pub is_body_of : Header → List ℕ → Bool
+is_body_of h name = is_subprogram_body h.form && bytes_eq h.name name
+
+-- a unit of this kind is one of the language: a declaration, or a main procedure's body to which its declaration, if there is one,
+-- leaves nothing
+abbrev pub is_whole_as : UnitKind → List ℕ → Header → Table → Bool
+is_whole_as Decl name h t = true
+is_whole_as Body name h t = is_body_of h name && is_nothing (completions_of (t (Of (declaration name) Completions)))
+is_whole_as Sub name h t = false
+
+abbrev pub is_whole : UnitKey → Header → Table → Bool
+is_whole unit h t = is_whole_as unit.kind unit.name h t
+
 -- the outcome of a unit with a text under a table of answers
 abbrev pub toy_meaning : UnitKey → List ℕ → (Query → AnswerKind) → Outcome
-toy_meaning unit text t = by_first unit (is_marked text) (first_named unit (header_in text)) t
+toy_meaning unit text t =
+    if is_whole unit (header_in text) t then by_first unit (is_marked text) (first_named unit (header_in text)) t else faulty unit
 
 -- an outcome of the toy
 pub data IsToys (unit : UnitKey) : Outcome → Type 0 where
   is_plain : (parent : Option UnitKey) (marked : Bool) → IsToys unit (plain unit parent marked)
   is_faulty : IsToys unit (faulty unit)
 
--- a check of a unit with this header asked these questions, and gave this
-pub record IsJudged (unit : UnitKey) (h : Header) (marked : Bool) (log : List (Query × AnswerKind)) (outcome : Outcome) : Type 0 where
-  pub meaning : (t : Query → AnswerKind) → Agrees t log → outcome ≡ by_first unit marked (first_named unit h) t
-  pub others : AsksOthers unit log
-  pub grounded : Grounded (named_by h) log
+-- a question of another unit, for a property; for what a body must complete, of the unit's own declaration
+abbrev pub may_ask : UnitKey → List (List ℕ) → Log → Query → Bool
+may_ask unit words log q = is_of_another unit q && is_by_names unit words q
+
+-- between these logs a check of a unit with this header asked only so
+abbrev pub AsksWell : UnitKey → Header → Log → Log → Type 0
+AsksWell unit h old log = (words : List (List ℕ)) → AsksOf (named_by h) (may_ask unit words) old log
+
+-- it asked the unit that it names first for its parent
+pub record HasParent (unit : UnitKey) (h : Header) (first : UnitKey) (a : AnswerKind) (old log : Log) : Type 0 where
+  pub named : first_named unit h ≡ Some first
+  pub answered : FromAnswers old log (λ t. t (Of first Parent) ≡ a)
+  pub asks : AsksWell unit h old log
+  pub learns : Learns old log (Of first Parent) a
+
+-- a check of a unit of the language with this header asked these questions after those, and gave this
+pub record IsJudged (unit : UnitKey) (h : Header) (marked : Bool) (old log : Log) (outcome : Outcome) : Type 0 where
+  pub meaning : FromAnswers old log (λ t. outcome ≡ by_first unit marked (first_named unit h) t)
+  pub asks : AsksWell unit h old log
   pub names : NamesOnly (unit ∷ known_after (named_by h) log) outcome
+  pub toys : IsToys unit outcome
+
+-- a check of a unit with this text asked these questions, and gave this
+pub record IsChecked (unit : UnitKey) (text : List ℕ) (log : Log) (outcome : Outcome) : Type 0 where
+  pub meaning : HoldsBy log (λ t. outcome ≡ toy_meaning unit text t)
+  pub asks : AsksWell unit (header_in text) [] log
+  pub names : NamesOnly (unit ∷ known_after (named_by (header_in text)) log) outcome
+  pub parts : HoldsBy log (λ t. DefinesParts unit (header_in text) t outcome)
   pub toys : IsToys unit outcome

@@ -8,7 +8,7 @@ ghost use Rattle.al_engine_toy.specs.Outcomes.{does, faulty, no_parts, own_body,
 
 use al_base::{Diagnostic, Name, NoMemory, Place, UnitKey, file_name_of};
 use al_query::ContextView;
-use al_query_outcome::{Checked, Parts, Properties, UnitInterface};
+use al_query_outcome::{Checked, Parts, Properties, UnitInterface, last_of};
 use al_view::{Interface, Seq, Symbol, View, ViewKind, copied_unit};
 use al_view_typed::{
     BodyKind, Elaboration, Piece, StatementForm, TypedBody, TypedStatement, TypedUnit,
@@ -21,7 +21,7 @@ fn own_symbol(alloc: Global, unit: &UnitKey) -> Result<Symbol, NoMemory>
 {
     Ok(Symbol {
         unit: copied_unit(alloc, unit)?,
-        name: Name::from_slice(alloc, unit.name.as_slice())?,
+        name: Name::from_slice(alloc, last_of(unit.name.as_slice()))?,
         number: 0,
     })
 }
@@ -85,7 +85,7 @@ fn puts_name(alloc: Global, unit: &UnitKey) -> Result<Elaboration, NoMemory>
     Ok(Elaboration::new(1, 0, Vec::new(alloc), statements))
 }
 
-/// A procedure of the unit's name that does nothing.
+/// A procedure of the unit's last name that does nothing.
 fn own_body(alloc: Global, unit: &UnitKey) -> Result<TypedBody, NoMemory>
     ensures { IfOk result (λ body. body_model body ≡ own_body unit.now) }
 {

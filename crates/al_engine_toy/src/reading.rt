@@ -2,10 +2,10 @@
 ghost use Rattle.std.specs.Prelude.{ℕ, ◌≡◌, List, ◌∷◌, ◌++◌, [], false, IfOk, OnOk, map};
 ghost use Rattle.al_unit_graph.specs.Views.{header_model, mention_model};
 ghost use Rattle.al_unit_graph.specs.declared.header.UnitForm.TheVariants.{PackageDeclaration};
-ghost use Rattle.al_engine_toy.specs.Toys.{first_named, form_of, header_in, header_of, header_with, is_main, is_marked, mention_of, words_from};
+ghost use Rattle.al_engine_toy.specs.Toys.{first_named, form_of, header_in, header_of, header_with, is_body_of, is_main, is_marked, mention_of, words_from};
 
 use al_base::{Name, NoMemory, Place, UnitKey, UnitKind};
-use al_unit_graph::{Header, Mention, UnitForm};
+use al_unit_graph::{Header, Mention, UnitForm, is_subprogram_body};
 use al_view::is_unit;
 use std::alloc::Global;
 use std::mem;
@@ -167,6 +167,14 @@ pub(crate) fn first_named(
 {
     let header = header_in(alloc, text)?;
     named_in(alloc, unit, &header)
+}
+
+/// Whether a text is that of a library subprogram's body with this name.
+pub(crate) fn is_body_of(alloc: Global, text: &[u8], name: &[u8]) -> Result<bool, NoMemory>
+    ensures { IfOk result (λ is. is ≡ is_body_of (header_in text.now) name.now) }
+{
+    let header = header_in(alloc, text)?;
+    Ok(is_subprogram_body(header.form) && header.name.as_slice() == name)
 }
 
 /// Whether a text is marked.

@@ -6,9 +6,10 @@ use Rattle.al_query.specs.Reads.{Agrees}
 use Rattle.al_query.specs.declared.answer.AnswerKind.{AnswerKind}
 use Rattle.al_query.specs.declared.query.Query.{Query}
 use Rattle.al_unit_graph.specs.Headers.{Header}
-use Rattle.al_query_outcome.specs.Defines.{DefinesOwn, ShowsOnly}
-use Rattle.al_query_outcome.specs.ReadsLaw.{AsksOthers, FaultsFit, HasCode, NamesOnly, UsesOnly, named_by}
+use Rattle.al_query_outcome.specs.Defines.{DefinesOwn, DefinesParts, ShowsOnly}
+use Rattle.al_query_outcome.specs.ReadsLaw.{AsksByNames, AsksOthers, FaultsFit, HasCode, NamesOnly, UsesOnly, named_by}
 use Rattle.al_query_outcome.specs.Results.{Outcome}
+use Rattle.al_query_outcome.specs.Words.{words_of}
 use Rattle.al_entries.specs.Stored.{Stored, outcome_of}
 
 -- the outcome of a unit with a text under a table of answers
@@ -22,12 +23,15 @@ pub record KeepsLaw (meaning : TextMeaning) (header : List ℕ → Header) (u : 
   -- each question is of another unit, which the text or an earlier answer names
   pub others : AsksOthers u e.log
   pub grounded : Grounded (named_by (header e.text)) e.log
+  -- and is for a property, or by a word of the text, or by a name that an answer before it told
+  pub words : AsksByNames u (words_of e.text) e.log
   -- the outcome names only these units and its own
   pub names : NamesOnly (u ∷ known_after (named_by (header e.text)) e.log) (outcome_of e)
   -- what the linker needs, and where faults lie
   pub uses : UsesOnly u e.log (outcome_of e)
   pub defines : DefinesOwn u (outcome_of e)
   pub shows : ShowsOnly u e.log (outcome_of e)
+  pub parts : (t : Query → AnswerKind) → Agrees t e.log → DefinesParts u (header e.text) t (outcome_of e)
   pub code : HasCode u (outcome_of e)
   pub faults : FaultsFit u (outcome_of e)
 

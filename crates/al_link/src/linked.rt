@@ -3,6 +3,7 @@ ghost use Rattle.std.specs.Prelude.{◌≡◌, ◌≤◌, ◌↔◌, IsTrue, IsO
 ghost use Rattle.std.specs.List.{All};
 ghost use Rattle.al_link_image.specs.Images.{IsUnitName, image_bytes};
 ghost use Rattle.al_link_image.specs.Parts.{IsWhole, image_of as image_of_parts};
+ghost use Rattle.al_link.specs.Closed.{AreClosedUnits};
 ghost use Rattle.al_link.specs.Images.{image_of};
 ghost use Rattle.al_link.specs.Kept.{IsPrepared, kept_model, prepared_size};
 ghost use Rattle.al_link.specs.Partitions.{AreLinkable, IsFaultOf, compiled_units};
@@ -139,7 +140,7 @@ fn taken(alloc: Global, image: &mut Image) -> ImageParts
 }
 
 impl Linked {
-    /// The image of a partition's units, as `link` makes it.
+    /// The image of a partition's units, which define the main subprogram's code and all that they use, as `link` makes it.
     ///
     /// # Errors
     ///
@@ -149,7 +150,8 @@ impl Linked {
         main: &LinkSymbol,
         units: &[CompiledUnit<'_>],
     ) -> Result<Linked, LinkFault>
-        requires { All (λ u. IsUnitName u.key.now.name) units.now }
+        requires named { All (λ u. IsUnitName u.key.now.name) units.now }
+        requires closed { AreClosedUnits main.now units.now }
         ensures linked { IfOk result (λ linked. linked ≡ record { main = main.now; units = compiled_units units.now; patched = 0 }) }
         ensures within { OnOk result (AreLinkable units.now) }
         ensures fault { IfErr result (IsFaultOf units.now) }
@@ -248,14 +250,15 @@ impl Linked {
         Ok(())
     }
 
-    /// Links a partition's units in the place of those before. Where the main subprogram and all lengths, counts and
+    /// Links a partition's units, closed as those of `new`, in the place of those before. Where the main subprogram and all lengths, counts and
     /// symbols are as before it takes no memory.
     ///
     /// # Errors
     ///
     /// Those of `new`; the image is then as before.
     pub fn relink(&mut self, main: &LinkSymbol, units: &[CompiledUnit<'_>]) -> Result<(), LinkFault>
-        requires { All (λ u. IsUnitName u.key.now.name) units.now }
+        requires named { All (λ u. IsUnitName u.key.now.name) units.now }
+        requires closed { AreClosedUnits main.now units.now }
         ensures main { OnOk result (self.new.main ≡ main.now) }
         ensures units { OnOk result (self.new.units ≡ compiled_units units.now) }
         ensures within { OnOk result (AreLinkable units.now) }
@@ -274,7 +277,7 @@ impl Linked {
 }
 
 /// The image of a partition's units in the order in which they stand in it: the items in the order of their elaboration, a body's
-/// subunits after it. `main` is the symbol of the main subprogram's code.
+/// subunits after it. `main` is the symbol of the main subprogram's code. The units define it, and all that they use.
 ///
 /// # Errors
 ///
@@ -284,7 +287,8 @@ pub fn link(
     main: &LinkSymbol,
     units: &[CompiledUnit<'_>],
 ) -> Result<Image, LinkFault>
-    requires { All (λ u. IsUnitName u.key.now.name) units.now }
+    requires named { All (λ u. IsUnitName u.key.now.name) units.now }
+    requires closed { AreClosedUnits main.now units.now }
     ensures image { IfOk result (λ image. image ≡ image_of main.now (compiled_units units.now)) }
     ensures within { OnOk result (AreLinkable units.now) }
     ensures fault { IfErr result (IsFaultOf units.now) }

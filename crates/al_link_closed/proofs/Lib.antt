@@ -1,1 +1,3 @@
+pub mod SubunitNames
 pub mod Completing
+pub mod MainDefined

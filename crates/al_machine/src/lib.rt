@@ -11,6 +11,7 @@ mod memory;
 mod operation;
 mod output;
 mod regions;
+mod singles;
 mod spot;
 mod stack;
 mod table;

@@ -8,4 +8,4 @@ mod meaning;
 
 pub use context::{Context, PredefinedTypes, converted_to, wanted_in};
 pub use laws::{faults_tell_why, one_is_acceptable};
-pub use meaning::resolve;
+pub use meaning::{nothing_fits, resolve};

@@ -9,7 +9,8 @@ use al_base_fault::{CheckResult, Fault};
 use al_overload_choice::{Expected, Expression, Interpretation, Labelled, interpret};
 use std::alloc::Global;
 
-fn nothing_fits(place: Place) -> Fault
+/// E402 there.
+pub fn nothing_fits(place: Place) -> Fault
     ensures { result ≡ nothing_fits place }
 {
     Fault {

@@ -378,3 +378,50 @@ prefers choices args t false w e p q =
     let k : size w ≡ min (tally true t choices) 2 = ap size p ∙ size-of (tally true t choices) in
     let m = not-above (size w) (sym q) in
     without-root choices args t e (omega arith)
+
+-- ---- one operand after the other
+
+-- ways of operands that were counted, with those of the next one and of the rest
+pub with_more : (x y z : Count) → ways_of (size (ways_of (size x * size y)) * size z) ≡ ways_of (size x * size (ways_of (size y * size z)))
+with_more ways.None ways.None ways.None = refl
+with_more ways.None ways.None ways.One = refl
+with_more ways.None ways.None ways.Several = refl
+with_more ways.None ways.One ways.None = refl
+with_more ways.None ways.One ways.One = refl
+with_more ways.None ways.One ways.Several = refl
+with_more ways.None ways.Several ways.None = refl
+with_more ways.None ways.Several ways.One = refl
+with_more ways.None ways.Several ways.Several = refl
+with_more ways.One ways.None ways.None = refl
+with_more ways.One ways.None ways.One = refl
+with_more ways.One ways.None ways.Several = refl
+with_more ways.One ways.One ways.None = refl
+with_more ways.One ways.One ways.One = refl
+with_more ways.One ways.One ways.Several = refl
+with_more ways.One ways.Several ways.None = refl
+with_more ways.One ways.Several ways.One = refl
+with_more ways.One ways.Several ways.Several = refl
+with_more ways.Several ways.None ways.None = refl
+with_more ways.Several ways.None ways.One = refl
+with_more ways.Several ways.None ways.Several = refl
+with_more ways.Several ways.One ways.None = refl
+with_more ways.Several ways.One ways.One = refl
+with_more ways.Several ways.One ways.Several = refl
+with_more ways.Several ways.Several ways.None = refl
+with_more ways.Several ways.Several ways.One = refl
+with_more ways.Several ways.Several ways.Several = refl
+
+pub with_no_more : (x : Count) → ways_of (size x * 1) ≡ x
+with_no_more ways.None = refl
+with_no_more ways.One = refl
+with_no_more ways.Several = refl
+
+pub with_misfit : (x : Count) → ways_of (size x * 0) ≡ ways.None
+with_misfit ways.None = refl
+with_misfit ways.One = refl
+with_misfit ways.Several = refl
+
+pub with_first : (x : Count) → ways_of (size ways.One * size x) ≡ x
+with_first ways.None = refl
+with_first ways.One = refl
+with_first ways.Several = refl

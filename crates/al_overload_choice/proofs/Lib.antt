@@ -2,3 +2,4 @@ pub mod Counting
 pub mod Lists
 pub mod Preferred
 pub mod RangeLemmas
+pub mod ChainLemmas

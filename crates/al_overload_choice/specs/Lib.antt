@@ -4,3 +4,4 @@ pub mod Counts
 pub mod Resolution
 pub mod Ranges
 pub mod Sizes
+pub mod Chains

@@ -1,9 +1,11 @@
 // The one interpretation of an expression.
 ghost use Rattle.std.specs.Prelude.{◌≡◌, ◌∷◌, [], map, IfOk, length};
 ghost use Rattle.al_overload_choice.specs.Counts.{AreCounted, IsHead, candidates, counted_all, label_of, labels_of, plain, plain_all};
-ghost use Rattle.al_overload_choice.specs.Labelling.{Node, NodeAs, acceptable, labellings, pairs, preferred, preferred_all, under};
+ghost use Rattle.al_overload_choice.specs.Chains.{IsBelow, listed, stepped};
+ghost use Rattle.al_overload_choice.specs.Labelling.{NoLabel, Node, NodeAs, acceptable, labellings, pairs, preferred, preferred_all, under};
 ghost use Rattle.al_overload_choice.specs.Resolution.{IsInterpretation};
 
+use crate::chain::{Link, Step, all_linked, gathered};
 use crate::count::{Count, ways_at, ways_in};
 use crate::term::{Choice, Choices, Expression, Labelled, LabelledTerms, Term, Terms};
 use crate::types::Expected;
@@ -62,23 +64,106 @@ fn one_each(operand: &Term, more: &Terms, first: &Expected, others: &[Expected])
     ensures others { length (preferred_all (plain_all more.now) others.now) ≡ 1 }
 {}
 
-/// The one labelling of a head with its operands that is what is wanted.
+/// The one labelling of a head with its operands that is what is wanted. First operands are gone down by a loop, so that a chain of
+/// operators takes nothing of the stack for each.
 #[cycle(choose)]
-fn choose(
+#[tactic(auto, using(crate::proofs::ChainLemmas::first_mapped, crate::proofs::ChainLemmas::same_labels, crate::proofs::ChainLemmas::only_one))]
+fn choose<'a>(
     alloc: Global,
-    choices: &Choices,
-    operands: &Terms,
-    expected: &Expected,
+    choices: &'a Choices,
+    operands: &'a Terms,
+    expected: &'a Expected,
 ) -> Result<Labelled, NoMemory>
     requires counted { IsHead choices.now operands.now }
     requires one { length (preferred (Node (candidates choices.now) (plain_all operands.now)) expected.now) ≡ 1 }
     ensures { IfOk result (λ l. preferred (Node (candidates choices.now) (plain_all operands.now)) expected.now ≡ label_of l ∷ []) }
 {
+    let mut links = Vec::new(alloc);
+    let (mut choices, mut operands, mut expected) = (choices, operands, expected);
+    loop {
+        match step(alloc, choices, operands, expected)? {
+            Step::Down {
+                link,
+                choices: inner_choices,
+                operands: inner,
+                expected: wanted,
+            } => {
+                links.push(link)?;
+                (choices, operands, expected) = (inner_choices, inner, wanted);
+            }
+            Step::Last(labelled) => return all_linked(alloc, links, labelled),
+        }
+    }
+}
+
+/// A step down from a head to its first operand, once its others are chosen.
+#[cycle(choose)]
+#[tactic(auto, using(crate::proofs::ChainLemmas::head_stepped, crate::proofs::ChainLemmas::head_alone))]
+fn step<'a>(
+    alloc: Global,
+    choices: &'a Choices,
+    operands: &'a Terms,
+    expected: &Expected,
+) -> Result<Step<'a>, NoMemory>
+    requires counted { IsHead choices.now operands.now }
+    requires one { length (preferred (Node (candidates choices.now) (plain_all operands.now)) expected.now) ≡ 1 }
+    ensures chosen { IfOk result (λ s. stepped s ≡ preferred (Node (candidates choices.now) (plain_all operands.now)) expected.now) }
+    ensures below { IfOk result (λ s. IsBelow operands.now s) }
+{
     let choices = choices.as_slice();
     let is_root = prefers_root(choices, operands, expected);
     let (number, choice) = pick(choices, operands, expected, is_root);
-    let chosen = choose_all(alloc, operands, choice.candidate.operands.as_slice())?;
-    Ok(Labelled::HeadAs(number, is_root, chosen))
+    match operands {
+        Terms::NoTerms => {
+            let none = LabelledTerms::NoLabelled;
+            Ok(Step::Last(Labelled::HeadAs(number, is_root, none)))
+        }
+        Terms::MoreTerms(operand, more) => {
+            let [first, others @ ..] = choice.candidate.operands.as_slice() else {
+                unreachable!()
+            };
+            one_each(operand, more, first, others);
+            let Term::Head(inner_choices, inner) = &**operand;
+            let others = choose_all(alloc, more, others)?;
+            Ok(Step::Down {
+                link: Link {
+                    number,
+                    is_root,
+                    others,
+                },
+                choices: inner_choices,
+                operands: inner,
+                expected: first,
+            })
+        }
+    }
+}
+
+/// What is chosen of operands, one after the other.
+#[cycle(choose)]
+#[tactic(auto, using(crate::proofs::ChainLemmas::more_listed, crate::proofs::ChainLemmas::same_lists, crate::proofs::ChainLemmas::none_left))]
+fn choose_each(
+    alloc: Global,
+    operands: &Terms,
+    expected: &[Expected],
+) -> Result<Vec<Labelled>, NoMemory>
+    requires counted { AreCounted operands.now }
+    requires one { length (preferred_all (plain_all operands.now) expected.now) ≡ 1 }
+    ensures { IfOk result (λ each. preferred_all (plain_all operands.now) expected.now ≡ listed each.items NoLabel ∷ []) }
+{
+    let mut each = Vec::new(alloc);
+    let (mut rest, mut wanted) = (operands, expected);
+    while let Terms::MoreTerms(operand, more) = rest {
+        let [first, others @ ..] = wanted else {
+            unreachable!()
+        };
+        one_each(operand, more, first, others);
+        let Term::Head(choices, inner) = &**operand;
+        let chosen = choose(alloc, choices, inner, first)?;
+        each.push(chosen)?;
+        (rest, wanted) = (more, others);
+    }
+    Ok(each)
 }
 
 #[cycle(choose)]
@@ -91,21 +176,8 @@ fn choose_all(
     requires one { length (preferred_all (plain_all operands.now) expected.now) ≡ 1 }
     ensures { IfOk result (λ l. preferred_all (plain_all operands.now) expected.now ≡ labels_of l ∷ []) }
 {
-    match operands {
-        Terms::NoTerms => Ok(LabelledTerms::NoLabelled),
-        Terms::MoreTerms(operand, more) => {
-            let [first, others @ ..] = expected else {
-                unreachable!()
-            };
-            one_each(operand, more, first, others);
-            let Term::Head(choices, inner) = &**operand;
-            let chosen = choose(alloc, choices, inner, first)?;
-            let rest = choose_all(alloc, more, others)?;
-            let chosen = Box::new(alloc, chosen)?;
-            let rest = Box::new(alloc, rest)?;
-            Ok(LabelledTerms::MoreLabelled(chosen, rest))
-        }
-    }
+    let each = choose_each(alloc, operands, expected)?;
+    gathered(alloc, each)
 }
 
 /// What an expression means where it is wanted to be this.

@@ -83,25 +83,21 @@ pub fn ways_at(choices: &[Choice], expected: &Expected) -> Count
 }
 
 /// In how many ways operands can be what is wanted of them.
+#[tactic(auto, using(crate::proofs::Counting::with_first, crate::proofs::Counting::with_more, crate::proofs::Counting::with_no_more, crate::proofs::Counting::with_misfit))]
 pub fn ways_of_operands(operands: &Terms, expected: &[Expected]) -> Count
     ensures { result ≡ held_all operands.now expected.now }
 {
-    match operands {
-        Terms::NoTerms => {
-            if expected.is_empty() {
-                Count::One
-            } else {
-                Count::None
-            }
-        }
-        Terms::MoreTerms(operand, more) => match expected {
-            [first, others @ ..] => {
-                let Term::Head(choices, _) = &**operand;
-                ways_at(choices.as_slice(), first).with(ways_of_operands(more, others))
-            }
-            [] => Count::None,
-        },
+    let mut ways = Count::One;
+    let (mut rest, mut wanted) = (operands, expected);
+    while let Terms::MoreTerms(operand, more) = rest {
+        let [first, others @ ..] = wanted else {
+            return Count::None;
+        };
+        let Term::Head(choices, _) = &**operand;
+        ways = ways.with(ways_at(choices.as_slice(), first));
+        (rest, wanted) = (more, others);
     }
+    if wanted.is_empty() { ways } else { Count::None }
 }
 
 impl Choice {

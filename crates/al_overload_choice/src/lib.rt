@@ -1,6 +1,7 @@
 //! Which declarations the names, calls and operators of an expression mean, where each has its candidates.
 #![tactic(auto)]
 
+mod chain;
 mod choose;
 mod count;
 mod law;

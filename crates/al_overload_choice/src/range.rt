@@ -84,17 +84,17 @@ fn add_all_given(
 fn add_types(alloc: Global, types: &mut Seq<ValueType>, operands: &Terms) -> Result<(), NoMemory>
     ensures { OnOk result (types.new ≡ with_types types.old (plain_all operands.now)) }
 {
-    match operands {
-        Terms::NoTerms => Ok(()),
-        Terms::MoreTerms(operand, more) => {
-            let Term::Head(choices, _) = &**operand;
-            add_all_given(alloc, types, choices.as_slice())?;
-            add_types(alloc, types, more)
-        }
+    let mut rest = operands;
+    while let Terms::MoreTerms(operand, more) = rest {
+        let Term::Head(choices, _) = &**operand;
+        add_all_given(alloc, types, choices.as_slice())?;
+        rest = more;
     }
+    Ok(())
 }
 
 /// As many operands of this type.
+#[tactic(auto, using(std::proofs::Common::append_assoc))]
 fn want_all(
     alloc: Global,
     expected: &mut Seq<Expected>,
@@ -103,13 +103,12 @@ fn want_all(
 ) -> Result<(), NoMemory>
     ensures { OnOk result (expected.new ≡ expected.old ++ all_of of.now (plain_all operands.now)) }
 {
-    match operands {
-        Terms::NoTerms => Ok(()),
-        Terms::MoreTerms(_, more) => {
-            expected.push(Expected::Value(of.copy(alloc)?))?;
-            want_all(alloc, expected, of, more)
-        }
+    let mut rest = operands;
+    while let Terms::MoreTerms(_, more) = rest {
+        expected.push(Expected::Value(of.copy(alloc)?))?;
+        rest = more;
     }
+    Ok(())
 }
 
 /// The candidate of a head whose operands are all of this type. It gives a value of that type, where it doesn't always give one of another.
@@ -210,7 +209,7 @@ impl Expression {
     ) -> Result<Expression, NoMemory>
         ensures { IfOk result (λ e. plain e ≡ alike root.now numbers.now always.now (plain_all operands)) }
     {
-        let terms = operands.terms;
+        let terms = operands.into_terms();
         let choices = choices_of(alloc, &terms, always, numbers, root)?;
         Ok(Expression {
             choices,

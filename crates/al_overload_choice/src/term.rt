@@ -1,7 +1,7 @@
 // Expressions whose names, calls and operators have their candidates, and which of these are meant.
 ghost use Rattle.std.specs.Prelude.{◌≡◌, [], ◌∷◌, ◌++◌, IfOk, IfSome, is_ok, if◌then◌else◌};
 ghost use Rattle.al_overload_choice.specs.Sizes.{IsLabelledWithin, IsWithin};
-ghost use Rattle.al_overload_choice.specs.Counts.{AreCounted, candidates, counted_all, plain, plain_all};
+ghost use Rattle.al_overload_choice.specs.Counts.{AreCounted, IsCounted, candidates, counted_all, plain, plain_all};
 ghost use Rattle.al_overload_choice.specs.Labelling.{Tree as tree, Trees as trees, with_candidate};
 
 use crate::count::Count;
@@ -127,9 +127,14 @@ impl Drop for Terms {
 }
 
 /// Operands, in the order of the text.
-#[derive(Drop)]
 pub struct Operands {
     pub(crate) terms: Terms,
+}
+
+impl Drop for Operands {
+    fn drop(self) {
+        let Operands { terms: _ } = self;
+    }
 }
 
 impl Model for Operands {
@@ -148,10 +153,18 @@ impl Model for Operands {
 }
 
 /// An expression: the candidates of the name, call or operator at its head, and its operands.
-#[derive(Drop)]
 pub struct Expression {
     pub(crate) choices: Choices,
     pub(crate) operands: Terms,
+}
+
+impl Drop for Expression {
+    fn drop(self) {
+        let Expression {
+            choices: _,
+            operands: _,
+        } = self;
+    }
 }
 
 impl Model for Expression {
@@ -252,6 +265,14 @@ impl Choices {
 }
 
 impl Operands {
+    pub(crate) fn into_terms(self) -> Terms
+        ensures terms { result ≡ self }
+        ensures counted { AreCounted result }
+    {
+        let Operands { terms } = self;
+        terms
+    }
+
     /// No operands.
     pub fn none() -> Operands
         ensures { plain_all result ≡ trees.NoTree }
@@ -265,8 +286,8 @@ impl Operands {
     pub fn before(alloc: Global, operand: Expression, more: Operands) -> Result<Operands, NoMemory>
         ensures { IfOk result (λ all. plain_all all ≡ trees.MoreTrees (plain operand) (plain_all more)) }
     {
-        let operand = Box::new(alloc, Term::Head(operand.choices, operand.operands))?;
-        let more = Box::new(alloc, more.terms)?;
+        let operand = Box::new(alloc, operand.into_term())?;
+        let more = Box::new(alloc, more.into_terms())?;
         Ok(Operands {
             terms: Terms::MoreTerms(operand, more),
         })
@@ -280,8 +301,17 @@ impl Expression {
     {
         Expression {
             choices: Choices::new(alloc),
-            operands: operands.terms,
+            operands: operands.into_terms(),
         }
+    }
+
+    // The same inside another one.
+    fn into_term(self) -> Term
+        ensures term { result ≡ self }
+        ensures counted { IsCounted result }
+    {
+        let Expression { choices, operands } = self;
+        Term::Head(choices, operands)
     }
 
     /// One more candidate of its head.

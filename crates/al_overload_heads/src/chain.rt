@@ -1,25 +1,26 @@
 // What begins with an operand leans to the left: `A - B + C` has `A - B` at the left of its `+`, and `A (1).C` has `A (1)` before its dot.
-ghost use Rattle.std.specs.Prelude.{◌≡◌, ◌&&◌, ◌∷◌, [], ◌++◌, false, IfOk, OnOk, None};
+ghost use Rattle.std.specs.Prelude.{◌≡◌, ◌&&◌, ◌∷◌, [], ◌++◌, false, IfOk, OnOk, None, option_map};
 ghost use Rattle.std.specs.Option.{option_and_then};
 ghost use Rattle.al_overload_choice.specs.Counts.{plain, plain_all};
 ghost use Rattle.al_overload_choice.specs.Labelling.{MoreTrees};
 ghost use Rattle.al_overload_term.specs.TermViews.{term_model};
-ghost use Rattle.al_overload_heads.specs.Chains.{IsAt, chained_head, chained_universal, joint_head, joint_universal, stepped_head, stepped_universal};
+ghost use Rattle.al_overload_heads.specs.Chains.{IsAt, IsPartly, chained_head, chained_universal, joint_head, joint_part, joint_universal, stepped_head, stepped_universal};
 ghost use Rattle.al_overload_heads.specs.declared.everywhere.Predefined.{Predefined};
-ghost use Rattle.al_overload_heads.specs.Heads.{applied, head_of, membership, one, possible, selection};
-ghost use Rattle.al_overload_heads.specs.Parts.{declared_under, part_of};
+ghost use Rattle.al_overload_heads.specs.Heads.{applied, head_of, indexing, membership, one, possible, selection};
+ghost use Rattle.al_overload_heads.specs.Parts.{component_of, declared_under, element_of, nominal, part_of};
+ghost use Rattle.al_overload_heads.specs.Universal.{is_universal};
 
 use crate::built::{
     Built, BuiltOperands, concatenated, infixed, other, range_member, short_circuited,
 };
 use crate::candidate::{indexing, membership, possible, selection};
 use crate::everywhere::Predefined;
-use crate::part::{declared_under, part_of};
+use crate::part::{declared_under, indexed_part, selected_part};
 use al_base::NoMemory;
 use al_overload_choice::{Candidate, Operands};
 use al_overload_name::all_of;
 use al_overload_term::Term;
-use al_view::{SubtypeView, View};
+use al_view::{Subtype, SubtypeView, Types, View};
 use al_view_typed::BinaryOperator;
 use std::alloc::Global;
 
@@ -34,8 +35,12 @@ pub(crate) enum Sign<'a> {
     ShortCircuit,
     /// `[not] in low .. high`
     Range,
-    /// A selector, indexes or `[not] in mark`, with what may be meant.
-    Part(Option<Candidate>),
+    /// A selector.
+    Selector(&'a [u8]),
+    /// What stands in parentheses after a part of an object.
+    Indexes,
+    /// `[not] in mark`, with what may be meant.
+    Mark(Option<Candidate>),
 }
 
 /// A step down a chain.
@@ -54,6 +59,21 @@ pub(crate) struct Joint<'a> {
     pub(crate) right: BuiltOperands,
 }
 
+/// The head of what stands at the left, with its nominal subtype and the types that this is of, where it is an object or a part of one.
+#[derive(Drop)]
+pub(crate) struct Placed<'a> {
+    pub(crate) built: Built,
+    pub(crate) part: Option<(&'a Subtype, &'a Types)>,
+}
+
+/// What is no part of an object.
+fn apart<'a>(built: Built) -> Placed<'a>
+    ensures built { result.built ≡ built }
+    ensures part { result.part ≡ None }
+{
+    Placed { built, part: None }
+}
+
 /// One more link of a chain, which stands before the others in the text.
 pub(crate) fn add<'a>(
     joints: &mut Vec<Joint<'a>>,
@@ -66,95 +86,134 @@ pub(crate) fn add<'a>(
     Ok(())
 }
 
-/// What is made of the operands of a link.
-fn signed(
+/// A part of an object by its selector.
+fn selected_of<'a>(
     alloc: Global,
-    predefined: &Predefined,
-    sign: Sign<'_>,
+    predefined: &'a Predefined,
+    name: &[u8],
+    part: Option<(&'a Subtype, &'a Types)>,
+    operands: Operands,
+) -> Result<Placed<'a>, NoMemory>
+    ensures head { IfOk result (λ b. plain b.built.expression ≡ possible (option_and_then (selection name.now) (option_map (λ x. nominal x.1.now x.0.now) part.entry)) (plain_all operands)) }
+    ensures universal { IfOk result (λ b. b.built.is_universal ≡ false) }
+    ensures part { IfOk result (λ b. option_map (λ x. nominal x.1.now x.0.now) b.part ≡ option_and_then (component_of name.now) (option_map (λ x. nominal x.1.now x.0.now) part.entry)) }
+{
+    let standard = &predefined.standard;
+    let candidate = selection(alloc, standard, name, part)?;
+    let built = other(possible(alloc, candidate, operands)?);
+    let part = selected_part(standard, name, part);
+    Ok(Placed { built, part })
+}
+
+/// A part of an object by its indexes.
+fn indexed_of<'a>(
+    alloc: Global,
+    predefined: &'a Predefined,
+    part: Option<(&'a Subtype, &'a Types)>,
+    operands: Operands,
+) -> Result<Placed<'a>, NoMemory>
+    ensures head { IfOk result (λ b. plain b.built.expression ≡ possible (option_and_then indexing (option_map (λ x. nominal x.1.now x.0.now) part.entry)) (plain_all operands)) }
+    ensures universal { IfOk result (λ b. b.built.is_universal ≡ false) }
+    ensures part { IfOk result (λ b. option_map (λ x. nominal x.1.now x.0.now) b.part ≡ option_and_then element_of (option_map (λ x. nominal x.1.now x.0.now) part.entry)) }
+{
+    let standard = &predefined.standard;
+    let candidate = indexing(alloc, standard, part)?;
+    let built = other(possible(alloc, candidate, operands)?);
+    let part = indexed_part(standard, part);
+    Ok(Placed { built, part })
+}
+
+/// What is made of the operands of a link, where the first one has this nominal subtype.
+fn signed<'a>(
+    alloc: Global,
+    predefined: &'a Predefined,
+    sign: Sign<'a>,
+    part: Option<(&'a Subtype, &'a Types)>,
     operands: BuiltOperands,
-) -> Result<Built, NoMemory>
-    ensures head { IfOk result (λ b. plain b.expression ≡ joint_head predefined.now sign.entry (plain_all operands.operands) operands.are_universal) }
-    ensures universal { IfOk result (λ b. b.is_universal ≡ joint_universal sign.entry operands.are_universal) }
+) -> Result<Placed<'a>, NoMemory>
+    ensures head { IfOk result (λ b. plain b.built.expression ≡ joint_head predefined.now sign.entry (option_map (λ x. nominal x.1.now x.0.now) part.entry) (plain_all operands.operands) operands.are_universal) }
+    ensures universal { IfOk result (λ b. b.built.is_universal ≡ joint_universal sign.entry operands.are_universal) }
+    ensures part { IfOk result (λ b. option_map (λ x. nominal x.1.now x.0.now) b.part ≡ joint_part sign.entry (option_map (λ x. nominal x.1.now x.0.now) part.entry)) }
 {
     match sign {
         Sign::Operator(operator, visible) => {
-            infixed(alloc, predefined, operator, visible, operands)
+            let built = infixed(alloc, predefined, operator, visible, operands)?;
+            Ok(apart(built))
         }
-        Sign::Concatenation => concatenated(alloc, operands.operands),
-        Sign::ShortCircuit => short_circuited(alloc, predefined, operands.operands),
-        Sign::Range => range_member(alloc, predefined, operands.operands),
-        Sign::Part(candidate) => {
+        Sign::Concatenation => Ok(apart(concatenated(alloc, operands.operands)?)),
+        Sign::ShortCircuit => Ok(apart(short_circuited(alloc, predefined, operands.operands)?)),
+        Sign::Range => Ok(apart(range_member(alloc, predefined, operands.operands)?)),
+        Sign::Selector(name) => selected_of(alloc, predefined, name, part, operands.operands),
+        Sign::Indexes => indexed_of(alloc, predefined, part, operands.operands),
+        Sign::Mark(candidate) => {
             let expression = possible(alloc, candidate, operands.operands)?;
-            Ok(other(expression))
+            Ok(apart(other(expression)))
         }
     }
 }
 
 /// A link with what stands at its left.
-pub(crate) fn joined(
+fn joined<'a>(
     alloc: Global,
-    predefined: &Predefined,
-    left: Built,
-    joint: Joint<'_>,
-) -> Result<Built, NoMemory>
-    ensures head { IfOk result (λ b. plain b.expression ≡ joint_head predefined.now joint.entry.sign (MoreTrees (plain left.expression) (plain_all joint.entry.right.operands)) (left.is_universal && joint.entry.right.are_universal)) }
-    ensures universal { IfOk result (λ b. b.is_universal ≡ joint_universal joint.entry.sign (left.is_universal && joint.entry.right.are_universal)) }
+    predefined: &'a Predefined,
+    left: Placed<'a>,
+    joint: Joint<'a>,
+) -> Result<Placed<'a>, NoMemory>
+    ensures head { IfOk result (λ b. plain b.built.expression ≡ joint_head predefined.now joint.entry.sign (option_map (λ x. nominal x.1.now x.0.now) left.entry.part) (MoreTrees (plain left.entry.built.expression) (plain_all joint.entry.right.operands)) (left.entry.built.is_universal && joint.entry.right.are_universal)) }
+    ensures universal { IfOk result (λ b. b.built.is_universal ≡ joint_universal joint.entry.sign (left.entry.built.is_universal && joint.entry.right.are_universal)) }
+    ensures part { IfOk result (λ b. option_map (λ x. nominal x.1.now x.0.now) b.part ≡ joint_part joint.entry.sign (option_map (λ x. nominal x.1.now x.0.now) left.entry.part)) }
 {
-    let are_universal = left.is_universal && joint.right.are_universal;
-    let operands = Operands::before(alloc, left.expression, joint.right.operands)?;
+    let Placed { built, part } = left;
+    let are_universal = built.is_universal && joint.right.are_universal;
+    let operands = Operands::before(alloc, built.expression, joint.right.operands)?;
     let operands = BuiltOperands {
         operands,
         are_universal,
     };
-    signed(alloc, predefined, joint.sign, operands)
+    signed(alloc, predefined, joint.sign, part, operands)
 }
 
 /// The head of a chain, from its first operand on. The last link of the text comes first.
 #[tactic(auto, using(crate::proofs::ChainLemmas::first_joined_head, crate::proofs::ChainLemmas::first_joined_universal))]
-pub(crate) fn chained(
+pub(crate) fn chained<'a>(
     alloc: Global,
-    predefined: &Predefined,
-    joints: Vec<Joint<'_>>,
-    first: Built,
+    predefined: &'a Predefined,
+    joints: Vec<Joint<'a>>,
+    first: Placed<'a>,
 ) -> Result<Built, NoMemory>
-    ensures head { IfOk result (λ b. plain b.expression ≡ chained_head predefined.now joints.entry.items (plain first.expression) first.is_universal) }
-    ensures universal { IfOk result (λ b. b.is_universal ≡ chained_universal joints.entry.items first.is_universal) }
+    ensures head { IfOk result (λ b. plain b.expression ≡ chained_head predefined.now joints.entry.items (plain first.entry.built.expression) first.entry.built.is_universal (option_map (λ x. nominal x.1.now x.0.now) first.entry.part)) }
+    ensures universal { IfOk result (λ b. b.is_universal ≡ chained_universal joints.entry.items first.entry.built.is_universal) }
 {
     let mut joints = joints;
-    let mut built = first;
+    let mut placed = first;
     while let Some(joint) = joints.pop() {
-        built = joined(alloc, predefined, built, joint)?;
+        placed = joined(alloc, predefined, placed, joint)?;
     }
-    Ok(built)
+    Ok(placed.built)
 }
 
-/// A step to an operand which no other operands stand after.
-fn after<'a>(candidate: Option<Candidate>, operands: Operands, left: &'a Term) -> Step<'a>
-    ensures head { (p : Predefined) → stepped_head p result ≡ possible candidate (MoreTrees (head_of p None (term_model left.now)) (plain_all operands)) }
-    ensures universal { stepped_universal result ≡ false }
+/// A step to an operand, with the other operands that stand after it, which aren't of numbers alone.
+fn after<'a>(sign: Sign<'a>, operands: Operands, left: &'a Term) -> Step<'a>
+    ensures head { (p : Predefined) → stepped_head p result ≡ joint_head p sign.entry (part_of (term_model left.now)) (MoreTrees (head_of p None (term_model left.now)) (plain_all operands)) (is_universal (term_model left.now) && false) }
+    ensures universal { stepped_universal result ≡ joint_universal sign.entry (is_universal (term_model left.now) && false) }
+    ensures part { IsPartly (joint_part sign.entry (part_of (term_model left.now))) result }
     ensures at { IsAt left.now result }
 {
     let right = BuiltOperands {
         operands,
         are_universal: false,
     };
-    Step::Down(Sign::Part(candidate), right, left)
+    Step::Down(sign, right, left)
 }
 
 /// The step to what stands before a selector.
-pub(crate) fn selected<'a>(
-    alloc: Global,
-    predefined: &Predefined,
-    prefix: &'a Term,
-    name: &[u8],
-) -> Result<Step<'a>, NoMemory>
-    ensures head { IfOk result (λ s. stepped_head predefined.now s ≡ possible (option_and_then (selection name.now) (part_of (term_model prefix.now))) (one (head_of predefined.now None (term_model prefix.now)))) }
-    ensures universal { IfOk result (λ s. stepped_universal s ≡ false) }
-    ensures at { IfOk result (λ s. IsAt prefix.now s) }
+pub(crate) fn selected<'a>(prefix: &'a Term, name: &'a [u8]) -> Step<'a>
+    ensures head { (p : Predefined) → stepped_head p result ≡ possible (option_and_then (selection name.now) (part_of (term_model prefix.now))) (one (head_of p None (term_model prefix.now))) }
+    ensures universal { stepped_universal result ≡ false }
+    ensures part { IsPartly (option_and_then (component_of name.now) (part_of (term_model prefix.now))) result }
+    ensures at { IsAt prefix.now result }
 {
-    let standard = &predefined.standard;
-    let candidate = selection(alloc, standard, name, part_of(standard, prefix))?;
-    Ok(after(candidate, Operands::none(), prefix))
+    after(Sign::Selector(name), Operands::none(), prefix)
 }
 
 /// The step to what stands before `[not] in mark`.
@@ -166,26 +225,21 @@ pub(crate) fn tested<'a>(
 ) -> Result<Step<'a>, NoMemory>
     ensures head { IfOk result (λ s. stepped_head predefined.now s ≡ possible (membership predefined.now mark.now) (one (head_of predefined.now None (term_model value.now)))) }
     ensures universal { IfOk result (λ s. stepped_universal s ≡ false) }
+    ensures part { IfOk result (λ s. IsPartly None s) }
     ensures at { IfOk result (λ s. IsAt value.now s) }
 {
     let candidate = membership(alloc, predefined, mark)?;
-    Ok(after(candidate, Operands::none(), value))
+    Ok(after(Sign::Mark(candidate), Operands::none(), value))
 }
 
 /// The step to what stands before indexes.
-fn indexed<'a>(
-    alloc: Global,
-    predefined: &Predefined,
-    prefix: &'a Term,
-    indexes: Operands,
-) -> Result<Step<'a>, NoMemory>
-    ensures head { IfOk result (λ s. stepped_head predefined.now s ≡ applied predefined.now None (part_of (term_model prefix.now)) (head_of predefined.now None (term_model prefix.now)) (plain_all indexes)) }
-    ensures universal { IfOk result (λ s. stepped_universal s ≡ false) }
-    ensures at { IfOk result (λ s. IsAt prefix.now s) }
+fn indexed<'a>(prefix: &'a Term, indexes: Operands) -> Step<'a>
+    ensures head { (p : Predefined) → stepped_head p result ≡ applied p None (part_of (term_model prefix.now)) (head_of p None (term_model prefix.now)) (plain_all indexes) }
+    ensures universal { stepped_universal result ≡ false }
+    ensures part { IsPartly (option_and_then element_of (part_of (term_model prefix.now))) result }
+    ensures at { IsAt prefix.now result }
 {
-    let standard = &predefined.standard;
-    let candidate = indexing(alloc, standard, part_of(standard, prefix))?;
-    Ok(after(candidate, indexes, prefix))
+    after(Sign::Indexes, indexes, prefix)
 }
 
 /// A name with arguments, or the step to what stands before indexes.
@@ -197,6 +251,7 @@ pub(crate) fn applied<'a>(
 ) -> Result<Step<'a>, NoMemory>
     ensures head { IfOk result (λ s. stepped_head predefined.now s ≡ applied predefined.now (declared_under (term_model prefix.now)) (part_of (term_model prefix.now)) (head_of predefined.now None (term_model prefix.now)) (plain_all operands)) }
     ensures universal { IfOk result (λ s. stepped_universal s ≡ false) }
+    ensures part { IfOk result (λ s. IsPartly (option_and_then element_of (part_of (term_model prefix.now))) s) }
     ensures at { IfOk result (λ s. IsAt prefix.now s) }
 {
     match declared_under(prefix) {
@@ -205,6 +260,6 @@ pub(crate) fn applied<'a>(
             let expression = all_of(alloc, standard, root, visible, operands)?;
             Ok(Step::Last(other(expression)))
         }
-        None => indexed(alloc, predefined, prefix, operands),
+        None => Ok(indexed(prefix, operands)),
     }
 }

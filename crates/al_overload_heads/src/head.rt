@@ -3,32 +3,38 @@ ghost use Rattle.std.specs.Prelude.{◌≡◌, ◌&&◌, false, map, IfOk, None}
 ghost use Rattle.al_overload_choice.specs.Counts.{plain, plain_all};
 ghost use Rattle.al_overload_choice.specs.Labelling.{MoreTrees};
 ghost use Rattle.al_overload_term.specs.TermViews.{term_model, terms_of};
-ghost use Rattle.al_overload_heads.specs.Chains.{IsBelow, leans, stepped_head, stepped_universal};
+ghost use Rattle.al_overload_heads.specs.Chains.{IsBelow, IsPartly, chained_head, chained_universal, leans, stepped_head, stepped_universal};
 ghost use Rattle.al_overload_heads.specs.Heads.{bounds_head, head_of, heads_of, one, plain_head};
+ghost use Rattle.al_overload_heads.specs.Parts.{part_of};
 ghost use Rattle.al_overload_heads.specs.Universal.{is_universal};
 
 use crate::built::{
     Built, BuiltOperands, aggregate, attributed, named, nothing, number, prefixed, text, value,
     with_others,
 };
-use crate::chain::{Joint, Sign, Step, add, applied, chained, joined, selected, tested};
+use crate::chain::{Joint, Placed, Sign, Step, add, applied, chained, selected, tested};
 use crate::everywhere::Predefined;
 use crate::operands::gathered;
-use crate::part::Nominal;
+use crate::part::{Nominal, part_of};
 use al_base::NoMemory;
 use al_overload_choice::{Expression, Operands, ValueType};
 use al_overload_term::Term;
 use std::alloc::Global;
 
-/// The head of an operand, and whether it is of numbers alone. What begins with an operand of its own (a chain of operators, of indexes
-/// or of selectors) is gone down by a loop, so that it takes no more of the stack than one link does.
+/// The head of a chain whose last links are these, and whether it is of numbers alone. What begins with an operand of its own (a chain of
+/// operators, of indexes or of selectors) is gone down by a loop, so that it takes no more of the stack than one link does.
 #[cycle(heads)]
 #[tactic(auto, using(crate::proofs::ChainLemmas::first_joined_head, crate::proofs::ChainLemmas::first_joined_universal))]
-fn operand(alloc: Global, predefined: &Predefined, term: &Term) -> Result<Built, NoMemory>
-    ensures head { IfOk result (λ b. plain b.expression ≡ head_of predefined.now None (term_model term.now)) }
-    ensures universal { IfOk result (λ b. b.is_universal ≡ is_universal (term_model term.now)) }
+fn linked<'a>(
+    alloc: Global,
+    predefined: &'a Predefined,
+    links: Vec<Joint<'a>>,
+    term: &'a Term,
+) -> Result<Built, NoMemory>
+    ensures head { IfOk result (λ b. plain b.expression ≡ chained_head predefined.now links.entry.items (head_of predefined.now None (term_model term.now)) (is_universal (term_model term.now)) (part_of (term_model term.now))) }
+    ensures universal { IfOk result (λ b. b.is_universal ≡ chained_universal links.entry.items (is_universal (term_model term.now))) }
 {
-    let mut joints = Vec::new(alloc);
+    let mut joints = links;
     let mut rest = term;
     loop {
         match step(alloc, predefined, &None, rest)? {
@@ -36,9 +42,21 @@ fn operand(alloc: Global, predefined: &Predefined, term: &Term) -> Result<Built,
                 add(&mut joints, sign, right)?;
                 rest = left;
             }
-            Step::Last(first) => return chained(alloc, predefined, joints, first),
+            Step::Last(built) => {
+                let part = part_of(&predefined.standard, rest);
+                return chained(alloc, predefined, joints, Placed { built, part });
+            }
         }
     }
+}
+
+/// The head of an operand, and whether it is of numbers alone.
+#[cycle(heads)]
+fn operand<'a>(alloc: Global, predefined: &'a Predefined, term: &'a Term) -> Result<Built, NoMemory>
+    ensures head { IfOk result (λ b. plain b.expression ≡ head_of predefined.now None (term_model term.now)) }
+    ensures universal { IfOk result (λ b. b.is_universal ≡ is_universal (term_model term.now)) }
+{
+    linked(alloc, predefined, Vec::new(alloc), term)
 }
 
 /// A step down: what a term begins with and what stands after that, or the head of what doesn't begin with an operand.
@@ -52,6 +70,7 @@ fn step<'a>(
 ) -> Result<Step<'a>, NoMemory>
     ensures head { IfOk result (λ s. stepped_head predefined.now s ≡ head_of predefined.now allowed.now (term_model term.now)) }
     ensures universal { IfOk result (λ s. stepped_universal s ≡ is_universal (term_model term.now)) }
+    ensures part { IfOk result (λ s. IsPartly (part_of (term_model term.now)) s) }
     ensures below { IfOk result (λ s. IsBelow term.now s) }
 {
     let p = predefined;
@@ -84,7 +103,7 @@ fn step<'a>(
             Ok(Step::Down(Sign::Range, bounds, value))
         }
         Term::Member { value, subtype, .. } => tested(alloc, p, value, subtype),
-        Term::Selected { prefix, name } => selected(alloc, p, prefix, name.as_slice()),
+        Term::Selected { prefix, name } => Ok(selected(prefix, name.as_slice())),
         Term::Applied { name, arguments } => {
             let operands = all(alloc, p, arguments.as_slice())?;
             applied(alloc, p, name, operands)
@@ -203,19 +222,20 @@ fn alone(
 
 /// The head of a term, and whether it is of numbers alone.
 #[cycle(heads)]
-fn build(
+fn build<'a>(
     alloc: Global,
-    predefined: &Predefined,
+    predefined: &'a Predefined,
     allowed: &Option<Nominal>,
-    term: &Term,
+    term: &'a Term,
 ) -> Result<Built, NoMemory>
     ensures head { IfOk result (λ b. plain b.expression ≡ head_of predefined.now allowed.now (term_model term.now)) }
     ensures universal { IfOk result (λ b. b.is_universal ≡ is_universal (term_model term.now)) }
 {
     match step(alloc, predefined, allowed, term)? {
         Step::Down(sign, right, left) => {
-            let first = operand(alloc, predefined, left)?;
-            joined(alloc, predefined, first, Joint { sign, right })
+            let mut joints = Vec::new(alloc);
+            add(&mut joints, sign, right)?;
+            linked(alloc, predefined, joints, left)
         }
         Step::Last(built) => Ok(built),
     }

@@ -21,4 +21,5 @@ pub use laws::{
     aggregates_stand_where_allowed, indexes_take_one_value, nothing_from_nothing,
     numbers_are_universal, numbers_need_no_operator,
 };
+pub use operator::{computes_one, computes_two, is_position, is_sole_number};
 pub use part::{Nominal, declared_under, part_of};

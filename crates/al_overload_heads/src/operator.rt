@@ -60,8 +60,8 @@ pub(crate) fn binary_roots(predefined: &Predefined, operator: BinaryOperator) ->
     predefined.operators.views(binary_sign(operator).spelling())
 }
 
-/// Whether it makes a number of a number.
-pub(crate) fn computes_one(operator: UnaryOperator) -> bool
+/// Whether an operator in front of a number gives a number.
+pub fn computes_one(operator: UnaryOperator) -> bool
     ensures { result ≡ computes_one operator }
 {
     match operator {
@@ -72,8 +72,8 @@ pub(crate) fn computes_one(operator: UnaryOperator) -> bool
     }
 }
 
-/// Whether it makes a number of two numbers.
-pub(crate) fn computes_two(operator: BinaryOperator) -> bool
+/// Whether an operator between two numbers gives a number.
+pub fn computes_two(operator: BinaryOperator) -> bool
     ensures { result ≡ computes_two operator }
 {
     match operator {
@@ -116,7 +116,7 @@ fn is_number(view: &View) -> bool
 }
 
 /// Whether a named number is all that is visible.
-pub(crate) fn is_sole_number(visible: &[View]) -> bool
+pub fn is_sole_number(visible: &[View]) -> bool
     ensures { result ≡ is_sole_number visible.now }
 {
     match visible {
@@ -127,7 +127,7 @@ pub(crate) fn is_sole_number(visible: &[View]) -> bool
 }
 
 /// Whether this gives a position, as `S'Pos (X)` does.
-pub(crate) fn is_position(conversion: Conversion) -> bool
+pub fn is_position(conversion: Conversion) -> bool
     ensures { result ≡ is_position conversion }
 {
     match conversion {

@@ -128,7 +128,8 @@ fn element_of<'a>(
     }
 }
 
-fn selected_part<'a>(
+/// The part of that name of what has this nominal subtype.
+pub(crate) fn selected_part<'a>(
     standard: &'a StandardTypes,
     name: &[u8],
     whole: Option<(&'a Subtype, &'a Types)>,
@@ -144,7 +145,8 @@ fn selected_part<'a>(
     }
 }
 
-fn indexed_part<'a>(
+/// A component of what has this nominal subtype, by its index.
+pub(crate) fn indexed_part<'a>(
     standard: &'a StandardTypes,
     whole: Option<(&'a Subtype, &'a Types)>,
 ) -> Option<(&'a Subtype, &'a Types)>

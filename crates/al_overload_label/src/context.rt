@@ -15,12 +15,10 @@ use crate::staticness::{checked_as, wanted_after};
 use crate::variable::variable_as;
 use al_base::{NoMemory, Place};
 use al_base_fault::{CheckResult, Fault, unless};
-use al_overload::Context;
+use al_overload::{Context, nothing_fits};
 use al_overload_choice::Labelled;
 use al_overload_heads::{Nominal, Predefined, declared_under, interpret_term};
-use al_overload_nodes::{
-    Actuals, Labeller, Reading, checked, nothing_fits, picked_subprogram, unless_variable,
-};
+use al_overload_nodes::{Actuals, Labeller, Reading, checked, picked_subprogram, unless_variable};
 use al_overload_term::{Term, first_place};
 use al_view::{SubprogramView, Symbol, Types, View};
 use al_view_typed::{Typed, TypedCall};

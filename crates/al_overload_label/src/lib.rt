@@ -15,4 +15,4 @@ pub use context::{check_call, check_static_term, check_target, check_term, read_
 pub use range::{
     DeterminedValue, FoundType, Pair, check_bounds, check_selector, check_static_bounds,
 };
-pub use variable::target_part;
+pub use variable::{nominal, target_part};

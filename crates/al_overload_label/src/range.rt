@@ -33,25 +33,86 @@ use al_view_typed::Typed;
 use std::alloc::Global;
 
 /// A type with the types among which it is: nothing where every unit has it.
-#[derive(Drop)]
 pub struct FoundType {
     pub of: Symbol,
     pub types: Types,
 }
 
+impl Drop for FoundType {
+    fn drop(self) {
+        let FoundType { of: _, types: _ } = self;
+    }
+}
+
+impl FoundType {
+    /// The type, and the types among which it is. It takes no memory.
+    pub fn into_parts(self) -> (Symbol, Types)
+        ensures { result ≡ (self.of, self.types) }
+    {
+        let FoundType { of, types } = self;
+        (of, types)
+    }
+}
+
 /// Two bounds, with the type of their range.
-#[derive(Drop)]
 pub struct Pair {
     pub low: Typed,
     pub high: Typed,
     pub range: FoundType,
 }
 
+impl Drop for Pair {
+    fn drop(self) {
+        let Pair {
+            low: _,
+            high: _,
+            range: _,
+        } = self;
+    }
+}
+
+impl Pair {
+    /// The low bound, the high one and the type of their range. It takes no memory.
+    pub fn into_parts(self) -> (Typed, Typed, FoundType)
+        ensures { result ≡ (self.low, self.high, self.range) }
+    {
+        let Pair { low, high, range } = self;
+        (low, high, range)
+    }
+
+    /// The type of their range alone. It takes no memory.
+    pub fn into_range(self) -> FoundType
+        ensures { result ≡ self.range }
+    {
+        let Pair {
+            low: _,
+            high: _,
+            range,
+        } = self;
+        range
+    }
+}
+
 /// An expression, with the type that it tells.
-#[derive(Drop)]
 pub struct DeterminedValue {
     pub value: Typed,
     pub found: FoundType,
+}
+
+impl Drop for DeterminedValue {
+    fn drop(self) {
+        let DeterminedValue { value: _, found: _ } = self;
+    }
+}
+
+impl DeterminedValue {
+    /// The expression without its type. It takes no memory.
+    pub fn into_value(self) -> Typed
+        ensures { result ≡ self.value }
+    {
+        let DeterminedValue { value, found: _ } = self;
+        value
+    }
 }
 
 fn no_types(alloc: Global) -> Result<Types, NoMemory>

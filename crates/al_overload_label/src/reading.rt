@@ -25,11 +25,10 @@ use crate::pair::together;
 use crate::variable::variable_at;
 use al_base::{NoMemory, Place};
 use al_base_fault::CheckResult;
+use al_overload::nothing_fits;
 use al_overload_choice::Labelled;
 use al_overload_heads::part_of;
-use al_overload_nodes::{
-    Actuals, Labeller, Reading, Values, add_actual, faulty, grouped, misfit, nothing_fits,
-};
+use al_overload_nodes::{Actuals, Labeller, Reading, Values, add_actual, faulty, grouped, misfit};
 use al_overload_picks::{how_indexed, operand_label, range_in};
 use al_overload_term::{Term, first_place};
 use al_overload_types::{

@@ -10,10 +10,10 @@ ghost use Rattle.al_overload_term.specs.TermViews.{term_model};
 use crate::meaning::interpret;
 use al_base::NoMemory;
 use al_base_fault::CheckResult;
-use al_overload::Context;
+use al_overload::{Context, nothing_fits};
 use al_overload_choice::Labelled;
 use al_overload_heads::{Nominal, declared_under, part_of};
-use al_overload_nodes::{Labeller, is_variable, nothing_fits};
+use al_overload_nodes::{Labeller, is_variable};
 use al_overload_picks::{how_indexed, number_in, operand_label, pick};
 use al_overload_term::{Term, first_place};
 use al_view::{ObjectView, Subtype, Types, View, ViewKind};
@@ -117,7 +117,7 @@ pub(crate) fn variable_at(
 }
 
 /// A nominal subtype of its own.
-fn nominal(labeller: &Labeller, subtype: &Subtype, types: &Types) -> Result<Nominal, NoMemory>
+pub fn nominal(labeller: &Labeller, subtype: &Subtype, types: &Types) -> Result<Nominal, NoMemory>
     ensures { IfOk result (λ of. of ≡ nominal types.now subtype.now) }
 {
     let types = types.share()?;

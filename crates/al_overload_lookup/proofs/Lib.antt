@@ -1,3 +1,5 @@
 pub mod Asked
 pub mod Folds
 pub mod Found
+pub mod Chained
+pub mod Fronts

@@ -1,2 +1,3 @@
 pub mod TextNames
 pub mod Lookups
+pub mod Chains

@@ -1,7 +1,7 @@
 -- The names and signs that stand in a text, in its order (ARM 4.1, 4.5).
 use Rattle.std.specs.Prelude.{ℕ, List, [], ◌∷◌, ◌++◌, codes, Option, Some, None}
 use Rattle.al_tree_grammar.specs.Grammar.{Label}
-use Rattle.al_overload_keys.specs.Keys.{key_of}
+use Rattle.al_overload_keys.specs.Keys.{dotted, key_of}
 use Rattle.al_overload_lookup.specs.declared.name.TextName.{TextName}
 use Rattle.al_overload_lookup.specs.declared.name.TextName.TheVariants.{Simple, Selected}
 use Rattle.al_tree_syntax.specs.ExpressionTrees.{ExpressionTree, ExpressionTree as e, ExpressionsTree, ExpressionsTree as es, GroupTree, GroupTree as g, PartTree, PartTree as part}
@@ -84,3 +84,12 @@ unfoldable mutual
   pub all_names : ExpressionsTree → List TextName
   all_names es.NoExpression = []
   all_names (es.MoreExpressions x xs) = names_in x ++ all_names xs
+
+-- those of the selectors of a name of identifiers, each in what stands before it
+abbrev pub selector_names : List ℕ → List Label → List TextName
+selector_names key [] = []
+selector_names key (l ∷ ls) = Selected key l.text ∷ selector_names (dotted key l.text) ls
+
+-- those of a name of identifiers
+abbrev pub identifier_names : Label → List Label → List TextName
+identifier_names first selectors = Simple first.text ∷ selector_names first.text selectors

@@ -1,12 +1,15 @@
 //! The names of an expression's text, looked up at its place: who asks the scope, once for each (ARM 4.1.3, 8.3).
 #![tactic(auto)]
 
+mod chain;
 mod lookup;
 mod name;
 mod select;
+mod selectors;
 mod sign;
 mod text;
 
 pub use lookup::{look_up_all, names};
 pub use name::TextName;
+pub use selectors::look_up_selected;
 pub use text::names_in;

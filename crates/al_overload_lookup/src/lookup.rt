@@ -100,7 +100,7 @@ fn find<A: Answers>(
 
 /// Looks one name up, unless it was found already.
 #[tactic(auto, unfolding(crate::specs::Lookups::looked_up))]
-fn look_up<A: Answers>(
+pub(crate) fn look_up<A: Answers>(
     alloc: Global,
     scope: &Scope,
     packages: &[UnitKey],

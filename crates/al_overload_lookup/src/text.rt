@@ -1,9 +1,11 @@
 // The names and signs of an expression's text, in its order.
-ghost use Rattle.std.specs.Prelude.{◌≡◌, [], ◌++◌, IfOk, OnOk, map, option_map};
+ghost use Rattle.std.specs.Prelude.{◌≡◌, ◌++◌, IfOk, OnOk, false, map, option_map};
 ghost use Rattle.std.specs.Option.{option_copied};
-ghost use Rattle.al_overload_lookup.specs.TextNames.{all_names, group_names, names_in, part_names, selected_names, sign_names};
-ghost use Rattle.al_tree.specs.ExpressionViews.{expression_model, expressions_of, group_model, infix_model, longer_model, member_model, part_model, prefixed_model};
+ghost use Rattle.al_overload_lookup.specs.Chains.{last_part_names, leans, operation_names, test_names};
+ghost use Rattle.al_overload_lookup.specs.TextNames.{all_names, group_names, names_in, selected_names, sign_names};
+ghost use Rattle.al_tree.specs.ExpressionViews.{expression_model, expressions_of, group_model, prefixed_model};
 
+use crate::chain::{Chain, Link, chain_of};
 use crate::name::TextName;
 use crate::sign::{operator_sign, prefix_sign};
 use al_base::{Name, NoMemory};
@@ -47,9 +49,9 @@ fn add_selected(
     }
 }
 
-/// Those of an expression, after those found.
+/// Those of an expression, after those found. Left operands and prefixes are gone down by a loop, so that they take nothing of the stack.
 #[cycle(text)]
-#[tactic(auto, using(std::proofs::Common::append_assoc, crate::proofs::Found::numeric_adds, crate::proofs::Found::literal_adds, crate::proofs::Found::number_names, crate::proofs::Found::text_names, crate::proofs::Found::name_names, crate::proofs::Found::group_in, al_tree::proofs::ExpressionsMade::expression_numeric_model, al_tree::proofs::ExpressionsMade::expression_text_model, al_tree::proofs::ExpressionsMade::expression_name_model, al_tree::proofs::ExpressionsMade::expression_longer_model, al_tree::proofs::ExpressionsMade::expression_prefixed_model, al_tree::proofs::ExpressionsMade::expression_infix_model, al_tree::proofs::ExpressionsMade::expression_member_model, al_tree::proofs::ExpressionsMade::expression_group_model))]
+#[tactic(auto, using(std::proofs::Common::append_assoc))]
 fn add_names(
     alloc: Global,
     found: &mut Vec<TextName>,
@@ -57,26 +59,38 @@ fn add_names(
 ) -> Result<(), NoMemory>
     ensures { OnOk result (found.new.items ≡ found.old.items ++ names_in (expression_model expression.now)) }
 {
+    let Chain { first, mut links } = chain_of(alloc, expression)?;
+    add_first(alloc, found, first)?;
+    while let Some(link) = links.pop() {
+        match link {
+            Link::Part(longer) => add_part(alloc, found, longer)?,
+            Link::Operator(operation) => add_operation(alloc, found, operation)?,
+            Link::Test(member) => add_test(alloc, found, member)?,
+        }
+    }
+    Ok(())
+}
+
+/// Those of what begins with no operand or name.
+#[cycle(text)]
+#[tactic(auto, using(std::proofs::Common::append_assoc, crate::proofs::Found::numeric_adds, crate::proofs::Found::literal_adds, crate::proofs::Found::number_names, crate::proofs::Found::text_names, crate::proofs::Found::name_names, crate::proofs::Found::group_in, crate::proofs::Chained::longer_leans, crate::proofs::Chained::infix_leans, crate::proofs::Chained::member_leans, al_tree::proofs::ExpressionsMade::expression_numeric_model, al_tree::proofs::ExpressionsMade::expression_text_model, al_tree::proofs::ExpressionsMade::expression_name_model, al_tree::proofs::ExpressionsMade::expression_longer_model, al_tree::proofs::ExpressionsMade::expression_prefixed_model, al_tree::proofs::ExpressionsMade::expression_infix_model, al_tree::proofs::ExpressionsMade::expression_member_model, al_tree::proofs::ExpressionsMade::expression_group_model))]
+fn add_first(
+    alloc: Global,
+    found: &mut Vec<TextName>,
+    expression: &Expression,
+) -> Result<(), NoMemory>
+    ensures { leans (expression_model expression.now) ≡ false → OnOk result (found.new.items ≡ found.old.items ++ names_in (expression_model expression.now)) }
+{
     match expression {
         Expression::Numeric(_) => Ok(()),
         Expression::Text(_) => Ok(()),
         Expression::Name(identifier) => add_simple(alloc, found, identifier.name.as_slice()),
-        Expression::Longer(longer) => add_longer(alloc, found, longer),
         Expression::Prefixed(prefixed) => add_prefixed(alloc, found, prefixed),
-        Expression::Infix(infix) => add_infix(alloc, found, infix),
-        Expression::Member(member) => add_member(alloc, found, member),
         Expression::Group(group) => add_group(alloc, found, group),
+        Expression::Longer(_) => Ok(()),
+        Expression::Infix(_) => Ok(()),
+        Expression::Member(_) => Ok(()),
     }
-}
-
-#[cycle(text)]
-#[tactic(auto, using(std::proofs::Common::append_assoc, crate::proofs::Found::longer_names))]
-fn add_longer(alloc: Global, found: &mut Vec<TextName>, longer: &Longer) -> Result<(), NoMemory>
-    ensures { OnOk result (found.new.items ≡ found.old.items ++ names_in (longer_model longer.now)) }
-{
-    add_names(alloc, found, &longer.prefix)?;
-    let key = key_of(alloc, &longer.prefix)?;
-    add_part(alloc, found, key, &longer.part)
 }
 
 #[cycle(text)]
@@ -92,22 +106,26 @@ fn add_prefixed(
     add_names(alloc, found, &prefixed.operand)
 }
 
+/// Those of an operator and its right operand.
 #[cycle(text)]
-#[tactic(auto, using(std::proofs::Common::append_assoc, crate::proofs::Found::infix_names))]
-fn add_infix(alloc: Global, found: &mut Vec<TextName>, operation: &Infix) -> Result<(), NoMemory>
-    ensures { OnOk result (found.new.items ≡ found.old.items ++ names_in (infix_model operation.now)) }
+#[tactic(auto, using(std::proofs::Common::append_assoc))]
+fn add_operation(
+    alloc: Global,
+    found: &mut Vec<TextName>,
+    operation: &Infix,
+) -> Result<(), NoMemory>
+    ensures { OnOk result (found.new.items ≡ found.old.items ++ operation_names operation.now) }
 {
-    add_names(alloc, found, &operation.left)?;
     add_sign(alloc, found, operator_sign(&operation.operator))?;
     add_names(alloc, found, &operation.right)
 }
 
+/// Those of what a value is tested against.
 #[cycle(text)]
-#[tactic(auto, using(crate::proofs::Found::mark_adds, crate::proofs::Found::bounds_adds))]
-fn add_member(alloc: Global, found: &mut Vec<TextName>, member: &Member) -> Result<(), NoMemory>
-    ensures { OnOk result (found.new.items ≡ found.old.items ++ names_in (member_model member.now)) }
+#[tactic(auto, using(std::proofs::Common::append_assoc))]
+fn add_test(alloc: Global, found: &mut Vec<TextName>, member: &Member) -> Result<(), NoMemory>
+    ensures { OnOk result (found.new.items ≡ found.old.items ++ test_names member.now) }
 {
-    add_names(alloc, found, &member.left)?;
     add_names(alloc, found, &member.low)?;
     match &member.high {
         None => Ok(()),
@@ -121,16 +139,12 @@ fn add_member(alloc: Global, found: &mut Vec<TextName>, member: &Member) -> Resu
 /// Those of what stands after a name.
 #[cycle(text)]
 #[tactic(auto, using(std::proofs::Common::append_assoc, crate::proofs::Found::attribute_adds, crate::proofs::Found::range_adds, crate::proofs::Found::selector_names, crate::proofs::Found::argument_names, crate::proofs::Found::attribute_names, crate::proofs::Found::range_names, crate::proofs::Found::operand_names, al_tree::proofs::ExpressionsMade::part_selector_model, al_tree::proofs::ExpressionsMade::part_arguments_model, al_tree::proofs::ExpressionsMade::part_attribute_model, al_tree::proofs::ExpressionsMade::part_range_attribute_model, al_tree::proofs::ExpressionsMade::part_operand_model))]
-fn add_part(
-    alloc: Global,
-    found: &mut Vec<TextName>,
-    key: Option<Vec<u8>>,
-    part: &NamePart,
-) -> Result<(), NoMemory>
-    ensures { OnOk result (found.new.items ≡ found.old.items ++ part_names (option_map (λ k. k.items) key) (part_model part.now)) }
+fn add_part(alloc: Global, found: &mut Vec<TextName>, longer: &Longer) -> Result<(), NoMemory>
+    ensures { OnOk result (found.new.items ≡ found.old.items ++ last_part_names longer.now) }
 {
-    match part {
+    match &longer.part {
         NamePart::Selector(identifier) => {
+            let key = key_of(alloc, &longer.prefix)?;
             add_selected(alloc, found, key, identifier.name.as_slice())
         }
         NamePart::Arguments(_, first, others) => {

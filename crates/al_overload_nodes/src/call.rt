@@ -9,9 +9,10 @@ ghost use Rattle.al_overload_nodes.specs.Views.{actuals_model, reading_model};
 use crate::gather::Actuals;
 use crate::labeller::Labeller;
 use crate::name::no_variable;
-use crate::node::{Reading, misfit, nothing_fits};
+use crate::node::{Reading, misfit};
 use al_base::{NoMemory, Place, Rule};
 use al_base_fault::{CheckResult, Fault, unless};
+use al_overload::nothing_fits;
 use al_overload_picks::{range_in, words_in};
 use al_static::Known;
 use al_view::{

@@ -12,5 +12,5 @@ pub use call::{add_actual, unless_variable};
 pub use gather::{Actuals, Values};
 pub use labeller::Labeller;
 pub use name::{is_variable, no_variable};
-pub use node::{Reading, checked, faulty, grouped, misfit, nothing_fits};
+pub use node::{Reading, checked, faulty, grouped, misfit};
 pub use operator::{Signature, picked_subprogram, root_result};

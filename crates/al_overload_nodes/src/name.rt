@@ -9,9 +9,10 @@ ghost use Rattle.al_overload_picks.specs.Types.{indexing_of};
 ghost use Rattle.al_overload_nodes.specs.Views.{name_pair_model, reading_model};
 
 use crate::labeller::Labeller;
-use crate::node::{Reading, misfit, nothing_fits};
+use crate::node::{Reading, misfit};
 use al_base::{NoMemory, Place, Rule};
 use al_base_fault::{CheckResult, Fault, both, earlier};
+use al_overload::nothing_fits;
 use al_overload_picks::{Indexing, component_at, range_in, words_in};
 use al_overload_term::Term;
 use al_static::Known;
@@ -110,28 +111,31 @@ fn is_sole_variable(visible: &[View]) -> bool
 pub fn is_variable(term: &Term) -> bool
     ensures { result ≡ is_variable (term_model term.now) }
 {
-    match term {
-        Term::Named { place: _, views } => is_sole_variable(views.as_slice()),
-        Term::Selected { prefix, name: _ } => is_variable(prefix),
-        Term::Applied { name, arguments: _ } => is_variable(name),
-        Term::Number { .. } => false,
-        Term::Text { .. } => false,
-        Term::Bound { .. } => false,
-        Term::Length { .. } => false,
-        Term::Conversion { .. } => false,
-        Term::Qualified { .. } => false,
-        Term::Attribute { .. } => false,
-        Term::Image { .. } => false,
-        Term::Prefixed { .. } => false,
-        Term::Infix { .. } => false,
-        Term::Concatenation { .. } => false,
-        Term::ShortCircuit { .. } => false,
-        Term::Member { .. } => false,
-        Term::RangeMember { .. } => false,
-        Term::Group { .. } => false,
-        Term::Aggregate { .. } => false,
-        Term::Others { .. } => false,
-        Term::Nothing { .. } => false,
+    let mut rest = term;
+    loop {
+        rest = match rest {
+            Term::Named { place: _, views } => return is_sole_variable(views.as_slice()),
+            Term::Selected { prefix, name: _ } => prefix,
+            Term::Applied { name, arguments: _ } => name,
+            Term::Number { .. } => return false,
+            Term::Text { .. } => return false,
+            Term::Bound { .. } => return false,
+            Term::Length { .. } => return false,
+            Term::Conversion { .. } => return false,
+            Term::Qualified { .. } => return false,
+            Term::Attribute { .. } => return false,
+            Term::Image { .. } => return false,
+            Term::Prefixed { .. } => return false,
+            Term::Infix { .. } => return false,
+            Term::Concatenation { .. } => return false,
+            Term::ShortCircuit { .. } => return false,
+            Term::Member { .. } => return false,
+            Term::RangeMember { .. } => return false,
+            Term::Group { .. } => return false,
+            Term::Aggregate { .. } => return false,
+            Term::Others { .. } => return false,
+            Term::Nothing { .. } => return false,
+        };
     }
 }
 

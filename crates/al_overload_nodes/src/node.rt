@@ -8,8 +8,9 @@ ghost use Rattle.al_overload_nodes.specs.Nodes.{conversion_node, converted_form,
 ghost use Rattle.al_overload_nodes.specs.Views.{pair_model, reading_model, three_model};
 
 use crate::labeller::Labeller;
-use al_base::{NoMemory, Place, Rule};
+use al_base::{NoMemory, Place};
 use al_base_fault::{CheckResult, Fault, both, unless};
+use al_overload::nothing_fits;
 use al_overload_picks::words_in;
 use al_static::Known;
 use al_view::{Bounds, StaticValue, Symbol, Types};
@@ -33,15 +34,6 @@ fn expression_type(alloc: Global, root: &Symbol, of: &Symbol) -> Result<Expressi
 pub struct Reading {
     pub known: Known,
     pub typed: CheckResult<Typed>,
-}
-
-pub fn nothing_fits(place: Place) -> Fault
-    ensures { result ≡ nothing_fits place }
-{
-    Fault {
-        place,
-        code: Rule::NoInterpretation.number(),
-    }
 }
 
 fn value_in(known: Known) -> Option<StaticValue>

@@ -26,15 +26,15 @@ pub fn is_root_in(label: &Labelled) -> bool
 fn nth_label(labels: &LabelledTerms, position: usize) -> Option<&Labelled>
     ensures { option_map (λ label. label_of label.now) result ≡ nth_label position (labels_of labels.now) }
 {
-    match labels {
-        LabelledTerms::NoLabelled => None,
-        LabelledTerms::MoreLabelled(label, more) => {
-            if position == 0 {
-                return Some(label);
-            }
-            nth_label(more, position - 1)
+    let (mut rest, mut left) = (labels, position);
+    while let LabelledTerms::MoreLabelled(label, more) = rest {
+        if left == 0 {
+            return Some(label);
         }
+        left -= 1;
+        rest = more;
     }
+    None
 }
 
 /// The labelling of one of the operands, from 0.

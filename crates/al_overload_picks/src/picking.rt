@@ -54,16 +54,15 @@ pub fn pick<'a>(
 ) -> Option<(&'a ViewKind, usize)>
     ensures { option_map (λ picked. (picked.0.now, picked.1)) result ≡ pick number visible.now }
 {
-    match visible {
-        [] => None,
-        [view, more @ ..] => {
-            let count = candidate_count(standard, view);
-            if number < count {
-                return Some((view.kind(), number));
-            }
-            pick(standard, number - count, more)
+    let mut left = number;
+    for view in visible {
+        let count = candidate_count(standard, view);
+        if left < count {
+            return Some((view.kind(), left));
         }
+        left -= count;
     }
+    None
 }
 
 /// The candidate that has a number, among all that some declarations may be, is that one of the declaration that is picked by it.

@@ -146,18 +146,17 @@ fn placed<'a>(
 ) -> Option<(&'a Subtype, u32)>
     ensures { option_map (λ c. (c.0.now, c.1)) result ≡ placed name.now components.now offsets.now }
 {
-    match components {
-        [] => None,
-        [component, more @ ..] => match offsets {
-            [] => None,
-            [offset, others @ ..] => {
-                if name == component.name.as_slice() {
-                    return Some((&component.subtype, *offset));
-                }
-                placed(name, more, others)
-            }
-        },
+    let mut left = offsets;
+    for component in components {
+        let [offset, others @ ..] = left else {
+            return None;
+        };
+        if name == component.name.as_slice() {
+            return Some((&component.subtype, *offset));
+        }
+        left = others;
     }
+    None
 }
 
 fn placed_by<'a>(

@@ -12,11 +12,11 @@ ghost use Rattle.al_view_typed.specs.StatementTrees.{StatementFormTree as forms}
 use crate::text::{Pieces, read_pieces};
 use al_base::NoMemory;
 use al_base_fault::{CheckResult, unless};
-use al_overload::Context;
+use al_overload::{Context, nothing_fits};
 use al_overload_choice::Labelled;
 use al_overload_heads::{declared_under, interpret_term};
 use al_overload_label::read_call;
-use al_overload_nodes::{Labeller, nothing_fits, picked_subprogram};
+use al_overload_nodes::{Labeller, picked_subprogram};
 use al_overload_term::{Term, first_place};
 use al_view::{CallKind, SubprogramView, View};
 use al_view_predefined::StandardTypes;

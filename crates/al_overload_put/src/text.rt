@@ -17,10 +17,10 @@ ghost use Rattle.al_overload_types.specs.Leaves.{mark_type};
 
 use al_base::{Name, NoMemory, Place};
 use al_base_fault::{CheckResult, Fault, earlier};
-use al_overload::Context;
+use al_overload::{Context, nothing_fits};
 use al_overload_label::check_term;
 use al_overload_name::value_type;
-use al_overload_nodes::{Labeller, nothing_fits};
+use al_overload_nodes::Labeller;
 use al_overload_term::{Term, first_place};
 use al_view::{Seq, SubtypeView, TypeDefinition};
 use al_view_typed::{Piece, Typed};

@@ -82,6 +82,29 @@ fn copied_flag(alloc: Global, flag: &Option<ObjectPlace>) -> Result<Option<Objec
     }
 }
 
+fn copied_profile(alloc: Global, of: &Profile) -> Result<Profile, NoMemory>
+    ensures { IfOk result (λ copy. copy ≡ of.now) }
+{
+    let parameters = copied_parameters(alloc, of.parameters.as_slice())?;
+    let returned = copied_result(alloc, &of.result)?;
+    Ok(Profile {
+        parameters,
+        result: returned,
+    })
+}
+
+/// How it is called, and its flag.
+fn copied_way(
+    alloc: Global,
+    of: &SubprogramView,
+) -> Result<(CallKind, Option<ObjectPlace>), NoMemory>
+    ensures { IfOk result (λ copy. copy ≡ (of.now.call, of.now.flag)) }
+{
+    let call = copied_call(alloc, &of.call)?;
+    let flag = copied_flag(alloc, &of.flag)?;
+    Ok((call, flag))
+}
+
 /// The same subprogram once more.
 pub fn copied_subprogram(
     alloc: Global,
@@ -90,17 +113,12 @@ pub fn copied_subprogram(
     ensures { IfOk result (λ copy. copy ≡ subprogram.now) }
 {
     let symbol = subprogram.symbol.copy(alloc)?;
-    let parameters = copied_parameters(alloc, subprogram.profile.parameters.as_slice())?;
-    let of = copied_result(alloc, &subprogram.profile.result)?;
+    let profile = copied_profile(alloc, &subprogram.profile)?;
     let types = subprogram.types.share()?;
-    let call = copied_call(alloc, &subprogram.call)?;
-    let flag = copied_flag(alloc, &subprogram.flag)?;
+    let (call, flag) = copied_way(alloc, subprogram)?;
     Ok(SubprogramView {
         symbol,
-        profile: Profile {
-            parameters,
-            result: of,
-        },
+        profile,
         types,
         call,
         flag,

@@ -14,6 +14,7 @@ mod steps;
 pub use attribute::{Attribute, attribute_named};
 pub use copied::copied_subprogram;
 pub use mark::mark_in;
+pub use operation::protected_of;
 pub use pair::together;
 pub use prefix::Prefix;
 pub use reading::{Reading, named, wrong_kind};

@@ -11,7 +11,8 @@ use al_overload_term::Term;
 use al_view::{Operation, ProtectedView, View, ViewKind, Views};
 use std::alloc::Global;
 
-fn protected_of(view: &View) -> Option<&ProtectedView>
+/// The protected object whose view this is.
+pub fn protected_of(view: &View) -> Option<&ProtectedView>
     ensures { option_copied result ≡ protected_of view.now }
 {
     match view.kind() {

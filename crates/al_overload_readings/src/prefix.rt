@@ -118,28 +118,36 @@ fn is_one(arguments: &[Term]) -> bool
 fn is_indexed_by_one(term: &Term) -> bool
     ensures { result ≡ is_indexed_by_one (term_model term.now) }
 {
-    match term {
-        Term::Applied { name, arguments } => { is_one(arguments) && is_indexed_by_one(name) }
-        Term::Selected { prefix, name: _ } => is_indexed_by_one(prefix),
-        Term::Named { .. } => true,
-        Term::Number { .. } => true,
-        Term::Text { .. } => true,
-        Term::Bound { .. } => true,
-        Term::Length { .. } => true,
-        Term::Conversion { .. } => true,
-        Term::Qualified { .. } => true,
-        Term::Attribute { .. } => true,
-        Term::Image { .. } => true,
-        Term::Prefixed { .. } => true,
-        Term::Infix { .. } => true,
-        Term::Concatenation { .. } => true,
-        Term::ShortCircuit { .. } => true,
-        Term::Member { .. } => true,
-        Term::RangeMember { .. } => true,
-        Term::Group { .. } => true,
-        Term::Aggregate { .. } => true,
-        Term::Others { .. } => true,
-        Term::Nothing { .. } => true,
+    let mut rest = term;
+    loop {
+        rest = match rest {
+            Term::Applied { name, arguments } => {
+                if !is_one(arguments) {
+                    return false;
+                }
+                name
+            }
+            Term::Selected { prefix, name: _ } => prefix,
+            Term::Named { .. } => return true,
+            Term::Number { .. } => return true,
+            Term::Text { .. } => return true,
+            Term::Bound { .. } => return true,
+            Term::Length { .. } => return true,
+            Term::Conversion { .. } => return true,
+            Term::Qualified { .. } => return true,
+            Term::Attribute { .. } => return true,
+            Term::Image { .. } => return true,
+            Term::Prefixed { .. } => return true,
+            Term::Infix { .. } => return true,
+            Term::Concatenation { .. } => return true,
+            Term::ShortCircuit { .. } => return true,
+            Term::Member { .. } => return true,
+            Term::RangeMember { .. } => return true,
+            Term::Group { .. } => return true,
+            Term::Aggregate { .. } => return true,
+            Term::Others { .. } => return true,
+            Term::Nothing { .. } => return true,
+        };
     }
 }
 

@@ -2,3 +2,4 @@ pub mod Changed
 pub mod Gathered
 pub mod Layers
 pub mod Runs
+pub mod Unchanged

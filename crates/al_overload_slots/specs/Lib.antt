@@ -1,3 +1,4 @@
 pub mod Slots
 pub mod Laws
 pub mod Pieces
+pub mod Temporaries

@@ -3,6 +3,7 @@ ghost use Rattle.std.specs.Prelude.{◌≡◌, map};
 ghost use Rattle.al_view_typed.specs.ExpressionViews.{actual_model, actuals_of, call_model, form_model, name_model, typed_model, value_model, values_of};
 ghost use Rattle.al_overload_slots.specs.Slots.{actual_after, actual_numbered, actuals_after, actuals_numbered, after, call_after, call_numbered, form_after, form_numbered, name_after, name_numbered, next_word, numbered, value_after, value_numbered, values_after, values_numbered};
 
+use crate::temporary::takes;
 use al_view_typed::{Actual, CheckedValue, Form, Typed, TypedCall, TypedName};
 
 /// The word after this one; after the last one that there is, that one again.
@@ -12,10 +13,24 @@ fn next(word: u32) -> u32
     word.saturating_add(1)
 }
 
-/// Gives each temporary of an expression its word, from this one on, in the order of the text, and tells the next word.
+/// Gives each temporary of an expression its word, from this one on, in the order of the text, and tells the next word. Where there is none,
+/// nothing is gone down, so that a chain of operators takes nothing of the stack.
+#[cycle(slots)]
+#[tactic(auto, using(crate::proofs::Unchanged::stays))]
+pub fn number_slots(typed: &mut Typed, word: u32) -> u32
+    ensures tree { typed_model typed.new ≡ numbered word (typed_model typed.old) }
+    ensures word { result ≡ after word (typed_model typed.old) }
+{
+    if takes(typed) {
+        number_typed(typed, word)
+    } else {
+        word
+    }
+}
+
 #[cycle(slots)]
 #[tactic(auto, using(crate::proofs::Layers::typed_layers, al_view_typed::proofs::ExpressionsMade::typed_made))]
-pub fn number_slots(typed: &mut Typed, word: u32) -> u32
+fn number_typed(typed: &mut Typed, word: u32) -> u32
     ensures tree { typed_model typed.new ≡ numbered word (typed_model typed.old) }
     ensures word { result ≡ after word (typed_model typed.old) }
 {
@@ -23,6 +38,15 @@ pub fn number_slots(typed: &mut Typed, word: u32) -> u32
         return word;
     }
     number_form(&mut typed.form, word)
+}
+
+/// The left operand of a chain, which isn't looked at once more.
+#[cycle(slots)]
+fn number_left(operand: &mut Box<Typed>, word: u32) -> u32
+    ensures tree { typed_model operand.new.value ≡ numbered word (typed_model operand.old.value) }
+    ensures word { result ≡ after word (typed_model operand.old.value) }
+{
+    number_typed(operand, word)
 }
 
 /// An operand in its box.
@@ -45,11 +69,11 @@ fn number_form(form: &mut Form, word: u32) -> u32
         Form::Named(name) => number_name(name, word),
         Form::Unary(_operator, operand) => number_operand(operand, word),
         Form::Binary(_operator, left, right) => {
-            let word = number_operand(left, word);
+            let word = number_left(left, word);
             number_operand(right, word)
         }
         Form::ShortCircuit(_operator, left, right) => {
-            let word = number_operand(left, word);
+            let word = number_left(left, word);
             number_operand(right, word)
         }
         Form::Membership {

@@ -110,15 +110,23 @@ fn is_range_attribute(part: &NamePart) -> bool
 fn is_name(expression: &Expression) -> bool
     ensures { result ≡ is_name (expression_model expression.now) }
 {
-    match expression {
-        Expression::Name(_) => true,
-        Expression::Longer(longer) => { is_selector(&longer.part) && is_name(&longer.prefix) }
-        Expression::Numeric(_) => false,
-        Expression::Text(_) => false,
-        Expression::Prefixed(_) => false,
-        Expression::Infix(_) => false,
-        Expression::Member(_) => false,
-        Expression::Group(_) => false,
+    let mut rest = expression;
+    loop {
+        rest = match rest {
+            Expression::Name(_) => return true,
+            Expression::Longer(longer) => {
+                if !is_selector(&longer.part) {
+                    return false;
+                }
+                &longer.prefix
+            }
+            Expression::Numeric(_) => return false,
+            Expression::Text(_) => return false,
+            Expression::Prefixed(_) => return false,
+            Expression::Infix(_) => return false,
+            Expression::Member(_) => return false,
+            Expression::Group(_) => return false,
+        };
     }
 }
 

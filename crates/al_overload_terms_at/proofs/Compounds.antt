@@ -1,13 +1,14 @@
 -- A name with one selector more.
-use Rattle.std.proofs.Common.{◌≡◌, ℕ, zero, suc, ◌<◌, List, [], ◌∷◌, ◌++◌, map, length, take, get_or, Option, Some, Result, refl, sym, ap, ◌∙◌, arith}
+use Rattle.std.proofs.Common.{◌≡◌, ℕ, zero, suc, ◌<◌, List, [], ◌∷◌, ◌++◌, map, length, take, get_or, Option, Some, Result, refl, sym, ap, ◌∙◌, append_assoc, append-nil, arith}
 use Rattle.std.specs.Prelude.{fold}
 use Rattle.al_tree_grammar.specs.Grammar.{Label}
 use Rattle.al_base_fault.specs.Judging.{next}
 use Rattle.al_base_fault.specs.declared.fault.Fault.{Fault}
 use Rattle.al_overload_keys.specs.Keys.{Denotations, dotted, key_of, key_with}
 use Rattle.al_overload_keys.specs.Places.{place_of}
-use Rattle.al_overload_lookup.specs.TextNames.{names_in, part_names, selected_names, sign_names}
+use Rattle.al_overload_lookup.specs.TextNames.{identifier_names, names_in, part_names, selected_names, selector_names}
 use Rattle.al_overload_lookup.specs.declared.name.TextName.{TextName}
+use Rattle.al_overload_lookup.specs.declared.name.TextName.TheVariants.{Selected, Simple}
 use Rattle.al_overload_readings.specs.Readings.{ReadTree, named, selected}
 use Rattle.al_tree_syntax.specs.ExpressionTrees.{ExpressionTree, ExpressionTree as e, PartTree as part}
 use Rattle.al_overload_terms.specs.Noted.{NotedTree, plain, with_selector as noted_selector}
@@ -37,29 +38,23 @@ read_more : (d : Denotations) (x : ExpressionTree) (l : Label) (r : Result ReadT
 unfolding noted with_part
 read_more d x l r is = ap (λ (n : NotedTree). noted_selector d l n) is
 
-pub found_more : (first : Label) (xs : List Identifier) (n i : ℕ) (d : Identifier) (before after : List TextName) (key : List ℕ) → n ≡ suc i → i < length xs → d ≡ get_or xs i d
-    → before ≡ names_in (name_text (record { first = first; selectors = map identifier_label (take i xs) }))
-    → Some key ≡ key_of (name_text (record { first = first; selectors = map identifier_label (take i xs) }))
-    → after ≡ before ++ selected_names (Some key) (identifier_label d).text
-    → after ≡ names_in (name_text (record { first = first; selectors = map identifier_label (take n xs) }))
-found_more first xs n i d before after key is h here b k a =
-    let l = identifier_label d in
-    let x = name_text (record { first = first; selectors = map identifier_label (take i xs) }) in
-    a
-    ∙ ap (λ (ns : List TextName). ns ++ selected_names (Some key) l.text) b
-    ∙ ap (λ (o : Option (List ℕ)). names_in x ++ selected_names o l.text) k
-    ∙ sym (names_more x l)
-    ∙ ap names_in (sym (text_more first xs n i d is h here))
+-- the names of a text of identifiers are those of the identifiers
+after_selectors : (x : ExpressionTree) (key : List ℕ) (ls : List Label) → key_of x ≡ Some key → names_in (fold with_selector x ls) ≡ names_in x ++ selector_names key ls
+after_selectors x key [] is = sym (append-nil (names_in x))
+after_selectors x key (l ∷ ls) is =
+    after_selectors (with_selector x l) (dotted key l.text) ls (ap (λ (o : Option (List ℕ)). key_with o (part.Selector l)) is)
+    ∙ ap (λ (ns : List TextName). ns ++ selector_names (dotted key l.text) ls) (names_more x l ∙ ap (λ (o : Option (List ℕ)). names_in x ++ selected_names o l.text) is)
+    ∙ append_assoc (names_in x) (Selected key l.text ∷ []) (selector_names (dotted key l.text) ls)
 
-pub key_more : (first : Label) (xs : List Identifier) (n i : ℕ) (d : Identifier) (key longer : List ℕ) → n ≡ suc i → i < length xs → d ≡ get_or xs i d
-    → Some key ≡ key_of (name_text (record { first = first; selectors = map identifier_label (take i xs) }))
-    → longer ≡ dotted key (identifier_label d).text
-    → Some longer ≡ key_of (name_text (record { first = first; selectors = map identifier_label (take n xs) }))
-key_more first xs n i d key longer is h here k a =
-    let l = identifier_label d in
-    ap (λ (b : List ℕ). Some b) a
-    ∙ ap (λ (o : Option (List ℕ)). key_with o (part.Selector l)) k
-    ∙ ap key_of (sym (text_more first xs n i d is h here))
+first_named : (first : Label) → names_in (e.Name first) ≡ Simple first.text ∷ []
+unfolding names_in
+first_named first = refl
+
+pub names_of_text : (first : Label) (ls : List Label) → names_in (name_text (record { first = first; selectors = ls })) ≡ identifier_names first ls
+unfolding name_text
+names_of_text first ls =
+    after_selectors (e.Name first) first.text ls refl
+    ∙ ap (λ (ns : List TextName). ns ++ selector_names first.text ls) (first_named first)
 
 pub checked_more : (names : Denotations) (first : Label) (xs : List Identifier) (n i : ℕ) (d : Identifier) (before after : Result ReadTree Fault) → n ≡ suc i → i < length xs → d ≡ get_or xs i d
     → plain before ≡ noted names (name_text (record { first = first; selectors = map identifier_label (take i xs) }))
@@ -72,14 +67,6 @@ checked_more names first xs n i d before after is h here b a =
     ∙ ap (noted names) (sym (text_more first xs n i d is h here))
 
 -- the first identifier alone
-pub first_named : (first : Label) → names_in (name_text (record { first = first; selectors = [] })) ≡ sign_names (Some first.text)
-unfolding name_text names_in
-first_named first = refl
-
-pub first_keyed : (first : Label) → key_of (name_text (record { first = first; selectors = [] })) ≡ Some first.text
-unfolding name_text
-first_keyed first = refl
-
 pub first_read : (d : Denotations) (first : Label) → noted d (name_text (record { first = first; selectors = [] })) ≡ plain (named (place_of first) first.text (d.visible first.text) first)
 unfolding name_text noted
 first_read d first = refl

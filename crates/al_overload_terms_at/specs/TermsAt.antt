@@ -2,27 +2,21 @@
 -- (ARM 4.1 to 4.7, 8.3).
 use Rattle.std.specs.Prelude.{ℕ, List, ◌++◌, map, Result}
 use Rattle.al_base.specs.declared.unit_key.UnitKey.{UnitKey}
-use Rattle.al_base_fault.specs.Judging.{both}
 use Rattle.al_base_fault.specs.declared.fault.Fault.{Fault}
 use Rattle.al_overload_keys.specs.Keys.{Denotations, denoted}
 use Rattle.al_overload_lookup.specs.Lookups.{asked_name, names_at}
 use Rattle.al_overload_lookup.specs.TextNames.{names_in}
 use Rattle.al_query.specs.Reads.{Table}
-use Rattle.al_overload_readings.specs.Readings.{ReadTree}
 use Rattle.al_scope.specs.Places.{Place}
 use Rattle.al_tree_syntax.specs.DeclarationTrees.{RangeTree}
 use Rattle.al_tree_syntax.specs.ExpressionTrees.{ExpressionTree}
 use Rattle.al_overload_term.specs.Terms.{TermTree}
-use Rattle.al_overload_terms.specs.Texts.{mark_of_text, one_range, read, term_of}
+use Rattle.al_overload_terms.specs.Texts.{mark_of_text, term_of}
 use Rattle.al_view.specs.declared.view.SubtypeView.{SubtypeView}
 
 -- what the names of a text denote
 abbrev pub denotations_at : Table → Place → List UnitKey → ExpressionTree → Denotations
 denotations_at t place packages x = denoted (names_at t place packages x)
-
--- what the text may be, until what stands round it is known
-abbrev pub read_at : Table → Place → List UnitKey → ExpressionTree → Result ReadTree Fault
-read_at t place packages x = read (denotations_at t place packages x) x
 
 -- its term; the first E401 or E404 of its names
 abbrev pub term_at : Table → Place → List UnitKey → ExpressionTree → Result TermTree Fault
@@ -31,14 +25,6 @@ term_at t place packages x = term_of (denotations_at t place packages x) x
 -- the subtype that it names as a mark
 abbrev pub mark_at : Table → Place → List UnitKey → ExpressionTree → Result SubtypeView Fault
 mark_at t place packages x = mark_of_text (denotations_at t place packages x) x
-
--- the subtype that it names as a range by itself: a mark or a Range attribute
-abbrev pub single_at : Table → Place → List UnitKey → ExpressionTree → Result SubtypeView Fault
-single_at t place packages x = one_range x (read (denotations_at t place packages x) x)
-
--- the terms of two bounds; the first E401 or E404 of the names of both
-abbrev pub bounds_at : Table → Place → List UnitKey → RangeTree → Result (TermTree × TermTree) Fault
-bounds_at t place packages r = both (term_at t place packages r.low) (term_at t place packages r.high)
 
 -- ---- which names are asked for
 

@@ -1,9 +1,8 @@
 // Names of several identifiers at their place, as the marks of declarations are.
-ghost use Rattle.std.specs.Prelude.{◌≡◌, ◌∷◌, [], ◌++◌, IfOk, OnOk, Some, map};
+ghost use Rattle.std.specs.Prelude.{◌≡◌, IfOk, map};
 ghost use Rattle.al_base_fault.specs.Judging.{map_ok};
-ghost use Rattle.al_overload_keys.specs.Keys.{denoted, dotted};
+ghost use Rattle.al_overload_keys.specs.Keys.{denoted};
 ghost use Rattle.al_overload_lookup.specs.Lookups.{asked_units, names_at};
-ghost use Rattle.al_overload_lookup.specs.TextNames.{names_in, selected_names, sign_names};
 ghost use Rattle.al_query.specs.Asked.{AsksOf, by_some_name};
 ghost use Rattle.al_query.specs.Reads.{FromAnswers};
 ghost use Rattle.al_overload_readings.specs.ReadingViews.{reading_model};
@@ -13,10 +12,10 @@ ghost use Rattle.al_overload_terms_at.specs.TermsAt.{mark_at};
 ghost use Rattle.al_tree.specs.DeclarationViews.{compound_model};
 ghost use Rattle.al_tree.specs.Lexemes.{identifier_label};
 
-use al_base::{Name, NoMemory, UnitKey};
+use al_base::{NoMemory, UnitKey};
 use al_base_fault::CheckResult;
 use al_overload_keys::Names;
-use al_overload_lookup::{TextName, look_up_all};
+use al_overload_lookup::look_up_selected;
 use al_overload_readings::{Reading, as_mark, select};
 use al_overload_terms::read_identifier;
 use al_query::{Answers, Recorder};
@@ -24,65 +23,6 @@ use al_scope::Scope;
 use al_tree::{CompoundName, Identifier};
 use al_view::SubtypeView;
 use std::alloc::Global;
-
-/// The first identifier: a name by itself, and the key of what is selected in it.
-fn add_first(
-    alloc: Global,
-    found: &mut Vec<TextName>,
-    key: &mut Vec<u8>,
-    identifier: &Identifier,
-) -> Result<(), NoMemory>
-    ensures found { OnOk result (found.new.items ≡ found.old.items ++ sign_names (Some (identifier_label identifier.now).text)) }
-    ensures key { OnOk result (key.new.items ≡ key.old.items ++ (identifier_label identifier.now).text) }
-{
-    key.extend_from_slice(identifier.name.as_slice())?;
-    let name = Name::from_slice(alloc, identifier.name.as_slice())?;
-    found.push(TextName::Simple(name))?;
-    Ok(())
-}
-
-/// A selector: a name that is selected in what the key names.
-fn add_selector(
-    alloc: Global,
-    found: &mut Vec<TextName>,
-    key: &[u8],
-    identifier: &Identifier,
-) -> Result<(), NoMemory>
-    ensures { OnOk result (found.new.items ≡ found.old.items ++ selected_names (Some key.now) (identifier_label identifier.now).text) }
-{
-    let prefix = Name::from_slice(alloc, key)?;
-    let name = Name::from_slice(alloc, identifier.name.as_slice())?;
-    found.push(TextName::Selected { prefix, name })?;
-    Ok(())
-}
-
-/// Makes the key longer by a selector.
-fn add_to_key(key: &mut Vec<u8>, identifier: &Identifier) -> Result<(), NoMemory>
-    ensures { OnOk result (key.new.items ≡ dotted key.old.items (identifier_label identifier.now).text) }
-{
-    key.push(b'.')?;
-    key.extend_from_slice(identifier.name.as_slice())?;
-    Ok(())
-}
-
-/// The names in a name of these identifiers, in the order of the text.
-#[tactic(auto, using(crate::proofs::Compounds::first_named, crate::proofs::Compounds::first_keyed))]
-fn names_in_parts(
-    alloc: Global,
-    first: &Identifier,
-    selectors: &[Identifier],
-) -> Result<Vec<TextName>, NoMemory>
-    ensures { IfOk result (λ found. found.items ≡ names_in (name_text (record { first = identifier_label first.now; selectors = map identifier_label selectors.now }))) }
-{
-    let mut found = Vec::new(alloc);
-    let mut key = Vec::new(alloc);
-    add_first(alloc, &mut found, &mut key, first)?;
-    for selector in selectors {
-        add_selector(alloc, &mut found, key.as_slice(), selector)?;
-        add_to_key(&mut key, selector)?;
-    }
-    Ok(found)
-}
 
 /// What a name of these identifiers may be.
 #[tactic(auto, using(crate::proofs::Compounds::first_read))]
@@ -114,14 +54,6 @@ fn read_name(
     Ok(checked)
 }
 
-/// The names in a name of several identifiers.
-fn names_in_name(alloc: Global, name: &CompoundName) -> Result<Vec<TextName>, NoMemory>
-    ensures { IfOk result (λ found. found.items ≡ names_in (name_text (compound_model name.now))) }
-{
-    let found = names_in_parts(alloc, &name.first, &name.selectors)?;
-    Ok(found)
-}
-
 /// What the names in it denote at a place.
 fn names_of_name<A: Answers>(
     alloc: Global,
@@ -134,8 +66,8 @@ fn names_of_name<A: Answers>(
     ensures answered { IfOk result (λ names. FromAnswers recorder.old.log recorder.new.log (λ t. names ≡ names_at t scope.now packages.now (name_text (compound_model name.now)))) }
     ensures asks { IfOk result (λ _. AsksOf (asked_units scope.now packages.now) by_some_name recorder.old.log recorder.new.log) }
 {
-    let of = names_in_name(alloc, name)?;
-    let names = look_up_all(alloc, scope, packages, &of, recorder)?;
+    let selectors = name.selectors.as_slice();
+    let names = look_up_selected(alloc, scope, packages, &name.first, selectors, recorder)?;
     Ok(names)
 }
 

@@ -4,41 +4,21 @@ ghost use Rattle.al_base_fault.specs.Judging.{map_ok};
 ghost use Rattle.al_overload_lookup.specs.Lookups.{asked_units};
 ghost use Rattle.al_query.specs.Asked.{AsksOf, by_some_name};
 ghost use Rattle.al_query.specs.Reads.{FromAnswers};
-ghost use Rattle.al_overload_readings.specs.ReadingViews.{reading_model};
 ghost use Rattle.al_overload_term.specs.TermViews.{term_model};
-ghost use Rattle.al_overload_terms_at.specs.TermsAt.{mark_at, read_at, single_at, term_at};
+ghost use Rattle.al_overload_terms_at.specs.TermsAt.{mark_at, term_at};
 ghost use Rattle.al_tree.specs.ExpressionViews.{expression_model};
 
 use al_base::{NoMemory, UnitKey};
 use al_base_fault::CheckResult;
 use al_overload_lookup::names;
-use al_overload_readings::Reading;
 use al_overload_term::Term;
-use al_overload_terms::{mark_of_text, one_range, read, term_of};
+use al_overload_terms::{mark_of_text, term_of};
 use al_query::{Answers, Recorder};
 use al_scope::Scope;
 use al_tree::Expression;
 use al_view::SubtypeView;
 use al_view_predefined::StandardTypes;
 use std::alloc::Global;
-
-/// What an expression may be at a place, until what stands round it is known; E401 or E404 where a name in it has one.
-pub fn read_at<A: Answers>(
-    alloc: Global,
-    standard: &StandardTypes,
-    scope: &Scope,
-    packages: &[UnitKey],
-    expression: &Expression,
-    recorder: &mut Recorder<A>,
-) -> Result<CheckResult<Reading>, NoMemory>
-    ensures asked { recorder.new.asked ≡ recorder.old.asked }
-    ensures answered { IfOk result (λ checked. FromAnswers recorder.old.log recorder.new.log (λ t. map_ok reading_model checked ≡ read_at t scope.now packages.now (expression_model expression.now))) }
-    ensures asks { IfOk result (λ _. AsksOf (asked_units scope.now packages.now) by_some_name recorder.old.log recorder.new.log) }
-{
-    let names = names(alloc, scope, packages, expression, recorder)?;
-    let checked = read(alloc, standard, &names, expression)?;
-    Ok(checked)
-}
 
 /// The term of an expression at a place; E401 or E404 at the first of its names that isn't visible or isn't what is wanted.
 pub fn term_at<A: Answers>(
@@ -74,22 +54,4 @@ pub fn mark_at<A: Answers>(
     let names = names(alloc, scope, packages, expression, recorder)?;
     let mark = mark_of_text(alloc, standard, &names, expression)?;
     Ok(mark)
-}
-
-/// The subtype of a range by itself, a mark or a Range attribute, at a place; E404 at the first token of what is neither (ARM 3.5, 3.6.1).
-pub fn single_at<A: Answers>(
-    alloc: Global,
-    standard: &StandardTypes,
-    scope: &Scope,
-    packages: &[UnitKey],
-    expression: &Expression,
-    recorder: &mut Recorder<A>,
-) -> Result<CheckResult<SubtypeView>, NoMemory>
-    ensures asked { recorder.new.asked ≡ recorder.old.asked }
-    ensures answered { IfOk result (λ range. FromAnswers recorder.old.log recorder.new.log (λ t. range ≡ single_at t scope.now packages.now (expression_model expression.now))) }
-    ensures asks { IfOk result (λ _. AsksOf (asked_units scope.now packages.now) by_some_name recorder.old.log recorder.new.log) }
-{
-    let names = names(alloc, scope, packages, expression, recorder)?;
-    let range = one_range(alloc, standard, &names, expression)?;
-    Ok(range)
 }

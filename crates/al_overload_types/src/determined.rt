@@ -3,13 +3,15 @@ ghost use Rattle.std.specs.Prelude.{◌≡◌, ◌&&◌, option_map};
 ghost use Rattle.std.specs.Option.{option_and_then, option_or};
 ghost use Rattle.al_overload_choice.specs.Counts.{label_of};
 ghost use Rattle.al_overload_heads.specs.Parts.{declared_under, nominal, part_of};
-ghost use Rattle.al_overload_heads.specs.Universal.{computes_one, computes_two, is_number, is_position, is_sole_number, is_universal};
+ghost use Rattle.al_overload_heads.specs.Universal.{computes_one, computes_two, is_universal};
 ghost use Rattle.al_overload_term.specs.TermViews.{term_model};
 ghost use Rattle.al_overload_types.specs.Seen.{told_model};
 ghost use Rattle.al_overload_types.specs.FromAnswers.{among, attribute_type, everywhere, mark_told, operand_type, operator_type, pair_type, part_type, range_type, result_of, test_type, type_of_view, type_picked, type_told, types_in};
 
 use al_overload_choice::Labelled;
-use al_overload_heads::{declared_under, part_of};
+use al_overload_heads::{
+    computes_one, computes_two, declared_under, is_position, is_sole_number, part_of,
+};
 use al_overload_nodes::{Labeller, picked_subprogram, root_result};
 use al_overload_picks::{is_root_in, number_in, operand_label, pick};
 use al_overload_term::Term;
@@ -17,102 +19,59 @@ use al_view::{SubprogramView, Subtype, SubtypeView, Symbol, Types, View, ViewKin
 use al_view_predefined::StandardTypes;
 use al_view_typed::{BinaryOperator, Conversion, UnaryOperator};
 
-/// Whether an operator in front of a number gives a number.
-fn computes_one(operator: UnaryOperator) -> bool
-    ensures { result ≡ computes_one operator }
-{
-    match operator {
-        UnaryOperator::Plus => true,
-        UnaryOperator::Minus => true,
-        UnaryOperator::Abs => true,
-        UnaryOperator::Not => false,
-    }
-}
-
-/// Whether an operator between two numbers gives a number.
-fn computes_two(operator: BinaryOperator) -> bool
-    ensures { result ≡ computes_two operator }
-{
-    match operator {
-        BinaryOperator::Plus => true,
-        BinaryOperator::Minus => true,
-        BinaryOperator::Times => true,
-        BinaryOperator::Divide => true,
-        BinaryOperator::Mod => true,
-        BinaryOperator::Rem => true,
-        BinaryOperator::Power => true,
-        BinaryOperator::And => false,
-        BinaryOperator::Or => false,
-        BinaryOperator::Xor => false,
-        BinaryOperator::Equal => false,
-        BinaryOperator::NotEqual => false,
-        BinaryOperator::Less => false,
-        BinaryOperator::LessOrEqual => false,
-        BinaryOperator::Greater => false,
-        BinaryOperator::GreaterOrEqual => false,
-        BinaryOperator::SameWords => false,
-        BinaryOperator::OtherWords => false,
-    }
-}
-
-fn is_number(view: &View) -> bool
-    ensures { result ≡ is_number view.now }
-{
-    matches!(view.kind(), ViewKind::OfNumber(_))
-}
-
-fn is_sole_number(visible: &[View]) -> bool
-    ensures { result ≡ is_sole_number visible.now }
-{
-    match visible {
-        [] => false,
-        [view] => is_number(view),
-        [_, _, ..] => false,
-    }
-}
-
-pub fn is_position(conversion: Conversion) -> bool
-    ensures { result ≡ is_position conversion }
-{
-    matches!(conversion, Conversion::Pos)
-}
-
-/// Whether a term is of numbers alone (ARM 3.4.1(7)). Right operands are looked at first: chains of operators lean to the left.
+/// Whether a term is of numbers alone (ARM 3.4.1(7)). Right operands are looked at first, and left ones by a loop: chains of operators lean to
+/// the left.
 #[tactic(auto, using(al_overload_nodes::proofs::TermsSeen::terms_made, crate::proofs::Booleans::and_false, crate::proofs::Booleans::and_true))]
 fn is_universal(term: &Term) -> bool
     ensures { result ≡ is_universal (term_model term.now) }
 {
-    match term {
-        Term::Number { .. } => true,
-        Term::Named { place: _, views } => is_sole_number(views.as_slice()),
-        Term::Length { .. } => true,
-        Term::Attribute { conversion, .. } => is_position(*conversion),
-        Term::Prefixed {
-            operator,
-            operand,
-            ..
-        } => computes_one(*operator) && is_universal(operand),
-        Term::Infix {
-            operator,
-            left,
-            right,
-            ..
-        } => computes_two(*operator) && is_universal(right) && is_universal(left),
-        Term::Group { place: _, inner } => is_universal(inner),
-        Term::Text { .. } => false,
-        Term::Selected { .. } => false,
-        Term::Applied { .. } => false,
-        Term::Bound { .. } => false,
-        Term::Conversion { .. } => false,
-        Term::Qualified { .. } => false,
-        Term::Image { .. } => false,
-        Term::Concatenation { .. } => false,
-        Term::ShortCircuit { .. } => false,
-        Term::Member { .. } => false,
-        Term::RangeMember { .. } => false,
-        Term::Aggregate { .. } => false,
-        Term::Others { .. } => false,
-        Term::Nothing { .. } => false,
+    let mut rest = term;
+    loop {
+        rest = match rest {
+            Term::Infix {
+                operator,
+                left,
+                right,
+                ..
+            } => {
+                if !computes_two(*operator) {
+                    return false;
+                }
+                if !is_universal(right) {
+                    return false;
+                }
+                left
+            }
+            Term::Prefixed {
+                operator,
+                operand,
+                ..
+            } => {
+                if !computes_one(*operator) {
+                    return false;
+                }
+                operand
+            }
+            Term::Group { place: _, inner } => inner,
+            Term::Number { .. } => return true,
+            Term::Named { place: _, views } => return is_sole_number(views.as_slice()),
+            Term::Length { .. } => return true,
+            Term::Attribute { conversion, .. } => return is_position(*conversion),
+            Term::Text { .. } => return false,
+            Term::Selected { .. } => return false,
+            Term::Applied { .. } => return false,
+            Term::Bound { .. } => return false,
+            Term::Conversion { .. } => return false,
+            Term::Qualified { .. } => return false,
+            Term::Image { .. } => return false,
+            Term::Concatenation { .. } => return false,
+            Term::ShortCircuit { .. } => return false,
+            Term::Member { .. } => return false,
+            Term::RangeMember { .. } => return false,
+            Term::Aggregate { .. } => return false,
+            Term::Others { .. } => return false,
+            Term::Nothing { .. } => return false,
+        };
     }
 }
 

@@ -11,12 +11,11 @@ ghost use Rattle.al_overload_types.specs.Seen.{application_model};
 ghost use Rattle.al_overload_types.specs.Leaves.{aggregate_node, application, applied_view, argument_check, argument_type, attribute_node, bound_node, bound_word, candidate_node, checked, component_in, component_of_type, in_bounds_node, in_mark_node, length_known, length_node, mark_node, mark_type, named_node, others_form, others_of, view_node, with_value};
 ghost use Rattle.al_overload_nodes.specs.Views.{reading_model, values_model};
 
-use crate::determined::is_position;
 use al_base::{NoMemory, Place};
 use al_base_fault::{CheckResult, unless};
 use al_overload::Context;
 use al_overload_choice::Labelled;
-use al_overload_heads::{Nominal, declared_under, part_of};
+use al_overload_heads::{Nominal, declared_under, is_position, part_of};
 use al_overload_name::value_type;
 use al_overload_nodes::{Actuals, Labeller, Reading, Values, misfit};
 use al_overload_picks::{count_of, length_of, number_in, pick, positions_in, range_in};

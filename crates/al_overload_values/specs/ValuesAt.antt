@@ -20,7 +20,7 @@ use Rattle.al_overload_terms_at.specs.TermsAt.{term_at}
 use Rattle.al_overload_types.specs.Leaves.{mark_type}
 use Rattle.al_view_typed.specs.ExpressionTrees.{TypedTree}
 use Rattle.al_overload_values.specs.Surroundings.{Surroundings}
-use Rattle.al_overload_values.specs.Words.{Worded, found_with_words, pair_with_words, with_words}
+use Rattle.al_overload_values.specs.Words.{Worded, found_with_words, with_words}
 use Rattle.al_view.specs.declared.types.TypeView.{TypeView}
 use Rattle.al_view.specs.declared.view.SubtypeView.{SubtypeView}
 
@@ -52,9 +52,6 @@ abbrev pub static_pair_at : Table → Surroundings → Context → List TypeView
 static_pair_at t s context types r =
     next (bounds_with_at t s.place s.packages s.predefined s.own r)
     (λ (b : With (TermTree × TermTree)). unless b.1 (static_bounds_checked s.predefined s.own context types b.1 b.0.0 b.0.1))
-
-abbrev pub pair_at : Table → Surroundings → Context → List TypeView → RangeTree → ℕ → Worded PairTree
-pair_at t s context types r word = pair_with_words word (pair_judged_at t s context types r)
 
 -- ---- the contexts of statements, whose types every unit has
 

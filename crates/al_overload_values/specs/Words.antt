@@ -1,7 +1,7 @@
 -- What was judged, with the words of the frame that its temporaries take from a word on. Nobody sees the words of what is faulty.
 use Rattle.std.specs.Prelude.{ℕ, Result, Ok, Err}
 use Rattle.al_base_fault.specs.declared.fault.Fault.{Fault}
-use Rattle.al_overload_label.specs.Ranges.{FoundTree, PairTree}
+use Rattle.al_overload_label.specs.Ranges.{FoundTree}
 use Rattle.al_overload_slots.specs.Slots.{after, numbered}
 use Rattle.al_view_typed.specs.ExpressionTrees.{TypedTree}
 
@@ -12,14 +12,6 @@ Worded A = ℕ × Result A Fault
 unfoldable pub with_words : ℕ → Result TypedTree Fault → Worded TypedTree
 with_words word (Ok x) = (after word x, Ok (numbered word x))
 with_words word (Err f) = (word, Err f)
-
--- the low bound's come first
-unfoldable pub pair_with_words : ℕ → Result PairTree Fault → Worded PairTree
-pair_with_words word (Ok pair) = (
-  after (after word pair.low) pair.high,
-  Ok (record { low = numbered word pair.low; high = numbered (after word pair.low) pair.high; range = pair.range }),
-)
-pair_with_words word (Err f) = (word, Err f)
 
 unfoldable pub found_with_words : ℕ → Result FoundTree Fault → Worded FoundTree
 found_with_words word (Ok x) = (after word x.value, Ok (record { value = numbered word x.value; found = x.found }))

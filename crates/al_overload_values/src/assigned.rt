@@ -1,6 +1,5 @@
 // Targets and sources of assignments (ARM 5.2).
 ghost use Rattle.std.specs.Prelude.{◌≡◌, IfOk, [], Some};
-ghost use Rattle.al_overload_heads.specs.Parts.{nominal};
 ghost use Rattle.al_base_fault.specs.Judging.{next, map_ok, unless};
 ghost use Rattle.al_overload_label.specs.Contexts.{target_judged};
 ghost use Rattle.al_overload_label.specs.Variables.{target_part};
@@ -25,7 +24,7 @@ use al_base::NoMemory;
 use al_base_fault::{CheckResult, Fault, unless};
 use al_overload::Context;
 use al_overload_heads::Nominal;
-use al_overload_label::{check_target, target_part};
+use al_overload_label::{check_target, nominal, target_part};
 use al_overload_name::value_type;
 use al_overload_nodes::Labeller;
 use al_overload_prefixes::context_with_at;
@@ -33,7 +32,6 @@ use al_overload_term::Term;
 use al_overload_terms_at::term_at;
 use al_query::{Answers, Recorder};
 use al_tree::Expression;
-use al_view::{Subtype, Types};
 use al_view_typed::Typed;
 
 fn check_assigned(labeller: &Labeller, term: &Term) -> Result<CheckResult<Typed>, NoMemory>
@@ -77,15 +75,6 @@ pub fn target_at<A: Answers>(
     let mut checked = check_found_target(labeller, term)?;
     take_words(&mut checked, word);
     Ok(checked)
-}
-
-/// A nominal subtype of its own.
-fn nominal(labeller: &Labeller, subtype: &Subtype, types: &Types) -> Result<Nominal, NoMemory>
-    ensures { IfOk result (λ of. of ≡ nominal types.now subtype.now) }
-{
-    let types = types.share()?;
-    let subtype = subtype.copy(labeller.alloc)?;
-    Ok(Nominal { subtype, types })
 }
 
 /// The nominal subtype of a target that is judged.

@@ -8,10 +8,9 @@ ghost use Rattle.al_query.specs.Asked.{AsksOf, by_some_name};
 ghost use Rattle.al_query.specs.Reads.{FromAnswers};
 ghost use Rattle.al_tree.specs.DeclarationViews.{range_model};
 ghost use Rattle.al_overload_values.specs.Surroundings.{site_model, site_units};
-ghost use Rattle.al_overload_values.specs.ValuesAt.{pair_at, pair_judged_at, static_pair_at};
+ghost use Rattle.al_overload_values.specs.ValuesAt.{pair_judged_at, static_pair_at};
 
 use crate::site::Site;
-use crate::words::take_pair_words;
 use al_base::NoMemory;
 use al_base_fault::{CheckResult, Fault, unless};
 use al_overload::Context;
@@ -96,22 +95,4 @@ pub fn static_pair_at<A: Answers>(
     let (scope, packages) = (site.scope, site.packages);
     let bounds = bounds_with_at(labeller, scope, packages, range, recorder)?;
     check_static_pair(labeller, context, types, bounds)
-}
-
-/// Two bounds as `pair_judged_at` has them, with the words of their temporaries, from `word` on, in which the next one stands then.
-pub fn pair_at<A: Answers>(
-    site: &Site<'_>,
-    context: &Context,
-    types: &Types,
-    range: &Range,
-    word: &mut u32,
-    recorder: &mut Recorder<A>,
-) -> Result<CheckResult<Pair>, NoMemory>
-    ensures asked { recorder.new.asked ≡ recorder.old.asked }
-    ensures answered { IfOk result (λ checked. FromAnswers recorder.old.log recorder.new.log (λ t. (word.new, map_ok pair_model checked) ≡ pair_at t (site_model site.now) context.now types.now (range_model range.now) word.old)) }
-    ensures asks { IfOk result (λ _. AsksOf (site_units (site_model site.now)) by_some_name recorder.old.log recorder.new.log) }
-{
-    let mut checked = pair_judged_at(site, context, types, range, recorder)?;
-    take_pair_words(&mut checked, word);
-    Ok(checked)
 }

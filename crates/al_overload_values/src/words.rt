@@ -1,12 +1,12 @@
 // The words of what was judged.
 ghost use Rattle.std.specs.Prelude.{◌≡◌};
 ghost use Rattle.al_base_fault.specs.Judging.{map_ok};
-ghost use Rattle.al_overload_label.specs.RangesSeen.{found_model, pair_model};
+ghost use Rattle.al_overload_label.specs.RangesSeen.{found_model};
 ghost use Rattle.al_view_typed.specs.ExpressionViews.{typed_model};
-ghost use Rattle.al_overload_values.specs.Words.{found_with_words, pair_with_words, with_words};
+ghost use Rattle.al_overload_values.specs.Words.{found_with_words, with_words};
 
 use al_base_fault::CheckResult;
-use al_overload_label::{DeterminedValue, Pair};
+use al_overload_label::DeterminedValue;
 use al_overload_slots::number_slots;
 use al_view_typed::Typed;
 
@@ -18,20 +18,6 @@ pub(crate) fn take_words(checked: &mut CheckResult<Typed>, word: &mut u32)
     match checked {
         Ok(typed) => {
             *word = number_slots(typed, *word);
-        }
-        Err(_) => {}
-    }
-}
-
-/// The same of two bounds, the low one's first.
-#[tactic(auto, unfolding(crate::specs::Words::pair_with_words))]
-pub(crate) fn take_pair_words(checked: &mut CheckResult<Pair>, word: &mut u32)
-    ensures { (word.new, map_ok pair_model checked.new) ≡ pair_with_words word.old (map_ok pair_model checked.old) }
-{
-    match checked {
-        Ok(pair) => {
-            let after = number_slots(&mut pair.low, *word);
-            *word = number_slots(&mut pair.high, after);
         }
         Err(_) => {}
     }

@@ -1,5 +1,5 @@
 -- What an answer says.
-use Rattle.std.specs.Prelude.{ℕ, Bool, false, List, [], ◌∷◌, ◌++◌, map, Option, Some, None}
+use Rattle.std.specs.Prelude.{ℕ, Bool, false, List, [], ◌∷◌, map, Option, Some, None}
 use Rattle.std.specs.List.{flat_map}
 use Rattle.al_base.specs.declared.unit_key.UnitKey.{UnitKey}
 use Rattle.al_base.specs.declared.unit_key.UnitKind.TheVariants.{Decl}
@@ -8,13 +8,10 @@ use Rattle.al_view.specs.declared.types.Subtype.{Subtype}
 use Rattle.al_view.specs.declared.view.Profile.{Profile}
 use Rattle.al_view.specs.declared.view.ViewKind.{ViewKind}
 use Rattle.al_view.specs.declared.view.ViewKind.TheVariants.{OfPackage, OfSubprogram}
-use Rattle.al_view.specs.ViewSymbols.{symbols_of}
 use Rattle.al_query.specs.declared.answer.Completion.{Completion}
 use Rattle.al_query.specs.declared.answer.ContextView.{ContextView}
 use Rattle.al_query.specs.declared.answer.UnitForm.{UnitForm}
 use Rattle.al_query.specs.declared.answer.UnitForm.TheVariants as form
-use Rattle.al_query.specs.declared.answer.UseClause.{UseClause}
-use Rattle.al_query.specs.declared.answer.UseClause.TheVariants.{Package, «Type»}
 use Rattle.al_query.specs.declared.answer.AnswerKind.{AnswerKind}
 use Rattle.al_query.specs.declared.answer.AnswerKind.TheVariants.{Views, Kind, Parent, IsPrivate, Context, NeedsBody, Completions}
 
@@ -77,26 +74,16 @@ abbrev pub completions_of : AnswerKind → List Completion
 completions_of (Completions completions) = completions
 completions_of _ = []
 
-abbrev pub clause_units : UseClause → List UnitKey
-clause_units (Package unit) = unit ∷ []
-clause_units («Type» symbol) = symbol.unit ∷ []
-
 abbrev pub declaration : List ℕ → UnitKey
 declaration name = record { name = name; kind = Decl }
 
 -- the units that a context names: each unit of a with clause with its ancestors, as who names a unit names these (ARM
--- 10.1.2(6)), and those of the use clauses
+-- 10.1.2(6))
 abbrev pub context_units : ContextView → List UnitKey
-context_units c = flat_map (λ u. map declaration (lineage u.name)) c.withs ++ flat_map clause_units c.uses ++ flat_map (λ u. clause_units u.clause) c.uses_inside
+context_units c = flat_map (λ u. map declaration (lineage u.name)) c.withs
 
-abbrev pub view_units : ViewKind → List UnitKey
-view_units v = map (λ s. s.unit) (symbols_of v)
-
--- the units that an answer names
+-- the units that an answer names: a parent, and those of with clauses. Symbols in views name no unit.
 unfoldable pub units_named : AnswerKind → List UnitKey
-units_named (Views views) = flat_map view_units views
-units_named (Kind view) = view_units view
 units_named (Parent (Some unit)) = unit ∷ []
 units_named (Context c) = context_units c
-units_named (Completions completions) = flat_map (λ c. view_units c.view) completions
 units_named _ = []

@@ -92,12 +92,22 @@ impl ReadLog {
 }
 
 /// Asks, and keeps what was asked. Each want of memory that it answers is counted.
-#[derive(Drop)]
 pub struct Recorder<A: Answers> {
     alloc: Global,
     asked: A,
     log: ReadLog,
     failures: AllocFailures,
+}
+
+impl<A: Answers + Drop> Drop for Recorder<A> {
+    fn drop(self) {
+        let Recorder {
+            alloc: _,
+            asked: _,
+            log: _,
+            failures: _,
+        } = self;
+    }
 }
 
 impl<A: Answers> Model for Recorder<A> {
@@ -172,7 +182,12 @@ impl<A: Answers> Recorder<A> {
         ensures log { result ≡ self.log }
         ensures agrees { Agrees (A.table self.asked) result }
     {
-        let Recorder { asked, log, .. } = self;
+        let Recorder {
+            alloc: _,
+            asked,
+            log,
+            failures: _,
+        } = self;
         drop(asked);
         log
     }

@@ -5,9 +5,8 @@ use Rattle.std.proofs.lemmas.Grind.{flat_map-append}
 use Rattle.std.proofs.lemmas.List.{map-append, take_more}
 use Rattle.al_base.specs.declared.unit_key.UnitKey.{UnitKey}
 use Rattle.al_view.specs.Symbols.{same_unit}
-use Rattle.al_view.specs.declared.symbol.Symbol.{Symbol}
 use Rattle.al_query.specs.Known.{has_unit}
-use Rattle.al_query_named.specs.Sets.{Gathers, GathersOf}
+use Rattle.al_query_named.specs.Sets.{Gathers}
 
 either_turned : (a b c : Bool) → (b || (a || c)) ≡ ((a || b) || c)
 either_turned true true c = refl
@@ -27,20 +26,6 @@ gathers_both a b c xs ys one two u =
     two u ∙ ap (λ (h : Bool). has_unit ys u || h) (one u) ∙ either_turned (has_unit xs u) (has_unit ys u) (has_unit a u)
     ∙ ap (λ (h : Bool). h || has_unit a u) (sym (has-append xs ys u))
 
-pub gathers_of_both : (a b c : List UnitKey) (xs ys : List Symbol) → GathersOf a b xs → GathersOf b c ys → GathersOf a c (xs ++ ys)
-gathers_of_both a b c xs ys one two =
-    subst (λ (units : List UnitKey). Gathers a c units) (sym (map-append (λ (s : Symbol). s.unit) xs ys)) (gathers_both a b c (map (λ s. s.unit) xs) (map (λ s. s.unit) ys) one two)
-
--- a symbol and three lists or four, one after the other
-
-pub gathers_of_four : (a b c d e : List UnitKey) (x : Symbol) (ys zs ws : List Symbol) → GathersOf a b (x ∷ []) → GathersOf b c ys → GathersOf c d zs → GathersOf d e ws → GathersOf a e (x ∷ ys ++ zs ++ ws)
-gathers_of_four a b c d e x ys zs ws one two three four =
-    gathers_of_both a d e (x ∷ ys ++ zs) ws (gathers_of_both a c d (x ∷ ys) zs (gathers_of_both a b c (x ∷ []) ys one two) three) four
-
-pub gathers_of_five : (a b c d e f : List UnitKey) (x : Symbol) (ys zs ws vs : List Symbol) → GathersOf a b (x ∷ []) → GathersOf b c ys → GathersOf c d zs → GathersOf d e ws → GathersOf e f vs → GathersOf a f (x ∷ ys ++ zs ++ ws ++ vs)
-gathers_of_five a b c d e f x ys zs ws vs one two three four five =
-    gathers_of_both a e f (x ∷ ys ++ zs ++ ws) vs (gathers_of_four a b c d e x ys zs ws one two three four) five
-
 pub gathers_more : {X : Type 0} (f : X → List UnitKey) (a b c : List UnitKey) (xs : List X) (i : ℕ) (x : X) → Gathers a b (flat_map f (take i xs)) → Gathers b c (f x) → x ≡ get_or xs i x → i < length xs → Gathers a c (flat_map f (take (i + 1) xs))
 gathers_more f a b c xs i x one two is less =
     subst (λ (units : List UnitKey). Gathers a c units)
@@ -56,15 +41,3 @@ gathers_one f a b c xs i x one two is less =
 pub gathers_listed : (a b c xs : List UnitKey) (i : ℕ) (x : UnitKey) → Gathers a b (take i xs) → Gathers b c (x ∷ []) → x ≡ get_or xs i x → i < length xs → Gathers a c (take (i + 1) xs)
 gathers_listed a b c xs i x one two is less =
     subst (λ (units : List UnitKey). Gathers a c units) (sym (take_more xs i x less ∙ ap (λ y. take i xs ++ y ∷ []) (sym is))) (gathers_both a b c (take i xs) (x ∷ []) one two)
-
-pub gathers_of_more : {X : Type 0} (f : X → List Symbol) (a b c : List UnitKey) (xs : List X) (i : ℕ) (x : X) → GathersOf a b (flat_map f (take i xs)) → GathersOf b c (f x) → x ≡ get_or xs i x → i < length xs → GathersOf a c (flat_map f (take (i + 1) xs))
-gathers_of_more f a b c xs i x one two is less =
-    subst (λ (symbols : List Symbol). GathersOf a c symbols)
-    (sym (ap (flat_map f) (take_more xs i x less ∙ ap (λ y. take i xs ++ y ∷ []) (sym is)) ∙ flat_map-append f (take i xs) (x ∷ []) ∙ ap (λ ys. flat_map f (take i xs) ++ ys) (append-nil (f x))))
-    (gathers_of_both a b c (flat_map f (take i xs)) (f x) one two)
-
-pub gathers_of_one : {X : Type 0} (f : X → Symbol) (a b c : List UnitKey) (xs : List X) (i : ℕ) (x : X) → GathersOf a b (map f (take i xs)) → GathersOf b c (f x ∷ []) → x ≡ get_or xs i x → i < length xs → GathersOf a c (map f (take (i + 1) xs))
-gathers_of_one f a b c xs i x one two is less =
-    subst (λ (symbols : List Symbol). GathersOf a c symbols)
-    (sym (ap (map f) (take_more xs i x less ∙ ap (λ y. take i xs ++ y ∷ []) (sym is)) ∙ map-append f (take i xs) (x ∷ [])))
-    (gathers_of_both a b c (map f (take i xs)) (f x ∷ []) one two)

@@ -2,12 +2,12 @@
 ghost use Rattle.std.specs.Prelude.{◌≡◌, ◌∷◌, [], ◌++◌, IfOk, OnOk, map};
 ghost use Rattle.std.specs.List.{flat_map};
 ghost use Rattle.al_unit_graph.specs.Names.{lineage};
-ghost use Rattle.al_query.specs.Answers.{clause_units, context_units, declaration};
+ghost use Rattle.al_query.specs.Answers.{context_units, declaration};
 ghost use Rattle.al_query_named.specs.Sets.{Gathers};
 
 use crate::unit_set::UnitSet;
 use al_base::{Name, NoMemory, UnitKey, UnitKind};
-use al_query::{ContextView, UseClause, UseInPart};
+use al_query::ContextView;
 use al_unit_graph::lineage;
 use std::alloc::Global;
 
@@ -77,38 +77,9 @@ fn add_withs(alloc: Global, set: &mut UnitSet, withs: &[UnitKey]) -> Result<(), 
     Ok(())
 }
 
-fn add_clause(set: &mut UnitSet, clause: &UseClause) -> Result<(), NoMemory>
-    ensures { OnOk result (Gathers set.old set.new (clause_units clause.now)) }
-{
-    match clause {
-        UseClause::Package(unit) => set.insert(unit),
-        UseClause::Type(symbol) => set.insert(&symbol.unit),
-    }
-}
-
-fn add_uses(set: &mut UnitSet, uses: &[UseClause]) -> Result<(), NoMemory>
-    ensures { OnOk result (Gathers set.old set.new (flat_map clause_units uses.now)) }
-{
-    for clause in uses {
-        add_clause(set, clause)?;
-    }
-    Ok(())
-}
-
-fn add_uses_inside(set: &mut UnitSet, uses: &[UseInPart]) -> Result<(), NoMemory>
-    ensures { OnOk result (Gathers set.old set.new (flat_map (λ u. clause_units u.clause) uses.now)) }
-{
-    for inside in uses {
-        add_clause(set, &inside.clause)?;
-    }
-    Ok(())
-}
-
-/// The units that a context names: each unit of a with clause with its ancestors, and those of the use clauses.
+/// The units that a context names: each unit of a with clause with its ancestors.
 pub fn add_context(alloc: Global, set: &mut UnitSet, context: &ContextView) -> Result<(), NoMemory>
     ensures { OnOk result (Gathers set.old set.new (context_units context.now)) }
 {
-    add_withs(alloc, set, context.withs.as_slice())?;
-    add_uses(set, context.uses.as_slice())?;
-    add_uses_inside(set, context.uses_inside.as_slice())
+    add_withs(alloc, set, context.withs.as_slice())
 }

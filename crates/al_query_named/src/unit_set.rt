@@ -2,10 +2,10 @@
 ghost use Rattle.std.specs.Prelude.{◌≡◌, ◌∷◌, [], OnOk};
 ghost use Rattle.std.specs.List.{list_all};
 ghost use Rattle.al_query.specs.Known.{has_unit};
-ghost use Rattle.al_query_named.specs.Sets.{Gathers, GathersOf};
+ghost use Rattle.al_query_named.specs.Sets.{Gathers};
 
 use al_base::{NoMemory, UnitKey};
-use al_view::{Symbol, copied_unit};
+use al_view::copied_unit;
 use indexmap::IndexSet;
 use std::alloc::Global;
 use std::marker::Model;
@@ -66,13 +66,6 @@ impl UnitSet {
             self.insert(unit)?;
         }
         Ok(())
-    }
-
-    /// The unit of a symbol.
-    pub(crate) fn insert_of(&mut self, symbol: &Symbol) -> Result<(), NoMemory>
-        ensures { OnOk result (GathersOf self.old self.new (symbol.now ∷ [])) }
-    {
-        self.insert(&symbol.unit)
     }
 
     /// Whether all of its units are in another set.

@@ -15,7 +15,7 @@ use Rattle.al_view.specs.declared.view.ViewKind.{ViewKind}
 use Rattle.al_view.specs.Interfaces.{views_of}
 use Rattle.al_view.specs.Named.{Declarations}
 use Rattle.al_view.specs.ViewUses.{view_uses}
-use Rattle.al_query.specs.Answers.{units_named, view_units}
+use Rattle.al_query.specs.Answers.{units_named}
 use Rattle.al_query.specs.declared.answer.AnswerKind.{AnswerKind}
 use Rattle.al_query.specs.declared.answer.AnswerKind.TheVariants as answers
 use Rattle.al_query.specs.declared.query.Property.TheVariants as property
@@ -90,7 +90,13 @@ module _ {X : Type 0} (of_view : ViewKind → List X) (of_answer : AnswerKind �
 -- an answer names no unit that the outcome doesn't
 pub answer-named : (i : UnitInterface) (tree : UnitTree) (q : Query) (x : UnitKey) → Contains (units_named (answer_of i q)) x → Contains (outcome_units (Sound i tree)) x
 unfolding outcome_units units_named
-answer-named i tree q x c = Contains-append_left (all_of view_units units_named i) _ x (answered view_units units_named i (λ vs. refl) (λ b. refl) (λ b. refl) q x c)
+answer-named i tree (query.Named unit p name) x c = absurd (nowhere x c)
+answer-named i tree (query.Of unit property.Kind) x c = absurd (nowhere x c)
+answer-named i tree (query.Of unit property.Parent) x c = into_flat_map units_named (property_answers i) i.properties.parent x (later (answers.Kind i.properties.kind) (i.properties.parent ∷ i.properties.context ∷ i.properties.completions ∷ []) i.properties.parent (first i.properties.parent (i.properties.context ∷ i.properties.completions ∷ []))) c
+answer-named i tree (query.Of unit property.IsPrivate) x c = absurd (nowhere x c)
+answer-named i tree (query.Of unit property.Context) x c = into_flat_map units_named (property_answers i) i.properties.context x (later (answers.Kind i.properties.kind) (i.properties.parent ∷ i.properties.context ∷ i.properties.completions ∷ []) i.properties.context (later i.properties.parent (i.properties.context ∷ i.properties.completions ∷ []) i.properties.context (first i.properties.context (i.properties.completions ∷ [])))) c
+answer-named i tree (query.Of unit property.NeedsBody) x c = absurd (nowhere x c)
+answer-named i tree (query.Of unit property.Completions) x c = into_flat_map units_named (property_answers i) i.properties.completions x (later (answers.Kind i.properties.kind) (i.properties.parent ∷ i.properties.context ∷ i.properties.completions ∷ []) i.properties.completions (later i.properties.parent (i.properties.context ∷ i.properties.completions ∷ []) i.properties.completions (later i.properties.context (i.properties.completions ∷ []) i.properties.completions (first i.properties.completions [])))) c
 
 -- an answer shows nothing that the interface doesn't
 pub answer-uses : (i : UnitInterface) (q : Query) (x : LinkSymbol) → Contains (answer_uses (answer_of i q)) x → Contains (interface_uses i) x

@@ -9,7 +9,7 @@ use Rattle.al_query.specs.Queries.{unit_of}
 use Rattle.al_query.specs.Known.{body, has_unit, predefined_units}
 use Rattle.al_view.specs.declared.link.LinkSymbol.{LinkSymbol}
 use Rattle.al_view_typed.specs.Uses.{unit_defines, unit_uses}
-use Rattle.al_query_outcome.specs.Defines.{AllDefined, Completes, Has, IsDefined, IsStubs, KeepsSymbols, interface_uses}
+use Rattle.al_query_outcome.specs.Defines.{AllAccountedDefined, AllDefined, Completes, Has, IsDefined, IsStubs, KeepsSymbols, interface_uses}
 use Rattle.al_query_outcome.specs.ReadsLaw.{answer_uses, is_of_another, log_uses, named_by}
 use Rattle.al_query_outcome.proofs.Answered.{answer-uses}
 use Rattle.al_query.specs.declared.answer.AnswerKind.{AnswerKind}
@@ -40,10 +40,10 @@ module _ (meaning : Meaning) (s : Setting) (is : IsSetting s) (keeps : KeepsRead
   abbrev DefinedBy : LinkSymbol → Type 0
   DefinedBy x = IsDefined s main f x
 
-  -- what a needed unit promises
-  kept : (v : UnitKey) (i : UnitInterface) (tree : UnitTree) → Needed s.files main (key_of v) → Has f v i tree → (x : LinkSymbol) → x.symbol.unit ≡ v → Contains (unit_uses tree ++ interface_uses i) x → DefinedBy x
-  kept v i tree n has x own c =
-      elim ((symbols v i tree has).defines x own c) as (λ _. DefinedBy x) [
+  -- what a needed unit accounts for
+  pub accounted : AllAccountedDefined s main f
+  accounted v i tree n has x a =
+      elim a as (λ _. DefinedBy x) [
         | inl d ↦ (v, i, tree, n, has, d)
         | inr (inl d) ↦ completed (whole.bodies v i tree x n has d)
         | inr (inr d) ↦ whole.subunits v i tree x n has d
@@ -54,6 +54,10 @@ module _ (meaning : Meaning) (s : Setting) (is : IsSetting s) (keeps : KeepsRead
         | inl d ↦ (body v.name, b.0, b.1, b.2, b.3, d)
         | inr d ↦ whole.subunits (body v.name) b.0 b.1 x b.2 b.3 d
       ]
+
+  -- what a needed unit promises
+  kept : (v : UnitKey) (i : UnitInterface) (tree : UnitTree) → Needed s.files main (key_of v) → Has f v i tree → (x : LinkSymbol) → x.symbol.unit ≡ v → Contains (unit_uses tree ++ interface_uses i) x → DefinedBy x
+  kept v i tree n has x own c = accounted v i tree n has x ((symbols v i tree has).defines x own c)
 
   reached-of : (u : UnitKey) (i : UnitInterface) (tree : UnitTree) → Has f u i tree → is_reached s f u ≡ true
   reached-of u i tree has = sound-of meaning s is keeps f u (f u) (solves u) (rw has refl)

@@ -12,13 +12,15 @@ use Rattle.al_view.specs.Named.{Declarations}
 use Rattle.al_view.specs.Symbols.{same_unit}
 use Rattle.al_view.specs.ViewUses.{view_uses}
 use Rattle.al_view.specs.declared.link.LinkSymbol.{LinkSymbol}
-use Rattle.al_query.specs.Answers.{declaration, units_named, view_units}
+use Rattle.al_query.specs.Answers.{declaration, names_told, units_named}
 use Rattle.al_query.specs.Known.{body, has_unit, predefined_units}
 use Rattle.al_query.specs.Queries.{unit_of}
 use Rattle.al_query.specs.declared.answer.AnswerKind.{AnswerKind}
 use Rattle.al_query.specs.declared.answer.AnswerKind.TheVariants as answers
+use Rattle.al_query.specs.declared.query.Property.TheVariants.{Completions}
 use Rattle.al_query.specs.declared.query.Query.{Query}
-use Rattle.al_view_typed.specs.Uses.{unit_defines, unit_uses}
+use Rattle.al_query.specs.declared.query.Query.TheVariants.{Named, Of}
+use Rattle.al_view_typed.specs.Uses.{unit_uses}
 use Rattle.al_view_typed.specs.WellFormed.{IsWellFormed}
 use Rattle.al_unit_graph.specs.Headers.{Header, Mention, is_library_body}
 use Rattle.al_unit_graph.specs.Names.{lineage, parent_of}
@@ -48,6 +50,20 @@ is_of_another unit q = has_unit predefined_units (unit_of q) || not (same_unit u
 abbrev pub AsksOthers : UnitKey → List (Query × AnswerKind) → Type 0
 AsksOthers unit log = list_all (λ e. is_of_another unit e.0) log ≡ true
 
+-- a question of a unit is by one of these names, or for a property; for what a body must complete, of the unit's own declaration alone
+abbrev pub is_by_names : UnitKey → List (List ℕ) → Query → Bool
+is_by_names unit names (Named of part name) = list_any (bytes_eq name) names
+is_by_names unit names (Of of Completions) = same_unit of (declaration unit.name)
+is_by_names unit names (Of of _) = true
+
+-- all questions of a log are so, where a name that an answer tells may be asked for from there on
+abbrev pub asks_by_names : UnitKey → List (List ℕ) → List (Query × AnswerKind) → Bool
+asks_by_names unit names [] = true
+asks_by_names unit names (e ∷ es) = is_by_names unit names e.0 && asks_by_names unit (names ++ names_told e.1) es
+
+abbrev pub AsksByNames : UnitKey → List (List ℕ) → List (Query × AnswerKind) → Type 0
+AsksByNames unit names log = asks_by_names unit names log ≡ true
+
 -- its answers to questions of its properties, but for those that name no unit
 abbrev pub property_answers : UnitInterface → List AnswerKind
 property_answers i = answers.Kind i.properties.kind ∷ i.properties.parent ∷ i.properties.context ∷ i.properties.completions ∷ []
@@ -56,15 +72,11 @@ property_answers i = answers.Kind i.properties.kind ∷ i.properties.parent ∷ 
 abbrev pub declarations_of : UnitInterface → List Declarations
 declarations_of i = i.parts.visible ∷ i.parts.private_part ∷ i.parts.body ∷ map (λ s. s.before) i.parts.stubs
 
-abbrev pub declared_units : Declarations → List UnitKey
-declared_units names = flat_map (λ e. flat_map view_units e.1) names
-
--- the units that an outcome names
+-- the units that an outcome names: a parent, and those of with clauses. Symbols name no unit: of these is told what they may be used
+-- for, and who defines them.
 unfoldable pub outcome_units : Outcome → List UnitKey
 outcome_units (Faulty faults) = []
-outcome_units (Sound interface tree) =
-    flat_map units_named (property_answers interface) ++ flat_map declared_units (declarations_of interface)
-    ++ tree.unit ∷ map (λ s. s.symbol.unit) (unit_uses tree ++ unit_defines tree)
+outcome_units (Sound interface tree) = flat_map units_named (property_answers interface)
 
 -- it names none but these
 abbrev pub NamesOnly : List UnitKey → Outcome → Type 0

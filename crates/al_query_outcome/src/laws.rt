@@ -5,7 +5,7 @@ ghost use Rattle.al_query.specs.Known.{Grounded};
 ghost use Rattle.al_query.specs.declared.query.Query.{Query};
 ghost use Rattle.al_query.specs.declared.answer.AnswerKind.{AnswerKind};
 ghost use Rattle.al_view_typed.specs.UnitTrees.{UnitTree};
-ghost use Rattle.al_query_outcome.specs.Defines.{AllDefined, Completes, Has, KeepsSymbols};
+ghost use Rattle.al_query_outcome.specs.Defines.{AllAccountedDefined, AllDefined, Completes, Has, KeepsSymbols};
 ghost use Rattle.al_query_outcome.specs.Equations.{IsSetting, KeepsReads, Meaning, Setting, Solves, rounds, table};
 ghost use Rattle.al_query_outcome.specs.Excluded.{asks_a_body, asks_an_acting_body, client};
 ghost use Rattle.al_query_outcome.specs.ReadsLaw.{named_by};
@@ -19,9 +19,11 @@ pub fn one_map()
     ensures only { (meaning : Meaning) (s : Setting) → IsSetting s → KeepsReads meaning s.header_of → (f g : UnitKey → Option Outcome) → Solves meaning s f → Solves meaning s g → (u : UnitKey) → f u ≡ g u }
 {}
 
-/// Where the needed bodies and subunits are there, a needed unit defines whatever the code of a needed unit uses.
+/// Where the needed bodies and subunits are there, a needed unit defines whatever the code of a needed unit uses, and whatever a needed
+/// unit accounts for.
 pub fn all_defined()
-    ensures { (meaning : Meaning) (s : Setting) → IsSetting s → (keeps : KeepsReads meaning s.header_of) (main : List ℕ) (f : UnitKey → Option Outcome) → Solves meaning s f → ((u : UnitKey) (i : UnitInterface) (tree : UnitTree) → Has f u i tree → KeepsSymbols u (keeps u (table s f)).log i tree) → Completes s main f → AllDefined s main f }
+    ensures used { (meaning : Meaning) (s : Setting) → IsSetting s → (keeps : KeepsReads meaning s.header_of) (main : List ℕ) (f : UnitKey → Option Outcome) → Solves meaning s f → ((u : UnitKey) (i : UnitInterface) (tree : UnitTree) → Has f u i tree → KeepsSymbols u (keeps u (table s f)).log i tree) → Completes s main f → AllDefined s main f }
+    ensures accounted { (meaning : Meaning) (s : Setting) → IsSetting s → (keeps : KeepsReads meaning s.header_of) (main : List ℕ) (f : UnitKey → Option Outcome) → Solves meaning s f → ((u : UnitKey) (i : UnitInterface) (tree : UnitTree) → Has f u i tree → KeepsSymbols u (keeps u (table s f)).log i tree) → Completes s main f → AllAccountedDefined s main f }
 {}
 
 /// A procedure M with a with clause for P may not ask of P's body where P has a declaration, also if it asked what P is before. Else

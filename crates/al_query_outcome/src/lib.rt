@@ -2,8 +2,10 @@
 #![tactic(auto)]
 
 mod checked;
+mod identifiers;
 mod interface;
 pub mod laws;
 
 pub use checked::Checked;
+pub use identifiers::last_of;
 pub use interface::{Parts, Properties, StubDeclarations, UnitInterface, no_answer};

@@ -245,6 +245,30 @@ fn own_uses_of(alloc: Global, unit: &UnitKey, is_package: bool) -> Result<Seq<Un
     Ok(parts)
 }
 
+/// The parts that the region of the body at a stub continues: its own, and those at the stub.
+fn stub_parts_of(
+    alloc: Global,
+    stub: &UnitPart,
+    is_package: bool,
+) -> Result<Seq<UnitPart>, NoMemory>
+    ensures { IfOk result (λ parts. parts ≡ own_parts stub.now.unit is_package ++ stub.now ∷ []) }
+{
+    let mut parts = own_parts_of(alloc, &stub.unit, is_package)?;
+    let continued = copied_part(alloc, stub)?;
+    parts.push(continued)?;
+    Ok(parts)
+}
+
+/// The parts whose use clauses hold there.
+fn stub_uses_of(alloc: Global, stub: &UnitPart, is_package: bool) -> Result<Seq<UnitPart>, NoMemory>
+    ensures { IfOk result (λ parts. parts ≡ own_uses stub.now.unit is_package ++ stub.now ∷ []) }
+{
+    let mut used = own_uses_of(alloc, &stub.unit, is_package)?;
+    let answered = copied_part(alloc, stub)?;
+    used.push(answered)?;
+    Ok(used)
+}
+
 /// Enters the region of a body at a stub, where its own view is this.
 fn enter_at<A: Answers>(
     alloc: Global,
@@ -260,12 +284,8 @@ fn enter_at<A: Answers>(
 {
     let packaged = is_package(view);
     let symbol = symbol_of(alloc, view)?;
-    let mut parts = own_parts_of(alloc, &stub.unit, packaged)?;
-    let continued = copied_part(alloc, stub)?;
-    parts.push(continued)?;
-    let mut used = own_uses_of(alloc, &stub.unit, packaged)?;
-    let answered = copied_part(alloc, stub)?;
-    used.push(answered)?;
+    let parts = stub_parts_of(alloc, stub, packaged)?;
+    let used = stub_uses_of(alloc, stub, packaged)?;
     continue_parts(
         alloc,
         scope,
@@ -403,6 +423,25 @@ fn enter_own<A: Answers>(
     Ok(())
 }
 
+/// Enters Standard's region and the ancestors'.
+fn enter_round<A: Answers>(
+    alloc: Global,
+    scope: &mut Scope,
+    own: &OwnText,
+    recorder: &mut Recorder<A>,
+) -> Result<(), NoMemory>
+    ensures asked { recorder.new.asked ≡ recorder.old.asked }
+    ensures answered { IfOk result (λ _. FromAnswers recorder.old.log recorder.new.log (λ t. scope.new.regions ≡ inward t (sees_at t own.now) (ancestor_units (library_name own.now)) (scope.old.regions ++ entered_as (Some standard_symbol) standard_parts scope.old.regions ∷ []))) }
+    ensures asks { IfOk result (λ _. AsksOf (asked_units own.now) by_property recorder.old.log recorder.new.log) }
+    ensures mentioned { scope.new.mentioned ≡ scope.old.mentioned }
+{
+    enter_standard(alloc, scope)?;
+    let units = ancestors_of(alloc, library_name_of(own))?;
+    let sees = sees_private_parts(alloc, own, recorder)?;
+    enter_ancestors(alloc, scope, units.as_slice(), sees, recorder)?;
+    Ok(())
+}
+
 /// Enters the regions round the start of a unit's text: Standard's, the ancestors', of a subunit those of the bodies round it at
 /// their stubs, and its own (ARM 8.1, 10.1.1, 10.1.3(8)), with the use clauses that hold there (ARM 8.4(6, 7)). Only other units
 /// are asked: the ancestors, the bodies round a subunit, and the declarations of bodies.
@@ -417,10 +456,7 @@ pub fn enter_unit<A: Answers>(
     ensures asks { IfOk result (λ _. AsksOf (asked_units own.now) by_property recorder.old.log recorder.new.log) }
     ensures mentioned { scope.new.mentioned ≡ scope.old.mentioned }
 {
-    enter_standard(alloc, scope)?;
-    let units = ancestors_of(alloc, library_name_of(own))?;
-    let sees = sees_private_parts(alloc, own, recorder)?;
-    enter_ancestors(alloc, scope, units.as_slice(), sees, recorder)?;
+    enter_round(alloc, scope, own, recorder)?;
     enter_stubs(alloc, scope, own.stubs.as_slice(), recorder)?;
     enter_own(alloc, scope, own, recorder)?;
     use_each(alloc, scope, own.uses.as_slice())?;

@@ -1,5 +1,5 @@
 -- One name more, and one clause more.
-use Rattle.std.proofs.Common.{◌≡◌, ℕ, ◌+◌, ◌<◌, List, [], ◌∷◌, ◌++◌, Bool, Option, Some, None, Result, Ok, Err, map, drop, length, get_or, refl, sym, ◌∙◌, ap, append_assoc}
+use Rattle.std.proofs.Common.{◌≡◌, ℕ, ◌+◌, ◌<◌, List, [], ◌∷◌, ◌++◌, Bool, Option, Some, None, Result, Ok, Err, map, drop, length, get_or, refl, sym, ◌∙◌, ap}
 use Rattle.std.specs.Prelude.{IfOk}
 use Rattle.std.proofs.lemmas.List.{at_drop_more}
 use Rattle.al_base.specs.declared.place.Place.{Place as TextPlace}
@@ -7,8 +7,6 @@ use Rattle.al_base.specs.declared.unit_key.UnitKey.{UnitKey}
 use Rattle.al_base_fault.specs.Judging.{fault_in, next}
 use Rattle.al_base_fault.specs.declared.fault.Fault.{Fault}
 use Rattle.al_overload_keys.specs.Keys.{Denotations, dotted}
-use Rattle.al_overload_lookup.specs.declared.name.TextName.{TextName}
-use Rattle.al_overload_lookup.specs.declared.name.TextName.TheVariants.{Selected}
 use Rattle.al_query.specs.Reads.{Table}
 use Rattle.al_query.specs.declared.answer.UseClause.{UseClause}
 use Rattle.al_scope.specs.Places.{Place}
@@ -17,7 +15,7 @@ use Rattle.al_tree.specs.DeclarationViews.{compound_model}
 use Rattle.al_tree.specs.Lexemes.{identifier_label}
 use Rattle.al_tree.specs.declared.names.CompoundName.{CompoundName}
 use Rattle.al_tree.specs.declared.names.Identifier.{Identifier}
-use Rattle.al_scope_uses.specs.UsesAt.{added, opened_at, opened_from, selected_names, selector_fault, unless_faulty, visible_key}
+use Rattle.al_scope_uses.specs.UsesAt.{added, opened_at, opened_from, selector_fault, unless_faulty, visible_key}
 
 -- the rest from a place on
 first-of : {X : Type 0} (xs : List X) (i : ℕ) (x : X) → i < length xs → x ≡ get_or xs i x → drop i xs ≡ x ∷ drop (i + 1) xs
@@ -27,21 +25,6 @@ first-of xs i x h e = at_drop_more (λ l. l) xs i x h ∙ ap (λ y. y ∷ drop (
 pub if_ok : {X E : Type 0} (r : Result X E) (P Q : X → Type 0) → ((x : X) → P x → Q x) → (IfOk r P) → (IfOk r Q)
 if_ok (Ok x) P Q f h = f x h
 if_ok (Err e) P Q f h = h
-
--- one selector more
-pub selected-more : (selectors : List Identifier) (i : ℕ) (s : Identifier) (key longer : List ℕ) (before after whole : List TextName) → i < length selectors → s ≡ get_or selectors i s
-    → before ++ selected_names key (map identifier_label (drop i selectors)) ≡ whole
-    → after ≡ before ++ Selected key (identifier_label s).text ∷ []
-    → longer ≡ dotted key (identifier_label s).text
-    → after ++ selected_names longer (map identifier_label (drop (i + 1) selectors)) ≡ whole
-selected-more selectors i s key longer before after whole h e b a k =
-    let text = (identifier_label s).text in
-    let rest = map identifier_label (drop (i + 1) selectors) in
-    ap (λ (ns : List TextName). ns ++ selected_names longer rest) a
-    ∙ append_assoc before (Selected key text ∷ []) (selected_names longer rest)
-    ∙ ap (λ (l : List ℕ). before ++ Selected key text ∷ selected_names l rest) k
-    ∙ ap (λ (xs : List Identifier). before ++ selected_names key (map identifier_label xs)) (sym (first-of selectors i s h e))
-    ∙ b
 
 -- the key with one selector more
 visible-step : (d : Denotations) (p : TextPlace) (key longer : List ℕ) (selectors : List Identifier) (i : ℕ) (s : Identifier) (fault : Option Fault) → i < length selectors → s ≡ get_or selectors i s

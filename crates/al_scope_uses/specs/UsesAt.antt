@@ -8,8 +8,7 @@ use Rattle.al_base_fault.specs.declared.fault.Fault.{Fault}
 use Rattle.al_overload_keys.specs.Keys.{Denotations, denoted, dotted, is_none, not_visible}
 use Rattle.al_overload_keys.specs.Places.{place_of}
 use Rattle.al_overload_lookup.specs.Lookups.{looked_up_all}
-use Rattle.al_overload_lookup.specs.declared.name.TextName.{TextName}
-use Rattle.al_overload_lookup.specs.declared.name.TextName.TheVariants.{Simple, Selected}
+use Rattle.al_overload_lookup.specs.TextNames.{identifier_names}
 use Rattle.al_query.specs.Reads.{Table}
 use Rattle.al_query.specs.declared.answer.UseClause.{UseClause}
 use Rattle.al_query.specs.declared.answer.UseClause.TheVariants.{Package, «Type»}
@@ -24,17 +23,9 @@ use Rattle.al_view.specs.declared.view.SubtypeView.{SubtypeView}
 use Rattle.al_view.specs.declared.view.ViewKind.{ViewKind}
 use Rattle.al_view.specs.declared.view.ViewKind.TheVariants as views
 
--- the names in a name of several identifiers
-abbrev pub selected_names : List ℕ → List Label → List TextName
-selected_names key [] = []
-selected_names key (l ∷ ls) = Selected key l.text ∷ selected_names (dotted key l.text) ls
-
-abbrev pub text_names : CompoundNameTree → List TextName
-text_names n = Simple n.first.text ∷ selected_names n.first.text n.selectors
-
--- what they denote
+-- what the names in a name of several identifiers denote
 abbrev pub names_denoted : Table → Place → List UnitKey → CompoundNameTree → Denotations
-names_denoted t place packages n = denoted (looked_up_all t place packages (text_names n))
+names_denoted t place packages n = denoted (looked_up_all t place packages (identifier_names n.first n.selectors))
 
 -- what is wrong with a selector, where the key is the name up to it: E404 at the name's first token where nothing is looked for after the name
 -- before it, E401 where nothing is visible

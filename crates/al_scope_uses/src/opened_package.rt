@@ -1,18 +1,16 @@
 // The package that a name of a use clause denotes (ARM 8.4(3)).
-ghost use Rattle.std.specs.Prelude.{◌≡◌, ◌∷◌, [], ◌++◌, map, IfOk, OnOk};
+ghost use Rattle.std.specs.Prelude.{◌≡◌, map, IfOk};
 ghost use Rattle.al_overload_keys.specs.Keys.{denoted, dotted};
-ghost use Rattle.al_overload_lookup.specs.declared.name.TextName.TheVariants.{Selected};
 ghost use Rattle.al_query.specs.Reads.{FromAnswers};
 ghost use Rattle.al_tree.specs.DeclarationViews.{compound_model};
 ghost use Rattle.al_tree.specs.Lexemes.{identifier_label};
 ghost use Rattle.al_base_fault.specs.Judging.{next, map_ok};
-ghost use Rattle.al_scope_uses.specs.UsesAt.{denoted_package, names_denoted, package_at, package_under, selected_names, selector_fault, text_names, visible_key};
-ghost use Rattle.al_overload_lookup.specs.Lookups.{looked_up_all};
+ghost use Rattle.al_scope_uses.specs.UsesAt.{denoted_package, package_at, package_under, selector_fault, visible_key};
 
-use al_base::{Name, NoMemory, Place, UnitKey};
+use al_base::{NoMemory, Place, UnitKey};
 use al_base_fault::{CheckResult, Fault};
 use al_overload_keys::{Names, dotted, is_none, not_visible};
-use al_overload_lookup::{TextName, look_up_all};
+use al_overload_lookup::look_up_selected;
 use al_overload_readings::wrong_kind;
 use al_query::{Answers, Recorder};
 use al_scope::Scope;
@@ -20,51 +18,12 @@ use al_tree::{CompoundName, Identifier};
 use al_view::{View, ViewKind, Views, copied_unit};
 use std::alloc::Global;
 
-/// A name that is selected in another one.
-fn selected(alloc: Global, prefix: &[u8], selector: &Identifier) -> Result<TextName, NoMemory>
-    ensures { IfOk result (λ name. name ≡ Selected prefix.now (identifier_label selector.now).text) }
-{
-    let prefix = Name::from_slice(alloc, prefix)?;
-    let name = Name::from_slice(alloc, selector.name.as_slice())?;
-    Ok(TextName::Selected { prefix, name })
-}
-
 /// The key with one selector more.
 fn longer(alloc: Global, key: &[u8], selector: &Identifier) -> Result<Vec<u8>, NoMemory>
     ensures { IfOk result (λ longer. longer.items ≡ dotted key.now (identifier_label selector.now).text) }
 {
     let longer = dotted(alloc, key, selector.name.as_slice())?;
     Ok(longer)
-}
-
-/// Adds the names that are selected one in another, after this key.
-fn add_selected(
-    alloc: Global,
-    names: &mut Vec<TextName>,
-    first: &[u8],
-    selectors: &[Identifier],
-) -> Result<(), NoMemory>
-    ensures { OnOk result (names.new.items ≡ names.old.items ++ selected_names first.now (map identifier_label selectors.now)) }
-{
-    let mut key = Vec::from_slice(alloc, first)?;
-    for selector in selectors {
-        let name = selected(alloc, key.as_slice(), selector)?;
-        names.push(name)?;
-        let next = longer(alloc, key.as_slice(), selector)?;
-        key = next;
-    }
-    Ok(())
-}
-
-/// The names in a name of several identifiers.
-fn text_names(alloc: Global, name: &CompoundName) -> Result<Vec<TextName>, NoMemory>
-    ensures { IfOk result (λ names. names.items ≡ text_names (compound_model name.now)) }
-{
-    let first = name.first.name.as_slice();
-    let mut names = Vec::new(alloc);
-    names.push(TextName::Simple(Name::from_slice(alloc, first)?))?;
-    add_selected(alloc, &mut names, first, name.selectors.as_slice())?;
-    Ok(names)
 }
 
 /// What is wrong with a selector after a key: E404 at the name's first token where nothing is looked for after that, E401 where nothing
@@ -175,8 +134,8 @@ pub(crate) fn package_at<A: Answers>(
     ensures asked { recorder.new.asked ≡ recorder.old.asked }
     ensures answered { IfOk result (λ unit. FromAnswers recorder.old.log recorder.new.log (λ t. unit ≡ package_at t scope.now packages.now (compound_model name.now))) }
 {
-    let of = text_names(alloc, name)?;
-    let names = look_up_all(alloc, scope, packages, of.as_slice(), recorder)?;
+    let selectors = name.selectors.as_slice();
+    let names = look_up_selected(alloc, scope, packages, &name.first, selectors, recorder)?;
     let unit = denoted_package(alloc, &names, name)?;
     Ok(unit)
 }

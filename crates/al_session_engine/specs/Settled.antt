@@ -9,12 +9,13 @@ use Rattle.al_bind.specs.declared.lacking.MissingItem.TheVariants as lack
 use Rattle.al_query.specs.declared.answer.AnswerKind.{AnswerKind}
 use Rattle.al_query.specs.declared.query.Query.{Query}
 use Rattle.al_entries.specs.EntryLaw.{TextMeaning}
+use Rattle.al_query_outcome.specs.Defines.{main_symbol}
 use Rattle.al_query_outcome.specs.Results.{Outcome}
 use Rattle.al_engine_batch.specs.Batches.{IsBatch}
 use Rattle.al_engine_batch.specs.declared.compiled.Compiled.{Compiled}
 use Rattle.al_engine_batch.specs.declared.compiled.Compiled.TheVariants as compiled
 use Rattle.al_engine_batch.specs.declared.compiled.Program.{Program}
-use Rattle.al_engine_batch.specs.Objects.{linked_units, main_symbol, objects_at}
+use Rattle.al_engine_batch.specs.Objects.{linked_units, objects_at}
 use Rattle.al_engine_batch.specs.Partitions.{IsProgram}
 use Rattle.al_engine_batch.specs.Programs.{image_in}
 use Rattle.al_engine_batch_laws.specs.Replies as replies

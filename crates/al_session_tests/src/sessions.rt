@@ -4,10 +4,17 @@ use al_check::{AdaCheck, ada_check};
 use al_check_bounded::laws::headers_are_read;
 use al_session::{Counted, Device, Ended, Engine, new_engine, serve_bytes, serve_within};
 use std::alloc::Global;
+use std::io;
+use std::io::Read;
 use std::test::Fail;
 
 static HELLO: &[u8] =
     b"put hello.adb 82\nwith Ada.Text_IO; procedure Hello is begin Ada.Text_IO.Put_Line (\"hi\"); end Hello;\nbuild hello\nrun 1000\n";
+
+static HELLO_AND_QUIT: &[u8] =
+    b"put hello.adb 82\nwith Ada.Text_IO; procedure Hello is begin Ada.Text_IO.Put_Line (\"hi\"); end Hello;\nbuild hello\nrun 1000\nquit\n";
+
+static NO_UNITS: &[u8] = b"units 0\n";
 
 static HELLO_REPLIES: &[u8] = b"ok\nbuilt 1 115\noutput 3\nhi\n\nend finished\n";
 
@@ -32,14 +39,33 @@ fn bytes_in_memory(rt: HostRuntime) -> Result<(), Fail> {
     Ok(())
 }
 
-/// How the session `HELLO` ends with these bounds, and its replies.
-fn hello_within(
+/// A reader that gives at most so many bytes at a call.
+#[derive(Drop)]
+struct Short<D> {
+    inner: D,
+    most: usize,
+}
+
+impl<D: Read> Read for Short<D> {
+    ghost remaining = { λ s. D.remaining s.inner };
+
+    fn read(&mut self, buffer: &mut [u8]) -> io::Result<usize> {
+        let most = self.most.max(1).min(buffer.len());
+        self.inner.read(&mut buffer[..most])
+    }
+}
+
+/// How the session of these commands ends with these bounds, where a read gives at most so many bytes, its replies, and what the
+/// library that it leaves tells of its units.
+fn within(
     alloc: Global,
+    input: &[u8],
+    most: usize,
     commands: u64,
     pulls: u64,
-) -> Result<(Result<Ended, Device>, Vec<u8>), NoMemory> {
+) -> Result<(Result<Ended, Device>, Vec<u8>, Vec<u8>), Fail> {
     let mut library = new_library(alloc)?;
-    let mut reader = Counted::new(HELLO);
+    let mut reader = Counted::new(Short { inner: input, most });
     let mut writer = Counted::new(Vec::new(alloc));
     let ended = serve_within(
         alloc,
@@ -50,13 +76,14 @@ fn hello_within(
         commands,
         pulls,
     );
+    let units = serve_bytes(alloc, &mut library, 100, b"report units\n")?;
     std::mem::forget(library);
-    Ok((ended, writer.into_inner()))
+    Ok((ended, writer.into_inner(), units))
 }
 
 #[test]
 fn at_most_so_many_commands(rt: HostRuntime) -> Result<(), Fail> {
-    let (ended, replies) = hello_within(rt.alloc(), 2, 9999)?;
+    let (ended, replies, _) = within(rt.alloc(), HELLO, 9999, 2, 9999)?;
     assert_eq!(rt;
         (ended, replies.as_slice()),
         (Ok(Ended::Quit), b"ok\nbuilt 1 115\n".as_slice())
@@ -66,10 +93,32 @@ fn at_most_so_many_commands(rt: HostRuntime) -> Result<(), Fail> {
 
 #[test]
 fn at_most_so_many_pulls(rt: HostRuntime) -> Result<(), Fail> {
-    let (ended, replies) = hello_within(rt.alloc(), 99, 0)?;
+    let (ended, replies, _) = within(rt.alloc(), HELLO, 9999, 99, 0)?;
     assert_eq!(rt;
         (ended, replies.as_slice()),
         (Err(Device::Read), b"".as_slice())
+    );
+    Ok(())
+}
+
+/// What stands behind the last of the commands that are allowed isn't read as one: here `quit` would be the fourth.
+#[test]
+fn the_last_command_ends_the_session(rt: HostRuntime) -> Result<(), Fail> {
+    let (ended, replies, _) = within(rt.alloc(), HELLO_AND_QUIT, 9999, 3, 9999)?;
+    assert_eq!(rt;
+        (ended, replies.as_slice()),
+        (Ok(Ended::Quit), HELLO_REPLIES)
+    );
+    Ok(())
+}
+
+/// Fifty reads of one byte end within the first command: nothing was answered, and nothing was put.
+#[test]
+fn reads_run_out_within_a_command(rt: HostRuntime) -> Result<(), Fail> {
+    let (ended, replies, units) = within(rt.alloc(), HELLO, 1, 99, 50)?;
+    assert_eq!(rt;
+        (ended, replies.as_slice(), units.as_slice()),
+        (Err(Device::Read), b"".as_slice(), NO_UNITS)
     );
     Ok(())
 }

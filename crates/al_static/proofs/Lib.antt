@@ -1,5 +1,3 @@
 pub mod WordLemmas
 pub mod PowerLemmas
-pub mod Layers
-pub mod Folded
 pub mod DivisionLemmas

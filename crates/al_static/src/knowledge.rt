@@ -25,7 +25,7 @@ pub enum Known {
 }
 
 /// A static expression whose first token stands here has no value.
-pub(crate) fn failure_at(place: Place) -> Fault
+fn failure_at(place: Place) -> Fault
     ensures { result ≡ failure_at place }
 {
     Fault {

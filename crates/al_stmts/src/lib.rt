@@ -21,6 +21,6 @@ pub use loops::{
     LoopRange, LoopWords, for_scheme, loop_statement, mark_range, parameter_bounds, while_scheme,
 };
 pub use simple::{
-    ReturnContext, assignment, call, delay, exit_statement, new_line, null, put, return_statement,
+    ReturnContext, assignment, call, delay, exit_statement, null, put, return_statement,
 };
 pub use target::{Target, target_of};

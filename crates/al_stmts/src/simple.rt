@@ -1,5 +1,5 @@
 // Statements without statements inside them.
-ghost use Rattle.std.specs.Prelude.{◌≡◌, [], true, map, option_map};
+ghost use Rattle.std.specs.Prelude.{◌≡◌, map, option_map};
 ghost use Rattle.al_base_fault.specs.Judging.{map_ok};
 ghost use Rattle.al_view_typed.specs.ExpressionViews.{call_model, typed_model};
 ghost use Rattle.al_view_typed.specs.StatementTrees.{StatementFormTree as forms, StatementTree as trees};
@@ -12,7 +12,6 @@ use al_base_fault::{CheckResult, both, unless};
 use al_stmts_loops::{EnclosingBody, Loops, return_fault};
 use al_view::Bounds;
 use al_view_typed::{CheckedValue, Piece, StatementForm, Typed, TypedCall, TypedStatement};
-use std::alloc::Global;
 
 /// What a return statement stands in: the innermost body round it, and of a function the words of its result, with the range of
 /// its subtype where that is scalar; 0 and none of other bodies.
@@ -70,13 +69,6 @@ pub fn put(
         Ok(pieces) => Ok(TypedStatement::new(line, StatementForm::put(pieces, ends_line))),
         Err(fault) => Err(fault),
     }
-}
-
-/// `New_Line` (ARM A.10.5).
-pub fn new_line(alloc: Global, line: usize) -> TypedStatement
-    ensures { Ok (statement_model result) ≡ put line (Ok []) true }
-{
-    TypedStatement::new(line, StatementForm::put(Vec::new(alloc), true))
 }
 
 /// `delay until moment;` (ARM 9.6).

@@ -25,10 +25,13 @@ pub struct Target {
 fn is_variable(name: &TypedName) -> bool
     ensures { result ≡ is_variable (name_model name.now) }
 {
-    match name {
-        TypedName::Object { is_constant, .. } => !*is_constant,
-        TypedName::Component { whole, .. } => is_variable(whole),
-        TypedName::Indexed { array, .. } => is_variable(array),
+    let mut rest = name;
+    loop {
+        rest = match rest {
+            TypedName::Object { is_constant, .. } => return !*is_constant,
+            TypedName::Component { whole, .. } => whole,
+            TypedName::Indexed { array, .. } => array,
+        };
     }
 }
 

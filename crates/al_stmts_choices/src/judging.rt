@@ -1,11 +1,8 @@
 // The choices of a case statement, judged.
-ghost use Rattle.std.specs.Prelude.{◌≡◌, ◌↔◌, ℤ, IfOk, IsTrue, MatchResult};
+ghost use Rattle.std.specs.Prelude.{◌↔◌, IfOk, IsTrue};
 ghost use Rattle.std.specs.List.{All};
 ghost use Rattle.std.specs.List.Sorted.{IsSortedByKey};
 ghost use Rattle.std.specs.Ordering.{int_cmp};
-ghost use Rattle.al_base.specs.Rules.{number_of};
-ghost use Rattle.al_base.specs.declared.rule.Rule.TheVariants.{BadChoices};
-ghost use Rattle.al_base_fault.specs.Faults.{fault_at};
 ghost use Rattle.al_stmts_choices.specs.Choosing.{AreRight, ChoosesRight, StaysWithin};
 ghost use Rattle.al_stmts_choices.specs.Values.{has_values};
 
@@ -13,8 +10,7 @@ use crate::apart::are_apart;
 use crate::choice::{Choice, Selector, are_of_type, have_others, is_others_in_place};
 use crate::cover::{are_covering, are_within};
 use crate::ranges::sorted_ranges;
-use al_base::{NoMemory, Place, Rule};
-use al_base_fault::{CheckResult, Fault};
+use al_base::NoMemory;
 use al_view::{Bounds, Seq};
 use std::alloc::Global;
 
@@ -54,20 +50,4 @@ pub fn are_right(
     }
     let ranges = sorted_ranges(alloc, alternatives)?;
     Ok(are_ranges_right(ranges.as_slice(), selector, have_others(alternatives)))
-}
-
-/// The choices of a case statement, or the fault at its first token that they aren't right.
-pub fn checked_choices(
-    alloc: Global,
-    place: Place,
-    alternatives: &[Seq<Choice>],
-    selector: Selector,
-) -> Result<CheckResult<()>, NoMemory>
-    ensures { IfOk result (λ checked. MatchResult checked (λ _. AreRight selector alternatives.now) (λ fault. (AreRight selector alternatives.now → ⊥) × (fault ≡ fault_at place (number_of BadChoices)))) }
-{
-    if are_right(alloc, alternatives, selector)? {
-        return Ok(Ok(()));
-    }
-    let code = Rule::BadChoices.number();
-    Ok(Err(Fault { place, code }))
 }

@@ -9,4 +9,4 @@ mod judging;
 mod ranges;
 
 pub use choice::{Choice, Selector};
-pub use judging::{are_right, checked_choices};
+pub use judging::are_right;

@@ -111,7 +111,7 @@ fn between(mark: Option<Bounds>, pair: CheckResult<Pair>) -> CheckResult<FoundRa
 {
     match pair {
         Ok(pair) => {
-            let Pair { low, high, range } = pair;
+            let (low, high, range) = pair.into_parts();
             Ok(FoundRange {
                 range: LoopRange { low, high, mark },
                 found: range,

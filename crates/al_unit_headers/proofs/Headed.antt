@@ -1,19 +1,21 @@
 -- The sources of texts.
-use Rattle.std.proofs.Common.{◌≡◌, ℕ, Bool, true, false, cond, List, [], ◌∷◌, Option, Some, None, refl, ap, subst, sym, ◌∙◌}
+use Rattle.std.proofs.Common.{◌≡◌, ℕ, Bool, true, false, cond, List, [], ◌∷◌, ◌++◌, Option, Some, None, refl, ap, subst, sym, ◌∙◌}
 use Rattle.std.specs.Option.{is_some, option_map}
 use Rattle.std.specs.Map.{lookup}
 use Rattle.std.specs.BTreeMap.{is_at}
 use Rattle.al_base.specs.Files.{Texts, name_cmp}
 use Rattle.al_base.specs.declared.unit_key.UnitKind.TheVariants.{Sub}
+use Rattle.al_tree_syntax.specs.DeclarationTrees.{CompoundNameTree}
 use Rattle.al_tree_syntax.specs.UnitTrees.{CompilationUnitTree, LibraryItemTree}
 use Rattle.al_tree_syntax.specs.UnitTrees.LibraryItemTree.{LibrarySubprogram, LibraryPackage, LibraryBody, LibraryPackageBody, Subunit}
-use Rattle.al_unit_header.specs.Units.{form_of, header_of, mention_of, parent_body_name}
-use Rattle.al_unit_graph.specs.Headers.{Header, Headed, Source, kind_of}
+use Rattle.al_unit_header.specs.Units.{dotted, form_of, full_name, header_of, item_name, mention_of, parent_body_name}
+use Rattle.al_unit_graph.specs.Headers.{Header, Headed, Mention, Source, kind_of}
 use Rattle.al_unit_graph.specs.Library.{is_kind, source_at}
 use Rattle.al_unit.specs.Libraries.{contents_of, library_of, source_of}
 use Rattle.al_unit.specs.Readings.{Reading, reading_of}
 use Rattle.al_unit.specs.Readings.Reading.{Sentence, Fails}
 use Rattle.al_unit_headers.specs.Headed.{ReadsHeaders, TextsAreHeaded}
+use Rattle.al_unit_order.specs.Read.{NamesParentBody}
 
 -- a source of the library is that of a text
 source_by : (file : List ℕ) (f : List ℕ × List ℕ) (b : Bool) (others : Option Source) (source : Source) → (others ≡ Some source → (text : List ℕ) × (source_of text ≡ source)) → cond b (Some (source_of f.1)) others ≡ Some source → (text : List ℕ) × (source_of text ≡ source)
@@ -48,12 +50,16 @@ mapped : {X Y : Type 0} (g : X → Y) (o : Option X) → is_some (option_map g o
 mapped g None = refl
 mapped g (Some x) = refl
 
-parents_of : (unit : CompilationUnitTree) → is_some (header_of unit).parent_body ≡ is_kind (kind_of (header_of unit).form) Sub
+named_by : (o : Option CompoundNameTree) (name : CompoundNameTree) (m : Mention) → option_map mention_of o ≡ Some m → full_name o name ≡ m.name ++ 46 ∷ dotted name
+named_by None name m is = absurd (cc)
+named_by (Some n) name m is = let same : mention_of n ≡ m = cc in ap (λ (x : Mention). x.name ++ 46 ∷ dotted name) same
+
+names_of : (unit : CompilationUnitTree) → NamesParentBody (header_of unit)
 unfolding header_of
-parents_of unit = mapped mention_of (parent_body_name unit.item) ∙ parents_by unit.item
+names_of unit = record { has = mapped mention_of (parent_body_name unit.item) ∙ parents_by unit.item; name = named_by (parent_body_name unit.item) (item_name unit.item) }
 
 pub texts_are_headed : TextsAreHeaded
 texts_are_headed header files reads = (
   (λ file source h is headed. let u = headed_text files file source h is headed in reads source.text u.0 u.1 ∙ u.2),
-  (λ file source h is headed. let u = headed_text files file source h is headed in subst (λ (x : Header). is_some x.parent_body ≡ is_kind (kind_of x.form) Sub) u.2 (parents_of u.0)),
+  (λ file source h is headed. let u = headed_text files file source h is headed in subst (λ (x : Header). NamesParentBody x) u.2 (names_of u.0)),
 )

@@ -142,7 +142,7 @@ module _ (lib : Library) (n : List ℕ) where
       let at = s.at in
       let h = s.unit in
       let form = library_body h.form (ap (λ (k : Key). k.1) s.key_is) in
-      let parent : h.parent_body ≡ None = none_there h.parent_body (named (file_name_of (n, Body)) s.source h s.there s.headed ∙ form.1) in
+      let parent : h.parent_body ≡ None = none_there h.parent_body ((named (file_name_of (n, Body)) s.source h s.there s.headed).has ∙ form.1) in
       let name : h.name ≡ n = ap (λ (k : Key). k.0) s.key_is in
       let file : has_declaration_file lib h.name ≡ true = ap (has_declaration_file lib) name ∙ declaration_file declaration in
       let test : (is_library_body h.form && has_declaration_file lib h.name) ≡ true = and (is_library_body h.form) (has_declaration_file lib h.name) form.0 file in

@@ -1,4 +1,5 @@
 pub mod Gained
 pub mod Layers
 pub mod Listed
+pub mod Prefixes
 pub mod Same

@@ -37,3 +37,19 @@ both p xs ys a b one passed two = two ∙ ap (λ (c : Bool). c && list_all p ys)
 -- and doesn't where the first doesn't
 pub first_fails : {A : Type 0} (p : A → Bool) (xs ys : List A) (a : Bool) → a ≡ list_all p xs → a ≡ false → false ≡ list_all p (xs ++ ys)
 first_fails p xs ys a one fails = ap (λ (c : Bool). c && list_all p ys) (sym fails ∙ one) ∙ sym (list_all-append p xs ys)
+
+-- nor where the second doesn't
+pub second_fails : {A : Type 0} (p : A → Bool) (xs ys : List A) (b : Bool) → b ≡ list_all p ys → b ≡ false → list_all p (xs ++ ys) ≡ false
+second_fails p xs ys b two fails = list_all-append p xs ys ∙ ap (λ (c : Bool). list_all p xs && c) (sym two ∙ fails) ∙ never (list_all p xs)
+  where
+    never : (a : Bool) → (a && false) ≡ false
+    never true = refl
+    never false = refl
+
+-- where the second passes, the first decides
+pub first_decides : {A : Type 0} (p : A → Bool) (xs ys : List A) (b : Bool) → b ≡ list_all p ys → b ≡ true → list_all p (xs ++ ys) ≡ list_all p xs
+first_decides p xs ys b two passed = list_all-append p xs ys ∙ ap (λ (c : Bool). list_all p xs && c) (sym two ∙ passed) ∙ as_it_is (list_all p xs)
+  where
+    as_it_is : (a : Bool) → (a && true) ≡ a
+    as_it_is true = refl
+    as_it_is false = refl

@@ -1,7 +1,8 @@
 // What the linker must find for expressions.
-ghost use Rattle.std.specs.Prelude.{◌≡◌, map, option_map};
+ghost use Rattle.std.specs.Prelude.{◌≡◌, ◌++◌, IfSome, map, option_map};
 ghost use Rattle.std.specs.List.{list_all};
 ghost use Rattle.al_view_typed.specs.ExpressionViews.{actual_model, actuals_of, call_model, form_model, name_model, typed_model, value_model, values_of};
+ghost use Rattle.al_view_used.specs.Depths.{IsBelow};
 ghost use Rattle.al_view_typed.specs.Uses.{actual_uses, actuals_uses, called_uses, callee_uses, form_uses, name_uses, some_uses, typed_uses, value_uses, values_uses};
 
 use crate::test::LinkTest;
@@ -9,13 +10,41 @@ use crate::views::{flag_passes, place_passes};
 use al_view::LinkKind;
 use al_view_typed::{Actual, Callee, CheckedValue, Form, Typed, TypedCall, TypedName};
 
-/// Whether all that the linker must find for an expression passes.
+/// An operator that has two operands.
+#[derive(Drop)]
+struct Operands<'a> {
+    left: &'a Typed,
+    right: &'a Typed,
+}
+
+/// The operands of an operator that has two.
+#[tactic(auto, using(crate::proofs::Layers::typed_layers, al_view_typed::proofs::ExpressionsMade::binary_made, al_view_typed::proofs::ExpressionsMade::short_circuit_made))]
+fn operands_of(typed: &Typed) -> Option<Operands<'_>>
+    ensures uses { IfSome result (λ o. typed_uses (typed_model typed.now) ≡ typed_uses (typed_model o.left.now) ++ typed_uses (typed_model o.right.now)) }
+    ensures below { IfSome result (λ o. IsBelow typed.now o.left.now × IsBelow typed.now o.right.now) }
+{
+    match &typed.form {
+        Form::Binary(_, left, right) => Some(Operands { left, right }),
+        Form::ShortCircuit(_, left, right) => Some(Operands { left, right }),
+        _ => None,
+    }
+}
+
+/// Whether all that the linker must find for an expression passes. Left operands are gone down by a loop, so that a chain of operators takes
+/// nothing of the stack for each.
 #[cycle(uses)]
-#[tactic(auto, using(crate::proofs::Layers::typed_layers))]
+#[tactic(auto, using(crate::proofs::Layers::typed_layers, crate::proofs::Listed::second_fails, crate::proofs::Listed::first_decides))]
 pub(crate) fn typed_passes<T: LinkTest>(typed: &Typed, test: &T) -> bool
     ensures { result ≡ list_all (T.passing test.now) (typed_uses (typed_model typed.now)) }
 {
-    form_passes(&typed.form, test)
+    let mut rest = typed;
+    while let Some(operands) = operands_of(rest) {
+        if !typed_passes(operands.right, test) {
+            return false;
+        }
+        rest = operands.left;
+    }
+    form_passes(&rest.form, test)
 }
 
 #[cycle(uses)]
@@ -52,22 +81,30 @@ fn form_passes<T: LinkTest>(form: &Form, test: &T) -> bool
 }
 
 #[cycle(uses)]
-#[tactic(auto, using(al_view_typed::proofs::ExpressionsMade::object_made, al_view_typed::proofs::ExpressionsMade::component_made, al_view_typed::proofs::ExpressionsMade::indexed_made))]
+#[tactic(auto, using(crate::proofs::Listed::second_fails, crate::proofs::Listed::first_decides, al_view_typed::proofs::ExpressionsMade::object_made, al_view_typed::proofs::ExpressionsMade::component_made, al_view_typed::proofs::ExpressionsMade::indexed_made))]
 pub(crate) fn name_passes<T: LinkTest>(name: &TypedName, test: &T) -> bool
     ensures { result ≡ list_all (T.passing test.now) (name_uses (name_model name.now)) }
 {
-    match name {
-        TypedName::Object {
-            place,
-            is_constant: _,
-        } => place_passes(LinkKind::Data, place, test),
-        TypedName::Component { whole, offset: _ } => name_passes(whole, test),
-        TypedName::Indexed {
-            array,
-            index,
-            bounds: _,
-            words: _,
-        } => name_passes(array, test) && typed_passes(index, test),
+    let mut rest = name;
+    loop {
+        rest = match rest {
+            TypedName::Object {
+                place,
+                is_constant: _,
+            } => return place_passes(LinkKind::Data, place, test),
+            TypedName::Component { whole, offset: _ } => whole,
+            TypedName::Indexed {
+                array,
+                index,
+                bounds: _,
+                words: _,
+            } => {
+                if !typed_passes(index, test) {
+                    return false;
+                }
+                array
+            }
+        };
     }
 }
 

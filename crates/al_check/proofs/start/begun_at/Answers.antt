@@ -1,22 +1,41 @@
-use Rattle.std.proofs.Common.{ℕ, Bool, List, ap, ◌∙◌}
+use Rattle.std.proofs.Common.{ℕ, Bool, List, Option, ap, ◌∙◌}
+use Rattle.al_base.specs.declared.unit_key.UnitKey.{UnitKey}
+use Rattle.al_decl_judged.specs.declared.progress.Progress.{Progress}
+use Rattle.al_query.specs.declared.answer.Completion.{Completion}
+use Rattle.al_scope.specs.Places.{Place}
+use Rattle.al_scope_seen.specs.declared.hiding.PrivateName.{PrivateName}
+use Rattle.al_scope_unit.specs.declared.own.OwnText.{OwnText}
+use Rattle.al_unit_header.specs.PrivateTypes.{private_types}
 use Rattle.al_unit_header.specs.Units.{header_of}
 use Rattle.al_tree.specs.UnitViews.{library_item_model, unit_model}
+use Rattle.al_view.specs.declared.view.ViewKind.{ViewKind}
 use Rattle.al_check_here.specs.Standings.{begun_at}
 use Rattle.al_check_here.specs.declared.state.UnitText.{UnitText}
 use Rattle.al_check_made.specs.Lines.{item_line}
 use Rattle.al_check_made.specs.declared.after.UnitFacts.{UnitFacts}
+use Rattle.al_check.specs.Ada.{text_of}
 use Rattle.al_check.proofs.start.begun_at.Goals as goal
 
 pub returns-clause-unit_facts : goal.returns-clause-unit_facts
 unfolding unit_model
 returns-clause-unit_facts c =
-    let make = λ (needs : Bool) (line : ℕ) (names : List (List ℕ)). let unit_facts : UnitFacts = record { needs_body = needs; line = line; parent = c.args.start.parent; view = c.args.start.view; private_types = names } in unit_facts in
+    let make = λ (needs : Bool) (line : ℕ) (names : List (List ℕ)) (round : Option UnitKey × Option ViewKind). let unit_facts : UnitFacts = record { needs_body = needs; line = line; parent = round.0; view = round.1; private_types = names } in unit_facts in
     let needs = (header_of (unit_model c.args.tree.now)).needs_body in
-    ap (λ (b : Bool). make b c.item_line-line.result c.new-private_types.result) c.in_ok-needs_body.ensures
-    ∙ ap (λ (line : ℕ). make needs line c.new-private_types.result) c.item_line-line.ensures
-    ∙ ap (make needs (item_line (library_item_model c.args.tree.now.item))) (c.new-private_types.ensures ∙ c.in_ok-private_types.ensures)
+    let line = item_line (library_item_model c.args.tree.now.item) in
+    let names = private_types (library_item_model c.args.tree.now.item) in
+    let round = c.into_parts-parts.result.2 in
+    ap (λ (b : Bool). make b c.item_line-line.result c.new-private_types.result round) c.in_ok-needs_body.ensures
+    ∙ ap (λ (l : ℕ). make needs l c.new-private_types.result round) c.item_line-line.ensures
+    ∙ ap (λ (n : List (List ℕ)). make needs line n round) (c.new-private_types.ensures ∙ c.in_ok-private_types.ensures)
+    ∙ ap (make needs line names) c.into_parts-parts.ensures.round
 
 pub returns-clause-state : goal.returns-clause-state
 unfolding unit_model
 returns-clause-state c =
-    c.new-state.ensures ∙ ap (λ (text : UnitText). begun_at text c.args.start.scope c.args.start.progress c.args.start.uncompleted) c.in_ok-text.ensures
+    let made = c.into_parts-parts.result in
+    let s = c.args.start in
+    let inner = c.args.private_part in
+    c.new-state.ensures
+    ∙ ap (λ (text : UnitText). begun_at text made.1.0 made.1.1 made.1.2) c.in_ok-text.ensures
+    ∙ ap (λ (text : OwnText × List UnitKey × List PrivateName). begun_at (text_of text.1 text.0 text.2 inner) made.1.0 made.1.1 made.1.2) c.into_parts-parts.ensures.text
+    ∙ ap (λ (place : Place × Progress × List Completion). begun_at (text_of s.packages s.own s.hidden inner) place.0 place.1 place.2) c.into_parts-parts.ensures.place

@@ -1,10 +1,9 @@
 use Rattle.std.proofs.Common.{length, refl, subst, sym, ◌∙◌}
 use Rattle.std.proofs.lemmas.Result.{IfOk-weaker}
 use Rattle.al_query.specs.Reads.{Log}
-use Rattle.al_query_outcome.specs.ReadsLaw.{AsksOthers}
+use Rattle.al_query_outcome.specs.ReadsLaw.{AsksByNames, AsksOthers}
 use Rattle.al_query_outcome.specs.Results.{checked_model}
-use Rattle.al_check_bounds.specs.Bounding.{AsksByNames}
-use Rattle.al_check_within.specs.Words.{words_of}
+use Rattle.al_query_outcome.specs.Words.{words_of}
 use Rattle.al_check_bounded.proofs.Reading.{le_is, too_long}
 use Rattle.al_check_bounded.proofs.texts.check_text.Goals as goal
 

@@ -13,7 +13,7 @@ none-elsewhere part.Private visible declared stubs h = absurd (h refl)
 none-elsewhere part.Body visible declared stubs h = refl
 none-elsewhere (part.Stub name) visible declared stubs h = refl
 
-pub returns : goal.returns
-returns c =
+pub returns-in_default : goal.returns-in_default
+returns-in_default c =
     c.new.ensures
     ∙ none-elsewhere c.args.state.part c.args.state.visible c.args.state.env.declared c.args.state.stubs c.in_default.not-Private

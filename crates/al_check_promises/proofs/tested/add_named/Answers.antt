@@ -1,14 +1,11 @@
-use Rattle.std.proofs.Common.{◌∷◌, []}
 use Rattle.std.proofs.lemmas.Result.{on_ok_weaker}
-use Rattle.al_view_typed.specs.UnitTrees.{unit_model}
-use Rattle.al_check_promises.specs.Parts.{part_units, property_units}
-use Rattle.al_check_promises.proofs.Items.{gathers_three}
+use Rattle.al_query.specs.Answers.{context_units}
+use Rattle.al_query_named.proofs.Gathered.{gathers_both}
+use Rattle.al_check_promises.specs.Parts.{parent_units}
 use Rattle.al_check_promises.proofs.tested.add_named.Goals as goal
 
 pub returns : goal.returns
-unfolding unit_model
 returns c =
-    let s = c.args.sound.now in
-    on_ok_weaker c.insert.result (λ last.
-    gathers_three c.args.set.now c.add_properties.new.set c.add_parts.new.set c.insert.new.self (property_units s.properties) (part_units s.parts) (s.tree.unit ∷ [])
-    c.in_ok-add_properties.ensures c.in_ok-add_parts.ensures last) c.insert.ensures
+    let p = c.args.properties.now in
+    on_ok_weaker c.add_context.result (λ last.
+    gathers_both c.args.set.now c.add_parent.new.set c.add_context.new.set (parent_units p.parent) (context_units p.context) c.in_ok-add_parent.ensures last) c.add_context.ensures

@@ -1,5 +1,5 @@
 use Rattle.std.proofs.Common.{◌∙◌, ℕ, List, Option, Some, None, ap}
-use Rattle.al_check_start.specs.Subunits.{last_of}
+use Rattle.al_query_outcome.specs.Left.{last_of}
 use Rattle.al_check_start.specs.UnitsAt.{taken_in}
 use Rattle.al_check_start.proofs.Steps.{if_ok}
 use Rattle.al_check_start.proofs.child.is_taken.Goals as goal

@@ -4,7 +4,7 @@ use Rattle.al_base.specs.declared.rule.Rule.TheVariants.{Duplicate}
 use Rattle.al_unit_header.specs.Units.{item_name, place_of}
 use Rattle.al_base_fault.specs.Faults.{fault_at}
 use Rattle.al_tree.specs.UnitViews.{library_item_model}
-use Rattle.al_check_start.specs.Subunits.{last_of}
+use Rattle.al_query_outcome.specs.Left.{last_of}
 use Rattle.al_check_start.specs.UnitsAt.{declares, taken_in}
 use Rattle.al_unit_graph.specs.Names as names
 use Rattle.al_check_start.proofs.child.name_fault.Goals as goal

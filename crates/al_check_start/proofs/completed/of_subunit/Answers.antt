@@ -4,7 +4,8 @@ use Rattle.al_scope.specs.declared.region.UnitPart.{UnitPart}
 use Rattle.al_tree.specs.DeclarationViews.{compound_model}
 use Rattle.al_view.specs.declared.view.ViewKind.{ViewKind}
 use Rattle.al_scope_context.specs.ContextPragmas.{full_name}
-use Rattle.al_check_start.specs.Subunits.{body_named, stub_view, stubs_round}
+use Rattle.al_query_outcome.specs.Left.{body_named, stub_view}
+use Rattle.al_check_start.specs.Subunits.{stubs_round}
 use Rattle.al_check_start.specs.declared.completed.Completed.{Completed}
 use Rattle.al_check_start.proofs.completed.of_subunit.Goals as goal
 

@@ -4,7 +4,7 @@ use Rattle.al_query.specs.Answers.{views_of}
 use Rattle.al_query.specs.declared.query.Query.TheVariants.{Named}
 use Rattle.al_view.specs.declared.part.Part.TheVariants.{Stub}
 use Rattle.al_view.specs.declared.view.ViewKind.{ViewKind}
-use Rattle.al_check_start.specs.Subunits.{first_view, last_of}
+use Rattle.al_query_outcome.specs.Left.{first_view, last_of}
 use Rattle.al_check_start.proofs.stub.stub_view.Goals as goal
 
 pub returns-clause-answered : goal.returns-clause-answered

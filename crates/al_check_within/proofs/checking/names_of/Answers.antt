@@ -3,7 +3,7 @@ use Rattle.std.specs.List.{list_any}
 use Rattle.std.specs.Str.{bytes_eq}
 use Rattle.indexmap.specs.IndexSet.{insert_all}
 use Rattle.al_check_bounds.proofs.NameLemmas.{words_or_told}
-use Rattle.al_check_within.specs.Words.{words_of}
+use Rattle.al_query_outcome.specs.Words.{words_of}
 use Rattle.al_check_within.proofs.WordLemmas.{among_all}
 use Rattle.al_check_within.proofs.checking.names_of.Goals as goal
 

@@ -1,5 +1,5 @@
 use Rattle.std.proofs.Common.{◌≡◌, ◌++◌, [], drop}
-use Rattle.al_check_within.specs.Words.{segments_from}
+use Rattle.al_check_within.specs.Segments.{segments_from}
 use Rattle.al_check_within.proofs.segments.segments_of.Given as goal
 
 abbrev pub invariant-loop-byte : goal.invariant-loop-byte

@@ -1,13 +1,35 @@
 use Rattle.std.proofs.Common.{◌≡◌, List, [], refl, sym, ap, ◌∙◌, arith}
 use Rattle.al_view_typed.specs.ExpressionTrees.{ValuesTree as values_trees, ActualsTree as actuals_trees}
-use Rattle.al_view_typed.specs.ExpressionViews.{actual_model, value_model}
-use Rattle.al_code_expr.specs.Templates.{all_passed_code, checked_code, components_code, passed_code, variable_code, variables_code}
+use Rattle.al_view_typed.specs.ExpressionViews.{actual_model, typed_model, value_model}
+use Rattle.al_code_expr.specs.Templates.{all_passed_code, checked_code, components_code, passed_code, value_of, variable_code, variables_code}
 use Rattle.al_code_output.proofs.Writing.{written_nothing, written_more}
 use Rattle.al_code_output.specs.Pieces.{Piece}
 use Rattle.al_code_output.specs.Written.{written}
 use Rattle.al_code_expr.proofs.CodelessLemmas.{codeless_checked, none_is, times_large, times_nothing}
 use Rattle.al_code_expr.proofs.Lists.{and_steps, or_steps, times_more, written_listed}
+use Rattle.al_code_expr.proofs.ChainLemmas.{next_written, nothing_left, popped_below}
 use Rattle.al_code_expr.proofs.expressions.+expression.Goals as goal
+
+-- ---- chains
+
+pub emit_value-emit_joint-requires : goal.emit_value-emit_joint-requires
+emit_value-emit_joint-requires t c =
+    let below = popped_below c.args.typed.now c.loop-joint.joints.items c.pop.new.self.items c.pop.result c.in-Some-pop.joint c.pop.ensures.items c.in-Some-pop.is c.loop-joint.invariant.1 in
+    (omega (arith, c.decreases, below.1), tt)
+
+pub emit_value-loop-joint-preserved : goal.emit_value-loop-joint-preserved
+emit_value-loop-joint-preserved t c =
+    let below = popped_below c.args.typed.now c.loop-joint.joints.items c.pop.new.self.items c.pop.result c.in-Some-pop.joint c.pop.ensures.items c.in-Some-pop.is c.loop-joint.invariant.1 in (
+      next_written c.args.depth c.loop-joint.joints.items c.pop.new.self.items c.pop.result c.in-Some-pop.joint c.loop-joint.out c.emit_joint.new.out (written c.args.out.now (value_of c.args.depth (typed_model c.args.typed.now)))
+          c.pop.ensures.items c.in-Some-pop.is c.in_ok-emit_joint.ensures c.loop-joint.invariant.0,
+      below.0,
+    )
+
+pub emit_value-returns : goal.emit_value-returns
+emit_value-returns t c =
+    nothing_left c.args.depth c.loop-joint.joints.items c.loop-joint.out (written c.args.out.now (value_of c.args.depth (typed_model c.args.typed.now))) (omega (arith, c.in_default-pop.ensures.cases.0)) c.loop-joint.invariant.0
+
+-- ---- lists
 
 pub emit_components-loop-value-init : goal.emit_components-loop-value-init
 emit_components-loop-value-init t c = sym (written_nothing c.args.out.now)

@@ -1,9 +1,10 @@
-use Rattle.std.proofs.Common.{◌≡◌, take}
+use Rattle.std.proofs.Common.{◌≡◌, length, take}
 use Rattle.std.specs.List.{flat_map}
-use Rattle.al_view_typed.specs.ExpressionViews.{actual_model, value_model}
+use Rattle.al_view_typed.specs.ExpressionViews.{actual_model, typed_model, value_model}
 use Rattle.al_code_output.specs.Written.{written}
+use Rattle.al_code_expr.specs.Chains.{AreBelow, chained_code}
 use Rattle.al_code_expr.specs.Pieces.{times}
-use Rattle.al_code_expr.specs.Templates.{checked_code, passed_code, variable_code}
+use Rattle.al_code_expr.specs.Templates.{checked_code, passed_code, value_of, variable_code}
 use Rattle.al_code_expr.proofs.expressions.+expression.Given as goal
 
 abbrev pub invariant-emit_components-loop-value : goal.invariant-emit_components-loop-value
@@ -17,3 +18,11 @@ invariant-emit_all_passed-loop-actual l = l.out ≡ written l.initial.out (flat_
 
 abbrev pub invariant-emit_times-loop-i : goal.invariant-emit_times-loop-i
 invariant-emit_times-loop-i l = l.out ≡ written l.initial.out (times l._i (checked_code l.depth (value_model l.value)))
+
+abbrev pub invariant-emit_value-loop-joint : goal.invariant-emit_value-loop-joint
+invariant-emit_value-loop-joint l =
+    (written l.out (chained_code l.depth l.joints.items) ≡ written l.fn.out (value_of l.depth (typed_model l.fn.typed)))
+    × AreBelow l.fn.typed l.joints.items
+
+abbrev pub decreases-emit_value-loop-joint : goal.decreases-emit_value-loop-joint
+decreases-emit_value-loop-joint l = length l.joints.items

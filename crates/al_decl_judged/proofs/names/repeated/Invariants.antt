@@ -1,7 +1,10 @@
 use Rattle.std.proofs.Common.{◌≡◌, [], take, drop}
-use Rattle.al_decl_judged.specs.DefiningNames.{repeated}
+use Rattle.al_decl_judged.specs.DefiningNames.{names_of, repeated}
 use Rattle.al_decl_judged.proofs.names.repeated.Given as goal
 
 -- none of those so far stands before itself
-abbrev pub invariant-loop-i : goal.invariant-loop-i
-invariant-loop-i l = repeated (take l.i l.names) (drop l.i l.names) ≡ repeated [] l.names
+abbrev pub invariant-loop-name : goal.invariant-loop-name
+invariant-loop-name l = record {
+  once : repeated (take l.name-index l.names) (drop l.name-index l.names) ≡ repeated [] l.names;
+  seen : l.seen.keys ≡ names_of (take l.name-index l.names);
+}

@@ -10,11 +10,11 @@ use Rattle.al_decl_judged.proofs.object.declare_objects.Goals as goal
 
 pub returns-in_ok-declared-in-Ok : goal.returns-in_ok-declared-in-Ok
 returns-in_ok-declared-in-Ok c =
-    let fault = c.objects_fault-fault.result in
+    let fault = c.in_ok-fault.fault in
     let checked = c.optional_value.result in
     let os = c.in-Ok.objects in
     let v = c.in-Ok.value in
-    let wrong = c.objects_fault-fault.ensures ∙ ap (λ b. objects_fault c.args.is_constant b c.args.duplicate c.args.names.now) c.is_some.ensures in
+    let wrong = c.in_ok-fault.ensures ∙ ap (λ b. objects_fault c.args.is_constant b c.args.duplicate c.args.names.now) c.is_some.ensures in
     let right : unless fault (both c.args.objects checked) ≡ Ok (os, v) = cc in
     let made = c.in_ok-declared-in-Ok.ensures in
     ap Ok (ap₂ (λ (x : Progress) (y : DeclaredTree). (x, y)) made.taken made.declared

@@ -11,6 +11,6 @@ returns-clause-answered g c t h =
     let answered = c.in_ok-duplicate.ensures.answered t h in (
       answered.0,
       c.earlier.ensures
-          ∙ ap (λ (d : Option Fault). earlier d c.repeated.result) answered.1
-          ∙ ap (λ (d : Option Fault). earlier (duplicates t c.args.scope.now OfComponent c.args.names.now) d) c.repeated.ensures,
+          ∙ ap (λ (d : Option Fault). earlier d c.in_ok-twice.twice) answered.1
+          ∙ ap (λ (d : Option Fault). earlier (duplicates t c.args.scope.now OfComponent c.args.names.now) d) c.in_ok-twice.ensures,
     )

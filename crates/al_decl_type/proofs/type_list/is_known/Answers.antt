@@ -1,9 +1,10 @@
+use Rattle.std.proofs.Common.{◌∙◌}
 use Rattle.al_decl_type.proofs.TypeLemmas.{known_listed, known_other}
 use Rattle.al_decl_type.proofs.type_list.is_known.Goals as goal
 
-pub returns-then-is_listed : goal.returns-then-is_listed
-returns-then-is_listed c = known_listed c.args.types.now c.args.symbol.now c.is_listed.result c.is_listed.ensures c.if-is_listed.true
+pub returns-then-contains : goal.returns-then-contains
+returns-then-contains c = known_listed c.args.types.now c.args.symbol.now c.contains.result (c.contains.ensures ∙ c.requires.symbols c.args.symbol.now) c.if-contains.true
 
-pub returns-else-is_listed : goal.returns-else-is_listed
-returns-else-is_listed c =
-    known_other c.args.types.now c.args.symbol.now c.is_listed.result c.is_standard.result c.is_listed.ensures c.if-is_listed.false c.is_standard.ensures
+pub returns-else-contains : goal.returns-else-contains
+returns-else-contains c =
+    known_other c.args.types.now c.args.symbol.now c.contains.result c.is_standard.result (c.contains.ensures ∙ c.requires.symbols c.args.symbol.now) c.if-contains.false c.is_standard.ensures

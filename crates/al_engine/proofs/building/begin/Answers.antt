@@ -5,11 +5,14 @@ use Rattle.al_unit_graph.specs.Headers.{Library}
 use Rattle.al_unit_order.specs.Read.{AreHeaded, NameParentBodies}
 use Rattle.al_unit_map.specs.Units.{at_unit}
 use Rattle.al_engine_rebuild.specs.Prepared.{IsPrepared}
+use Rattle.al_engine_rebuild.specs.Renewed.{IsCleanBut}
+use Rattle.al_engine_recheck.specs.Renewals.{IsRenewable}
 use Rattle.al_engine_graph.specs.Graphs.{HaveSameHeaders}
 use Rattle.al_engine_graph.specs.Kept.{IsGraphOf}
 use Rattle.al_engine_graph.specs.declared.graph.UnitGraph.{UnitGraph}
 use Rattle.al_engine.specs.Graphs.{IsOrdered}
-use Rattle.al_engine.proofs.Taken.{first_of, second_of}
+use Rattle.al_engine.specs.States.{IsSettledBy}
+use Rattle.al_engine.proofs.Taken.{besides, first_of, graphs_of, of_last, second_of}
 use Rattle.al_engine.proofs.building.begin.Goals as goal
 
 pub graph_now-requires : goal.graph_now-requires
@@ -17,14 +20,42 @@ graph_now-requires g c =
     let library = g.R.ReadFiles.library in
     let files = g.R.ReadFiles.files in
     first_of c.args.last.now (λ b. b.now) (λ b. IsGraphOf (library (files b.read)) b.graph.value) (λ b. IsOrdered (library (files b.read)) b.main c.args.gave.now.compiled)
-    (λ b. HaveSameHeaders (library (files b.now.read)) (library (files c.args.read.now))) c.in_ok-same.same c.in_ok-same.ensures c.requires.last
+    (λ b. HaveSameHeaders (library (files b.now.read)) (library (files c.args.read.now))) c.alike-found.result.0 c.alike-found.ensures.found c.requires.last
 
 pub order_now-order-requires : goal.order_now-order-requires
 order_now-order-requires g c =
     let library = g.R.ReadFiles.library in
     let files = g.R.ReadFiles.files in
     second_of c.args.last.now (λ b. b.now) (λ b. IsGraphOf (library (files b.read)) b.graph.value) (λ b. IsOrdered (library (files b.read)) b.main c.args.gave.now.compiled)
-    (λ b. HaveSameHeaders (library (files b.now.read)) (library (files c.args.read.now))) c.in_ok-same.same c.in_ok-same.ensures c.requires.last
+    (λ b. HaveSameHeaders (library (files b.now.read)) (library (files c.args.read.now))) c.alike-found.result.0 c.alike-found.ensures.found c.requires.last
+
+pub edited_now-requires-clause-graph : goal.edited_now-requires-clause-graph
+edited_now-requires-clause-graph g c =
+    let library = g.R.ReadFiles.library in
+    let files = g.R.ReadFiles.files in
+    of_last c.args.last.now (λ b. b.now) (λ b. IsGraphOf (library (files b.read)) b.graph.value) (λ b. HaveSameHeaders (library (files b.now.read)) (library (files c.args.read.now))) c.alike-found.result.0 c.alike-found.ensures.found
+    (graphs_of c.args.last.now (λ b. IsGraphOf (library (files b.read)) b.graph.value) (λ b. IsOrdered (library (files b.read)) b.main c.args.gave.now.compiled) c.requires.last)
+
+pub edited_now-requires-clause-settled : goal.edited_now-requires-clause-settled
+edited_now-requires-clause-settled g c =
+    let library = g.R.ReadFiles.library in
+    let files = g.R.ReadFiles.files in
+    of_last c.args.last.now (λ b. b.now)
+    (λ b. IsSettledBy g.C.UnitCheck.meaning g.C.UnitCheck.header (g.P.Answers.table c.args.predefined.now) library (at_unit c.args.cache.now.entries) (record { files = files b.read; main = b.main; gave = c.args.gave.now }))
+    (λ b. HaveSameHeaders (library (files b.now.read)) (library (files c.args.read.now))) c.alike-found.result.0 c.alike-found.ensures.found c.requires.settled
+
+pub edited_now-requires-clause-headers : goal.edited_now-requires-clause-headers
+edited_now-requires-clause-headers g c =
+    let library = g.R.ReadFiles.library in
+    let files = g.R.ReadFiles.files in
+    besides c.args.last.now (λ b. b.now) (λ b. HaveSameHeaders (library (files b.now.read)) (library (files c.args.read.now))) c.alike-found.result.0 c.alike-found.ensures.found
+
+pub prepare-requires-clause-edited : goal.prepare-requires-clause-edited
+prepare-requires-clause-edited g c =
+    subst (λ (l : Library). IfSome c.in_ok-unit.unit (λ unit. IsRenewable g.C.UnitCheck.meaning g.C.UnitCheck.header (g.P.Answers.table c.args.predefined.now) l (at_unit c.args.cache.now.entries) unit)) (sym c.sources-sources.ensures) c.in_ok-unit.ensures.renewable
+
+pub prepare-requires-clause-clean : goal.prepare-requires-clause-clean
+prepare-requires-clause-clean g c = subst (λ (l : Library). IfSome c.in_ok-unit.unit (IsCleanBut l (at_unit c.args.cache.now.entries))) (sym c.sources-sources.ensures) c.in_ok-unit.ensures.clean
 
 pub prepare-requires-clause-headed : goal.prepare-requires-clause-headed
 prepare-requires-clause-headed g c = subst (λ (l : Library). AreHeaded g.C.UnitCheck.header l) (sym c.sources-sources.ensures) (c.requires.reading.headed (g.R.ReadFiles.files c.args.read.now))

@@ -4,8 +4,11 @@ use Rattle.al_engine_recheck.specs.Rechecks.{setting_of}
 use Rattle.al_engine_batch.specs.Batches.{IsCompiled}
 use Rattle.al_engine.proofs.building.build_read.Goals as goal
 
-pub finish-requires : goal.finish-requires
-finish-requires g c = c.in_ok-begun.ensures.prepared.law
+pub finish-requires-clause-law : goal.finish-requires-clause-law
+finish-requires-clause-law g c = c.in_ok-begun.ensures.prepared.law
+
+pub finish-requires-clause-closed : goal.finish-requires-clause-closed
+finish-requires-clause-closed g c = c.in_ok-begun.ensures.prepared.closed
 
 pub returns-clause-rebuilt : goal.returns-clause-rebuilt
 returns-clause-rebuilt g c =

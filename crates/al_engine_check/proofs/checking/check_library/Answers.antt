@@ -4,9 +4,12 @@ use Rattle.al_base.specs.declared.unit_key.UnitKey.{UnitKey}
 use Rattle.al_unit_order.specs.Reached.{IsDependenceOrder}
 use Rattle.al_engine_check.proofs.checking.check_library.Goals as goal
 
-pub recheck-requires : goal.recheck-requires
-recheck-requires g c =
+pub recheck-requires-clause-order : goal.recheck-requires-clause-order
+recheck-requires-clause-order g c =
     let lib = c.args.sources.now in
     let order = c.as_slice.result.now in
     c.order_is_for_builds.ensures g.C.UnitCheck.header lib (g.P.Answers.table c.args.predefined.now) order c.requires.headed c.requires.bodies c.requires.predefined
     (subst (λ (us : List UnitKey). IsDependenceOrder lib (map key_of us)) (sym c.as_slice.ensures.value) c.requires.graph.order)
+
+pub returns-clause-renewed : goal.returns-clause-renewed
+returns-clause-renewed g c = c.in_ok-rechecked.ensures.renewed

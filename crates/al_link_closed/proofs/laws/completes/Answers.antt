@@ -2,4 +2,4 @@ use Rattle.al_link_closed.proofs.Completing.{all_complete}
 use Rattle.al_link_closed.proofs.laws.completes.Goals as goal
 
 pub returns : goal.returns
-returns c = λ meaning s is main f solves sound keeps shows complete. all_complete meaning s is main f solves sound keeps complete shows
+returns c = λ meaning s is main f solves sound parts shows complete. all_complete meaning s is main f solves sound parts complete shows

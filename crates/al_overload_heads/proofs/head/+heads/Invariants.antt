@@ -2,6 +2,7 @@ use Rattle.std.proofs.Common.{◌≡◌, ◌≤◌, None, map, take}
 use Rattle.al_overload_choice.specs.Counts.{plain}
 use Rattle.al_overload_heads.specs.Chains.{chained_head, chained_universal}
 use Rattle.al_overload_heads.specs.Heads.{head_of, plain_head}
+use Rattle.al_overload_heads.specs.Parts.{part_of}
 use Rattle.al_overload_heads.specs.Universal.{is_universal}
 use Rattle.al_overload_term.specs.TermViews.{term_model}
 use Rattle.al_overload_term.specs.declared.term.Term.{size-Term}
@@ -10,11 +11,12 @@ use Rattle.al_overload_heads.proofs.head.+heads.Given as goal
 abbrev pub invariant-each-loop-term : goal.invariant-each-loop-term
 invariant-each-loop-term l = map plain l.heads.items ≡ map (plain_head l.predefined) (map term_model (take l.term-index l.terms))
 
-abbrev pub invariant-operand-loop-joints : goal.invariant-operand-loop-joints
-invariant-operand-loop-joints l =
-    (chained_head l.predefined l.joints.items (head_of l.predefined None (term_model l.rest)) (is_universal (term_model l.rest)) ≡ head_of l.predefined None (term_model l.fn.term))
-    × (chained_universal l.joints.items (is_universal (term_model l.rest)) ≡ is_universal (term_model l.fn.term))
+abbrev pub invariant-linked-loop-joints : goal.invariant-linked-loop-joints
+invariant-linked-loop-joints l =
+    (chained_head l.predefined l.joints.items (head_of l.predefined None (term_model l.rest)) (is_universal (term_model l.rest)) (part_of (term_model l.rest))
+    ≡ chained_head l.predefined l.fn.links.items (head_of l.predefined None (term_model l.fn.term)) (is_universal (term_model l.fn.term)) (part_of (term_model l.fn.term)))
+    × (chained_universal l.joints.items (is_universal (term_model l.rest)) ≡ chained_universal l.fn.links.items (is_universal (term_model l.fn.term)))
     × (size-Term l.rest ≤ size-Term l.fn.term)
 
-abbrev pub decreases-operand-loop-joints : goal.decreases-operand-loop-joints
-decreases-operand-loop-joints l = size-Term l.rest
+abbrev pub decreases-linked-loop-joints : goal.decreases-linked-loop-joints
+decreases-linked-loop-joints l = size-Term l.rest

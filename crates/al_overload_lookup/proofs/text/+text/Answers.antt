@@ -1,8 +1,10 @@
 use Rattle.std.proofs.Common.{◌++◌, List, sym, ap, ◌∙◌, arith}
 use Rattle.std.proofs.lemmas.List.{take_all}
 use Rattle.std.specs.List.{flat_map}
-use Rattle.al_overload_lookup.proofs.Found.{all_listed, bounds_adds}
+use Rattle.al_overload_lookup.proofs.Chained.{next_below, next_step}
+use Rattle.al_overload_lookup.proofs.Found.{all_listed}
 use Rattle.al_overload_lookup.specs.TextNames.{names_in}
+use Rattle.al_overload_lookup.specs.declared.chain.Link.TheVariants.{Operator, Part, Test}
 use Rattle.al_overload_lookup.specs.declared.name.TextName.{TextName}
 use Rattle.al_tree.specs.ExpressionViews.{expression_model}
 use Rattle.al_tree.specs.declared.expression.Expression.{Expression}
@@ -15,7 +17,42 @@ add_all-returns t c =
     ∙ ap (λ (xs : List Expression). c.args.found.now.items ++ flat_map (λ (x : Expression). names_in (expression_model x)) xs) all
     ∙ ap (λ (xs : List TextName). c.args.found.now.items ++ xs) (sym (all_listed c.args.expressions.now))
 
-pub add_member-returns-in_ok-add_names-in-Some : goal.add_member-returns-in_ok-add_names-in-Some
-add_member-returns-in_ok-add_names-in-Some t c =
-    bounds_adds c.args.member.now c.in-Some.high c.args.found.now.items c.add_names.new.found.items c.add_names-2.new.found.items c.add_names-in-Some.new.found.items
-    c.in-Some.is c.in_ok-add_names.ensures c.in_ok-add_names-2.ensures c.in_ok-add_names-in-Some.ensures
+-- ---- what stands first is no deeper than the whole, and each link is less deep
+
+pub add_names-add_first-requires : goal.add_names-add_first-requires
+add_names-add_first-requires t c = (omega (arith, c.decreases, c.in_ok-first.ensures.within.0), tt)
+
+pub add_names-add_part-requires : goal.add_names-add_part-requires
+add_names-add_part-requires t c = (
+  omega (arith, c.decreases, next_below c.args.expression.now c.loop-link.links.items c.pop.new.self.items c.pop.result c.in-Some.link (Part c.in-Part.longer) c.pop.ensures.items c.in-Some.is c.in-Part.is c.loop-link.invariant.1),
+  tt,
+)
+
+pub add_names-add_operation-requires : goal.add_names-add_operation-requires
+add_names-add_operation-requires t c = (
+  omega (arith, c.decreases, next_below c.args.expression.now c.loop-link.links.items c.pop.new.self.items c.pop.result c.in-Some.link (Operator c.in-Operator.operation) c.pop.ensures.items c.in-Some.is c.in-Operator.is c.loop-link.invariant.1),
+  tt,
+)
+
+pub add_names-add_test-requires : goal.add_names-add_test-requires
+add_names-add_test-requires t c = (
+  omega (arith, c.decreases, next_below c.args.expression.now c.loop-link.links.items c.pop.new.self.items c.pop.result c.in-Some.link (Test c.in-Test.member) c.pop.ensures.items c.in-Some.is c.in-Test.is c.loop-link.invariant.1),
+  tt,
+)
+
+-- ---- the names of a link come next
+
+pub add_names-loop-link-preserved-in-Continue-branch-3 : goal.add_names-loop-link-preserved-in-Continue-branch-3
+add_names-loop-link-preserved-in-Continue-branch-3 t c =
+    next_step c.args.expression.now c.loop-link.links.items c.pop.new.self.items c.pop.result c.in-Some.link (Part c.in-Part.longer) c.args.found.now.items c.loop-link.found.items c.add_part.new.found.items (names_in (expression_model c.args.expression.now))
+    c.pop.ensures.items c.in-Some.is c.in-Part.is c.in_ok-add_part-in-Part.ensures c.loop-link.invariant
+
+pub add_names-loop-link-preserved-in-Continue-branch-4 : goal.add_names-loop-link-preserved-in-Continue-branch-4
+add_names-loop-link-preserved-in-Continue-branch-4 t c =
+    next_step c.args.expression.now c.loop-link.links.items c.pop.new.self.items c.pop.result c.in-Some.link (Operator c.in-Operator.operation) c.args.found.now.items c.loop-link.found.items c.add_operation.new.found.items (names_in (expression_model c.args.expression.now))
+    c.pop.ensures.items c.in-Some.is c.in-Operator.is c.in_ok-add_operation-in-Operator.ensures c.loop-link.invariant
+
+pub add_names-loop-link-preserved : goal.add_names-loop-link-preserved
+add_names-loop-link-preserved t c =
+    next_step c.args.expression.now c.loop-link.links.items c.pop.new.self.items c.pop.result c.in-Some.link (Test c.in-Test.member) c.args.found.now.items c.loop-link.found.items c.add_test.new.found.items (names_in (expression_model c.args.expression.now))
+    c.pop.ensures.items c.in-Some.is c.in-Test.is c.in_ok-add_test-in-Test.ensures c.loop-link.invariant

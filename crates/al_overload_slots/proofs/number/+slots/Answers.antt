@@ -1,4 +1,4 @@
-use Rattle.std.proofs.Common.{◌≡◌, [], map, take, List, length, ap, subst, ◌∙◌, arith, rules}
+use Rattle.std.proofs.Common.{◌≡◌, [], map, take, List, length, ap, subst, sym, ◌∙◌, arith, rules}
 use Rattle.std.specs.Prelude.{fold}
 use Rattle.std.proofs.lemmas.List.{with_items_is}
 use Rattle.al_view_typed.specs.ExpressionViews.{actual_model, actuals_of, typed_model, value_model, values_of}
@@ -7,6 +7,7 @@ use Rattle.al_overload_slots.proofs.Changed.{binary_changed, converted_changed, 
 use Rattle.al_view_typed.specs.declared.expression.Actual.{Actual}
 use Rattle.al_view_typed.specs.declared.expression.CheckedValue.{CheckedValue}
 use Rattle.al_overload_slots.proofs.Gathered.{actuals_end_tree, actuals_end_word, values_end_tree, values_end_word, with_actual, with_value}
+use Rattle.al_overload_slots.proofs.Unchanged.{stays}
 use Rattle.al_overload_slots.proofs.number.+slots.Goals as goal
 
 pub number_values-returns-clause-word : goal.number_values-returns-clause-word
@@ -44,9 +45,9 @@ number_form-returns-in-Unary-clause-tree t c = search (rules, unary_changed)
 
 pub number_form-returns-in-Binary-clause-tree : goal.number_form-returns-in-Binary-clause-tree
 number_form-returns-in-Binary-clause-tree t c =
-    let a : typed_model c.number_operand-word.new.operand.value ≡ numbered c.args.word (typed_model c.in-Binary.left.value) = search rules in
-    let w : c.number_operand-word.result ≡ after c.args.word (typed_model c.in-Binary.left.value) = search rules in
-    let b : typed_model c.number_operand-in-Binary.new.operand.value ≡ numbered c.number_operand-word.result (typed_model c.in-Binary.right.value) = search rules in
+    let a : typed_model c.number_left-word.new.operand.value ≡ numbered c.args.word (typed_model c.in-Binary.left.value) = search rules in
+    let w : c.number_left-word.result ≡ after c.args.word (typed_model c.in-Binary.left.value) = search rules in
+    let b : typed_model c.number_operand-in-Binary.new.operand.value ≡ numbered c.number_left-word.result (typed_model c.in-Binary.right.value) = search rules in
     search (rules, binary_changed)
 
 pub number_form-returns-in-ShortCircuit-clause-tree : goal.number_form-returns-in-ShortCircuit-clause-tree
@@ -55,11 +56,11 @@ number_form-returns-in-ShortCircuit-clause-tree t c = search (rules, short_circu
 pub number_form-returns-in-Membership-clause-tree : goal.number_form-returns-in-Membership-clause-tree
 number_form-returns-in-Membership-clause-tree t c =
     let n : c.next.result ≡ next_word c.args.word = search rules in
-    let a : typed_model c.number_operand-word-in-Membership.new.operand.value ≡ numbered c.next.result (typed_model c.in-Membership.value.value) = search rules in
-    let w : c.number_operand-word-in-Membership.result ≡ after c.next.result (typed_model c.in-Membership.value.value) = search rules in
-    let b : typed_model c.number_operand-word-in-Membership-2.new.operand.value ≡ numbered c.number_operand-word-in-Membership.result (typed_model c.in-Membership.low.value) = search rules in
-    let v : c.number_operand-word-in-Membership-2.result ≡ after c.number_operand-word-in-Membership.result (typed_model c.in-Membership.low.value) = search rules in
-    let d : typed_model c.number_operand-in-Membership.new.operand.value ≡ numbered c.number_operand-word-in-Membership-2.result (typed_model c.in-Membership.high.value) = search rules in
+    let a : typed_model c.number_operand-word.new.operand.value ≡ numbered c.next.result (typed_model c.in-Membership.value.value) = search rules in
+    let w : c.number_operand-word.result ≡ after c.next.result (typed_model c.in-Membership.value.value) = search rules in
+    let b : typed_model c.number_operand-word-in-Membership.new.operand.value ≡ numbered c.number_operand-word.result (typed_model c.in-Membership.low.value) = search rules in
+    let v : c.number_operand-word-in-Membership.result ≡ after c.number_operand-word.result (typed_model c.in-Membership.low.value) = search rules in
+    let d : typed_model c.number_operand-in-Membership.new.operand.value ≡ numbered c.number_operand-word-in-Membership.result (typed_model c.in-Membership.high.value) = search rules in
     search (rules, membership_changed)
 
 pub number_form-returns-in-Converted-clause-tree : goal.number_form-returns-in-Converted-clause-tree
@@ -67,3 +68,6 @@ number_form-returns-in-Converted-clause-tree t c = search (rules, converted_chan
 
 pub number_form-returns-in-Others-clause-tree : goal.number_form-returns-in-Others-clause-tree
 number_form-returns-in-Others-clause-tree t c = search (rules, others_changed)
+
+pub number_slots-returns-else-takes-clause-tree : goal.number_slots-returns-else-takes-clause-tree
+number_slots-returns-else-takes-clause-tree t c = sym (stays c.args.word (typed_model c.args.typed.now) (sym c.takes.ensures ∙ c.if-takes.false)).1

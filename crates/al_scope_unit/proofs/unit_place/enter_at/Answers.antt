@@ -12,14 +12,8 @@ returns-clause-answered g c t h =
     let view = option_copied c.args.view in
     let before = c.args.scope.now.regions in
     let answered = c.in_ok-continue_parts.ensures.answered t h in
-    let parts = c.as_slice.ensures ∙ c.in_ok-push.ensures
-    ∙ ap (λ l. l ++ c.in_ok-continued.continued ∷ []) c.in_ok-parts.ensures.is
-    ∙ ap (λ p. own_parts stub.unit c.is_package-packaged.result ++ p ∷ []) c.in_ok-continued.ensures
-    ∙ ap (λ b. own_parts stub.unit b ++ stub ∷ []) c.is_package-packaged.ensures in
-    let used = c.as_slice-2.ensures ∙ c.in_ok-push-2.ensures
-    ∙ ap (λ l. l ++ c.in_ok-answered.answered ∷ []) c.in_ok-used.ensures.is
-    ∙ ap (λ p. own_uses stub.unit c.is_package-packaged.result ++ p ∷ []) c.in_ok-answered.ensures
-    ∙ ap (λ b. own_uses stub.unit b ++ stub ∷ []) c.is_package-packaged.ensures in (
+    let parts = c.as_slice.ensures ∙ c.in_ok-parts.ensures ∙ ap (λ b. own_parts stub.unit b ++ stub ∷ []) c.is_package-packaged.ensures in
+    let used = c.as_slice-2.ensures ∙ c.in_ok-used.ensures ∙ ap (λ b. own_uses stub.unit b ++ stub ∷ []) c.is_package-packaged.ensures in (
       answered.0,
       answered.1
           ∙ ap (λ o. continued t o c.as_slice.result.now c.as_slice-2.result.now before) c.in_ok-symbol.ensures.is
@@ -33,9 +27,6 @@ returns-clause-asks g c =
     let view = option_copied c.args.view in
     let old = c.args.recorder.now.log in
     let new = c.continue_parts.new.recorder.log in
-    let used = c.as_slice-2.ensures ∙ c.in_ok-push-2.ensures
-    ∙ ap (λ l. l ++ c.in_ok-answered.answered ∷ []) c.in_ok-used.ensures.is
-    ∙ ap (λ p. own_uses stub.unit c.is_package-packaged.result ++ p ∷ []) c.in_ok-answered.ensures
-    ∙ ap (λ b. own_uses stub.unit b ++ stub ∷ []) c.is_package-packaged.ensures in
+    let used = c.as_slice-2.ensures ∙ c.in_ok-used.ensures ∙ ap (λ b. own_uses stub.unit b ++ stub ∷ []) c.is_package-packaged.ensures in
     asks-stub (package_unit stub.unit.name) (is_body stub.unit) (is_package_view view) stub old new
     (asks-same (part_units c.as_slice-2.result.now) (part_units (own_uses stub.unit (is_package_view view) ++ stub ∷ [])) old new (ap part_units used) c.in_ok-continue_parts.ensures.asks)

@@ -1,9 +1,11 @@
-use Rattle.std.proofs.Common.{◌∙◌, List, ap}
+use Rattle.std.proofs.Common.{◌∙◌, List, map, ap}
 use Rattle.al_overload_keys.specs.Keys.{denoted}
 use Rattle.al_overload_keys.specs.declared.names.Names.{Names}
 use Rattle.al_overload_lookup.specs.Lookups.{looked_up_all}
-use Rattle.al_overload_lookup.specs.declared.name.TextName.{TextName}
+use Rattle.al_overload_lookup.specs.TextNames.{identifier_names}
 use Rattle.al_tree.specs.DeclarationViews.{compound_model}
+use Rattle.al_tree.specs.Lexemes.{identifier_label}
+use Rattle.al_tree.specs.declared.names.Identifier.{Identifier}
 use Rattle.al_scope_uses.specs.UsesAt.{denoted_package, package_at}
 use Rattle.al_scope_uses.proofs.opened_package.package_at.Goals as goal
 
@@ -12,4 +14,4 @@ unfolding package_at
 returns-clause-answered g c t h =
     let answered = c.in_ok-names.ensures.answered t h in
     let name = compound_model c.args.name.now in
-    (answered.0, c.in_ok-unit.ensures ∙ ap (λ (n : Names). denoted_package (denoted n) name) (answered.1 ∙ ap (λ (ns : List TextName). looked_up_all t c.args.scope.now c.args.packages.now ns) (c.as_slice.ensures.value ∙ c.in_ok-of.ensures)))
+    (answered.0, c.in_ok-unit.ensures ∙ ap (λ (n : Names). denoted_package (denoted n) name) (answered.1 ∙ ap (λ (xs : List Identifier). looked_up_all t c.args.scope.now c.args.packages.now (identifier_names (identifier_label c.args.name.now.first) (map identifier_label xs))) c.as_slice-selectors.ensures.value))

@@ -1,9 +1,12 @@
-use Rattle.std.proofs.Common.{◌≡◌, ◌++◌, ◌∙◌, false, refl, rules}
+use Rattle.std.proofs.Common.{◌≡◌, ◌++◌, ◌∙◌, ap, arith, false, refl, rules}
 use Rattle.std.specs.List.{list_all}
 use Rattle.al_view_typed.specs.ExpressionTrees.{ValuesTree as values_trees, ActualsTree as actuals_trees}
-use Rattle.al_view_typed.specs.ExpressionViews.{actual_model, name_model, typed_model, value_model}
-use Rattle.al_view_typed.specs.Uses.{actual_uses, actuals_uses, name_uses, typed_uses, value_uses, values_uses}
-use Rattle.al_view_typed.proofs.ExpressionsMade.{binary_made, indexed_made, membership_made, short_circuit_made}
+use Rattle.al_view_typed.specs.ExpressionViews.{actual_model, typed_model, value_model}
+use Rattle.al_view_typed.specs.Uses.{actual_uses, actuals_uses, typed_uses, value_uses, values_uses}
+use Rattle.al_view_typed.proofs.ExpressionsMade.{binary_made, membership_made, short_circuit_made}
+use Rattle.al_view_typed.specs.declared.expression.Actual.TheViews.{sized-Component, sized-Indexed}
+use Rattle.al_view_typed.specs.declared.expression.TypedName.{size-TypedName}
+use Rattle.al_view_used.proofs.Prefixes.{component_passes, indexed_passes}
 use Rattle.al_view_used.proofs.Listed.{all_listed, both, ends, first_fails, stops}
 use Rattle.al_view_used.proofs.expressions.+uses.Goals as goal
 
@@ -57,19 +60,6 @@ form_passes-returns-else-typed_passes-2 g t c =
     let one : c.typed_passes-in-ShortCircuit.result ≡ list_all p (typed_uses (typed_model c.in-ShortCircuit.left.value)) = search rules in
     rw c.in-ShortCircuit.is (rw (short_circuit_made c.in-ShortCircuit.field-0 c.in-ShortCircuit.left c.in-ShortCircuit.right) (c.if-typed_passes-2.false ∙ first_fails p (typed_uses (typed_model c.in-ShortCircuit.left.value)) (typed_uses (typed_model c.in-ShortCircuit.right.value)) _ one c.if-typed_passes-2.false))
 
-pub name_passes-returns-then-name_passes : goal.name_passes-returns-then-name_passes
-name_passes-returns-then-name_passes g t c =
-    let p = g.T.LinkTest.passing c.args.test.now in
-    let one : c.name_passes-in-Indexed.result ≡ list_all p (name_uses (name_model c.in-Indexed.array.value)) = search rules in
-    let two : c.typed_passes.result ≡ list_all p (typed_uses (typed_model c.in-Indexed.index.value)) = search rules in
-    rw c.in-Indexed.is (rw (indexed_made c.in-Indexed.array c.in-Indexed.index c.in-Indexed.bounds c.in-Indexed.words) (both p (name_uses (name_model c.in-Indexed.array.value)) (typed_uses (typed_model c.in-Indexed.index.value)) _ _ one c.if-name_passes.true two))
-
-pub name_passes-returns-else-name_passes : goal.name_passes-returns-else-name_passes
-name_passes-returns-else-name_passes g t c =
-    let p = g.T.LinkTest.passing c.args.test.now in
-    let one : c.name_passes-in-Indexed.result ≡ list_all p (name_uses (name_model c.in-Indexed.array.value)) = search rules in
-    rw c.in-Indexed.is (rw (indexed_made c.in-Indexed.array c.in-Indexed.index c.in-Indexed.bounds c.in-Indexed.words) (c.if-name_passes.false ∙ first_fails p (name_uses (name_model c.in-Indexed.array.value)) (typed_uses (typed_model c.in-Indexed.index.value)) _ one c.if-name_passes.false))
-
 pub form_passes-returns-then-not-typed_passes : goal.form_passes-returns-then-not-typed_passes
 form_passes-returns-then-not-typed_passes g t c =
     let p = g.T.LinkTest.passing c.args.test.now in
@@ -92,3 +82,20 @@ form_passes-returns-else-typed_passes-3 g t c =
     let two : c.typed_passes-in-Membership-2.result ≡ list_all p (typed_uses (typed_model c.in-Membership.low.value)) = search rules in
     rw c.in-Membership.is (rw (membership_made c.in-Membership.value c.in-Membership.is_negated c.in-Membership.low c.in-Membership.high c.in-Membership.slot)
     (c.if-typed_passes-3.false ∙ first_fails p (typed_uses (typed_model c.in-Membership.value.value) ++ typed_uses (typed_model c.in-Membership.low.value)) (typed_uses (typed_model c.in-Membership.high.value)) _ (both p (typed_uses (typed_model c.in-Membership.value.value)) (typed_uses (typed_model c.in-Membership.low.value)) _ _ one c.if-not-typed_passes.false two) c.if-typed_passes-3.false))
+
+pub name_passes-loop-rest-preserved-in-Component : goal.name_passes-loop-rest-preserved-in-Component
+name_passes-loop-rest-preserved-in-Component g t c =
+    let p = g.T.LinkTest.passing c.args.test.now in
+    let part : c.deref-rest.result.now ≡ c.in-Component.whole.value = search rules in (
+      component_passes p c.loop-rest.rest.now c.deref-rest.result.now c.in-Component.whole c.in-Component.offset c.in-Component.is part ∙ c.loop-rest.invariant.0,
+      omega (arith, ap size-TypedName part, ap size-TypedName c.in-Component.is, sized-Component c.in-Component.whole c.in-Component.offset, c.loop-rest.invariant.1),
+    )
+
+pub name_passes-loop-rest-preserved : goal.name_passes-loop-rest-preserved
+name_passes-loop-rest-preserved g t c =
+    let p = g.T.LinkTest.passing c.args.test.now in
+    let part : c.deref-rest-in-Indexed.result.now ≡ c.in-Indexed.array.value = search rules in
+    let inner : c.typed_passes.result ≡ list_all p (typed_uses (typed_model c.in-Indexed.index.value)) = search rules in (
+      indexed_passes p c.loop-rest.rest.now c.deref-rest-in-Indexed.result.now c.in-Indexed.array c.in-Indexed.index c.in-Indexed.bounds c.in-Indexed.words c.typed_passes.result c.in-Indexed.is part inner c.if-not-typed_passes.false ∙ c.loop-rest.invariant.0,
+      omega (arith, ap size-TypedName part, ap size-TypedName c.in-Indexed.is, sized-Indexed c.in-Indexed.array c.in-Indexed.index c.in-Indexed.bounds c.in-Indexed.words, c.loop-rest.invariant.1),
+    )

@@ -7,6 +7,9 @@ returns-clause-meaning g c = IfOk-weaker c.check_unit.result _ _ (λ v k t a. k.
 pub returns-clause-grounded : goal.returns-clause-grounded
 returns-clause-grounded g c = IfOk-weaker c.check_unit.result _ _ (λ v k. k.grounded) c.check_unit.ensures.checked
 
+pub returns-clause-words : goal.returns-clause-words
+returns-clause-words g c = c.check_unit.ensures.names
+
 pub returns-clause-names : goal.returns-clause-names
 returns-clause-names g c = IfOk-weaker c.check_unit.result _ _ (λ v k. k.promised.names) c.check_unit.ensures.checked
 
@@ -18,6 +21,9 @@ returns-clause-defines g c = IfOk-weaker c.check_unit.result _ _ (λ v k. k.prom
 
 pub returns-clause-shows : goal.returns-clause-shows
 returns-clause-shows g c = IfOk-weaker c.check_unit.result _ _ (λ v k. k.promised.shows) c.check_unit.ensures.checked
+
+pub returns-clause-parts : goal.returns-clause-parts
+returns-clause-parts g c = IfOk-weaker c.check_unit.result _ _ (λ v k. k.parts) c.check_unit.ensures.checked
 
 pub returns-clause-code : goal.returns-clause-code
 returns-clause-code g c = IfOk-weaker c.check_unit.result _ _ (λ v k. k.promised.code) c.check_unit.ensures.checked

@@ -1,0 +1,187 @@
+#!/usr/bin/env python3
+"""growth.py PROGRAM [WORD ..]: what a build takes of texts that grow in one way, at n, 2n and 4n (with words, those ways whose names have one of them).
+
+A line for each way: the processor time of put and build in milliseconds and the greatest memory in megabytes, at each size, each the
+least of two runs, and the power of n by which the time grew from 2n to 4n. Where it is linear that is 1. It is no test.
+"""
+import math
+import os
+import re
+import subprocess
+import sys
+import tempfile
+
+
+def put(name, text):
+    return f"put {name} {len(text)}\n{text}\n"
+
+
+def procedure(declarations, statements="null;"):
+    return put("m.adb", f"procedure M is\n{declarations}\nbegin\n{statements}\nend M;\n")
+
+
+def lines(count, line, first=0):
+    return "\n".join(line(at) for at in range(first, first + count))
+
+
+def dotted_mark(n):
+    return procedure(f"X : A{'.B' * n};")
+
+
+def dotted_use(n):
+    return procedure(f"use A{'.B' * n};")
+
+
+def records_in_records(n):
+    return procedure("type R0 is record C : Integer; end record;\n" + lines(n, lambda i: f"type R{i} is record C : R{i - 1}; end record;", 1) + f"\nX : R{n};")
+
+
+def arrays_in_arrays(n):
+    return procedure("type A0 is array (1 .. 1) of Integer;\n" + lines(n, lambda i: f"type A{i} is array (1 .. 1) of A{i - 1};", 1) + f"\nX : A{n};")
+
+
+def selectors(n):
+    """A name through records in records."""
+    types = "type R0 is record C : Integer; end record;\n" + lines(n, lambda i: f"type R{i} is record C : R{i - 1}; end record;", 1)
+    return procedure(f"{types}\nX : R{n};", f"X{'.C' * (n + 1)} := 1;")
+
+
+def wrong_selectors(n):
+    """A name in an expression none of whose selectors is there."""
+    return procedure("X : Integer;", f"X := X{'.B' * n};")
+
+
+def use_types(n):
+    types = lines(n, lambda i: f"type T{i} is range 0 .. 9;")
+    users = lines(n, lambda i: f"use type P.T{i};")
+    return put("p.ads", f"package P is\n{types}\nX : T0;\nend P;\n") + put("m.adb", f"with P;\nprocedure M is\n{users}\nbegin\n{lines(n, lambda i: 'P.X := P.X + P.X;')}\nend M;\n")
+
+
+def elaborate_all(n):
+    return (
+        put("p0.ads", "package P0 is X : Integer := 1; end P0;\n")
+        + "".join(put(f"p{i}.ads", f"with P{i - 1}; pragma Elaborate_All (P{i - 1});\npackage P{i} is X : Integer := P{i - 1}.X; end P{i};\n") for i in range(1, n))
+        + put("m.adb", f"with P{n - 1};\nprocedure M is begin P{n - 1}.X := 1; end M;\n")
+    )
+
+
+def overloads(n):
+    types = lines(n, lambda i: f"type T{i} is range 0 .. 9;\nfunction F (X : T{i}) return Integer is begin return 1; end F;\nX{i} : T{i} := 1;")
+    return procedure(f"{types}\nY : Integer;", lines(n, lambda i: f"Y := F (X{i});"))
+
+
+def one_call_of_overloads(n):
+    types = lines(n, lambda i: f"type T{i} is range 0 .. 9;\nfunction F (X : T{i}) return Integer is begin return 1; end F;")
+    return procedure(f"{types}\nX0 : T0 := 1;\nY : Integer;", "Y := F (X0);")
+
+
+def sum_of_numbers(n):
+    return procedure("X : Integer;", "X := 1" + " + 1" * n + ";")
+
+
+def sum_of_variables(n):
+    return procedure("X : Integer := 1;", "X := X" + " + X" * n + ";")
+
+
+def arguments(n):
+    names = ", ".join(f"A{i}" for i in range(n))
+    return procedure(f"procedure F ({names} : Integer) is begin null; end F;", f"F ({', '.join('1' for _ in range(n))});")
+
+
+def stubs(n):
+    return (
+        put("m.adb", f"procedure M is\n{lines(n, lambda i: f'procedure S{i} is separate;')}\nbegin\nnull;\nend M;\n")
+        + "".join(put(f"m-s{i}.adb", f"separate (M)\nprocedure S{i} is begin null; end S{i};\n") for i in range(n))
+    )
+
+
+def use_clauses(n):
+    packages = "".join(put(f"p{i}.ads", f"package P{i} is X{i} : Integer; end P{i};\n") for i in range(n))
+    withs = lines(n, lambda i: f"with P{i}; use P{i};")
+    return packages + put("m.adb", f"{withs}\nprocedure M is\nbegin\n{lines(n, lambda i: f'X{i} := 1;')}\nend M;\n")
+
+
+def literals(n):
+    types = lines(n, lambda i: f"type T{i} is (Red, L{i});\nX{i} : T{i} := Red;")
+    return procedure(types)
+
+
+def identifiers(n):
+    return procedure(", ".join(f"X{i}" for i in range(n)) + " : Integer;")
+
+
+def literals_of_one_type(n):
+    return procedure("type T is (" + ", ".join(f"L{i}" for i in range(n)) + ");")
+
+
+def declarations(n):
+    return procedure(lines(n, lambda i: f"X{i} : Integer := {i};"))
+
+
+def statements(n):
+    return procedure("X : Integer := 0;", lines(n, lambda i: "X := X + 1;"))
+
+
+WAYS = [
+    ("parts of a mark", dotted_mark, 4_000),
+    ("parts of a use clause", dotted_use, 4_000),
+    ("records in records", records_in_records, 100),
+    ("arrays in arrays", arrays_in_arrays, 100),
+    ("selectors of a name", selectors, 100),
+    ("selectors that are not there", wrong_selectors, 1_000),
+    ("use type clauses", use_types, 100),
+    ("a chain of Elaborate_All", elaborate_all, 250),
+    ("overloads of a name, each called", overloads, 100),
+    ("overloads of a name, one called", one_call_of_overloads, 200),
+    ("1 + 1 + ..", sum_of_numbers, 2_000),
+    ("X + X + ..", sum_of_variables, 2_000),
+    ("arguments of a call", arguments, 2_000),
+    ("stubs with their subunits", stubs, 250),
+    ("packages with use clauses", use_clauses, 100),
+    ("types with a literal of one name", literals, 100),
+    ("identifiers of a declaration", identifiers, 2_000),
+    ("literals of a type", literals_of_one_type, 2_000),
+    ("declarations", declarations, 1_000),
+    ("statements", statements, 1_000),
+]
+
+
+def spent(program, stream):
+    """Processor time in milliseconds, greatest memory in megabytes, and the last line that was written, of one run."""
+    with tempfile.TemporaryFile() as given, tempfile.TemporaryFile() as written:
+        given.write(stream)
+        given.seek(0)
+        child = subprocess.Popen([program], stdin=given, stdout=written, stderr=subprocess.DEVNULL)
+        _, status, usage = os.wait4(child.pid, 0)
+        child.returncode = status
+        written.seek(0)
+        reply = written.read()
+    last = re.sub(rb"\d+", b"n", reply.rstrip(b"\n").rsplit(b"\n", 1)[-1]).decode("latin-1") if status == 0 else f"ended by {status}"
+    return (usage.ru_utime + usage.ru_stime) * 1000, usage.ru_maxrss / 1024, last
+
+
+def measured(program, stream):
+    runs = [spent(program, stream) for _ in range(2)]
+    if runs[0][0] < 2000:
+        runs.append(spent(program, stream))
+    return min(it[0] for it in runs), min(it[1] for it in runs), runs[0][2]
+
+
+def tell(program, what, way, n):
+    figures = [measured(program, (way(size) + "build m\n").encode()) for size in (n, 2 * n, 4 * n)]
+    least = spent(program, b"")[0]
+    times = [max(0.1, it[0] - least) for it in figures]
+    power = math.log2(times[2] / times[1])
+    shown = "   ".join(f"{size:>6}: {time:>8.1f} ms {it[1]:>6.0f} MB" for size, time, it in zip((n, 2 * n, 4 * n), times, figures))
+    print(f"{what:<34} {shown}   n^{power:.1f}   {figures[2][2][:40]}", flush=True)
+
+
+def main():
+    program = os.path.abspath(sys.argv[1])
+    for what, way, n in WAYS:
+        if not sys.argv[2:] or any(word in what for word in sys.argv[2:]):
+            tell(program, what, way, n)
+
+
+if __name__ == "__main__":
+    main()

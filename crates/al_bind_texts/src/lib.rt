@@ -1,0 +1,4 @@
+//! Orders of elaboration of libraries that are read from texts.
+#![tactic(auto)]
+
+pub mod laws;

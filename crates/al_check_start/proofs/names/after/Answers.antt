@@ -1,6 +1,0 @@
-use Rattle.std.proofs.Common.{◌+◌, sym, arith}
-use Rattle.std.proofs.lemmas.List.{drop_all}
-use Rattle.al_check_start.proofs.names.after.Goals as goal
-
-pub returns : goal.returns
-returns c = sym (drop_all (c.args.prefix + 1) c.args.name.now (omega arith))

@@ -1,0 +1,6 @@
+mod Used
+mod UsedExpressions
+mod UsedStatements
+mod UsedBodies
+mod Defined
+mod Objects

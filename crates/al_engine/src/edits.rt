@@ -1,0 +1,134 @@
+// Which unit alone was edited since the last build.
+ghost use Rattle.std.specs.Prelude.{◌≡◌, true, None, IfOk, IfSome, IsTrue};
+ghost use Rattle.std.specs.Option.{is_some};
+ghost use Rattle.al_base.specs.Batch.{key_of};
+ghost use Rattle.al_base.specs.FileNames.{file_name_of};
+ghost use Rattle.al_base.specs.declared.unit_key.UnitKey.{UnitKey};
+ghost use Rattle.al_unit_graph.specs.Headers.{key_of_unit};
+ghost use Rattle.al_unit_graph.specs.Library.{is_unit};
+ghost use Rattle.al_unit_graph.specs.Views.{header_model};
+ghost use Rattle.al_query_outcome.specs.Equations.{unit_named};
+ghost use Rattle.al_unit_map.specs.Units.{at_unit};
+ghost use Rattle.al_entries.specs.Stored.{Stored};
+ghost use Rattle.al_engine_refresh.specs.Builds.{text_of};
+ghost use Rattle.al_engine_graph.specs.Graphs.{HaveSameHeaders};
+ghost use Rattle.al_engine_graph.specs.Kept.{IsGraphOf};
+ghost use Rattle.al_engine_graph.specs.Texts.{HaveTextsBut, may_differ};
+ghost use Rattle.al_engine_setting.specs.Settings.{ArePredefined};
+ghost use Rattle.al_engine_recheck.specs.Renewals.{IsRenewable};
+ghost use Rattle.al_engine_rebuild.specs.Renewed.{IsCleanBut};
+ghost use Rattle.al_engine_reported.specs.Gave.{order_of};
+ghost use Rattle.al_engine.specs.Edits.{HoldsAlone};
+ghost use Rattle.al_engine.specs.States.{AreReadFor, IsSettledBy};
+
+use crate::last_build::LastBuild;
+use crate::read_files::ReadFiles;
+use al_base::{Name, NoMemory, UnitKey};
+use al_engine_graph::laws::graphs_go_by_headers;
+use al_engine_graph::{Edited, UnitGraph};
+use al_engine_order::laws::order_is_for_builds;
+use al_engine_rebuild::Rebuilt;
+use al_engine_recheck::UnitCache;
+use al_engine_reported::order_of;
+use al_query::Answers;
+use al_query_check::UnitCheck;
+use al_unit_graph::{Header, Sources, kind_of};
+use std::alloc::Global;
+
+/// The unit with this header.
+fn unit_of(alloc: Global, header: &Header) -> Result<UnitKey, NoMemory>
+    ensures { IfOk result (λ unit. unit ≡ unit_named (key_of_unit (header_model header.now))) }
+{
+    Ok(UnitKey {
+        name: Name::from_slice(alloc, header.name.as_slice())?,
+        kind: kind_of(header.form),
+    })
+}
+
+/// The unit that a file holds.
+fn unit_in(alloc: Global, sources: &Sources, file: &[u8]) -> Result<Option<UnitKey>, NoMemory>
+    ensures { IfOk result (λ found. IfSome found (λ unit. HoldsAlone sources.now file.now unit)) }
+{
+    match sources.unit_in(file) {
+        Some(header) => Ok(Some(unit_of(alloc, header)?)),
+        None => Ok(None),
+    }
+}
+
+/// The unit that the one file holds of which the text may be another one.
+fn unit_edited(
+    alloc: Global,
+    sources: &Sources,
+    edited: &Edited,
+) -> Result<Option<UnitKey>, NoMemory>
+    ensures { IfOk result (λ found. IfSome found (λ unit. (w : UnitKey) → is_unit sources.now (key_of w) ≡ true → may_differ edited.now (file_name_of (key_of w)) → unit ≡ w)) }
+{
+    match edited {
+        Edited::One(file) => unit_in(alloc, sources, file.as_slice()),
+        Edited::Nothing => Ok(None),
+        Edited::Several => Ok(None),
+    }
+}
+
+/// Whether a build gave an order of elaboration: then it found nothing wrong.
+fn is_ordered(gave: &Rebuilt) -> bool
+    ensures { IsTrue result → is_some (order_of gave.now.compiled) ≡ true }
+{
+    match order_of(&gave.compiled) {
+        Some(_) => true,
+        None => false,
+    }
+}
+
+/// Whether a unit has an entry for another text than it has now, and no other unit depends on it by itself.
+fn is_alone<C: UnitCheck>(
+    cache: &UnitCache<C>,
+    sources: &Sources,
+    graph: &UnitGraph,
+    unit: &UnitKey,
+) -> bool
+    ensures edited { IsTrue result → (e : Stored) × (at_unit cache.now.entries unit.now ≡ Some e) × (e.text ≡ text_of sources.now unit.now → ⊥) }
+    ensures alone { IsTrue result → at_unit graph.now.bases unit.now ≡ None }
+{
+    graph.bases.get(unit).is_none() && cache.is_edited(sources, unit)
+}
+
+/// The unit that alone was edited since the last build, on which no other one depends by itself; none where more was edited, or where that
+/// build found something wrong.
+pub(crate) fn edited_now<R: ReadFiles, C: UnitCheck, P: Answers>(
+    alloc: Global,
+    cache: &UnitCache<C>,
+    predefined: &P,
+    read: &R,
+    same: Option<&LastBuild<R>>,
+    edited: &Edited,
+    gave: &Rebuilt,
+) -> Result<Option<UnitKey>, NoMemory>
+    requires reading { AreReadFor C.header R.library }
+    requires predefined { ArePredefined (P.table predefined.now) }
+    requires graph { IfSome same (λ b. IsGraphOf (R.library (R.files b.now.read)) b.now.graph.value) }
+    requires settled { IfSome same (λ b. IsSettledBy C.meaning C.header (P.table predefined.now) R.library (at_unit cache.now.entries) (record { files = R.files b.now.read; main = b.now.main; gave = gave.now })) }
+    requires headers { IfSome same (λ b. HaveSameHeaders (R.library (R.files b.now.read)) (R.library (R.files read.now))) }
+    requires texts { IfSome same (λ b. HaveTextsBut (R.library (R.files b.now.read)) (R.library (R.files read.now)) edited.now) }
+    ensures renewable { IfOk result (λ found. IfSome found (λ unit. IsRenewable C.meaning C.header (P.table predefined.now) (R.library (R.files read.now)) (at_unit cache.now.entries) unit)) }
+    ensures clean { IfOk result (λ found. IfSome found (IsCleanBut (R.library (R.files read.now)) (at_unit cache.now.entries))) }
+{
+    order_is_for_builds();
+    graphs_go_by_headers();
+    let _predefined = predefined;
+    let Some(build) = same else {
+        return Ok(None);
+    };
+    if !is_ordered(gave) {
+        return Ok(None);
+    }
+    let sources = read.sources();
+    let Some(unit) = unit_edited(alloc, sources, edited)? else {
+        return Ok(None);
+    };
+    if is_alone(cache, sources, &build.graph, &unit) {
+        Ok(Some(unit))
+    } else {
+        Ok(None)
+    }
+}

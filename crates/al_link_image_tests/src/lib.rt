@@ -1,5 +1,0 @@
-//! Tests of images, and nothing else.
-#![tactic(auto)]
-
-#[cfg(test)]
-mod tests;

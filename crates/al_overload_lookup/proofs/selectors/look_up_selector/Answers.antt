@@ -1,0 +1,12 @@
+use Rattle.std.proofs.Common.{ℕ, List, ap, ◌∙◌}
+use Rattle.al_overload_lookup.specs.Lookups.{looked_up}
+use Rattle.al_overload_lookup.specs.declared.name.TextName.{TextName}
+use Rattle.al_overload_lookup.specs.declared.name.TextName.TheVariants.{Selected}
+use Rattle.al_tree.specs.Lexemes.{identifier_label}
+use Rattle.al_overload_lookup.proofs.selectors.look_up_selector.Goals as goal
+
+pub returns-clause-answered : goal.returns-clause-answered
+returns-clause-answered g c t h =
+    let answered = c.in_ok-look_up.ensures.answered t h in
+    let of = c.in_ok-of.ensures ∙ ap (λ (k : List ℕ). Selected k (identifier_label c.args.identifier.now).text) c.as_slice.ensures.value in
+    (answered.0, answered.1 ∙ ap (λ (n : TextName). looked_up t c.args.scope.now c.args.packages.now c.args.names.now n) of)

@@ -1,0 +1,65 @@
+-- What begins with an operand or a name: what stands after that.
+use Rattle.std.specs.Prelude.{◌<◌, ◌≤◌, Bool, true, false, List, [], ◌∷◌, ◌++◌, Option, Some, None, option_map, ⊤}
+use Rattle.al_overload_keys.specs.Keys.{key_of}
+use Rattle.al_overload_lookup.specs.TextNames.{names_in, operator_sign, part_names, sign_names}
+use Rattle.al_overload_lookup.specs.declared.chain.Link.{Link}
+use Rattle.al_overload_lookup.specs.declared.chain.Link.TheVariants as links
+use Rattle.al_overload_lookup.specs.declared.name.TextName.{TextName}
+use Rattle.al_tree_syntax.specs.ExpressionTrees.{ExpressionTree, ExpressionTree as e}
+use Rattle.al_tree.specs.ExpressionViews.{expression_model, operator_model, part_model}
+use Rattle.al_tree.specs.declared.expression.Expression.{Expression, size-Expression}
+use Rattle.al_tree.specs.declared.expression.Infix.{Infix, out-Infix, size-Infix}
+use Rattle.al_tree.specs.declared.expression.Longer.{Longer, out-Longer, size-Longer}
+use Rattle.al_tree.specs.declared.expression.Member.{Member, out-Member, size-Member}
+
+-- which texts begin with an operand or a name
+abbrev pub leans : ExpressionTree → Bool
+leans (e.Longer prefix part) = true
+leans (e.Infix left operator right) = true
+leans (e.InMark left n mark) = true
+leans (e.InRange left n low high) = true
+leans _ = false
+
+-- of the last part of a name
+abbrev pub last_part_names : Longer → List TextName
+last_part_names longer = part_names (key_of (expression_model (out-Longer longer).prefix)) (part_model (out-Longer longer).part)
+
+-- of an operator and its right operand
+abbrev pub operation_names : Infix → List TextName
+operation_names operation = sign_names (operator_sign (operator_model (out-Infix operation).operator)) ++ names_in (expression_model (out-Infix operation).right)
+
+-- of a mark, or of two bounds
+abbrev pub tested_names : ExpressionTree → Option ExpressionTree → List TextName
+tested_names low None = names_in low
+tested_names low (Some high) = names_in low ++ names_in high
+
+abbrev pub test_names : Member → List TextName
+test_names member = tested_names (expression_model (out-Member member).low) (option_map expression_model (out-Member member).high)
+
+abbrev pub link_names : Link → List TextName
+link_names (links.Part longer) = last_part_names longer.now
+link_names (links.Operator operation) = operation_names operation.now
+link_names (links.Test member) = test_names member.now
+
+-- the last link of the text comes first
+abbrev pub chained_names : List Link → List TextName
+chained_names [] = []
+chained_names (link ∷ links) = chained_names links ++ link_names link
+
+-- ---- links are less deep than the whole
+
+abbrev pub IsBelow : Expression → Link → Type 0
+IsBelow whole (links.Part longer) = size-Longer longer.now < size-Expression whole
+IsBelow whole (links.Operator operation) = size-Infix operation.now < size-Expression whole
+IsBelow whole (links.Test member) = size-Member member.now < size-Expression whole
+
+abbrev pub IsLeft : Expression → Expression → Type 0
+IsLeft whole left = size-Expression left < size-Expression whole
+
+abbrev pub AreBelow : Expression → List Link → Type 0
+AreBelow whole [] = ⊤
+AreBelow whole (link ∷ links) = IsBelow whole link × AreBelow whole links
+
+-- what stands first is no deeper than the whole
+abbrev pub AreWithin : Expression → Expression → List Link → Type 0
+AreWithin whole first links = (size-Expression first ≤ size-Expression whole) × AreBelow whole links

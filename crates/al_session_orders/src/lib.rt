@@ -1,0 +1,4 @@
+//! Orders of elaboration in sessions.
+#![tactic(auto)]
+
+pub mod laws;
