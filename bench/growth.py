@@ -122,6 +122,19 @@ def statements(n):
     return procedure("X : Integer := 0;", lines(n, lambda i: "X := X + 1;"))
 
 
+def branches(n):
+    return procedure("B : Boolean := False;", "if B then null;" + " elsif B then null;" * n + " end if;")
+
+
+def choices(n):
+    return procedure("X : Integer := 0;", f"case X is when {'|'.join(str(choice) for choice in range(n))} => null; when others => null; end case;")
+
+
+def membership_tests(n):
+    """Of which each keeps its value in a word of the frame."""
+    return procedure("X : Integer := 0;\nB : Boolean;", "B := " + " or ".join(["X in 0 .. 2"] * n) + ";")
+
+
 WAYS = [
     ("parts of a mark", dotted_mark, 4_000),
     ("parts of a use clause", dotted_use, 4_000),
@@ -135,6 +148,7 @@ WAYS = [
     ("overloads of a name, one called", one_call_of_overloads, 200),
     ("1 + 1 + ..", sum_of_numbers, 2_000),
     ("X + X + ..", sum_of_variables, 2_000),
+    ("membership tests", membership_tests, 2_000),
     ("arguments of a call", arguments, 2_000),
     ("stubs with their subunits", stubs, 250),
     ("packages with use clauses", use_clauses, 100),
@@ -143,6 +157,8 @@ WAYS = [
     ("literals of a type", literals_of_one_type, 2_000),
     ("declarations", declarations, 1_000),
     ("statements", statements, 1_000),
+    ("branches of an if", branches, 2_000),
+    ("choices of an alternative", choices, 2_000),
 ]
 
 

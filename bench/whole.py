@@ -1,15 +1,17 @@
 #!/usr/bin/env python3
 """whole.py PROGRAM [packages [COUNT ..] | statements]: times builds, beside GNAT where it is there.
 
-packages: 200, 1,000 and 4,000 packages (or so many) with their bodies, and a main unit: the first build, and builds behind no edit, the
-edit of a body, of a declaration that nobody reads, and of one that all bodies read; gnatmake does the same by turns, over files, which
-takes it some minutes of 4,000 packages. Behind them how many times the figure of the number before each is. statements: a unit of so
-many assignments. Each figure is in milliseconds of the clock, with those of the processor in parentheses, the least of some runs.
-Programs that are built and run are timed by bench/machine/run. It is no test.
+packages: 200, 1,000 and 4,000 packages (or so many), every fiftieth with a body, and a main unit: the first build, and builds behind no
+edit, the edit of a body, of a declaration that nobody reads, and of one that all read; gnatmake does the same by turns, over files, which
+takes it some minutes of 4,000 packages. Behind them how many times the figure of the number before each is, and what is aimed at. A library
+has at most 4,096 files, so that not each of 4,000 packages can have a body. statements: a unit of so many assignments. Each figure is in
+milliseconds of the clock, with those of the processor in parentheses, the least of some runs. That each build gives an image is seen to
+first. Programs that are built and run are timed by bench/machine/run. It is no test.
 """
 import os
 import pathlib
 import shutil
+import subprocess
 import sys
 import tempfile
 
@@ -17,6 +19,8 @@ from timings import doubled, procedure, put, spent_by
 
 COUNTS = (200, 1000, 4000)
 TURNS = 3
+# What is aimed at, in milliseconds of the processor: what, at which numbers of packages, under how many.
+AIMS = {"no edit": ((200, 1000, 4000), 0.2), "one body": ((4000,), 10)}
 
 
 def least(run, runs=3):
@@ -47,29 +51,33 @@ def times(figure, before):
 
 
 def package(number):
-    """The declaration and the body of a package that calls up to three of those before it."""
+    """The declaration of a package that reads up to three of those before it, and a body where its number is a multiple of fifty."""
     named = range(max(0, number - 3), number)
     withs = "".join(f"with P{it}; " for it in named)
-    calls = "".join(f" Sum := Sum + P{it}.Value;" for it in named)
-    declaration = f"package P{number} is\n   function Value return Integer;\nend P{number};\n"
-    body = (
-        f"with Base; {withs}\npackage body P{number} is\n   function Value return Integer is\n      Sum : Integer := {number} + Base.Step;\n   begin\n"
-        f"     {calls}\n      return Sum mod 1_000;\n   end Value;\nend P{number};\n"
-    )
-    return declaration, body
+    values = "".join(f" + P{it}.Value" for it in named)
+    has_body = number % 50 == 0
+    twice = "   function Twice return Integer;\n" if has_body else ""
+    files = {f"p{number}.ads": f"with Base; {withs}\npackage P{number} is\n   Value : Integer := ({number} + Base.Step{values}) mod 1_000;\n{twice}end P{number};\n"}
+    if has_body:
+        files[f"p{number}.adb"] = (
+            f"package body P{number} is\n   function Twice return Integer is\n   begin\n      return (Value + Base.Step) mod 1_000;\n   end Twice;\nend P{number};\n"
+        )
+    return files
 
 
 def library(count):
     """The files, and those edits that the builds stand behind: each a file with its new text."""
     files = {"base.ads": base()}
     for number in range(count):
-        files[f"p{number}.ads"], files[f"p{number}.adb"] = package(number)
-    last = count - 1
-    files["main.adb"] = f"with Ada.Text_IO; with P{last};\nprocedure Main is\nbegin\n   Ada.Text_IO.Put_Line (Integer'Image (P{last}.Value));\nend Main;\n"
-    middle = count // 2
+        files |= package(number)
+    last, middle = count - 1, count // 100 * 50
+    files["main.adb"] = (
+        f"with Ada.Text_IO; with P{last}; with P{middle};\nprocedure Main is\nbegin\n   Ada.Text_IO.Put_Line (Integer'Image (P{last}.Value + P{middle}.Twice));\nend Main;\n"
+    )
+    body = f"p{middle}.adb"
     edits = {
         "no edit": {},
-        "one body": {f"p{middle}.adb": package(middle)[1].replace("1_000", "1_001")},
+        "one body": {body: files[body].replace("1_000", "1_001")},
         "a declaration that nobody reads": {"base.ads": base(more="\n   Limit : constant Integer := 7;")},
         "a declaration that all read": {"base.ads": base(step=2)},
     }
@@ -95,6 +103,8 @@ def by_gnatmake(files, edits):
             return spent_by(["gnatmake", "-q", "main.adb"], b"", folder)
 
         times = [made(files)]
+        if not (pathlib.Path(folder) / "main").exists():
+            sys.exit("gnatmake makes no program of this library")
         for changed in edits.values():
             times.append(made(changed))
             if changed:
@@ -102,8 +112,20 @@ def by_gnatmake(files, edits):
         return times
 
 
+def see_images(program, files, edits):
+    """That each build gives an image."""
+    stream = puts(files) + b"build main\n"
+    for changed in edits.values():
+        stream += puts(changed) + b"build main\n" + puts({name: files[name] for name in changed}) + b"build main\n"
+    replies = subprocess.run([program], input=stream, stdout=subprocess.PIPE, check=False).stdout
+    wrong = [it for it in replies.split(b"\n") if it and it != b"ok" and not it.startswith(b"built ")]
+    if wrong or replies.count(b"built ") != 1 + 2 * len(edits):
+        sys.exit(f"not every build of {len(files)} files gives an image: {wrong[:3]}")
+
+
 def by_program(program, files, edits):
     """What the program takes for the first build, then behind each edit: these are made and taken back by turns in one session, as often as makes up for their size."""
+    see_images(program, files, edits)
     with tempfile.TemporaryDirectory() as folder:
 
         def of(stream):
@@ -112,13 +134,17 @@ def by_program(program, files, edits):
         given = puts(files)
         base_time = of(given)
         built = of(given + b"build main\n")
-        times = [less(built, base_time)]
-        for what, changed in edits.items():
-            pairs = 2 if "all" in what else 20
+
+        def behind(changed):
             turn = puts(changed) + b"build main\n" + puts({name: files[name] for name in changed}) + b"build main\n"
-            spent = less(of(given + b"build main\n" + turn * pairs), built)
-            times.append((spent[0] / (2 * pairs), spent[1] / (2 * pairs)))
-        return times
+            pairs = 2
+            while True:
+                spent = less(of(given + b"build main\n" + turn * pairs), built)
+                if spent[1] > built[1] / 4 or pairs > 20_000:
+                    return spent[0] / (2 * pairs), spent[1] / (2 * pairs)
+                pairs *= 10
+
+        return [less(built, base_time)] + [behind(changed) for changed in edits.values()]
 
 
 def packages(program, counts):
@@ -135,6 +161,10 @@ def packages(program, counts):
             if before:
                 grown = ", ".join(f"{name} {times(figures[at][row], before[at][row]):.1f}" for at, (name, _) in enumerate(tools))
                 print(f"{'':<48} times the processor's figure of {last}: {grown}", flush=True)
+            aimed_at, most = AIMS.get(what, ((), 0))
+            if count in aimed_at:
+                reached = "reached" if figures[0][row][1] < most else "not reached"
+                print(f"{'':<48} aim: under {most} ms: {reached}", flush=True)
         before, last = figures, count
 
 

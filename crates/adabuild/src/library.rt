@@ -2,14 +2,14 @@
 ghost use Rattle.std.specs.Prelude.{◌≡◌, ◌↔◌, [], Some, None, IfErr, IfOk, IsOk, IsTrue, OnOk};
 ghost use Rattle.al_base.specs.FileLaws.{Ascend};
 ghost use Rattle.al_base.specs.Files.{text_of};
-ghost use Rattle.al_unit_headers.specs.Headed.{ReadsHeaders};
 ghost use Rattle.adabuild.specs.Sources.{Holds, still_there};
 ghost use Rattle.adabuild.specs.declared.failure.Failure.TheVariants.{Memory};
 
 use crate::failure::Failure;
 use al_base::{Files, NoMemory, Refusal};
 use al_check::{AdaCheck, ada_check};
-use al_check_bounded::laws::headers_are_read;
+use al_check_text::AdaText;
+use al_check_text::laws::headers_are_read;
 use al_engine::Engine;
 use al_engine_batch::Compiled;
 use al_engine_files::AdaFiles;
@@ -22,14 +22,14 @@ use std::alloc::Global;
 pub type Library = Engine<AdaFiles, AdaCheck, PredefinedUnits>;
 
 // A library with no file and no build, for a checker.
-fn library_for<C: UnitCheck + Drop>(
+fn library_for<C: UnitCheck<Text = AdaText> + Drop>(
     alloc: Global,
     checker: C,
 ) -> Result<Engine<AdaFiles, C, PredefinedUnits>, NoMemory>
-    requires { ReadsHeaders C.header }
     ensures { IfOk result (λ library. Holds library []) }
 {
     AdaFiles::are_read();
+    headers_are_read();
     units_are_predefined();
     match PredefinedUnits::new(alloc) {
         Ok(predefined) => Ok(Engine::new(alloc, checker, predefined)),
@@ -44,7 +44,6 @@ fn library_for<C: UnitCheck + Drop>(
 pub fn new_library(alloc: Global) -> Result<Library, NoMemory>
     ensures { IfOk result (λ library. Holds library []) }
 {
-    headers_are_read();
     library_for(alloc, ada_check())
 }
 

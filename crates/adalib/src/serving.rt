@@ -8,7 +8,6 @@ ghost use Rattle.adalib.specs.Program.{ada_meaning};
 
 use al_base::NoMemory;
 use al_check::ada_check;
-use al_check_bounded::laws::headers_are_read;
 use al_session::{Device, Ended, Sink, Source, session};
 use std::alloc::Global;
 
@@ -39,6 +38,5 @@ pub fn serve_ada<S: Source, K: Sink>(
         (sink_moment K.written K.faults K.waits writer.old) (sink_moment K.written K.faults K.waits writer.new) empty after) }
     ensures refused { OnErr result ((reader.new ≡ reader.old) × (writer.new ≡ writer.old)) }
 {
-    headers_are_read();
     session(alloc, ada_check(), reader, writer, tick)
 }

@@ -1,2 +1,3 @@
+pub mod CheckRules
 pub mod Faults
 pub mod Judging

@@ -2,13 +2,14 @@
 ghost use Rattle.std.specs.Prelude.{◌≡◌};
 ghost use Rattle.al_base_fault.specs.Faults.{earlier, is_before};
 
+use crate::check_rule::CheckRule;
 use al_base::Place;
 
-/// A rule that is broken: where, and its number (401 is shown as E401).
+/// A rule that is broken, and where.
 #[derive(Clone, Copy, Debug)]
 pub struct Fault {
     pub place: Place,
-    pub code: u16,
+    pub rule: CheckRule,
 }
 
 /// Whether a fault stands before another one, or at its place with a lesser number.
@@ -18,7 +19,8 @@ fn is_before(fault: &Fault, other: &Fault) -> bool
     let (here, there) = (fault.place, other.place);
     here.line < there.line
         || (here.line == there.line
-            && (here.col < there.col || (here.col == there.col && fault.code < other.code)))
+            && (here.col < there.col
+                || (here.col == there.col && fault.rule.ranks_before(other.rule))))
 }
 
 /// The first of two faults that may be there.

@@ -1,2 +1,4 @@
+pub mod Naming
+pub mod Told
 pub mod UnitResult
 pub mod Verdicts

@@ -12,18 +12,16 @@ use Rattle.al_query_outcome.specs.declared.interface.UnitInterface.{UnitInterfac
 use Rattle.al_stmts_walk.specs.Steps.{Inside}
 use Rattle.al_check_within.specs.Verdicts.{Verdict}
 use Rattle.al_check_within.specs.Verdicts.Verdict.{Wrong, Right}
-use Rattle.al_check_here.specs.Ends.{ends_told, hidden_by}
-use Rattle.al_check_here.specs.declared.state.CheckState.{CheckState}
-use Rattle.al_view.specs.declared.part.Part.{Part}
-use Rattle.al_view.specs.declared.part.Part.TheVariants as part
+use Rattle.al_check_here.specs.Ends.{ends_told}
 use Rattle.al_check_start.specs.UnitsAt.{unit_at}
 use Rattle.al_check_start.specs.declared.unit.UnitStart.{UnitStart}
 use Rattle.al_check_made.specs.Ended.{ended, right_at, viewed}
-use Rattle.al_check_made.specs.Made.{fault_in, faults_in, unless_wrong}
+use Rattle.al_check_made.specs.Made.{fault_in, faults_in, or_not_yet, unless_wrong}
 use Rattle.al_check_made.specs.Said.{own_view}
 use Rattle.al_check_made.specs.declared.after.EndedText.{EndedText}
 use Rattle.al_check_made.specs.declared.after.UnitFacts.{UnitFacts}
 use Rattle.al_check.specs.Ada.{ada_verdict, ended_text, item_faults, item_walked, round_of, verdict_from}
+use Rattle.al_check.proofs.Told.{start_own}
 use Rattle.al_check.specs.Laws.{ItemFaultsAreReported, SoundUnitsHaveNoFault, StartFaultsAreReported}
 
 -- ---- what is found after an item
@@ -40,20 +38,24 @@ unless_some : (wrong : List Diagnostic) (v : Verdict) → wrong ≢ [] → unles
 unless_some [] v h = absurd (h refl)
 unless_some (d ∷ wrong) v h = refl
 
+or_some : (unit : UnitKey) (wrong : List Diagnostic) → wrong ≢ [] → or_not_yet unit wrong ≡ wrong
+or_some unit [] h = absurd (h refl)
+or_some unit (d ∷ wrong) h = refl
+
 module _ (r : UnitFacts) (e : EndedText) (x : Inside) where
   viewed_right : (view : Option ViewKind) (i : UnitInterface) (made : UnitTree) → viewed r view e x ≡ Right i made → all_faults x.faults ≡ []
   viewed_right None i made h = cc
-  viewed_right (Some kind) i made h = none_in e.progress.unit (all_faults x.faults) (unless_right (faults_in e.progress.unit x.faults) (right_at r kind e x) i made h)
+  viewed_right (Some kind) i made h = none_in r.unit (all_faults x.faults) (unless_right (faults_in r.unit x.faults) (right_at r kind e x) i made h)
 
-  viewed_wrong : (view : Option ViewKind) → all_faults x.faults ≢ [] → viewed r view e x ≡ Wrong (faults_in e.progress.unit x.faults)
-  viewed_wrong None h = refl
-  viewed_wrong (Some kind) h = unless_some (faults_in e.progress.unit x.faults) (right_at r kind e x) (λ n. h (none_in e.progress.unit (all_faults x.faults) n))
+  viewed_wrong : (view : Option ViewKind) → all_faults x.faults ≢ [] → viewed r view e x ≡ Wrong (faults_in r.unit x.faults)
+  viewed_wrong None h = ap Wrong (or_some r.unit (faults_in r.unit x.faults) (λ n. h (none_in r.unit (all_faults x.faults) n)))
+  viewed_wrong (Some kind) h = unless_some (faults_in r.unit x.faults) (right_at r kind e x) (λ n. h (none_in r.unit (all_faults x.faults) n))
 
   ended_right : (i : UnitInterface) (made : UnitTree) → ended r e x ≡ Right i made → all_faults x.faults ≡ []
   unfolding ended
   ended_right i made h = viewed_right (own_view e.own e.declared r.view) i made h
 
-  ended_wrong : all_faults x.faults ≢ [] → ended r e x ≡ Wrong (faults_in e.progress.unit x.faults)
+  ended_wrong : all_faults x.faults ≢ [] → ended r e x ≡ Wrong (faults_in r.unit x.faults)
   unfolding ended
   ended_wrong h = viewed_wrong (own_view e.own e.declared r.view) h
 
@@ -71,18 +73,11 @@ started unit text tree t start h = ap (verdict_from t unit tree) h
 pub start_told : StartFaultsAreReported
 start_told unit text tree t f h = started unit text tree t (Err f) h
 
--- what is hidden of a part leaves the unit as it is
-same_unit_hidden : (p : Part) (h : CheckState) → (hidden_by p h).env.progress.unit ≡ h.env.progress.unit
-same_unit_hidden part.Visible h = refl
-same_unit_hidden part.Private h = refl
-same_unit_hidden part.Body h = refl
-same_unit_hidden (part.Stub _) h = refl
-
 pub item_told : ItemFaultsAreReported
 item_told unit text tree t s h some =
     let walked = (item_walked t tree s).0 in
     started unit text tree t (Ok s) h ∙ ended_wrong (round_of tree s) (ended_text (ends_told walked)) (item_walked t tree s).1 some
-    ∙ ap (λ (u : UnitKey). Wrong (faults_in u (item_faults t tree s))) (same_unit_hidden walked.part walked)
+    ∙ ap (λ (u : UnitKey). Wrong (faults_in u (item_faults t tree s))) (start_own t unit tree s h)
 
 pub sound_faultless : SoundUnitsHaveNoFault
 unfolding ada_verdict

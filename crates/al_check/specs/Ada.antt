@@ -46,12 +46,17 @@ text_of packages own hidden private_part = record {
   private_part = private_part;
 }
 
+-- the walk over the item doesn't look at the units that its with clauses name
+abbrev pub without_withs : OwnText → OwnText
+without_withs own = record own { withs = [] }
+
 abbrev pub standing_of : Declarations → CompilationUnitTree → UnitStart → CheckState
-standing_of private_part tree s = begun_at (text_of s.packages s.own s.hidden private_part) s.scope s.progress s.uncompleted
+standing_of private_part tree s = begun_at (text_of s.packages (without_withs s.own) s.hidden private_part) s.scope s.progress s.uncompleted
 
 -- what is known of it before its item is walked
 abbrev pub round_of : CompilationUnitTree → UnitStart → UnitFacts
-round_of tree s = record { needs_body = (header_of tree).needs_body; line = item_line tree.item; parent = s.parent; view = s.view; private_types = private_types tree.item }
+round_of tree s =
+    record { unit = s.own.unit; needs_body = (header_of tree).needs_body; line = item_line tree.item; parent = s.parent; withs = s.own.withs; view = s.view; private_types = private_types tree.item }
 
 -- ---- what is found in it
 
@@ -87,12 +92,9 @@ item_walked t tree s = item_walked_with t (private_part_of t tree (Ok s)) tree s
 abbrev pub item_verdict : Table → CompilationUnitTree → UnitStart → Verdict
 item_verdict t tree s = ended_after (round_of tree s) (item_walked t tree s)
 
--- its faults, and the unit whose item it is
+-- its faults
 abbrev pub item_faults : Table → CompilationUnitTree → UnitStart → FaultList
 item_faults t tree s = (item_walked t tree s).1.faults
-
-abbrev pub unit_after : Table → CompilationUnitTree → UnitStart → UnitKey
-unit_after t tree s = (item_walked t tree s).0.env.progress.unit
 
 -- after its start: a fault of the context clause, or else of the defining name, is told alone, as the item isn't looked at then
 abbrev pub verdict_with : Table → Declarations → UnitKey → CompilationUnitTree → Result UnitStart Fault → Verdict

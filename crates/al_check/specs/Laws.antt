@@ -11,7 +11,7 @@ use Rattle.al_check_within.specs.Verdicts.Verdict.{Wrong, Right}
 use Rattle.al_check_start.specs.UnitsAt.{unit_at}
 use Rattle.al_check_start.specs.declared.unit.UnitStart.{UnitStart}
 use Rattle.al_check_made.specs.Made.{fault_in, faults_in}
-use Rattle.al_check.specs.Ada.{ada_verdict, item_faults, unit_after}
+use Rattle.al_check.specs.Ada.{ada_verdict, item_faults}
 
 -- a fault of the context clause or of the defining name is told, alone
 abbrev pub StartFaultsAreReported : Type 0
@@ -21,7 +21,7 @@ StartFaultsAreReported = (unit : UnitKey) (text : List ℕ) (tree : CompilationU
 -- of an item with faults all are told
 abbrev pub ItemFaultsAreReported : Type 0
 ItemFaultsAreReported = (unit : UnitKey) (text : List ℕ) (tree : CompilationUnitTree) (t : Table) (s : UnitStart) → unit_at t unit tree ≡ Ok s
-    → all_faults (item_faults t tree s) ≢ [] → ada_verdict unit text tree t ≡ Wrong (faults_in (unit_after t tree s) (item_faults t tree s))
+    → all_faults (item_faults t tree s) ≢ [] → ada_verdict unit text tree t ≡ Wrong (faults_in unit (item_faults t tree s))
 
 -- only a unit that has no fault in its start and none in its item has an interface
 abbrev pub SoundUnitsHaveNoFault : Type 0

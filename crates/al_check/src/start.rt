@@ -1,8 +1,7 @@
 // Where the item of a unit begins.
 ghost use Rattle.std.specs.Prelude.{◌≡◌, IfOk};
 ghost use Rattle.al_tree.specs.UnitViews.{unit_model};
-ghost use Rattle.al_unit_header.specs.Units as headers;
-ghost use Rattle.al_check.specs.Ada.{round_of, standing_of, text_of};
+ghost use Rattle.al_check.specs.Ada.{round_of, standing_of, text_of, without_withs};
 
 use al_base::{NoMemory, UnitKey};
 use al_check_here::{CheckState, UnitText};
@@ -12,8 +11,8 @@ use al_overload_nodes::Labeller;
 use al_scope_seen::PrivateName;
 use al_scope_unit::OwnText;
 use al_tree::CompilationUnit;
-use al_unit_header::{header_of, private_types};
-use al_view::{Interface, Seq};
+use al_unit_header::{private_types, unit_needs_body};
+use al_view::{Interface, Seq, copied_unit};
 use std::alloc::Global;
 
 /// What stays the same in the text of a unit.
@@ -41,14 +40,29 @@ fn text_of(
     })
 }
 
-/// Whether a unit needs a body.
-fn needs_body(alloc: Global, tree: &CompilationUnit) -> Result<bool, NoMemory>
-    ensures { IfOk result (λ needs. needs ≡ (headers.header_of (unit_model tree.now)).needs_body) }
+/// What a text says of its place without the units that its with clauses name, and these.
+fn withs_apart(alloc: Global, own: OwnText) -> (OwnText, Seq<UnitKey>)
+    ensures { result ≡ (without_withs own, own.withs) }
 {
-    let header = header_of(alloc, tree)?;
-    let needs = header.needs_body;
-    drop(header);
-    Ok(needs)
+    let OwnText {
+        unit,
+        symbol,
+        is_package,
+        is_private,
+        stubs,
+        withs,
+        uses,
+    } = own;
+    let own = OwnText {
+        unit,
+        symbol,
+        is_package,
+        is_private,
+        stubs,
+        withs: Seq::empty(alloc),
+        uses,
+    };
+    (own, withs)
 }
 
 /// Where the item of a unit begins, and what is known of the unit before.
@@ -68,19 +82,24 @@ pub(crate) fn begun_at(
     ensures unit_facts { IfOk result (λ begun. begun.unit_facts ≡ round_of (unit_model tree.now) start) }
     ensures state { IfOk result (λ begun. begun.state ≡ standing_of private_part (unit_model tree.now) start) }
 {
-    let needs_body = needs_body(alloc, tree)?;
+    let needs_body = unit_needs_body(tree);
+    let unit = copied_unit(alloc, &start.own.unit)?;
     let private_types = Seq::new(private_types(alloc, &tree.item)?);
     let parts = start.into_parts();
     let (text, place, round) = parts;
     let (own, packages, hidden) = text;
     let (scope, progress, uncompleted) = place;
     let (parent, view) = round;
+    let apart = withs_apart(alloc, own);
+    let (own, withs) = apart;
     let text = text_of(alloc, packages, own, hidden, private_part)?;
     let line = item_line(&tree.item);
     let unit_facts = UnitFacts {
+        unit,
         needs_body,
         line,
         parent,
+        withs,
         view,
         private_types,
     };

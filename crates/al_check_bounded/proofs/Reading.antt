@@ -1,65 +1,51 @@
 -- What is read as a unit, and what isn't.
-use Rattle.std.proofs.Common.{◌≡◌, ◌∙◌, ◌≤◌, ℕ, Bool, true, false, List, [], length, nat_le, sym, ap, subst, if◌then◌else◌, arith}
-use Rattle.std.proofs.lemmas.Bool.Decides.{nat_tests}
-use Rattle.al_base.specs.declared.place.Place.{Place}
+use Rattle.std.proofs.Common.{◌≡◌, ◌∙◌, ℕ, List, [], ◌∷◌, Option, Some, None, sym, ap, subst}
 use Rattle.al_base.specs.declared.unit_key.UnitKey.{UnitKey}
 use Rattle.al_tree_syntax.specs.UnitTrees.{CompilationUnitTree}
 use Rattle.al_unit_header.specs.Units.{header_of}
 use Rattle.al_unit_graph.specs.Headers.{Header}
-use Rattle.al_unit.specs.Readings.{Reading, reading_of}
-use Rattle.al_unit.specs.Readings.Reading.{Sentence, Fails}
-use Rattle.al_query.specs.Known.{Grounded}
+use Rattle.al_query.specs.Known.{Grounded, known_after}
 use Rattle.al_query.specs.Reads.{Log, Table}
 use Rattle.al_query_outcome.specs.Defines.{DefinesParts}
-use Rattle.al_query_outcome.specs.ReadsLaw.{named_by}
-use Rattle.al_query_outcome.specs.Results.{Outcome}
-use Rattle.al_check_promises.specs.Laws.{FaultsAreReported, Promised}
-use Rattle.al_check_promises.specs.SelfChecks.{checked_faults}
+use Rattle.al_query_outcome.specs.ReadsLaw.{NamesOnly, named_by}
+use Rattle.al_query_outcome.specs.Results.{Outcome, Faulty}
+use Rattle.al_check_promises.specs.Laws.{NotYetIsReported, Promised}
+use Rattle.al_check_promises.specs.SelfChecks.{not_checked}
+use Rattle.al_check_text.specs.Texts.{HeadersAreRead, UnitsAreRead, header_in, unit_in}
 use Rattle.al_check_within.specs.Verdicts.{Verdict}
 use Rattle.al_check_within.specs.Within.{IsChecked, meaning_within}
-use Rattle.al_check_within.proofs.LeftLemmas.{faulty_parts}
-use Rattle.al_check_bounded.specs.Meanings.{HeadersAreRead, header_if_read, header_in, meaning_if_read, text_meaning}
+use Rattle.al_check_within.proofs.Naming.{faulty_names}
+use Rattle.al_check_bounded.specs.Meanings.{meaning_if_unit, text_meaning}
 
-pub headers_read : HeadersAreRead
-unfolding header_in
-headers_read text tree is = ap header_if_read is
-
-le_test : (a b : ℕ) → a ≤ b → nat_le a b ≡ true
-le_test a b h = grind (arith, nat_tests)
-
-pub le_is : (a b : ℕ) → nat_le a b ≡ true → a ≤ b
-le_is a b h = grind (arith, nat_tests)
+-- the check of a unit with these bytes is that of its text
+pub with_bytes : (units : UnitKey → Header → Table → List UnitKey) (names : UnitKey → Header → Table → List (List ℕ)) (verdict : UnitKey → List ℕ → CompilationUnitTree → Table → Verdict) (unit : UnitKey) (bytes text : List ℕ) (tree : CompilationUnitTree) (log : Log) (outcome : Outcome)
+    → bytes ≡ text → IsChecked unit (header_of tree) (meaning_within units names verdict unit bytes tree) log outcome → IsChecked unit (header_of tree) (meaning_within units names verdict unit text tree) log outcome
+with_bytes units names verdict unit bytes text tree log outcome same checked = subst (λ (t : List ℕ). IsChecked unit (header_of tree) (meaning_within units names verdict unit t tree) log outcome) same checked
 
 module _ (units : UnitKey → Header → Table → List UnitKey) (names : UnitKey → Header → Table → List (List ℕ)) (verdict : UnitKey → List ℕ → CompilationUnitTree → Table → Verdict) (unit : UnitKey) (text : List ℕ) where
-  if_fits : (t : Table) → nat_le (length text) 4294967294 ≡ true → text_meaning units names verdict unit text t ≡ meaning_if_read units names verdict unit text (reading_of text) t
+  means : (found : Option CompilationUnitTree) (t : Table) → unit_in text ≡ found → text_meaning units names verdict unit text t ≡ meaning_if_unit units names verdict unit text found t
   unfolding text_meaning
-  if_fits t h = ap (λ (b : Bool). if b then meaning_if_read units names verdict unit text (reading_of text) t else checked_faults unit []) h
-
-  if_long : (t : Table) → nat_le (length text) 4294967294 ≡ false → text_meaning units names verdict unit text t ≡ checked_faults unit []
-  unfolding text_meaning
-  if_long t h = ap (λ (b : Bool). if b then meaning_if_read units names verdict unit text (reading_of text) t else checked_faults unit []) h
+  means found t is = ap (λ (f : Option CompilationUnitTree). meaning_if_unit units names verdict unit text f t) is
 
   module _ (log : Log) (outcome : Outcome) where
     -- a text that is no unit
-    not_read : FaultsAreReported → log ≡ [] → outcome ≡ checked_faults unit [] → ((t : Table) → text_meaning units names verdict unit text t ≡ checked_faults unit []) → IsChecked unit (header_in text) (text_meaning units names verdict unit text) log outcome
-    not_read answered none is means = record {
-      meaning = λ t h. is ∙ sym (means t);
+    pub no_unit : NotYetIsReported → log ≡ [] → outcome ≡ Faulty (not_checked unit) → unit_in text ≡ None → IsChecked unit (header_in text) (text_meaning units names verdict unit text) log outcome
+    no_unit answered none is reads = record {
+      meaning = λ t h. is ∙ sym (means None t reads);
       grounded = subst (λ (l : Log). Grounded (named_by (header_in text)) l) (sym none) tt;
-      promised = subst (λ (o : Outcome). Promised unit (named_by (header_in text)) log o) (sym is) (answered unit (named_by (header_in text)) log []);
-      parts = λ t h. subst (λ (o : Outcome). DefinesParts unit (header_in text) t o) (sym is) (faulty_parts unit (header_in text) t []);
+      names = subst (λ (o : Outcome). NamesOnly (unit ∷ known_after (named_by (header_in text)) log) o) (sym is) (faulty_names (unit ∷ known_after (named_by (header_in text)) log) (not_checked unit));
+      promised = subst (λ (o : Outcome). Promised unit log o) (sym is) (answered unit log);
+      parts = λ t h. subst (λ (o : Outcome). DefinesParts unit (header_in text) t o) (sym is) tt;
     }
-
-    pub too_long : FaultsAreReported → log ≡ [] → outcome ≡ checked_faults unit [] → nat_le (length text) 4294967294 ≡ false → IsChecked unit (header_in text) (text_meaning units names verdict unit text) log outcome
-    too_long answered none is h = not_read answered none is (λ t. if_long t h)
-
-    pub fails : FaultsAreReported → log ≡ [] → outcome ≡ checked_faults unit [] → length text ≤ 4294967294 → (place : Place) (code : ℕ) → reading_of text ≡ Fails place code → IsChecked unit (header_in text) (text_meaning units names verdict unit text) log outcome
-    fails answered none is h place code reads = not_read answered none is (λ t. if_fits t (le_test (length text) 4294967294 h) ∙ ap (λ (r : Reading). meaning_if_read units names verdict unit text r t) reads)
 
     -- a text that is read as a unit
-    pub sentence : length text ≤ 4294967294 → (tree : CompilationUnitTree) → reading_of text ≡ Sentence tree → IsChecked unit (header_of tree) (meaning_within units names verdict unit text tree) log outcome → IsChecked unit (header_in text) (text_meaning units names verdict unit text) log outcome
-    sentence h tree reads checked = record {
-      meaning = λ t a. checked.meaning t a ∙ sym (if_fits t (le_test (length text) 4294967294 h) ∙ ap (λ (r : Reading). meaning_if_read units names verdict unit text r t) reads);
-      grounded = subst (λ (x : Header). Grounded (named_by x) log) (sym (headers_read text tree reads)) checked.grounded;
-      promised = subst (λ (x : Header). Promised unit (named_by x) log outcome) (sym (headers_read text tree reads)) checked.promised;
-      parts = λ t a. subst (λ (x : Header). DefinesParts unit x t outcome) (sym (headers_read text tree reads)) (checked.parts t a);
-    }
+    pub a_unit : HeadersAreRead → UnitsAreRead → (tree : CompilationUnitTree) → unit_in text ≡ Some tree → IsChecked unit (header_of tree) (meaning_within units names verdict unit text tree) log outcome → IsChecked unit (header_in text) (text_meaning units names verdict unit text) log outcome
+    a_unit headed read tree reads checked =
+        let header : header_of tree ≡ header_in text = sym (headed text tree (read text tree reads).1) in
+        record {
+          meaning = λ t h. checked.meaning t h ∙ sym (means (Some tree) t reads);
+          grounded = subst (λ (x : Header). Grounded (named_by x) log) header checked.grounded;
+          names = subst (λ (x : Header). NamesOnly (unit ∷ known_after (named_by x) log) outcome) header checked.names;
+          promised = checked.promised;
+          parts = λ t h. subst (λ (x : Header). DefinesParts unit x t outcome) header (checked.parts t h);
+        }

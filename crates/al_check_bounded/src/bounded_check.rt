@@ -5,11 +5,13 @@ ghost use Rattle.al_base_shortage.specs.Counts.{one_more};
 ghost use Rattle.al_query_outcome.specs.Results.{checked_model};
 ghost use Rattle.al_check_within.specs.Within.{IsChecked};
 ghost use Rattle.al_query_outcome.specs.Words.{words_of};
-ghost use Rattle.al_check_bounded.specs.Meanings.{header_in, text_meaning};
+ghost use Rattle.al_check_text.specs.Texts.{header_in};
+ghost use Rattle.al_check_bounded.specs.Meanings.{text_meaning};
 
 use crate::texts::check_text;
 use al_base::{NoMemory, UnitKey};
 use al_base_shortage::one_more;
+use al_check_text::AdaText;
 use al_check_within::UnitFinder;
 use al_query::{Answers, Recorder};
 use al_query_check::UnitCheck;
@@ -40,14 +42,14 @@ impl<F: UnitFinder> BoundedCheck<F> {
         BoundedCheck { finder, checks: 0 }
     }
 
-    /// Checks a unit with its text. Beside what is promised of every checker, whatever the finder asks:
+    /// Checks a unit with its text, as it was read. Beside what is promised of every checker, whatever the finder asks:
     /// - `names`: each question is by a word of the text, an operator's sign too, or by a name that an earlier answer tells, or for a property
     ///   of a unit; that for what a body must complete is of the unit's own declaration.
     pub fn check_unit<A: Answers>(
         &mut self,
         alloc: Global,
         unit: &UnitKey,
-        text: &[u8],
+        text: &AdaText,
         recorder: &mut Recorder<A>,
     ) -> Result<Checked, NoMemory>
         requires { recorder.old.log ≡ [] }
@@ -63,11 +65,11 @@ impl<F: UnitFinder> BoundedCheck<F> {
 }
 
 impl<F: UnitFinder> UnitCheck for BoundedCheck<F> {
-    ghost use Rattle.al_check_bounded.specs.Meanings.{header_in, text_meaning};
+    ghost use Rattle.al_check_bounded.specs.Meanings.{text_meaning};
+
+    type Text = AdaText;
 
     ghost meaning = { text_meaning F.units F.names F.verdict };
-
-    ghost header = { header_in };
 
     ghost count = { λ c. c.checks };
 
@@ -75,7 +77,7 @@ impl<F: UnitFinder> UnitCheck for BoundedCheck<F> {
         &mut self,
         alloc: Global,
         unit: &UnitKey,
-        text: &[u8],
+        text: &AdaText,
         recorder: &mut Recorder<A>,
     ) -> Result<Checked, NoMemory> {
         self.check_unit(alloc, unit, text, recorder)

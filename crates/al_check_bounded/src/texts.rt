@@ -1,60 +1,54 @@
 // The check of a text.
-ghost use Rattle.std.specs.Prelude.{◌≡◌, ◌≤◌, [], length, nat_le, IfOk, OnOk};
-ghost use Rattle.al_unit.specs.ReadingSeen.{reading_model};
-ghost use Rattle.al_unit.specs.Readings.{reading_of};
+ghost use Rattle.std.specs.Prelude.{◌≡◌, [], Some, IfOk, OnOk};
+ghost use Rattle.al_tree.specs.UnitViews.{unit_model};
+ghost use Rattle.al_unit_graph.specs.Views.{header_model};
+ghost use Rattle.al_unit_header.specs.Units as headers;
 ghost use Rattle.al_query_outcome.specs.ReadsLaw.{AsksByNames, AsksOthers};
 ghost use Rattle.al_query_outcome.specs.Results.{checked_model};
-ghost use Rattle.al_check_promises.specs.SelfChecks.{checked_faults};
-ghost use Rattle.al_check_within.specs.Within.{IsChecked};
 ghost use Rattle.al_query_outcome.specs.Words.{words_of};
-ghost use Rattle.al_check_bounded.specs.Meanings.{header_in, text_meaning};
+ghost use Rattle.al_check_text.specs.Texts.{header_in, unit_in};
+ghost use Rattle.al_check_within.specs.Within.{IsChecked};
+ghost use Rattle.al_check_bounded.specs.Meanings.{text_meaning};
 
 use al_base::{NoMemory, UnitKey};
-use al_check_promises::checked_faults;
 use al_check_promises::laws::faults_are_reported;
+use al_check_promises::not_checked;
+use al_check_text::laws::{headers_are_read, units_are_read};
+use al_check_text::{AdaText, ReadUnit};
 use al_check_within::{UnitFinder, check_within};
 use al_query::{Answers, Recorder};
 use al_query_outcome::Checked;
-use al_unit::{Reading, read};
-use al_view::Seq;
 use std::alloc::Global;
 
-/// What isn't read as a unit can't be compiled.
-fn not_yet(alloc: Global, unit: &UnitKey) -> Result<Checked, NoMemory>
-    ensures { IfOk result (λ checked. checked_model checked ≡ checked_faults unit.now []) }
-{
-    checked_faults(alloc, unit, Seq::empty(alloc))
-}
-
-/// Whether a text has no more bytes than can be read.
-fn fits(text: &[u8]) -> bool
-    ensures { result ≡ nat_le (length text.now) 4294967294 }
-{
-    text.len() <= 4294967294
-}
-
-/// The check of a unit with this text, which is read so.
-fn check_reading<F: UnitFinder, A: Answers>(
+/// The check of a unit with this text, in which this unit was read.
+fn check_read<F: UnitFinder, A: Answers>(
     alloc: Global,
     finder: &F,
     unit: &UnitKey,
-    text: &[u8],
-    reading: &Reading,
+    text: &AdaText,
+    read: &ReadUnit,
     recorder: &mut Recorder<A>,
 ) -> Result<Checked, NoMemory>
-    requires text { length text.now ≤ 4294967294 }
-    requires reading { reading_model reading.now ≡ reading_of text.now }
+    requires tree { unit_in text.now ≡ Some (unit_model read.now.tree) }
+    requires header { header_model read.now.header ≡ headers.header_of (unit_model read.now.tree) }
     requires log { recorder.old.log ≡ [] }
     ensures asked { recorder.new.asked ≡ recorder.old.asked }
     ensures checked { IfOk result (λ checked. IsChecked unit.now (header_in text.now) (text_meaning F.units F.names F.verdict unit.now text.now) recorder.new.log (checked_model checked)) }
     ensures others { OnOk result (AsksOthers unit.now recorder.new.log) }
     ensures names { OnOk result (AsksByNames unit.now (words_of text.now) recorder.new.log) }
 {
-    faults_are_reported();
-    match reading {
-        Reading::Sentence(tree) => check_within(alloc, finder, unit, text, tree, recorder),
-        Reading::Fails(_, _) => not_yet(alloc, unit),
-    }
+    units_are_read();
+    headers_are_read();
+    let bytes = text.as_slice();
+    check_within(
+        alloc,
+        finder,
+        unit,
+        bytes,
+        &read.tree,
+        &read.header,
+        recorder,
+    )
 }
 
 /// The check of a unit with this text.
@@ -62,7 +56,7 @@ pub(crate) fn check_text<F: UnitFinder, A: Answers>(
     alloc: Global,
     finder: &F,
     unit: &UnitKey,
-    text: &[u8],
+    text: &AdaText,
     recorder: &mut Recorder<A>,
 ) -> Result<Checked, NoMemory>
     requires { recorder.old.log ≡ [] }
@@ -72,11 +66,8 @@ pub(crate) fn check_text<F: UnitFinder, A: Answers>(
     ensures names { OnOk result (AsksByNames unit.now (words_of text.now) recorder.new.log) }
 {
     faults_are_reported();
-    if !fits(text) {
-        return not_yet(alloc, unit);
+    match text.unit() {
+        Some(read) => check_read(alloc, finder, unit, text, read, recorder),
+        None => not_checked(alloc, unit),
     }
-    let reading = read(alloc, text)?;
-    let checked = check_reading(alloc, finder, unit, text, &reading, recorder);
-    drop(reading);
-    checked
 }

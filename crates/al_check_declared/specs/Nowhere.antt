@@ -1,8 +1,7 @@
 -- What stands where no text of a unit stands: outside of all regions, or the value of a function in what is no function.
-use Rattle.al_base.specs.Rules.{number_of}
-use Rattle.al_base.specs.declared.rule.Rule.TheVariants.{NotYet}
+use Rattle.al_base_fault.specs.declared.check_rule.CheckRule.TheVariants.{NotYet}
 use Rattle.al_base_fault.specs.Faults.{fault_at}
 use Rattle.al_base_fault.specs.declared.fault.Fault.{Fault}
 
 abbrev pub not_yet_fault : Fault
-not_yet_fault = fault_at (record { line = 1; col = 1 }) (number_of NotYet)
+not_yet_fault = fault_at (record { line = 1; col = 1 }) NotYet

@@ -2,6 +2,7 @@
 use Rattle.std.proofs.Common.{◌≡◌, ◌∙◌, Bool, true, false, List, [], ◌∷◌, Option, Some, None, length, refl, ap, if◌then◌else◌}
 use Rattle.std.specs.Option.{option_map}
 use Rattle.al_base.specs.declared.diagnostic.Diagnostic.{Diagnostic}
+use Rattle.al_base.specs.declared.unit_key.UnitKey.{UnitKey}
 use Rattle.al_base.specs.declared.unit_key.UnitKind.TheVariants.{Sub}
 use Rattle.al_view.specs.Symbols.{same_kind}
 use Rattle.al_view.specs.declared.view.ViewKind.{ViewKind}
@@ -11,10 +12,11 @@ use Rattle.al_view_typed.specs.declared.unit.TypedUnit.{TypedUnit}
 use Rattle.al_stmts_walked.specs.WalkedViews.{inside_model}
 use Rattle.al_stmts_walked.specs.declared.inside.WalkedInside.{WalkedInside}
 use Rattle.al_query_outcome.specs.Tables.{interface_of}
+use Rattle.al_check_promises.specs.SelfChecks.{not_checked}
 use Rattle.al_check_within.specs.Verdicts.{Verdict, sound_of}
 use Rattle.al_check_within.specs.Verdicts.Verdict.{Wrong, Right}
 use Rattle.al_check_made.specs.Ended.{viewed, walked_unit}
-use Rattle.al_check_made.specs.Made.{finding_of, made, unless_wrong}
+use Rattle.al_check_made.specs.Made.{finding_of, made, or_not_yet, unless_wrong}
 use Rattle.al_check_made.specs.declared.after.EndedText.{EndedText}
 use Rattle.al_check_made.specs.declared.after.UnitFacts.{UnitFacts}
 use Rattle.al_check_made.specs.declared.made.WalkedUnit.{WalkedUnit}
@@ -49,3 +51,12 @@ some_wrong (d ∷ ds) v h = refl
 pub none_wrong : (ds : List Diagnostic) (v : Verdict) → length ds ≡ 0 → v ≡ unless_wrong ds v
 none_wrong [] v h = refl
 none_wrong (d ∷ ds) v h = absurd (cc)
+
+-- or E700
+pub some_told : (unit : UnitKey) (ds : List Diagnostic) → (length ds ≡ 0 → ⊥) → ds ≡ or_not_yet unit ds
+some_told unit [] h = absurd (h refl)
+some_told unit (d ∷ ds) h = refl
+
+pub none_told : (unit : UnitKey) (ds : List Diagnostic) → length ds ≡ 0 → not_checked unit ≡ or_not_yet unit ds
+none_told unit [] h = refl
+none_told unit (d ∷ ds) h = absurd (cc)

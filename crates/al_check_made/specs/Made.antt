@@ -6,6 +6,7 @@ use Rattle.al_base.specs.declared.diagnostic.Diagnostic.{Diagnostic}
 use Rattle.al_base.specs.declared.unit_key.UnitKey.{UnitKey}
 use Rattle.al_base.specs.declared.unit_key.UnitKind.TheVariants.{Sub}
 use Rattle.al_view.specs.Symbols.{same_kind}
+use Rattle.al_base_fault.specs.CheckRules.{rule_number}
 use Rattle.al_base_fault.specs.declared.fault.Fault.{Fault}
 use Rattle.al_base_faults.specs.FaultLists.{all_faults}
 use Rattle.al_base_faults.specs.declared.fault_list.FaultList.{FaultList}
@@ -13,16 +14,22 @@ use Rattle.al_view_typed.specs.DeclarationTrees.{declaration_model}
 use Rattle.al_view_typed.specs.StatementViews.{statement_model}
 use Rattle.al_view_typed.specs.UnitTrees.{ElaborationTree, UnitTree, body_model}
 use Rattle.al_query_outcome.specs.Tables.{interface_of}
+use Rattle.al_check_promises.specs.SelfChecks.{not_checked}
 use Rattle.al_check_within.specs.Verdicts.{Verdict}
 use Rattle.al_check_within.specs.Verdicts.Verdict.{Wrong, Right}
 use Rattle.al_check_made.specs.declared.made.WalkedUnit.{WalkedUnit}
 
 -- a fault in the unit's own file
 abbrev pub fault_in : UnitKey → Fault → Diagnostic
-fault_in unit f = record { file = file_name_of (key_of unit); place = f.place; code = f.code }
+fault_in unit f = record { file = file_name_of (key_of unit); place = f.place; code = rule_number f.rule }
 
 abbrev pub faults_in : UnitKey → FaultList → List Diagnostic
 faults_in unit faults = map (fault_in unit) (all_faults faults)
+
+-- E700, where nothing is
+abbrev pub or_not_yet : UnitKey → List Diagnostic → List Diagnostic
+or_not_yet unit [] = not_checked unit
+or_not_yet unit (d ∷ ds) = d ∷ ds
 
 -- what is done when the unit is elaborated
 abbrev pub elaboration_of : WalkedUnit → ElaborationTree

@@ -23,7 +23,7 @@ said u = record {
   kind = u.kind;
   parent = u.parent;
   is_private = u.own.is_private;
-  context = record { withs = u.own.withs; uses = u.own.uses; uses_inside = u.uses_inside; private_types = u.private_types };
+  context = record { withs = u.withs; uses = u.own.uses; uses_inside = u.uses_inside; private_types = u.private_types };
   needs_body = u.needs_body;
   completions = u.completions;
 }

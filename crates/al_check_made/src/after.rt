@@ -3,10 +3,10 @@ ghost use Rattle.std.specs.Prelude.{◌≡◌, Some, IfOk};
 ghost use Rattle.al_stmts_walked.specs.WalkedViews.{inside_model};
 ghost use Rattle.al_check_within.specs.Verdicts.{verdict_of};
 ghost use Rattle.al_check_within.specs.Verdicts.Verdict.{Wrong};
-ghost use Rattle.al_check_made.specs.Made.{faults_in};
+ghost use Rattle.al_check_made.specs.Made.{faults_in, or_not_yet};
 ghost use Rattle.al_check_made.specs.Ended.{ended, viewed, walked_unit};
 
-use crate::faults::faults_in;
+use crate::faults::wrong_or_not_yet;
 use crate::made::{WalkedUnit, finding_of};
 use crate::said::{SaidUnit, own_view};
 use al_base::{Name, NoMemory, UnitKey};
@@ -21,12 +21,14 @@ use al_view::{Seq, View};
 use al_view_typed::{TypedBody, TypedDeclaration, TypedStatement};
 use std::alloc::Global;
 
-/// What is known of a unit before its text is walked: whether it needs a body, the line of its first token, its parent, the view that
-/// it completes, and the private types that its visible part declares.
+/// What is known of a unit before its text is walked: whether it needs a body, the line of its first token, its parent, the units that
+/// its with clauses name, the view that it completes, and the private types that its visible part declares.
 pub struct UnitFacts {
+    pub unit: UnitKey,
     pub needs_body: bool,
     pub line: usize,
     pub parent: Option<UnitKey>,
+    pub withs: Seq<UnitKey>,
     pub view: Option<View>,
     pub private_types: Seq<Name>,
 }
@@ -34,9 +36,11 @@ pub struct UnitFacts {
 impl Drop for UnitFacts {
     fn drop(self) {
         let UnitFacts {
+            unit: _,
             needs_body: _,
             line: _,
             parent: _,
+            withs: _,
             view: _,
             private_types: _,
         } = self;
@@ -44,18 +48,20 @@ impl Drop for UnitFacts {
 }
 
 impl UnitFacts {
-    // Its parent and its private types.
-    fn into_parts(self) -> (Option<UnitKey>, Seq<Name>)
-        ensures { result ≡ (self.parent, self.private_types) }
+    // The unit, its parent, the units of its with clauses and its private types.
+    fn into_parts(self) -> (UnitKey, Option<UnitKey>, Seq<UnitKey>, Seq<Name>)
+        ensures { result ≡ (self.unit, self.parent, self.withs, self.private_types) }
     {
         let UnitFacts {
+            unit,
             needs_body: _,
             line: _,
             parent,
+            withs,
             view: _,
             private_types,
         } = self;
-        (parent, private_types)
+        (unit, parent, withs, private_types)
     }
 }
 
@@ -115,14 +121,15 @@ fn walked_unit(
     ensures { result ≡ walked_unit unit_facts kind ends declarations statements bodies }
 {
     let (needs_body, line) = (unit_facts.needs_body, unit_facts.line);
-    let (parent, private_types) = unit_facts.into_parts();
+    let (unit, parent, withs, private_types) = unit_facts.into_parts();
     let (own, progress, completions, parts, uses) = ends.into_parts();
-    let (unit, words, objects, flags, protected_objects) = progress.into_parts();
+    let (_, words, objects, flags, protected_objects) = progress.into_parts();
     let said = SaidUnit {
         own,
         kind,
         parent,
         needs_body,
+        withs,
         uses_inside: uses,
         private_types,
         completions,
@@ -167,14 +174,14 @@ fn with_view(
 /// What is wrong with a unit that has no view.
 fn without_view(
     alloc: Global,
-    ends: EndedText,
+    unit_facts: UnitFacts,
     inside: WalkedInside,
 ) -> Result<UnitVerdict, NoMemory>
-    ensures { IfOk result (λ finding. verdict_of finding ≡ Wrong (faults_in ends.progress.unit (inside_model inside).faults)) }
+    ensures { IfOk result (λ finding. verdict_of finding ≡ Wrong (or_not_yet unit_facts.unit (faults_in unit_facts.unit (inside_model inside).faults))) }
 {
     let WalkedInside { faults, .. } = inside;
-    let wrong = faults_in(alloc, &ends.progress.unit, faults);
-    drop(ends);
+    let wrong = wrong_or_not_yet(alloc, &unit_facts.unit, faults);
+    drop(unit_facts);
     match wrong {
         Ok(wrong) => Ok(UnitVerdict::Faulty(wrong)),
         Err(error) => Err(error),
@@ -194,8 +201,8 @@ pub fn found_after(
     match own_view(alloc, &ends.own, ends.declared.as_slice(), &unit_facts.view) {
         Ok(Some(kind)) => with_view(alloc, unit_facts, kind, ends, inside),
         Ok(None) => {
-            drop(unit_facts);
-            without_view(alloc, ends, inside)
+            drop(ends);
+            without_view(alloc, unit_facts, inside)
         }
         Err(error) => {
             drop(unit_facts);

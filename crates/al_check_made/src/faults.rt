@@ -1,10 +1,11 @@
 // Faults in the unit's own file.
 ghost use Rattle.std.specs.Prelude.{◌≡◌, IfOk, map};
-ghost use Rattle.al_check_made.specs.Made.{fault_in, faults_in};
+ghost use Rattle.al_check_made.specs.Made.{fault_in, faults_in, or_not_yet};
 
 use al_base::{Diagnostic, NoMemory, UnitKey, file_name_of};
 use al_base_fault::Fault;
 use al_base_faults::FaultList;
+use al_check_promises::not_yet;
 use al_view::Seq;
 use std::alloc::Global;
 
@@ -16,7 +17,7 @@ pub fn diagnostic(alloc: Global, unit: &UnitKey, fault: &Fault) -> Result<Diagno
     Ok(Diagnostic {
         file,
         place: fault.place,
-        code: fault.code,
+        code: fault.rule.number(),
     })
 }
 
@@ -41,4 +42,32 @@ pub fn faults_in(
 {
     let all = faults.into_faults()?;
     diagnostics(alloc, unit, all.as_slice())
+}
+
+/// These, or E700 where there are none.
+fn or_not_yet(
+    alloc: Global,
+    unit: &UnitKey,
+    wrong: Seq<Diagnostic>,
+) -> Result<Seq<Diagnostic>, NoMemory>
+    ensures { IfOk result (λ ds. ds ≡ or_not_yet unit.now wrong) }
+{
+    if wrong.as_slice().is_empty() {
+        drop(wrong);
+        not_yet(alloc, unit)
+    } else {
+        Ok(wrong)
+    }
+}
+
+/// All faults of a list, each in the unit's own file; E700 where there are none.
+pub(crate) fn wrong_or_not_yet(
+    alloc: Global,
+    unit: &UnitKey,
+    faults: FaultList,
+) -> Result<Seq<Diagnostic>, NoMemory>
+    ensures { IfOk result (λ ds. ds ≡ or_not_yet unit.now (faults_in unit.now faults)) }
+{
+    let wrong = faults_in(alloc, unit, faults)?;
+    or_not_yet(alloc, unit, wrong)
 }

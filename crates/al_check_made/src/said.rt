@@ -55,6 +55,8 @@ pub struct SaidUnit {
     pub kind: View,
     pub parent: Option<UnitKey>,
     pub needs_body: bool,
+    /// The units that its with clauses name.
+    pub withs: Seq<UnitKey>,
     pub uses_inside: Seq<UseInPart>,
     pub private_types: Seq<Name>,
     pub completions: Seq<Completion>,
@@ -67,6 +69,7 @@ impl Drop for SaidUnit {
             kind: _,
             parent: _,
             needs_body: _,
+            withs: _,
             uses_inside: _,
             private_types: _,
             completions: _,
@@ -84,13 +87,13 @@ impl SaidUnit {
             kind,
             parent,
             needs_body,
+            withs,
             uses_inside,
             private_types,
             completions,
         } = self;
         let OwnText {
             is_private,
-            withs,
             uses,
             ..
         } = own;

@@ -1,8 +1,7 @@
 -- Barriers of entries (ARM 9.5.2, D.7): a barrier is the name of a component of the object, of type Boolean.
 use Rattle.std.specs.Prelude.{ℕ, Bool, ◌&&◌, List, [], ◌∷◌, Option, Some, None, if◌then◌else◌}
 use Rattle.std.specs.Str.{bytes_eq}
-use Rattle.al_base.specs.Rules.{number_of}
-use Rattle.al_base.specs.declared.rule.Rule.TheVariants.{BadBarrier}
+use Rattle.al_base_fault.specs.declared.check_rule.CheckRule.TheVariants.{BadBarrier}
 use Rattle.al_base_fault.specs.Faults.{fault_at}
 use Rattle.al_base_fault.specs.declared.fault.Fault.{Fault}
 use Rattle.al_decl_completion.specs.Completing.{is_entry}
@@ -47,7 +46,7 @@ abbrev pub barrier_fault : ProtectedView → ExpressionTree → Option Fault
 barrier_fault object e = missing (barrier_of object e)
   where
     missing : Option ObjectPlace → Option Fault
-    missing None = Some (fault_at (first_place e) (number_of BadBarrier))
+    missing None = Some (fault_at (first_place e) BadBarrier)
     missing (Some place) = None
 
 -- ---- the entry of an object, whose procedures may open it wherever its body stands among theirs

@@ -4,8 +4,8 @@ ghost use Rattle.al_check_objects.specs.Barriers.{barrier_among, barrier_fault, 
 ghost use Rattle.al_tree.specs.ExpressionViews.{expression_model};
 
 use crate::region::word_after;
-use al_base::{NoMemory, Rule};
-use al_base_fault::Fault;
+use al_base::NoMemory;
+use al_base_fault::{CheckRule, Fault};
 use al_overload_keys::{first_place, key_of};
 use al_tree::Expression;
 use al_view::{Component, ObjectPlace, ProtectedView, Symbol};
@@ -84,8 +84,8 @@ pub(crate) fn barrier_fault(
         Some(_) => Ok(None),
         None => {
             let place = first_place(barrier);
-            let code = Rule::BadBarrier.number();
-            Ok(Some(Fault { place, code }))
+            let rule = CheckRule::BadBarrier;
+            Ok(Some(Fault { place, rule }))
         }
     }
 }

@@ -1,33 +1,25 @@
 -- What is tested part by part is what is tested as a whole.
-use Rattle.std.proofs.Common.{◌≡◌, Bool, true, false, ◌&&◌, ◌||◌, not, List, [], ◌∷◌, ◌++◌, append-nil, append_assoc, map, ℕ, Option, Some, None, refl, sym, ap, ◌∙◌, if◌then◌else◌}
-use Rattle.std.specs.Cmp.{both_ways}
-use Rattle.std.specs.List.{Contains, flat_map, list_all}
+use Rattle.std.proofs.Common.{◌≡◌, Bool, true, false, ◌&&◌, ◌||◌, not, List, [], ◌∷◌, ◌++◌, append-nil, append_assoc, map, ℕ, refl, sym, ap, ◌∙◌, if◌then◌else◌}
+use Rattle.std.specs.List.{flat_map, list_all}
 use Rattle.std.proofs.lemmas.List.Folds.{list_all-append}
 use Rattle.al_base.specs.declared.unit_key.UnitKey.{UnitKey}
 use Rattle.al_view.specs.Symbols.{same_unit}
 use Rattle.al_view.specs.ViewUses.{view_uses}
 use Rattle.al_view.specs.declared.link.LinkSymbol.{LinkSymbol}
 use Rattle.al_view.specs.declared.view.ViewKind.{ViewKind}
-use Rattle.al_query.specs.Answers.{context_units, units_named}
-use Rattle.al_base_graph.proofs.Members.{first, later}
-use Rattle.al_query.specs.Known.{has_unit}
-use Rattle.al_query.specs.declared.answer.AnswerKind.TheVariants as answers
 use Rattle.al_query.specs.declared.answer.Completion.{Completion}
 use Rattle.al_view_typed.specs.UnitTrees.{UnitTree}
 use Rattle.al_view_typed.specs.Uses.{unit_uses}
 use Rattle.al_query_outcome.specs.Defines.{declared_uses, interface_uses}
 use Rattle.al_query_outcome.specs.Left.{is_of_body}
-use Rattle.al_query_outcome.specs.ReadsLaw.{answer_uses, outcome_units, property_answers}
-use Rattle.al_query_outcome.specs.Results.{Sound}
+use Rattle.al_query_outcome.specs.ReadsLaw.{answer_uses}
 use Rattle.al_query_outcome.specs.Tables.{interface_of}
 use Rattle.al_query_outcome.specs.declared.interface.Parts.{Parts}
 use Rattle.al_query_outcome.specs.declared.interface.Properties.{Properties}
 use Rattle.al_query_outcome.specs.declared.interface.StubDeclarations.{StubDeclarations}
-use Rattle.al_query_outcome.proofs.Members.{all-at, contains-has, has-contains}
 use Rattle.al_view_used.specs.Links.{Gains, has_link, is_among}
 use Rattle.al_view_used.specs.declared.link_set.LinkSet.{LinkSet}
-use Rattle.al_query_named.specs.Sets.{Gathers}
-use Rattle.al_check_promises.specs.Parts.{parent_units, part_uses, property_units, property_uses}
+use Rattle.al_check_promises.specs.Parts.{part_uses, property_uses}
 use Rattle.al_check_promises.specs.SelfChecks.{accounted, defined, is_allowed, is_completed, is_declared, is_kept, is_well_formed, left_shown}
 use Rattle.al_view_used.specs.Rules.{permits}
 use Rattle.al_view_used.specs.declared.rule.LinkRule.{LinkRule}
@@ -67,47 +59,11 @@ links_tested p q parts tree =
     ∙ ap (λ b. list_all p (unit_uses tree) && b) (list_all-append p (property_uses q) (part_uses parts))
     ∙ and_three (list_all p (unit_uses tree)) (list_all p (property_uses q)) (list_all p (part_uses parts))
 
--- ---- what a unit names
-
-property_named : (q : Properties) (parts : Parts) → flat_map units_named (property_answers (interface_of q parts)) ≡ property_units q
-unfolding units_named
-property_named q parts =
-    ap (λ xs. units_named (answers.Parent q.parent) ++ xs) (append-nil (context_units q.context))
-    ∙ ap (λ xs. xs ++ context_units q.context) (parent q.parent)
-  where
-    parent : (o : Option UnitKey) → units_named (answers.Parent o) ≡ parent_units o
-    parent (Some u) = refl
-    parent None = refl
-
--- whether units are known that a result names
-names_tested : (p : UnitKey → Bool) (q : Properties) (parts : Parts) (tree : UnitTree) → list_all p (outcome_units (Sound (interface_of q parts) tree)) ≡ list_all p (property_units q)
-unfolding outcome_units
-names_tested p q parts tree = ap (list_all p) (property_named q parts)
-
 -- ---- sets
 
 or_false : (b : Bool) → (b || false) ≡ b
 or_false true = refl
 or_false false = refl
-
--- a set that was empty has what it gathered
-pub gathered : (none set units : List UnitKey) → none ≡ [] → Gathers none set units → (u : UnitKey) → has_unit set u ≡ has_unit units u
-gathered none set units empty gathers u = gathers u ∙ ap (λ (us : List UnitKey). has_unit units u || has_unit us u) empty ∙ or_false (has_unit units u)
-
-all_by : (p : UnitKey → Bool) (xs : List UnitKey) → ((x : UnitKey) → Contains xs x → p x ≡ true) → list_all p xs ≡ true
-all_by p [] h = refl
-all_by p (x ∷ xs) h = both (p x) (list_all p xs) (h x (first x xs)) (all_by p xs (λ y c. h y (later x xs y c)))
-  where
-    both : (a b : Bool) → a ≡ true → b ≡ true → (a && b) ≡ true
-    both true b e k = k
-    both false b e k = e
-
--- so a test of its units is a test of these
-pub all_gathered : (p : UnitKey → Bool) (none set units : List UnitKey) → none ≡ [] → Gathers none set units → list_all p set ≡ list_all p units
-all_gathered p none set units empty gathers =
-    both_ways (list_all p set) (list_all p units)
-    (λ h. all_by p units (λ x c. all-at p set x h (has-contains set x (gathered none set units empty gathers x ∙ contains-has units x c))))
-    (λ h. all_by p set (λ x c. all-at p units x h (has-contains units x (sym (gathered none set units empty gathers x) ∙ contains-has set x c))))
 
 pub all_alike : {X : Type 0} (p q : X → Bool) → ((x : X) → p x ≡ q x) → (xs : List X) → list_all p xs ≡ list_all q xs
 all_alike p q h [] = refl
@@ -147,25 +103,17 @@ flat_viewed (c ∷ cs) = ap (λ xs. view_uses c.view ++ xs) (flat_viewed cs)
 
 -- ---- the whole test
 
-pub kept_by : (unit : UnitKey) (known : List UnitKey) (shown : List ViewKind) (q : Properties) (parts : Parts) (tree : UnitTree) (units : List UnitKey) (a : LinkRule) (names links declared code : Bool)
-    → ((u : UnitKey) → has_unit units u ≡ has_unit (unit ∷ known) u)
-    → names ≡ list_all (has_unit units) (property_units q)
+pub kept_by : (unit : UnitKey) (shown : List ViewKind) (q : Properties) (parts : Parts) (tree : UnitTree) (a : LinkRule) (links declared code : Bool)
     → ((x : LinkSymbol) → permits a x ≡ is_allowed unit (flat_map view_uses shown) (accounted (interface_of q parts) tree) x)
     → links ≡ ((list_all (permits a) (unit_uses tree) && list_all (permits a) (property_uses q)) && list_all (permits a) (part_uses parts))
     → declared ≡ list_all (is_declared (defined (interface_of q parts) tree)) (left_shown (interface_of q parts))
     → code ≡ (same_unit tree.unit unit && is_well_formed tree)
-    → (names && (links && (declared && code))) ≡ is_kept unit known shown (interface_of q parts) tree
+    → (links && (declared && code)) ≡ is_kept unit shown (interface_of q parts) tree
 unfolding is_kept
-kept_by unit known shown q parts tree units a names links declared code by_known is_names by_allowed is_links is_left is_code =
-    let known_all = list_all (has_unit (unit ∷ known)) (outcome_units (Sound (interface_of q parts) tree)) in
+kept_by unit shown q parts tree a links declared code by_allowed is_links is_left is_code =
     let allowed = is_allowed unit (flat_map view_uses shown) (accounted (interface_of q parts) tree) in
     let whole = list_all (is_allowed unit (flat_map view_uses shown) (accounted (interface_of q parts) tree)) (unit_uses tree ++ interface_uses (interface_of q parts)) in
     let left = list_all (is_declared (defined (interface_of q parts) tree)) (left_shown (interface_of q parts)) in
-    let one : names ≡ known_all =
-    is_names ∙ all_alike (has_unit units) (has_unit (unit ∷ known)) by_known (property_units q) ∙ sym (names_tested (has_unit (unit ∷ known)) q parts tree) in
-    let two : links ≡ whole =
+    let one : links ≡ whole =
     is_links ∙ sym (links_tested (permits a) q parts tree) ∙ all_alike (permits a) allowed by_allowed (unit_uses tree ++ interface_uses (interface_of q parts)) in
-    ap (λ (b : Bool). b && (links && (declared && code))) one
-    ∙ ap (λ (b : Bool). known_all && (b && (declared && code))) two
-    ∙ ap (λ (b : Bool). known_all && (whole && (b && code))) is_left
-    ∙ ap (λ (b : Bool). known_all && (whole && (left && b))) is_code
+    ap (λ (b : Bool). b && (declared && code)) one ∙ ap (λ (b : Bool). whole && (b && code)) is_left ∙ ap (λ (b : Bool). whole && (left && b)) is_code

@@ -1,5 +1,5 @@
 -- What holds of a result that was tested.
-use Rattle.std.proofs.Common.{◌≡◌, ◌+◌, ◌≤◌, ℕ, Bool, true, false, ◌&&◌, ◌||◌, ◌⊎◌, inl, inr, List, [], ◌∷◌, ◌++◌, map, length, refl, sym, ap, subst, ◌∙◌, if◌then◌else◌, nat_le, nat_lt, arith}
+use Rattle.std.proofs.Common.{◌≡◌, ◌+◌, ◌≤◌, ℕ, Bool, true, false, ◌&&◌, ◌||◌, ◌⊎◌, inl, inr, List, [], ◌∷◌, ◌++◌, map, refl, sym, ap, subst, if◌then◌else◌, nat_le, nat_lt, arith}
 use Rattle.std.specs.List.{All, Contains, flat_map, list_all}
 use Rattle.std.proofs.lemmas.Bool.Decides.{nat_tests}
 use Rattle.std.proofs.lemmas.List.Elements.{All-nil, All-cons, Contains-append_cases, Contains-append_left, Contains-append_right}
@@ -16,22 +16,20 @@ use Rattle.al_view.specs.ViewUses.{link, view_uses}
 use Rattle.al_view.specs.declared.link.LinkKind.TheVariants as kind
 use Rattle.al_view.specs.declared.link.LinkSymbol.{LinkSymbol}
 use Rattle.al_view.specs.declared.view.ViewKind.{ViewKind}
-use Rattle.al_query.specs.Known.{AreAmong, has_unit, known_after}
 use Rattle.al_query.specs.Reads.{Log}
-use Rattle.al_query.proofs.KnownLemmas.{has_unit-cases, has_unit-first, has_unit-right}
 use Rattle.al_view_typed.specs.UnitTrees.{UnitTree}
 use Rattle.al_view_typed.specs.Uses.{unit_defines, unit_uses}
 use Rattle.al_view_typed.specs.WellFormed.{IsWellFormed}
 use Rattle.al_query_outcome.specs.Defines.{DefinesOwn, IsAccounted, IsStubs, ShowsOnly, interface_uses}
 use Rattle.al_query_outcome.specs.Left.{is_of_body}
-use Rattle.al_query_outcome.specs.ReadsLaw.{FaultsFit, NamesOnly, UsesOnly, is_fault_of, log_uses, outcome_units}
+use Rattle.al_query_outcome.specs.ReadsLaw.{FaultsFit, UsesOnly, is_fault_of, log_uses}
 use Rattle.al_query_outcome.specs.Results.{Faulty, Sound}
 use Rattle.al_query_outcome.specs.declared.interface.StubDeclarations.{StubDeclarations}
 use Rattle.al_query_outcome.specs.declared.interface.UnitInterface.{UnitInterface}
 use Rattle.al_query_outcome.proofs.Members.{all-at}
 use Rattle.al_view_used.specs.Links.{is_among}
-use Rattle.al_check_promises.specs.Laws.{FaultsAreReported, Promised, WhatIsTestedKeeps}
-use Rattle.al_check_promises.specs.SelfChecks.{accounted, checked_faults, defined, is_allowed, is_declared, is_kept, is_well_formed, left_shown, not_checked, self_checked, stub_codes}
+use Rattle.al_check_promises.specs.Laws.{FaultsAreReported, NotYetIsReported, Promised, WhatIsTestedKeeps}
+use Rattle.al_check_promises.specs.SelfChecks.{accounted, defined, is_allowed, is_declared, is_kept, is_well_formed, left_shown, not_checked, self_checked, stub_codes}
 use Rattle.al_check_promises.specs.Shown.{WereShown}
 use Rattle.al_check_promises.proofs.Used.{among-contains, both}
 
@@ -80,33 +78,9 @@ module _ (i : UnitInterface) (tree : UnitTree) (x : LinkSymbol) where
   pub declared_is : list_all (is_declared (defined i tree)) (left_shown i) ≡ true → Contains (left_shown i) x → is_of_body x.kind ≡ false → is_among (defined i tree) x ≡ true
   declared_is declared c other = either (is_of_body x.kind) (is_among (defined i tree) x) other (all-at (is_declared (defined i tree)) (left_shown i) x declared c)
 
-module _ (unit : UnitKey) (first_known known : List UnitKey) (log : Log) (shown : List ViewKind) (i : UnitInterface) (tree : UnitTree) (among : AreAmong known (known_after first_known log)) (were : WereShown unit log shown) where
+module _ (unit : UnitKey) (log : Log) (shown : List ViewKind) (i : UnitInterface) (tree : UnitTree) (were : WereShown unit log shown) where
   abbrev Allowed : LinkSymbol → Bool
   Allowed x = is_allowed unit (flat_map view_uses shown) (accounted i tree) x
-
-  self : (u : UnitKey) → u ≡ unit → has_unit (unit ∷ known_after first_known log) u ≡ true
-  self u is = subst (λ (v : UnitKey). has_unit (unit ∷ known_after first_known log) v ≡ true) (sym is) (has_unit-first unit (known_after first_known log))
-
-  -- a unit that may be named is known
-  is_known : (u : UnitKey) → has_unit (unit ∷ known) u ≡ true → has_unit (unit ∷ known_after first_known log) u ≡ true
-  is_known u h =
-      elim (has_unit-cases (unit ∷ []) known u h) [
-        | inl o ↦ self u (one_of (same_unit u unit) refl o)
-        | inr k ↦ has_unit-right (unit ∷ []) (known_after first_known log) u (among u k)
-      ]
-    where
-      one_of : (b : Bool) → same_unit u unit ≡ b → (b || false) ≡ true → u ≡ unit
-      one_of true is o = same_unit-one u unit is
-      one_of false is o = absurd (cc)
-
-  names : list_all (has_unit (unit ∷ known)) (outcome_units (Sound i tree)) ≡ true → NamesOnly (unit ∷ known_after first_known log) (Sound i tree)
-  names h = weaker (outcome_units (Sound i tree)) h
-    where
-      weaker : (xs : List UnitKey) → list_all (has_unit (unit ∷ known)) xs ≡ true → list_all (has_unit (unit ∷ known_after first_known log)) xs ≡ true
-      weaker [] h = refl
-      weaker (x ∷ xs) h =
-          let two = both (has_unit (unit ∷ known) x) (list_all (has_unit (unit ∷ known)) xs) h in
-          ap (λ b. b && list_all (has_unit (unit ∷ known_after first_known log)) xs) (is_known x two.0) ∙ weaker xs two.1
 
   -- what is allowed is the unit's own, or was shown
   own_or_shown : (x : LinkSymbol) → Allowed x ≡ true → (x.symbol.unit ≡ unit) ⊎ Contains (log_uses log) x
@@ -161,50 +135,37 @@ well_formed tree h =
 
 -- ---- faults
 
-own_fault : (unit : UnitKey) → list_all (is_fault_of unit) (not_checked unit) ≡ true
+pub own_fault : (unit : UnitKey) → list_all (is_fault_of unit) (not_checked unit) ≡ true
 own_fault unit = ap (λ b. (b && true) && true) ((bytes_eq-Decides (file_name_of (key_of unit)) (file_name_of (key_of unit))).1 refl)
 
-module _ (unit : UnitKey) (known : List UnitKey) (log : Log) where
-  wrong : (faults : List Diagnostic) → FaultsFit unit (Faulty faults) → Promised unit known log (Faulty faults)
-  unfolding outcome_units
-  wrong faults fit = record { names = refl; uses = tt; defines = tt; shows = tt; code = tt; faults = fit }
+module _ (unit : UnitKey) (log : Log) where
+  wrong : (faults : List Diagnostic) → FaultsFit unit (Faulty faults) → Promised unit log (Faulty faults)
+  wrong faults fit = record { uses = tt; defines = tt; shows = tt; code = tt; faults = fit }
 
-  pub not_yet : Promised unit known log (Faulty (not_checked unit))
+  pub not_yet : Promised unit log (Faulty (not_checked unit))
   not_yet = wrong (not_checked unit) (refl, own_fault unit)
 
-  answered : (b c : Bool) (faults : List Diagnostic) → (b && c ≡ true → FaultsFit unit (Faulty faults)) → Promised unit known log (if b && c then Faulty faults else Faulty (not_checked unit))
-  answered true true faults fit = wrong faults (fit refl)
-  answered true false faults fit = not_yet
-  answered false c faults fit = not_yet
-
 pub faults_told : FaultsAreReported
-unfolding checked_faults
-faults_told unit known log faults =
-    answered unit known log (nat_lt 0 (length faults)) (list_all (is_fault_of unit) faults) faults (λ h. both (nat_lt 0 (length faults)) (list_all (is_fault_of unit) faults) h)
+faults_told unit log faults fit = wrong unit log faults fit
+
+pub not_yet_told : NotYetIsReported
+not_yet_told unit log = not_yet unit log
 
 pub tested_keeps : WhatIsTestedKeeps
 unfolding is_kept self_checked
-tested_keeps unit first_known known log shown i tree complete among were = by (is_kept unit known shown i tree) complete refl
+tested_keeps unit log shown i tree complete were = by (is_kept unit shown i tree) complete refl
   where
-    by : (b c : Bool) → is_kept unit known shown i tree ≡ b → Promised unit first_known log (if b && c then Sound i tree else Faulty (not_checked unit))
-    by false c is = not_yet unit first_known log
-    by true false is = not_yet unit first_known log
+    by : (b c : Bool) → is_kept unit shown i tree ≡ b → Promised unit log (if b && c then Sound i tree else Faulty (not_checked unit))
+    by false c is = not_yet unit log
+    by true false is = not_yet unit log
     by true true is =
-        let a = both (list_all (has_unit (unit ∷ known)) (outcome_units (Sound i tree))) _ is in
-        let b = both (list_all (is_allowed unit (flat_map view_uses shown) (accounted i tree)) (unit_uses tree ++ interface_uses i)) _ a.1 in
+        let b = both (list_all (is_allowed unit (flat_map view_uses shown) (accounted i tree)) (unit_uses tree ++ interface_uses i)) _ is in
         let d = both (list_all (is_declared (defined i tree)) (left_shown i)) (same_unit tree.unit unit && is_well_formed tree) b.1 in
         let c = both (same_unit tree.unit unit) (is_well_formed tree) d.1 in
         record {
-          names = names unit first_known known log shown i tree among were a.0;
-          uses = uses unit first_known known log shown i tree among were b.0;
-          defines = defines unit first_known known log shown i tree among were b.0 d.0;
-          shows = shows unit first_known known log shown i tree among were b.0;
+          uses = uses unit log shown i tree were b.0;
+          defines = defines unit log shown i tree were b.0 d.0;
+          shows = shows unit log shown i tree were b.0;
           code = (same_unit-one tree.unit unit c.0, well_formed tree c.1);
           faults = tt;
         }
-
--- the faults that are told, by the test
-pub when_fit : (unit : UnitKey) (faults same : List Diagnostic) (fit : Bool) → same ≡ faults → fit ≡ (nat_lt 0 (length same) && list_all (is_fault_of unit) same) → (if fit then Faulty faults else Faulty (not_checked unit)) ≡ checked_faults unit faults
-unfolding checked_faults
-when_fit unit faults same fit is test =
-    ap (λ (b : Bool). if b then Faulty faults else Faulty (not_checked unit)) (test ∙ ap (λ (ds : List Diagnostic). nat_lt 0 (length ds) && list_all (is_fault_of unit) ds) is)

@@ -10,12 +10,9 @@ use Rattle.al_view.specs.declared.link.LinkKind.{LinkKind}
 use Rattle.al_view.specs.declared.link.LinkKind.TheVariants as kind
 use Rattle.al_view.specs.declared.link.LinkSymbol.{LinkSymbol}
 use Rattle.al_view.specs.declared.view.ViewKind.{ViewKind}
-use Rattle.al_query.specs.Known.{has_unit}
 use Rattle.al_view_typed.specs.UnitTrees.{UnitTree}
 use Rattle.al_view_typed.specs.Uses.{unit_uses}
 use Rattle.al_query_outcome.specs.Defines.{interface_uses}
-use Rattle.al_query_outcome.specs.ReadsLaw.{outcome_units}
-use Rattle.al_query_outcome.specs.Results.{Sound}
 use Rattle.al_query_outcome.specs.declared.interface.UnitInterface.{UnitInterface}
 use Rattle.al_view_used.specs.Links.{is_among, same_link, same_link_kind}
 use Rattle.al_check_promises.specs.SelfChecks.{accounted, defined, is_allowed, is_declared, is_kept, is_well_formed, left_shown}
@@ -42,7 +39,7 @@ all_weaker p q f (x ∷ xs) h =
     let two = both (p x) (list_all p xs) h in
     and_both (q x) (list_all q xs) (f x two.0) (all_weaker p q f xs two.1)
 
-module _ (unit : UnitKey) (known : List UnitKey) (shown more : List ViewKind) (among : (v : ViewKind) → Contains shown v → Contains more v) where
+module _ (unit : UnitKey) (shown more : List ViewKind) (among : (v : ViewKind) → Contains shown v → Contains more v) where
   into : {X : Type 0} (f : ViewKind → List X) (x : X) → Contains (flat_map f shown) x → Contains (flat_map f more) x
   into f x c = let r = from_flat_map f shown x c in into_flat_map f more r.0 x (among r.0 r.1) r.2
 
@@ -53,17 +50,13 @@ module _ (unit : UnitKey) (known : List UnitKey) (shown more : List ViewKind) (a
       by true h = h
       by false h = contains-among (flat_map view_uses more) x (into view_uses x (among-contains (flat_map view_uses shown) x h))
 
-  pub more_kept : (i : UnitInterface) (tree : UnitTree) → is_kept unit known shown i tree ≡ true → is_kept unit known more i tree ≡ true
+  pub more_kept : (i : UnitInterface) (tree : UnitTree) → is_kept unit shown i tree ≡ true → is_kept unit more i tree ≡ true
   unfolding is_kept
   more_kept i tree h =
-      let a = both (list_all (has_unit (unit ∷ known)) (outcome_units (Sound i tree))) _ h in
-      let b = both (list_all (is_allowed unit (flat_map view_uses shown) (accounted i tree)) (unit_uses tree ++ interface_uses i)) _ a.1 in
-      and_both (list_all (has_unit (unit ∷ known)) (outcome_units (Sound i tree)))
-      (list_all (is_allowed unit (flat_map view_uses more) (accounted i tree)) (unit_uses tree ++ interface_uses i) && (list_all (is_declared (defined i tree)) (left_shown i) && (same_unit tree.unit unit && is_well_formed tree)))
-      a.0
-      (and_both (list_all (is_allowed unit (flat_map view_uses more) (accounted i tree)) (unit_uses tree ++ interface_uses i)) (list_all (is_declared (defined i tree)) (left_shown i) && (same_unit tree.unit unit && is_well_formed tree))
-      (all_weaker (is_allowed unit (flat_map view_uses shown) (accounted i tree)) (is_allowed unit (flat_map view_uses more) (accounted i tree)) (more_allowed (accounted i tree)) (unit_uses tree ++ interface_uses i) b.0) b.1)
+      let b = both (list_all (is_allowed unit (flat_map view_uses shown) (accounted i tree)) (unit_uses tree ++ interface_uses i)) _ h in
+      and_both (list_all (is_allowed unit (flat_map view_uses more) (accounted i tree)) (unit_uses tree ++ interface_uses i)) (list_all (is_declared (defined i tree)) (left_shown i) && (same_unit tree.unit unit && is_well_formed tree))
+      (all_weaker (is_allowed unit (flat_map view_uses shown) (accounted i tree)) (is_allowed unit (flat_map view_uses more) (accounted i tree)) (more_allowed (accounted i tree)) (unit_uses tree ++ interface_uses i) b.0) b.1
 
 -- so the test is the same, whether the views are these or more
-pub same_test : (unit : UnitKey) (known : List UnitKey) (shown more : List ViewKind) (i : UnitInterface) (tree : UnitTree) → ((v : ViewKind) → Contains shown v → Contains more v) → is_kept unit known shown i tree ≡ true → is_kept unit known shown i tree ≡ is_kept unit known more i tree
-same_test unit known shown more i tree among kept = kept ∙ sym (more_kept unit known shown more among i tree kept)
+pub same_test : (unit : UnitKey) (shown more : List ViewKind) (i : UnitInterface) (tree : UnitTree) → ((v : ViewKind) → Contains shown v → Contains more v) → is_kept unit shown i tree ≡ true → is_kept unit shown i tree ≡ is_kept unit more i tree
+same_test unit shown more i tree among kept = kept ∙ sym (more_kept unit shown more among i tree kept)

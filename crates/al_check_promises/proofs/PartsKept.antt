@@ -131,7 +131,7 @@ module _ (unit : UnitKey) (h : Header) (t : Table) (i : UnitInterface) (tree : U
 
 pub parts_completed : PartsAreCompleted
 unfolding self_checked is_complete
-parts_completed unit h t known shown i tree = at (is_kept unit known shown i tree) (is_complete unit h (views_left unit.kind unit.name t) (declares_itself unit t) i tree) refl
+parts_completed unit h t shown i tree = at (is_kept unit shown i tree) (is_complete unit h (views_left unit.kind unit.name t) (declares_itself unit t) i tree) refl
   where
     at : (k c : Bool) → is_complete unit h (views_left unit.kind unit.name t) (declares_itself unit t) i tree ≡ c → DefinesParts unit h t (if k && c then Sound i tree else Faulty (not_checked unit))
     at false c is = tt

@@ -2,25 +2,19 @@
 use Rattle.std.proofs.Common.{◌≡◌, Bool, true, false, ◌⊎◌, inl, inr, List, [], ◌∷◌, ◌++◌, append_assoc, cond, Option, Some, None, refl, sym, ap, subst, ◌∙◌}
 use Rattle.std.specs.Prelude.{unwrap_or}
 use Rattle.std.specs.List.{Contains, flat_map}
-use Rattle.std.proofs.lemmas.List.Elements.{Contains-append_left, Contains-append_right}
-use Rattle.al_base.specs.declared.unit_key.UnitKey.{UnitKey}
 use Rattle.al_base_graph.proofs.Members.{first, into_flat_map, later, nowhere}
 use Rattle.al_view.specs.ViewUses.{view_uses}
 use Rattle.al_view.specs.declared.link.LinkSymbol.{LinkSymbol}
 use Rattle.al_view.specs.declared.view.ViewKind.{ViewKind}
-use Rattle.al_query.specs.Answers.{units_named}
-use Rattle.al_query.specs.Known.{has_unit, known_after, learned, told_by}
 use Rattle.al_query.specs.Queries.{same_query}
 use Rattle.al_query.specs.QueryLaws.{same_query-one, same_query-self}
 use Rattle.al_query.specs.Reads.{Agrees, Log, Table, recorded}
 use Rattle.al_query.specs.declared.answer.AnswerKind.{AnswerKind}
 use Rattle.al_query.specs.declared.query.Query.{Query}
 use Rattle.al_query.specs.declared.query.Query.TheVariants.{Named, Of}
-use Rattle.al_query.proofs.KnownLemmas.{has_unit-left}
 use Rattle.al_query.proofs.LogLemmas.{agrees-recorded}
 use Rattle.al_query_outcome.specs.ReadsLaw.{answer_uses, log_uses}
 use Rattle.al_query_outcome.specs.Tables.{no_answer}
-use Rattle.al_query_outcome.proofs.Members.{contains-has, has-contains}
 use Rattle.al_check_promises.specs.Laws.{OnlyRecorded}
 use Rattle.al_check_promises.specs.Shown.{only_recorded}
 
@@ -73,11 +67,6 @@ unfolding answer_uses
 nothing_used (Named unit part name) x c = nowhere x c
 nothing_used (Of unit property) x c = nowhere x c
 
-nothing_named : (q : Query) (u : UnitKey) → has_unit (units_named (no_answer q)) u ≡ true → ⊥
-unfolding units_named
-nothing_named (Named unit part name) u h = cc
-nothing_named (Of unit property) u h = cc
-
 pub used_by_log : (log : Log) (q : Query) (x : LinkSymbol) → Contains (answer_uses (only_recorded log q)) x → Contains (log_uses log) x
 unfolding log_uses
 used_by_log log q x c =
@@ -86,23 +75,8 @@ used_by_log log q x c =
       | inr some ↦ into_flat_map (λ (e : Query × AnswerKind). answer_uses e.1) log (q, some.0) x (entry log q some.0 some.1) (subst (λ (o : Option AnswerKind). Contains (answer_uses (unwrap_or o (no_answer q))) x) some.1 c)
     ]
 
-pub named_by_log : (known : List UnitKey) (log : Log) (q : Query) (u : UnitKey) → has_unit (units_named (only_recorded log q)) u ≡ true → has_unit (known_after known log) u ≡ true
-named_by_log known log q u h =
-    elim (recorded_or_not log q) [
-      | inl none ↦ absurd (nothing_named q u (subst (λ (o : Option AnswerKind). has_unit (units_named (unwrap_or o (no_answer q))) u ≡ true) none h))
-      | inr some ↦
-          let named : has_unit (units_named some.0) u ≡ true = subst (λ (o : Option AnswerKind). has_unit (units_named (unwrap_or o (no_answer q))) u ≡ true) some.1 h in
-          let inside = Contains-append_left (units_named some.0) (told_by q some.0) u (has-contains (units_named some.0) u named) in
-          contains-has (known_after known log) u
-          (Contains-append_right known (flat_map (λ (e : Query × AnswerKind). learned e.0 e.1) log) u (into_flat_map (λ (e : Query × AnswerKind). learned e.0 e.1) log (q, some.0) u (entry log q some.0 some.1) inside))
-    ]
-
 pub only : OnlyRecorded
-only unit first_known known log t views shown units agree answered come named_told named =
+only unit log t views shown agree answered come =
     let v = only_recorded log in
-    let a : Agrees v log = agrees t log agree in
-    let is : shown ≡ views v = answered v a in
-    let those : known ≡ units v = named_told v a in (
-      λ x c. elim (come v x (subst (λ (ws : List ViewKind). Contains (flat_map view_uses ws) x) is c)) [ inl own ↦ inl own | inr q ↦ inr (used_by_log log q.0 x q.1) ],
-      λ u h. elim (named v u (subst (λ (us : List UnitKey). has_unit us u ≡ true) those h)) [ inl f ↦ has_unit-left first_known (flat_map (λ (e : Query × AnswerKind). learned e.0 e.1) log) u f | inr q ↦ named_by_log first_known log q.0 u q.1 ],
-    )
+    let is : shown ≡ views v = answered v (agrees t log agree) in
+    λ x c. elim (come v x (subst (λ (ws : List ViewKind). Contains (flat_map view_uses ws) x) is c)) [ inl own ↦ inl own | inr q ↦ inr (used_by_log log q.0 x q.1) ]

@@ -1,10 +1,8 @@
--- What the parts of a unit show and name, part by part.
-use Rattle.std.specs.Prelude.{List, [], ◌∷◌, ◌++◌, Option, Some, None}
+-- What the parts of a unit show, part by part.
+use Rattle.std.specs.Prelude.{List, ◌++◌}
 use Rattle.std.specs.List.{flat_map}
-use Rattle.al_base.specs.declared.unit_key.UnitKey.{UnitKey}
 use Rattle.al_view.specs.ViewUses.{view_uses}
 use Rattle.al_view.specs.declared.link.LinkSymbol.{LinkSymbol}
-use Rattle.al_query.specs.Answers.{context_units}
 use Rattle.al_query_outcome.specs.Defines.{declared_uses}
 use Rattle.al_query_outcome.specs.declared.interface.Parts.{Parts}
 use Rattle.al_query_outcome.specs.declared.interface.Properties.{Properties}
@@ -14,10 +12,3 @@ property_uses p = view_uses p.kind ++ flat_map (λ c. view_uses c.view) p.comple
 
 abbrev pub part_uses : Parts → List LinkSymbol
 part_uses p = declared_uses p.visible ++ declared_uses p.private_part ++ declared_uses p.body ++ flat_map (λ s. declared_uses s.before) p.stubs
-
-abbrev pub parent_units : Option UnitKey → List UnitKey
-parent_units (Some unit) = unit ∷ []
-parent_units None = []
-
-abbrev pub property_units : Properties → List UnitKey
-property_units p = parent_units p.parent ++ context_units p.context

@@ -1,5 +1,5 @@
 -- What is tested of the result of a check.
-use Rattle.std.specs.Prelude.{◌+◌, Bool, ◌&&◌, ◌||◌, not, List, [], ◌∷◌, ◌++◌, length, map, nat_le, nat_lt, if◌then◌else◌}
+use Rattle.std.specs.Prelude.{◌+◌, Bool, ◌&&◌, ◌||◌, not, List, [], ◌∷◌, ◌++◌, map, nat_le, nat_lt, if◌then◌else◌}
 use Rattle.std.specs.List.{flat_map, list_all, list_any}
 use Rattle.std.specs.Option.{is_none}
 use Rattle.std.specs.Str.{bytes_eq}
@@ -17,7 +17,6 @@ use Rattle.al_view.specs.declared.part.Part.TheVariants.{Stub}
 use Rattle.al_view.specs.declared.view.ViewKind.{ViewKind}
 use Rattle.al_unit_graph.specs.Headers.{Header}
 use Rattle.al_query.specs.Answers.{declaration, own_view_of}
-use Rattle.al_query.specs.Known.{has_unit}
 use Rattle.al_query.specs.Reads.{Table}
 use Rattle.al_query.specs.declared.query.Property.TheVariants.{Kind}
 use Rattle.al_query.specs.declared.query.Query.TheVariants.{Of}
@@ -25,14 +24,13 @@ use Rattle.al_view_typed.specs.UnitTrees.{UnitTree}
 use Rattle.al_view_typed.specs.Uses.{unit_defines, unit_uses}
 use Rattle.al_query_outcome.specs.Defines.{interface_uses, is_simple}
 use Rattle.al_query_outcome.specs.Left.{completed_views, first_view, is_of_body, one_view, own_code, separate}
-use Rattle.al_query_outcome.specs.ReadsLaw.{is_fault_of, outcome_units}
 use Rattle.al_query_outcome.specs.Results.{Outcome, Faulty, Sound}
 use Rattle.al_query_outcome.specs.Tables.{part_of}
 use Rattle.al_query_outcome.specs.declared.interface.StubDeclarations.{StubDeclarations}
 use Rattle.al_query_outcome.specs.declared.interface.UnitInterface.{UnitInterface}
 use Rattle.al_view_used.specs.Links.{is_among}
 
--- ---- what a unit names, uses and shows
+-- ---- what a unit uses and shows
 
 -- the code that stubs stand for
 abbrev pub stub_codes : UnitInterface → List LinkSymbol
@@ -64,12 +62,11 @@ is_well_formed tree =
     list_all (λ p. nat_le p.word tree.words) tree.objects
     && (list_all (λ p. nat_lt p.word tree.words) tree.flags && list_all (λ p. nat_le (p.word + p.words) tree.words) tree.protected_objects)
 
--- whether the result is what the check of a unit promises, where it knows of these units and was shown these views
-unfoldable pub is_kept : UnitKey → List UnitKey → List ViewKind → UnitInterface → UnitTree → Bool
-is_kept unit known shown i tree =
-    list_all (has_unit (unit ∷ known)) (outcome_units (Sound i tree))
-    && (list_all (is_allowed unit (flat_map view_uses shown) (accounted i tree)) (unit_uses tree ++ interface_uses i)
-    && (list_all (is_declared (defined i tree)) (left_shown i) && (same_unit tree.unit unit && is_well_formed tree)))
+-- whether the result is what the check of a unit promises, where it was shown these views
+unfoldable pub is_kept : UnitKey → List ViewKind → UnitInterface → UnitTree → Bool
+is_kept unit shown i tree =
+    list_all (is_allowed unit (flat_map view_uses shown) (accounted i tree)) (unit_uses tree ++ interface_uses i)
+    && (list_all (is_declared (defined i tree)) (left_shown i) && (same_unit tree.unit unit && is_well_formed tree))
 
 -- ---- what a unit completes, and what it leaves to others
 
@@ -113,9 +110,5 @@ abbrev pub not_checked : UnitKey → List Diagnostic
 not_checked unit = record { file = file_name_of (key_of unit); place = record { line = 1; col = 1 }; code = 700 } ∷ []
 
 -- the result, where it is what the check promises
-unfoldable pub self_checked : UnitKey → List UnitKey → List ViewKind → Bool → UnitInterface → UnitTree → Outcome
-self_checked unit known shown complete i tree = if is_kept unit known shown i tree && complete then Sound i tree else Faulty (not_checked unit)
-
--- what is wrong, where that is what a check may tell
-unfoldable pub checked_faults : UnitKey → List Diagnostic → Outcome
-checked_faults unit faults = if nat_lt 0 (length faults) && list_all (is_fault_of unit) faults then Faulty faults else Faulty (not_checked unit)
+unfoldable pub self_checked : UnitKey → List ViewKind → Bool → UnitInterface → UnitTree → Outcome
+self_checked unit shown complete i tree = if is_kept unit shown i tree && complete then Sound i tree else Faulty (not_checked unit)

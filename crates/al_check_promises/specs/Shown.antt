@@ -1,12 +1,10 @@
 -- A table that knows only what was recorded: so whatever comes of tables comes of the recorded answers.
-use Rattle.std.specs.Prelude.{◌≡◌, ◌⊎◌, true, List, unwrap_or}
+use Rattle.std.specs.Prelude.{◌≡◌, ◌⊎◌, List, unwrap_or}
 use Rattle.std.specs.List.{Contains, flat_map}
 use Rattle.al_base.specs.declared.unit_key.UnitKey.{UnitKey}
 use Rattle.al_view.specs.ViewUses.{view_uses}
 use Rattle.al_view.specs.declared.link.LinkSymbol.{LinkSymbol}
 use Rattle.al_view.specs.declared.view.ViewKind.{ViewKind}
-use Rattle.al_query.specs.Answers.{units_named}
-use Rattle.al_query.specs.Known.{has_unit}
 use Rattle.al_query.specs.Reads.{Log, Table, recorded}
 use Rattle.al_query.specs.declared.query.Query.{Query}
 use Rattle.al_query_outcome.specs.ReadsLaw.{answer_uses, log_uses}
@@ -23,7 +21,3 @@ ComeOf unit t views = (x : LinkSymbol) → Contains (flat_map view_uses views) x
 -- these views are the unit's own, or stand in the recorded answers
 abbrev pub WereShown : UnitKey → Log → List ViewKind → Type 0
 WereShown unit log views = (x : LinkSymbol) → Contains (flat_map view_uses views) x → (x.symbol.unit ≡ unit) ⊎ Contains (log_uses log) x
-
--- these units are known at first, or answers of the table name them
-abbrev pub AreNamedBy : List UnitKey → Table → List UnitKey → Type 0
-AreNamedBy known t units = (u : UnitKey) → has_unit units u ≡ true → (has_unit known u ≡ true) ⊎ ((q : Query) × (has_unit (units_named (t q)) u ≡ true))

@@ -62,21 +62,19 @@ fn both_hold(kept: bool, complete: bool) -> bool
     kept && complete
 }
 
-/// The result of a check in which no fault was found, where it is what the check promises: it names only units that the check
-/// knows of; it uses and shows nothing of other units but what these views show; what it uses and shows of its own is defined, left to
-/// its body, or the code of a stub; there is code for it; and it completes what it must, as was tested before. Else E700, as something is
-/// compiled that can't be yet.
+/// The result of a check in which no fault was found, where it is what the check promises: it uses and shows nothing of other units but
+/// what these views show; what it uses and shows of its own is defined, left to its body, or the code of a stub; there is code for it; and
+/// it completes what it must, as was tested before. Else E700, as something is compiled that can't be yet.
 pub fn self_checked(
     alloc: Global,
     unit: &UnitKey,
-    known: &[UnitKey],
     shown: &[View],
     complete: bool,
     sound: SoundUnit,
 ) -> Result<Checked, NoMemory>
-    ensures { IfOk result (λ checked. checked_model checked ≡ self_checked unit.now known.now shown.now complete (interface_of sound.properties sound.parts) (unit_model sound.tree)) }
+    ensures { IfOk result (λ checked. checked_model checked ≡ self_checked unit.now shown.now complete (interface_of sound.properties sound.parts) (unit_model sound.tree)) }
 {
-    match is_kept(alloc, unit, known, shown, &sound) {
+    match is_kept(alloc, unit, shown, &sound) {
         Ok(kept) => answered(alloc, unit, both_hold(kept, complete), sound),
         Err(error) => {
             drop(sound);

@@ -1,7 +1,7 @@
 //! What holds of tested results.
-ghost use Rattle.al_check_promises.specs.Laws.{FaultsAreReported, OnlyRecorded, PartsAreCompleted, WhatIsTestedKeeps};
+ghost use Rattle.al_check_promises.specs.Laws.{FaultsAreReported, NotYetIsReported, OnlyRecorded, PartsAreCompleted, WhatIsTestedKeeps};
 
-/// A result that was tested names, uses, defines and shows what the check of its unit promises, whatever the check was shown.
+/// A result that was tested uses, defines and shows what the check of its unit promises, whatever the check was shown.
 pub fn what_is_tested_keeps()
     ensures { WhatIsTestedKeeps }
 {}
@@ -11,13 +11,14 @@ pub fn parts_are_completed()
     ensures { PartsAreCompleted }
 {}
 
-/// Faults that were tested are what a check may tell.
+/// So does a result that is wrong, where what is wrong is what a check may tell; E700 may be told of each unit.
 pub fn faults_are_reported()
-    ensures { FaultsAreReported }
+    ensures faults { FaultsAreReported }
+    ensures not_yet { NotYetIsReported }
 {}
 
-/// Views and units that come of the answers of whatever table agrees with a log come of its recorded answers: under the table that knows
-/// no more than these.
+/// Views that come of the answers of whatever table agrees with a log come of its recorded answers: under the table that knows no more
+/// than these.
 pub fn only_recorded()
     ensures { OnlyRecorded }
 {}

@@ -13,5 +13,5 @@ mod tested;
 
 pub use checked::{SoundUnit, self_checked};
 pub use completed::is_complete;
-pub use faults::checked_faults;
+pub use faults::{not_checked, not_yet};
 pub use tested::is_kept;

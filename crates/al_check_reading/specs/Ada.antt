@@ -1,7 +1,6 @@
 -- The reading of Ada texts, by a table of answers.
 use Rattle.std.specs.Prelude.{List, Option, Some, None, if◌then◌else◌}
-use Rattle.al_base.specs.Rules.{number_of}
-use Rattle.al_base.specs.declared.rule.Rule.TheVariants.{MissingCompletion}
+use Rattle.al_base_fault.specs.declared.check_rule.CheckRule.TheVariants.{MissingCompletion}
 use Rattle.al_base_fault.specs.Faults.{fault_at}
 use Rattle.al_scope.specs.PartialViews.{some_incomplete}
 use Rattle.al_scope.specs.Places.{inner_declared}
@@ -43,7 +42,7 @@ missing_here h l = missing_fault (place_of l) h.env.uncompleted
 
 -- a private type of the unit's own that has no full declaration
 abbrev pub incomplete_here : CheckState → Label → Option Fault
-incomplete_here h l = if some_incomplete (inner_declared h.env.scope.regions) then Some (fault_at (place_of l) (number_of MissingCompletion)) else None
+incomplete_here h l = if some_incomplete (inner_declared h.env.scope.regions) then Some (fault_at (place_of l) MissingCompletion) else None
 
 unfoldable pub ada : Table → Reading CheckState
 ada t = record {

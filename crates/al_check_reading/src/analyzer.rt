@@ -4,8 +4,8 @@ ghost use Rattle.al_tree.specs.Lexemes.{place_label};
 ghost use Rattle.al_check_reading.specs.Ada.{incomplete_here};
 
 use crate::{choices, ranges, values};
-use al_base::{NoMemory, Place, Rule};
-use al_base_fault::{CheckResult, Fault};
+use al_base::{NoMemory, Place};
+use al_base_fault::{CheckResult, CheckRule, Fault};
 use al_check_declared::{
     declare_object, declare_task, declared, enter_body, enter_object, enter_private, entry_head,
     inner_head, nested_subprogram, no_place, open_stub, task_head, whole_head, whole_subprogram,
@@ -36,7 +36,7 @@ fn incomplete_here(state: &CheckState, end: Place) -> Option<Fault>
     if state.env.scope.is_incomplete() {
         return Some(Fault {
             place: end,
-            code: Rule::MissingCompletion.number(),
+            rule: CheckRule::MissingCompletion,
         });
     }
     None

@@ -20,5 +20,11 @@ stubs_in t zero name next = []
 stubs_in t (suc n) name None = []
 stubs_in t (suc n) name (Some unit) = stubs_in t n unit.name (next_body t unit) ++ part_of unit (Stub (last_of name)) ∷ []
 
+-- the same for a stub of this name, each after those inside it
+abbrev pub stubs_out : Table → ℕ → List ℕ → Option UnitKey → List UnitPart
+stubs_out t zero stub next = []
+stubs_out t (suc n) stub None = []
+stubs_out t (suc n) stub (Some unit) = part_of unit (Stub stub) ∷ stubs_out t n (last_of unit.name) (next_body t unit)
+
 abbrev pub stubs_round : Table → List ℕ → List ℕ → List UnitPart
 stubs_round t name parent = stubs_in t (length name) name (Some (body_named t parent))

@@ -3,8 +3,7 @@
 use Rattle.std.specs.List.{flat_map}
 use Rattle.std.specs.Prelude.{ℕ, Bool, true, false, ◌&&◌, ◌||◌, List, [], ◌∷◌, map, not, Option, Some, None, Result, Ok, if◌then◌else◌}
 use Rattle.std.specs.Option.{is_none, option_map, unwrap_or}
-use Rattle.al_base.specs.Rules.{number_of}
-use Rattle.al_base.specs.declared.rule.Rule.TheVariants.{Duplicate}
+use Rattle.al_base_fault.specs.declared.check_rule.CheckRule.TheVariants.{Duplicate}
 use Rattle.al_base.specs.declared.unit_key.UnitKey.{UnitKey}
 use Rattle.al_base.specs.declared.unit_key.UnitKind.{UnitKind}
 use Rattle.al_base.specs.declared.unit_key.UnitKind.TheVariants.{Decl, Body, Sub}
@@ -52,13 +51,13 @@ plain_symbol unit = record { unit = unit; name = last_of unit.name; number = 0 }
 abbrev pub declared_view : Table → UnitKey → Option ViewKind
 declared_view t unit = own_view_of (t (Of (declaration unit.name) Kind))
 
--- the declaration of a library unit's parent
-abbrev pub above : UnitKey → Option UnitKey
-above unit = option_map declaration (names.parent_of unit.name)
+-- the declaration of a library unit's parent, by the name that stands in its text
+abbrev pub above : LibraryItemTree → Option UnitKey
+above item = option_map declaration (names.parent_of (full_name (item_name item)))
 
 -- of a library unit, with what it completes
-abbrev pub of_library : UnitKey → Option ViewKind → Completed
-of_library unit view = record { view = view; parent = above unit; stubs = [] }
+abbrev pub of_library : LibraryItemTree → Option ViewKind → Completed
+of_library item view = record { view = view; parent = above item; stubs = [] }
 
 -- of a subunit with this parent body
 abbrev pub of_subunit : Table → UnitKey → List ℕ → Completed
@@ -66,10 +65,10 @@ of_subunit t unit parent = record { view = stub_view t unit.name parent; parent 
 
 -- the declaration of a library body, the stub of a subunit
 abbrev pub completed_at : Table → UnitKey → LibraryItemTree → Completed
-completed_at t unit (LibrarySubprogram p s) = of_library unit None
-completed_at t unit (LibraryPackage p l k) = of_library unit None
-completed_at t unit (LibraryBody s b) = of_library unit (declared_view t unit)
-completed_at t unit (LibraryPackageBody l k) = of_library unit (declared_view t unit)
+completed_at t unit (LibrarySubprogram p s) = of_library (LibrarySubprogram p s) None
+completed_at t unit (LibraryPackage p l k) = of_library (LibraryPackage p l k) None
+completed_at t unit (LibraryBody s b) = of_library (LibraryBody s b) (declared_view t unit)
+completed_at t unit (LibraryPackageBody l k) = of_library (LibraryPackageBody l k) (declared_view t unit)
 completed_at t unit (Subunit l o n s b) = of_subunit t unit (full_name n)
 
 -- ---- what its text says of its place
@@ -187,7 +186,7 @@ taken_in t name (Some p) =
 -- E301 at the name of a unit
 abbrev pub name_fault : Table → UnitKey → LibraryItemTree → Option ViewKind → Option Fault
 name_fault t unit item view =
-    if declares item view && taken_in t (last_of unit.name) (names.parent_of unit.name) then Some (fault_at (place_of (item_name item)) (number_of Duplicate)) else None
+    if declares item view && taken_in t (last_of unit.name) (names.parent_of unit.name) then Some (fault_at (place_of (item_name item)) Duplicate) else None
 
 -- ---- all of it
 

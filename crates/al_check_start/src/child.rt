@@ -1,7 +1,6 @@
 // Whether the name of a unit is taken (ARM 8.3(26), 10.1.1).
 ghost use Rattle.std.specs.Prelude.{◌≡◌, ◌&&◌, ◌||◌, Some, None, IfOk, if◌then◌else◌};
-ghost use Rattle.al_base.specs.Rules.{number_of};
-ghost use Rattle.al_base.specs.declared.rule.Rule.TheVariants.{Duplicate};
+ghost use Rattle.al_base_fault.specs.declared.check_rule.CheckRule.TheVariants.{Duplicate};
 ghost use Rattle.al_unit_header.specs.Units.{item_name, place_of};
 ghost use Rattle.al_base_fault.specs.Faults.{fault_at};
 ghost use Rattle.al_query.specs.Answers.{declaration, views_of};
@@ -13,8 +12,8 @@ ghost use Rattle.al_check_start.specs.UnitsAt.{declares, has_views, name_fault, 
 ghost use Rattle.al_unit_graph.specs.Names as names;
 
 use crate::item::item_name;
-use al_base::{Name, NoMemory, Rule, UnitKey, UnitKind};
-use al_base_fault::Fault;
+use al_base::{Name, NoMemory, UnitKey, UnitKind};
+use al_base_fault::{CheckRule, Fault};
 use al_overload_keys::is_none;
 use al_query::{Answers, Query, Recorder};
 use al_query_outcome::last_of;
@@ -111,17 +110,17 @@ fn is_taken<A: Answers>(
 
 /// E301 at the name of the item.
 fn duplicate(item: &LibraryItem) -> Fault
-    ensures { result ≡ fault_at (place_of (item_name (library_item_model item.now))) (number_of Duplicate) }
+    ensures { result ≡ fault_at (place_of (item_name (library_item_model item.now))) Duplicate }
 {
     Fault {
         place: item_name(item).first.place,
-        code: Rule::Duplicate.number(),
+        rule: CheckRule::Duplicate,
     }
 }
 
 /// E301 at the name of an item that declares a name which is taken.
 fn duplicate_if(declares: bool, taken: bool, item: &LibraryItem) -> Option<Fault>
-    ensures { result ≡ (if declares && taken then Some (fault_at (place_of (item_name (library_item_model item.now))) (number_of Duplicate)) else None) }
+    ensures { result ≡ (if declares && taken then Some (fault_at (place_of (item_name (library_item_model item.now))) Duplicate) else None) }
 {
     if declares && taken {
         return Some(duplicate(item));

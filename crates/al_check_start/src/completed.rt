@@ -1,11 +1,15 @@
 // What a unit completes.
 ghost use Rattle.std.specs.Prelude.{◌≡◌, IfOk};
+ghost use Rattle.std.specs.Option.{option_map};
 ghost use Rattle.al_scope_context.specs.ContextPragmas.{full_name};
+ghost use Rattle.al_query.specs.Answers.{declaration};
 ghost use Rattle.al_query.specs.Reads.{FromAnswers};
 ghost use Rattle.al_tree.specs.DeclarationViews.{compound_model};
 ghost use Rattle.al_tree.specs.UnitViews.{library_item_model};
+ghost use Rattle.al_unit_graph.specs.Names as names;
 ghost use Rattle.al_check_start.specs.UnitsAt.{above, completed_at, declared_view, of_library, of_subunit};
 
+use crate::item::item_name;
 use crate::stub::{body_named, stub_view, stubs_round};
 use al_base::{Name, NoMemory, UnitKey, UnitKind};
 use al_query::{Answers, Recorder};
@@ -27,11 +31,11 @@ pub struct Completed {
     pub stubs: Seq<UnitPart>,
 }
 
-/// The declaration of a library unit's parent.
-fn above(alloc: Global, unit: &UnitKey) -> Result<Option<UnitKey>, NoMemory>
-    ensures { IfOk result (λ parent. parent ≡ above unit.now) }
+/// The declaration of the parent of a library unit of that name.
+fn parent_of_name(alloc: Global, name: &[u8]) -> Result<Option<UnitKey>, NoMemory>
+    ensures { IfOk result (λ parent. parent ≡ option_map declaration (names.parent_of name.now)) }
 {
-    match parent_of(unit.name.as_slice()) {
+    match parent_of(name) {
         Some(parent) => {
             let name = Name::from_slice(alloc, parent)?;
             let kind = UnitKind::Decl;
@@ -41,11 +45,20 @@ fn above(alloc: Global, unit: &UnitKey) -> Result<Option<UnitKey>, NoMemory>
     }
 }
 
-/// Of a library unit, with what it completes.
-fn of_library(alloc: Global, unit: &UnitKey, view: Option<View>) -> Result<Completed, NoMemory>
-    ensures { IfOk result (λ completed. completed ≡ of_library unit.now view) }
+/// The declaration of a library unit's parent, by the name that stands in its text.
+fn above(alloc: Global, item: &LibraryItem) -> Result<Option<UnitKey>, NoMemory>
+    ensures { IfOk result (λ parent. parent ≡ above (library_item_model item.now)) }
 {
-    let parent = above(alloc, unit)?;
+    let name = full_name(alloc, item_name(item))?;
+    let parent = parent_of_name(alloc, name.as_slice())?;
+    Ok(parent)
+}
+
+/// Of a library unit, with what it completes.
+fn of_library(alloc: Global, item: &LibraryItem, view: Option<View>) -> Result<Completed, NoMemory>
+    ensures { IfOk result (λ completed. completed ≡ of_library (library_item_model item.now) view) }
+{
+    let parent = above(alloc, item)?;
     let stubs = Seq::empty(alloc);
     Ok(Completed {
         view,
@@ -58,13 +71,14 @@ fn of_library(alloc: Global, unit: &UnitKey, view: Option<View>) -> Result<Compl
 fn of_body<A: Answers>(
     alloc: Global,
     unit: &UnitKey,
+    item: &LibraryItem,
     recorder: &mut Recorder<A>,
 ) -> Result<Completed, NoMemory>
     ensures asked { recorder.new.asked ≡ recorder.old.asked }
-    ensures answered { IfOk result (λ completed. FromAnswers recorder.old.log recorder.new.log (λ t. completed ≡ of_library unit.now (declared_view t unit.now))) }
+    ensures answered { IfOk result (λ completed. FromAnswers recorder.old.log recorder.new.log (λ t. completed ≡ of_library (library_item_model item.now) (declared_view t unit.now))) }
 {
     let view = view_of(alloc, unit.name.as_slice(), UnitKind::Decl, recorder)?;
-    let completed = of_library(alloc, unit, view)?;
+    let completed = of_library(alloc, item, view)?;
     Ok(completed)
 }
 
@@ -102,10 +116,10 @@ pub(crate) fn completed_at<A: Answers>(
     ensures answered { IfOk result (λ completed. FromAnswers recorder.old.log recorder.new.log (λ t. completed ≡ completed_at t unit.now (library_item_model item.now))) }
 {
     match item {
-        LibraryItem::Subprogram(_, _) => of_library(alloc, unit, None),
-        LibraryItem::Package(_, _, _) => of_library(alloc, unit, None),
-        LibraryItem::Body(_, _) => of_body(alloc, unit, recorder),
-        LibraryItem::PackageBody(_, _) => of_body(alloc, unit, recorder),
+        LibraryItem::Subprogram(_, _) => of_library(alloc, item, None),
+        LibraryItem::Package(_, _, _) => of_library(alloc, item, None),
+        LibraryItem::Body(_, _) => of_body(alloc, unit, item, recorder),
+        LibraryItem::PackageBody(_, _) => of_body(alloc, unit, item, recorder),
         LibraryItem::Subunit(_, _, parent, _, _) => of_subunit(alloc, unit, parent, recorder),
     }
 }

@@ -10,7 +10,7 @@ ghost use Rattle.al_query.specs.declared.query.Query.TheVariants.{Named, Of};
 ghost use Rattle.al_scope_unit.specs.UnitPlaces.{is_subunit, part_of};
 ghost use Rattle.al_view.specs.declared.part.Part.TheVariants.{Stub};
 ghost use Rattle.al_query_outcome.specs.Left.{body_named, first_view, last_of, stub_view};
-ghost use Rattle.al_check_start.specs.Subunits.{next_body, stubs_in, stubs_round};
+ghost use Rattle.al_check_start.specs.Subunits.{next_body, stubs_in, stubs_out, stubs_round};
 
 use al_base::{Name, NoMemory, UnitKey, UnitKind};
 use al_query::{Answers, Property, Query, Recorder};
@@ -96,14 +96,58 @@ fn next_body<A: Answers>(
     Ok(None)
 }
 
-/// What stands before the stub of a unit of that name in a body.
-fn stub_in(alloc: Global, unit: &UnitKey, name: &[u8]) -> Result<UnitPart, NoMemory>
-    ensures { IfOk result (λ part. part ≡ part_of unit.now (Stub (last_of name.now))) }
+/// What stands before the stub of that name in a body.
+fn stub_in(alloc: Global, unit: &UnitKey, stub: &[u8]) -> Result<UnitPart, NoMemory>
+    ensures { IfOk result (λ part. part ≡ part_of unit.now (Stub stub.now)) }
 {
-    let name = Name::from_slice(alloc, last_of(name))?;
+    let stub = Name::from_slice(alloc, stub)?;
     let unit = copied_unit(alloc, unit)?;
-    let part = Part::Stub(name);
+    let part = Part::Stub(stub);
     Ok(UnitPart { unit, part })
+}
+
+/// One more stub, of that name in this body, and in which body this one's own stub stands, whose name takes the place of that one.
+fn outward<A: Answers>(
+    alloc: Global,
+    unit: &UnitKey,
+    stub: &mut Name,
+    parts: &mut Vec<UnitPart>,
+    recorder: &mut Recorder<A>,
+) -> Result<Option<UnitKey>, NoMemory>
+    ensures asked { recorder.new.asked ≡ recorder.old.asked }
+    ensures answered { IfOk result (λ next. FromAnswers recorder.old.log recorder.new.log (λ t. next ≡ next_body t unit.now)) }
+    ensures parts { OnOk result (parts.new.items ≡ parts.old.items ++ part_of unit.now (Stub stub.old) ∷ []) }
+    ensures stub { OnOk result (stub.new ≡ last_of unit.now.name) }
+{
+    let part = stub_in(alloc, unit, stub.as_slice())?;
+    parts.push(part)?;
+    *stub = Name::from_slice(alloc, last_of(unit.name.as_slice()))?;
+    let next = next_body(alloc, unit, recorder)?;
+    Ok(next)
+}
+
+/// The stub of that name, which stands in this body, and those round it, so many at most: each after those inside it.
+fn add_stubs<A: Answers>(
+    alloc: Global,
+    stub: &mut Name,
+    next: Option<UnitKey>,
+    most: usize,
+    parts: &mut Vec<UnitPart>,
+    recorder: &mut Recorder<A>,
+) -> Result<(), NoMemory>
+    ensures asked { recorder.new.asked ≡ recorder.old.asked }
+    ensures answered { IfOk result (λ _. FromAnswers recorder.old.log recorder.new.log (λ t. parts.new.items ≡ parts.old.items ++ stubs_out t most stub.old next)) }
+{
+    let mut next = next;
+    let mut left = most;
+    while left > 0 {
+        let Some(unit) = &next else {
+            return Ok(());
+        };
+        next = outward(alloc, unit, stub, parts, recorder)?;
+        left -= 1;
+    }
+    Ok(())
 }
 
 /// The stubs round a subunit of that name, whose own stub stands in this body, the outermost first, so many at most.
@@ -117,17 +161,11 @@ fn stubs_in<A: Answers>(
     ensures asked { recorder.new.asked ≡ recorder.old.asked }
     ensures answered { IfOk result (λ parts. FromAnswers recorder.old.log recorder.new.log (λ t. parts ≡ stubs_in t most name.now next)) }
 {
-    if most == 0 {
-        return Ok(Seq::empty(alloc));
-    }
-    let Some(unit) = next else {
-        return Ok(Seq::empty(alloc));
-    };
-    let outer = next_body(alloc, &unit, recorder)?;
-    let mut parts = stubs_in(alloc, unit.name.as_slice(), outer, most - 1, recorder)?;
-    let part = stub_in(alloc, &unit, name)?;
-    parts.push(part)?;
-    Ok(parts)
+    let mut stub = Name::from_slice(alloc, last_of(name))?;
+    let mut parts = Vec::new(alloc);
+    add_stubs(alloc, &mut stub, next, most, &mut parts, recorder)?;
+    parts.reverse();
+    Ok(Seq::new(parts))
 }
 
 /// The stubs round a subunit of that name, the outermost first.

@@ -29,17 +29,16 @@ means units names verdict unit text tree t b h found outcome headed is finds giv
     gives ∙ ap (λ (x : Header). concluded b x found (bounded b t)) headed ∙ ap (λ (v : Verdict). concluded b (header_of tree) v (bounded b t)) finds
     ∙ ap (λ (x : Bounds). concluded x (header_of tree) (verdict x.unit text tree (bounded x t)) (bounded x t)) is
 
--- the same units and views
-pub same_test : (unit : UnitKey) (k l : List UnitKey) (v w : List ViewKind) (c : Bool) (i : UnitInterface) (tree : UnitTree) → k ≡ l → v ≡ w → self_checked unit k v c i tree ≡ self_checked unit l w c i tree
-same_test unit k l v w c i tree a b = ap (λ (x : List UnitKey). self_checked unit x v c i tree) a ∙ ap (λ (y : List ViewKind). self_checked unit l y c i tree) b
+-- the same views
+pub same_test : (unit : UnitKey) (v w : List ViewKind) (c : Bool) (i : UnitInterface) (tree : UnitTree) → v ≡ w → self_checked unit v c i tree ≡ self_checked unit w c i tree
+same_test unit v w c i tree a = ap (λ (y : List ViewKind). self_checked unit y c i tree) a
 
 -- views with which the unit is kept alike, and the same of what it completes
-pub same_kept : (unit : UnitKey) (known : List UnitKey) (v w : List ViewKind) (c d : Bool) (i : UnitInterface) (tree : UnitTree) → is_kept unit known v i tree ≡ is_kept unit known w i tree → c ≡ d → self_checked unit known v c i tree ≡ self_checked unit known w d i tree
+pub same_kept : (unit : UnitKey) (v w : List ViewKind) (c d : Bool) (i : UnitInterface) (tree : UnitTree) → is_kept unit v i tree ≡ is_kept unit w i tree → c ≡ d → self_checked unit v c i tree ≡ self_checked unit w d i tree
 unfolding self_checked
-same_kept unit known v w c d i tree kept is =
-    ap (λ (b : Bool). if b && c then Sound i tree else Faulty (not_checked unit)) kept ∙ ap (λ (x : Bool). if is_kept unit known w i tree && x then Sound i tree else Faulty (not_checked unit)) is
+same_kept unit v w c d i tree kept is =
+    ap (λ (b : Bool). if b && c then Sound i tree else Faulty (not_checked unit)) kept ∙ ap (λ (x : Bool). if is_kept unit w i tree && x then Sound i tree else Faulty (not_checked unit)) is
 
 -- so the test is passed with them
-pub passes : (unit : UnitKey) (k l : List UnitKey) (v w : List ViewKind) (i : UnitInterface) (tree : UnitTree) (kept : Bool) → k ≡ l → v ≡ w → kept ≡ is_kept unit k v i tree → kept ≡ true → is_kept unit l w i tree ≡ true
-passes unit k l v w i tree kept a b is passed =
-    sym (ap (λ (x : List UnitKey). is_kept unit x v i tree) a ∙ ap (λ (y : List ViewKind). is_kept unit l y i tree) b) ∙ sym is ∙ passed
+pub passes : (unit : UnitKey) (v w : List ViewKind) (i : UnitInterface) (tree : UnitTree) (kept : Bool) → v ≡ w → kept ≡ is_kept unit v i tree → kept ≡ true → is_kept unit w i tree ≡ true
+passes unit v w i tree kept a is passed = sym (ap (λ (y : List ViewKind). is_kept unit y i tree) a) ∙ sym is ∙ passed

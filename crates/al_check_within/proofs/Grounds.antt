@@ -2,11 +2,11 @@
 use Rattle.std.proofs.Common.{◌≡◌, ℕ, Bool, true, List, [], ◌∷◌, ◌++◌, refl, sym, subst}
 use Rattle.al_base.specs.declared.unit_key.UnitKey.{UnitKey}
 use Rattle.al_query.specs.Asked.{AsksOf, OfKnown, by_property}
-use Rattle.al_query.specs.Known.{AreAmong, AreKnown, Grounded, has_unit, known_after}
+use Rattle.al_query.specs.Known.{AreKnown, Grounded, has_unit, known_after}
 use Rattle.al_query.specs.Reads.{Log}
 use Rattle.al_query.specs.declared.query.Query.{Query}
 use Rattle.al_query.proofs.AskLemmas.{asks_of-grounded, asks_of-known, asks_of-wanted, asks_then}
-use Rattle.al_query.proofs.KnownLemmas.{are_known, known_after-more}
+use Rattle.al_query.proofs.KnownLemmas.{known_after-more}
 use Rattle.al_query_outcome.specs.ReadsLaw.{AsksByNames}
 use Rattle.al_check_bounds.specs.Bounding.{AreWordsOrTold, allowed}
 use Rattle.al_check_bounds.specs.declared.bounds.Bounds.{Bounds}
@@ -33,13 +33,6 @@ known_later named (u ∷ us) old more new is h = (
   subst (λ (log : Log). has_unit (known_after named log) u ≡ true) (sym is) (known_after-more named old more u h.0),
   known_later named us old more new is h.1,
 )
-
--- units stay known
-pub still_known : (named known units : List UnitKey) (within : Log → Query → Bool) (a b c : Log) → AreKnown (known_after named a) units → AsksOf known within a b → AsksOf known within b c → AreAmong units (known_after named c)
-still_known named known units within a b c known_then two three u h =
-    let asks = asks_then (OfKnown known within) a b c two three in
-    subst (λ (log : Log). has_unit (known_after named log) u ≡ true) (sym asks.1)
-    (known_after-more named a asks.0 u (are_known (known_after named a) units known_then u h))
 
 -- first what makes units known and tells names is asked for properties, then within bounds
 pub by_words : (b : Bounds) (unit : UnitKey) (words : List (List ℕ)) (named : List UnitKey) (one two three : Log) → b.unit ≡ unit → AreWordsOrTold words one b.names → AsksOf named by_property [] one → AsksOf b.known (allowed b) one two → AsksOf b.known (allowed b) two three → AsksByNames unit words three

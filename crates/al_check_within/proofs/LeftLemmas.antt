@@ -1,8 +1,6 @@
 -- What may be asked is left to a unit by a table as it is within bounds.
-use Rattle.std.proofs.Common.{◌≡◌, ◌∙◌, ℕ, Bool, true, false, ◌&&◌, ◌||◌, List, [], Option, Some, None, if◌then◌else◌, is_some, length, nat_lt, refl, sym, ap, subst}
-use Rattle.std.specs.List.{list_all}
+use Rattle.std.proofs.Common.{◌≡◌, ◌∙◌, ℕ, Bool, true, false, ◌&&◌, ◌||◌, List, [], Option, Some, None, if◌then◌else◌, is_some, refl, sym, ap, subst}
 use Rattle.std.specs.Option.{is_none, option_map_or}
-use Rattle.al_base.specs.declared.diagnostic.Diagnostic.{Diagnostic}
 use Rattle.al_base.specs.declared.unit_key.UnitKey.{UnitKey}
 use Rattle.al_base.specs.declared.unit_key.UnitKind.{UnitKind}
 use Rattle.al_base.specs.declared.unit_key.UnitKind.TheVariants.{Decl, Body, Sub}
@@ -21,24 +19,15 @@ use Rattle.al_query.specs.declared.query.Query.TheVariants.{Named, Of}
 use Rattle.al_view_typed.specs.UnitTrees.{UnitTree}
 use Rattle.al_query_outcome.specs.Defines.{DefinesParts}
 use Rattle.al_query_outcome.specs.Left.{body_named, completed_views, first_view, last_of, one_view, separate, stub_view, views_left}
-use Rattle.al_query_outcome.specs.ReadsLaw.{is_fault_of, subunit}
+use Rattle.al_query_outcome.specs.ReadsLaw.{subunit}
 use Rattle.al_query_outcome.specs.Results.{Faulty, Sound}
 use Rattle.al_query_outcome.specs.declared.interface.UnitInterface.{UnitInterface}
 use Rattle.al_check_bounds.specs.Bounding.{bounded, may_ask}
 use Rattle.al_check_bounds.specs.declared.bounds.Bounds.{Bounds}
 use Rattle.al_check_bounds.proofs.BoundLemmas.{bounded-asked}
 use Rattle.al_check_promises.specs.Laws.{PartsAreCompleted}
-use Rattle.al_check_promises.specs.SelfChecks.{checked_faults, declares_itself, is_complete, is_kept, not_checked, self_checked}
+use Rattle.al_check_promises.specs.SelfChecks.{declares_itself, is_complete, is_kept, not_checked, self_checked}
 use Rattle.al_check_within.specs.LeftHere.{completed_by, learns, learns_as, learns_in}
-
--- faults complete nothing
-pub faulty_parts : (unit : UnitKey) (h : Header) (t : Table) (faults : List Diagnostic) → DefinesParts unit h t (checked_faults unit faults)
-unfolding checked_faults
-faulty_parts unit h t faults = at (nat_lt 0 (length faults) && list_all (is_fault_of unit) faults)
-  where
-    at : (b : Bool) → DefinesParts unit h t (if b then Faulty faults else Faulty (not_checked unit))
-    at true = tt
-    at false = tt
 
 module _ (b : Bounds) (t : Table) where
   stub_same : (p n : List ℕ) → learns_in b p n (bounded b t) ≡ true → stub_view (bounded b t) n p ≡ stub_view t n p
@@ -68,20 +57,20 @@ module _ (b : Bounds) (t : Table) where
   declares_same Sub n h = refl
 
   module _ (h : Header) (shown : List ViewKind) (i : UnitInterface) (tree : UnitTree) (law : PartsAreCompleted) where
-    untold : DefinesParts b.unit h t (self_checked b.unit b.known shown false i tree)
+    untold : DefinesParts b.unit h t (self_checked b.unit shown false i tree)
     unfolding self_checked
-    untold = at (is_kept b.unit b.known shown i tree)
+    untold = at (is_kept b.unit shown i tree)
       where
         at : (k : Bool) → DefinesParts b.unit h t (if k && false then Sound i tree else Faulty (not_checked b.unit))
         at true = tt
         at false = tt
 
     -- so a unit whose test was passed within bounds completes what it must by every table
-    pub completes_within : DefinesParts b.unit h t (self_checked b.unit b.known shown (completed_by b h i tree (bounded b t)) i tree)
+    pub completes_within : DefinesParts b.unit h t (self_checked b.unit shown (completed_by b h i tree (bounded b t)) i tree)
     unfolding completed_by
     completes_within = by (completed_by b h i tree (bounded b t)) refl
       where
-        by : (c : Bool) → (learns b (bounded b t) && is_complete b.unit h (views_left b.unit.kind b.unit.name (bounded b t)) (declares_itself b.unit (bounded b t)) i tree) ≡ c → DefinesParts b.unit h t (self_checked b.unit b.known shown c i tree)
+        by : (c : Bool) → (learns b (bounded b t) && is_complete b.unit h (views_left b.unit.kind b.unit.name (bounded b t)) (declares_itself b.unit (bounded b t)) i tree) ≡ c → DefinesParts b.unit h t (self_checked b.unit shown c i tree)
         by false is = untold
         by true is =
             let two = both (learns b (bounded b t)) _ is in
@@ -89,7 +78,7 @@ module _ (b : Bounds) (t : Table) where
             let declares = declares_same b.unit.kind b.unit.name two.0 in
             let told : is_complete b.unit h (views_left b.unit.kind b.unit.name t) (declares_itself b.unit t) i tree ≡ true =
             sym (ap (λ (vs : List ViewKind). is_complete b.unit h vs (declares_itself b.unit (bounded b t)) i tree) views ∙ ap (λ (d : Bool). is_complete b.unit h (views_left b.unit.kind b.unit.name t) d i tree) declares) ∙ two.1 in
-            subst (λ (c : Bool). DefinesParts b.unit h t (self_checked b.unit b.known shown c i tree)) told (law b.unit h t b.known shown i tree)
+            subst (λ (c : Bool). DefinesParts b.unit h t (self_checked b.unit shown c i tree)) told (law b.unit h t shown i tree)
 
 -- what is left, what is learned and what was tested, put together
 pub completed_is : (b : Bounds) (h : Header) (i : UnitInterface) (tree : UnitTree) (t : Table) (views : List ViewKind) (learned declares complete : Bool) → learned ≡ learns b t → views ≡ views_left b.unit.kind b.unit.name t

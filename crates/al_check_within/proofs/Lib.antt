@@ -3,3 +3,4 @@ pub mod Grounds
 pub mod WereShown
 pub mod WordLemmas
 pub mod LeftLemmas
+pub mod Naming

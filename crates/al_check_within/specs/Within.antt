@@ -1,5 +1,5 @@
 -- What the check of a unit gives, within bounds.
-use Rattle.std.specs.Prelude.{◌≡◌, ℕ, List, []}
+use Rattle.std.specs.Prelude.{◌≡◌, ℕ, List, [], ◌∷◌}
 use Rattle.std.specs.List.{Contains}
 use Rattle.std.specs.Str.{bytes_eq}
 use Rattle.indexmap.specs.IndexSet.{insert_all}
@@ -13,13 +13,13 @@ use Rattle.al_query.specs.Known.{AreKnown, Grounded, known_after}
 use Rattle.al_query.specs.Reads.{HoldsBy, Log, Table}
 use Rattle.al_view_typed.specs.UnitTrees.{UnitTree}
 use Rattle.al_query_outcome.specs.Defines.{DefinesParts}
-use Rattle.al_query_outcome.specs.ReadsLaw.{AsksOthers, named_by}
-use Rattle.al_query_outcome.specs.Results.{Outcome}
+use Rattle.al_query_outcome.specs.ReadsLaw.{AsksOthers, NamesOnly, named_by}
+use Rattle.al_query_outcome.specs.Results.{Outcome, Faulty}
 use Rattle.al_query_outcome.specs.declared.interface.UnitInterface.{UnitInterface}
 use Rattle.al_check_bounds.specs.Bounding.{AreWordsOrTold, bounded}
 use Rattle.al_check_bounds.specs.declared.bounds.Bounds.{Bounds}
 use Rattle.al_check_promises.specs.Laws.{Promised}
-use Rattle.al_check_promises.specs.SelfChecks.{checked_faults, is_kept, self_checked}
+use Rattle.al_check_promises.specs.SelfChecks.{is_kept, self_checked}
 use Rattle.al_check_asked.specs.Questions.{shown_by}
 use Rattle.al_check_asked.specs.declared.wanted.Wanted.{Wanted}
 use Rattle.al_check_within.specs.LeftHere.{completed_by}
@@ -35,8 +35,8 @@ wanted_of b = record { units = b.known; stubs = segments_from [] b.unit.name; na
 
 -- what the check gives with what was found, under a table within the bounds
 abbrev pub concluded : Bounds → Header → Verdict → Table → Outcome
-concluded b h (Wrong faults) t = checked_faults b.unit faults
-concluded b h (Right i tree) t = self_checked b.unit b.known (shown_by (wanted_of b) t) (completed_by b h i tree t) i tree
+concluded b h (Wrong faults) t = Faulty faults
+concluded b h (Right i tree) t = self_checked b.unit (shown_by (wanted_of b) t) (completed_by b h i tree t) i tree
 
 -- the same under a table, with what is found under it within the bounds
 abbrev pub concluded_in : Bounds → Header → (Table → Verdict) → Table → Outcome
@@ -53,7 +53,7 @@ meaning_within units names verdict unit text tree t = concluded_in (bounds_of un
 -- these views are some of those, and the unit is kept with these just where it is with those
 pub record IsAsGood (b : Bounds) (i : UnitInterface) (tree : UnitTree) (views all : List ViewKind) : Type 0 where
   pub among : (v : ViewKind) → Contains views v → Contains all v
-  pub same : is_kept b.unit b.known views i tree ≡ is_kept b.unit b.known all i tree
+  pub same : is_kept b.unit views i tree ≡ is_kept b.unit all i tree
 
 -- these are the bounds of a unit with that header and that text, after what was asked for them
 pub record AreBounds (units : Table → List UnitKey) (names : Table → List (List ℕ)) (h : Header) (unit : UnitKey) (text : List ℕ) (log : Log) (b : Bounds) : Type 0 where
@@ -64,10 +64,11 @@ pub record AreBounds (units : Table → List UnitKey) (names : Table → List (L
   pub others : AsksOthers unit log
   pub known : AreKnown (known_after (named_by h) log) b.known
 
--- the check of a unit with that header gave this, by what was asked: what it means under every table that agrees, what a check
--- promises, and what it completes
+-- the check of a unit with that header gave this, by what was asked: what it means under every table that agrees, which units it names,
+-- what a check promises, and what it completes
 pub record IsChecked (unit : UnitKey) (h : Header) (means : Table → Outcome) (log : Log) (outcome : Outcome) : Type 0 where
   pub meaning : HoldsBy log (λ t. outcome ≡ means t)
   pub grounded : Grounded (named_by h) log
-  pub promised : Promised unit (named_by h) log outcome
+  pub names : NamesOnly (unit ∷ known_after (named_by h) log) outcome
+  pub promised : Promised unit log outcome
   pub parts : HoldsBy log (λ t. DefinesParts unit h t outcome)

@@ -10,7 +10,7 @@ ghost use Rattle.al_query.specs.Reads.{Agrees, FromAnswers};
 ghost use Rattle.al_query_outcome.specs.ReadsLaw.{AsksByNames, AsksOthers, named_by};
 ghost use Rattle.al_query_outcome.specs.Results.{checked_model};
 ghost use Rattle.al_check_bounds.specs.Bounding.{AreWordsOrTold, allowed, bounded};
-ghost use Rattle.al_check_within.specs.Verdicts.{verdict_of};
+ghost use Rattle.al_check_within.specs.Verdicts.{IsTold, NamesWithin, verdict_of};
 ghost use Rattle.al_check_within.specs.Within.{AreBounds, IsChecked, meaning_within};
 ghost use Rattle.al_query_outcome.specs.Words.{words_of};
 
@@ -25,7 +25,6 @@ use al_query::{Answers, Recorder};
 use al_query_outcome::Checked;
 use al_tree::CompilationUnit;
 use al_unit_graph::Header;
-use al_unit_header::header_of;
 use al_view::{Seq, copied_unit};
 use std::alloc::Global;
 
@@ -88,6 +87,8 @@ fn found_within<F: UnitFinder, A: Answers>(
     ensures asked { recorder.new.asked ≡ recorder.old.asked }
     ensures answered { IfOk result (λ found. FromAnswers recorder.old.log recorder.new.log (λ t. Agrees (bounded bounds.now t) found.log)) }
     ensures found { IfOk result (λ found. FromAnswers recorder.old.log recorder.new.log (λ t. verdict_of found.finding ≡ F.verdict bounds.now.unit text.now (unit_model tree.now) (bounded bounds.now t))) }
+    ensures names { IfOk result (λ found. NamesWithin (named_by (headers.header_of (unit_model tree.now))) (verdict_of found.finding)) }
+    ensures faults { IfOk result (λ found. IsTold bounds.now.unit (verdict_of found.finding)) }
     ensures asks { OnOk result (AsksOf bounds.now.known (allowed bounds.now) recorder.old.log recorder.new.log) }
     ensures others { OnOk result (AsksOthers bounds.now.unit recorder.old.log → AsksOthers bounds.now.unit recorder.new.log) }
 {
@@ -104,26 +105,27 @@ fn found_within<F: UnitFinder, A: Answers>(
     Ok(found)
 }
 
-/// The check of a unit with this text, which is read as this tree: whoever finds what it says asks within bounds, and the result is
-/// tested.
+/// The check of a unit with this text, which is read as this tree with this header: whoever finds what it says asks within bounds, and the
+/// result is tested.
 pub fn check_within<F: UnitFinder, A: Answers>(
     alloc: Global,
     finder: &F,
     unit: &UnitKey,
     text: &[u8],
     tree: &CompilationUnit,
+    header: &Header,
     recorder: &mut Recorder<A>,
 ) -> Result<Checked, NoMemory>
     requires text { length text.now ≤ 4294967294 }
+    requires header { header_model header.now ≡ headers.header_of (unit_model tree.now) }
     requires log { recorder.old.log ≡ [] }
     ensures asked { recorder.new.asked ≡ recorder.old.asked }
     ensures checked { IfOk result (λ checked. IsChecked unit.now (headers.header_of (unit_model tree.now)) (meaning_within F.units F.names F.verdict unit.now text.now (unit_model tree.now)) recorder.new.log (checked_model checked)) }
     ensures others { OnOk result (AsksOthers unit.now recorder.new.log) }
     ensures names { OnOk result (AsksByNames unit.now (words_of text.now) recorder.new.log) }
 {
-    let header = header_of(alloc, tree)?;
-    let bounds = bounds_of(alloc, finder, unit, text, &header, recorder)?;
+    let bounds = bounds_of(alloc, finder, unit, text, header, recorder)?;
     let found = found_within(alloc, finder, &bounds, text, tree, recorder)?;
-    let checked = concluded_within(alloc, &bounds, &header, found, recorder)?;
+    let checked = concluded_within(alloc, &bounds, header, found, recorder)?;
     Ok(checked)
 }

@@ -3,15 +3,14 @@ ghost use Rattle.std.specs.Prelude.{◌≡◌, List, IfOk, OnOk};
 ghost use Rattle.al_base.specs.declared.unit_key.UnitKey.{UnitKey};
 ghost use Rattle.al_view_typed.specs.UnitTrees.{unit_model};
 ghost use Rattle.al_query.specs.Asked.{AsksOf};
-ghost use Rattle.al_query.specs.Known.{AreAmong, known_after};
 ghost use Rattle.al_query.specs.Reads.{Agrees, HoldsBy, FromAnswers};
 ghost use Rattle.al_unit_graph.specs.Views.{header_model};
 ghost use Rattle.al_query_outcome.specs.Defines.{DefinesParts};
-ghost use Rattle.al_query_outcome.specs.ReadsLaw.{AsksOthers};
+ghost use Rattle.al_query_outcome.specs.ReadsLaw.{AsksOthers, NamesOnly};
 ghost use Rattle.al_query_outcome.specs.Results.{checked_model};
 ghost use Rattle.al_check_bounds.specs.Bounding.{allowed, bounded};
 ghost use Rattle.al_check_promises.specs.Laws.{Promised};
-ghost use Rattle.al_check_within.specs.Verdicts.{sound_of, verdict_of};
+ghost use Rattle.al_check_within.specs.Verdicts.{IsTold, NamesWithin, sound_of, verdict_of};
 ghost use Rattle.al_check_within.specs.Within.{concluded};
 
 use crate::finding::{UnitResult, UnitVerdict};
@@ -21,7 +20,7 @@ use al_base::NoMemory;
 use al_check_asked::shown_views_are_answered;
 use al_check_bounds::Bounds;
 use al_check_promises::laws::{faults_are_reported, parts_are_completed, what_is_tested_keeps};
-use al_check_promises::{SoundUnit, checked_faults, self_checked};
+use al_check_promises::{SoundUnit, self_checked};
 use al_query::{Answers, ReadLog, Recorder};
 use al_query_outcome::Checked;
 use al_unit_graph::Header;
@@ -41,7 +40,8 @@ fn sound_within<A: Answers>(
     ensures answered { IfOk result (λ checked. FromAnswers recorder.old.log recorder.new.log (λ t. checked_model checked ≡ concluded bounds.now (header_model header.now) (sound_of sound) (bounded bounds.now t))) }
     ensures asks { OnOk result (AsksOf bounds.now.known (allowed bounds.now) recorder.old.log recorder.new.log) }
     ensures others { OnOk result (AsksOthers bounds.now.unit recorder.old.log → AsksOthers bounds.now.unit recorder.new.log) }
-    ensures promised { IfOk result (λ checked. (first : List UnitKey) → AreAmong bounds.now.known (known_after first recorder.new.log) → Promised bounds.now.unit first recorder.new.log (checked_model checked)) }
+    ensures names { IfOk result (λ checked. (units : List UnitKey) → NamesWithin units (sound_of sound) → NamesOnly units (checked_model checked)) }
+    ensures promised { IfOk result (λ checked. Promised bounds.now.unit recorder.new.log (checked_model checked)) }
     ensures parts { IfOk result (λ checked. HoldsBy recorder.new.log (λ t. DefinesParts bounds.now.unit (header_model header.now) t (checked_model checked))) }
 {
     what_is_tested_keeps();
@@ -51,14 +51,7 @@ fn sound_within<A: Answers>(
     let shown = shown_views(alloc, bounds, &wanted, log, &sound, recorder)?;
     let complete = completed_by(alloc, bounds, header, &sound, recorder)?;
     recorder.agrees();
-    self_checked(
-        alloc,
-        &bounds.unit,
-        bounds.known.as_slice(),
-        shown.as_slice(),
-        complete,
-        sound,
-    )
+    self_checked(alloc, &bounds.unit, shown.as_slice(), complete, sound)
 }
 
 /// What the check of a unit gives with what was found, after what was asked for it.
@@ -74,13 +67,14 @@ pub(crate) fn concluded_within<A: Answers>(
     ensures answered { IfOk result (λ checked. FromAnswers recorder.old.log recorder.new.log (λ t. checked_model checked ≡ concluded bounds.now (header_model header.now) (verdict_of found.finding) (bounded bounds.now t))) }
     ensures asks { OnOk result (AsksOf bounds.now.known (allowed bounds.now) recorder.old.log recorder.new.log) }
     ensures others { OnOk result (AsksOthers bounds.now.unit recorder.old.log → AsksOthers bounds.now.unit recorder.new.log) }
-    ensures promised { IfOk result (λ checked. (first : List UnitKey) → AreAmong bounds.now.known (known_after first recorder.new.log) → Promised bounds.now.unit first recorder.new.log (checked_model checked)) }
+    ensures names { IfOk result (λ checked. (units : List UnitKey) → NamesWithin units (verdict_of found.finding) → NamesOnly units (checked_model checked)) }
+    ensures promised { IfOk result (λ checked. IsTold bounds.now.unit (verdict_of found.finding) → Promised bounds.now.unit recorder.new.log (checked_model checked)) }
     ensures parts { IfOk result (λ checked. HoldsBy recorder.new.log (λ t. DefinesParts bounds.now.unit (header_model header.now) t (checked_model checked))) }
 {
     faults_are_reported();
     let UnitResult { finding, log } = found;
     match finding {
-        UnitVerdict::Faulty(faults) => checked_faults(alloc, &bounds.unit, faults),
+        UnitVerdict::Faulty(faults) => Ok(Checked::Faulty(faults)),
         UnitVerdict::Sound(sound) => { sound_within(alloc, bounds, header, sound, &log, recorder) }
     }
 }

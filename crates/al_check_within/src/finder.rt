@@ -7,7 +7,8 @@ ghost use Rattle.al_query.specs.Known.{AreKnown, known_after};
 ghost use Rattle.al_query.specs.Reads.{Agrees, HoldsBy, FromAnswers};
 ghost use Rattle.al_query.specs.Told.{AreTold};
 ghost use Rattle.al_query_outcome.specs.ReadsLaw.{AsksOthers, named_by};
-ghost use Rattle.al_check_within.specs.Verdicts.{verdict_of};
+ghost use Rattle.al_unit_header.specs.Units as headers;
+ghost use Rattle.al_check_within.specs.Verdicts.{IsTold, NamesWithin, verdict_of};
 
 use crate::finding::UnitResult;
 use al_base::{Name, NoMemory, UnitKey};
@@ -73,6 +74,8 @@ pub trait UnitFinder {
     /// What is found in the text of a unit, which is read as this tree, with what was asked for it.
     /// - `agrees`: who is asked gives the recorded answers.
     /// - `answered`: under every table that agrees with the log the same is found.
+    /// - `names`: its parent and the units of its with clauses are such as its text names.
+    /// - `faults`: what is wrong is something, each of it in the unit's own file and of a rule of checks.
     fn find<A: Answers + Drop>(
         &self,
         alloc: Global,
@@ -83,5 +86,7 @@ pub trait UnitFinder {
     ) -> Result<UnitResult, NoMemory>
         requires { length text.now ≤ 4294967294 }
         ensures agrees { IfOk result (λ found. Agrees (A.table recorder.asked) found.log) }
-        ensures answered { IfOk result (λ found. HoldsBy found.log (λ t. verdict_of found.finding ≡ verdict unit.now text.now (unit_model tree.now) t)) };
+        ensures answered { IfOk result (λ found. HoldsBy found.log (λ t. verdict_of found.finding ≡ verdict unit.now text.now (unit_model tree.now) t)) }
+        ensures names { IfOk result (λ found. NamesWithin (named_by (headers.header_of (unit_model tree.now))) (verdict_of found.finding)) }
+        ensures faults { IfOk result (λ found. IsTold unit.now (verdict_of found.finding)) };
 }

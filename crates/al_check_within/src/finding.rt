@@ -7,7 +7,7 @@ use al_view::Seq;
 /// What is found in the text of a unit: what is wrong with it, or the unit.
 #[derive(Drop)]
 pub enum UnitVerdict {
-    /// What is wrong with it; nothing where it can't be compiled yet.
+    /// What is wrong with it; E700 where it can't be compiled yet.
     Faulty(Seq<Diagnostic>),
     Sound(SoundUnit),
 }

@@ -83,8 +83,7 @@ pub(crate) fn shown_views<A: Answers>(
     ensures others { OnOk result (AsksOthers bounds.now.unit recorder.old.log → AsksOthers bounds.now.unit recorder.new.log) }
 {
     let recorded = recorded_views(alloc, wanted, log)?;
-    let known = bounds.known.as_slice();
-    let kept = is_kept(alloc, &bounds.unit, known, recorded.as_slice(), sound)?;
+    let kept = is_kept(alloc, &bounds.unit, recorded.as_slice(), sound)?;
     if kept {
         return Ok(recorded);
     }

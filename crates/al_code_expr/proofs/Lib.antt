@@ -3,3 +3,4 @@ pub mod Layers
 pub mod Lists
 pub mod CodelessLemmas
 pub mod ChainLemmas
+pub mod PartLemmas

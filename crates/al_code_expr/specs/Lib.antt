@@ -2,3 +2,4 @@ pub mod Pieces
 pub mod Templates
 pub mod Codeless
 pub mod Chains
+pub mod Parts

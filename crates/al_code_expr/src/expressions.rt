@@ -1,10 +1,10 @@
 // Names, expressions and calls: what recurses.
-ghost use Rattle.std.specs.Prelude.{◌≡◌, OnOk, map};
+ghost use Rattle.std.specs.Prelude.{◌≡◌, ◌++◌, OnOk, map};
 ghost use Rattle.al_view_typed.specs.ExpressionViews.{actual_model, actuals_of, call_model, form_model, name_model, typed_model, value_model, values_of};
 ghost use Rattle.al_code_output.specs.Written.{written};
 ghost use Rattle.al_code_expr.specs.Chains.{sign_code};
 ghost use Rattle.al_code_expr.specs.Pieces.{times};
-ghost use Rattle.al_code_expr.specs.Templates.{address_of, all_passed_code, call_code, checked_code, components_code, converted_code, form_code, passed_code, short_code, value_of, variable_code, variables_code};
+ghost use Rattle.al_code_expr.specs.Templates.{address_of, all_passed_code, call_code, checked_code, components_code, converted_code, form_code, index_code, passed_code, short_code, value_of, variable_code, variables_code};
 
 use crate::calls::{emit_copies, emit_flag, emit_formal, emit_mark, emit_routine};
 use crate::chain::{Chain, Sign, chain_of};
@@ -13,6 +13,7 @@ use crate::operators::{
     emit_above, emit_below, emit_binary, emit_index, emit_kept, emit_negation, emit_step,
     emit_unary,
 };
+use crate::parts::{Part, Parts, parts_of};
 use crate::pieces::{
     emit_check, emit_join, emit_number, emit_place, emit_plain, emit_sized, emit_store_slot,
     emit_unless_zero,
@@ -20,6 +21,7 @@ use crate::pieces::{
 use al_base::NoMemory;
 use al_code_output::{Construct, Output};
 use al_instr::{Plain, Sized};
+use al_view::Bounds;
 use al_view_typed::{
     Actual, CheckedValue, Conversion, Form, ShortCircuit, Typed, TypedCall, TypedName,
 };
@@ -115,29 +117,39 @@ fn emit_form(out: &mut Output, depth: u32, words: u32, form: &Form) -> Result<()
     }
 }
 
-/// The address of an object or of a part of one.
+/// The address of an object or of a part of one. A part of parts takes nothing of the stack for each.
 #[cycle(expression)]
-#[tactic(auto, using(al_code_output::proofs::Writing::written_append, al_code_output::proofs::Writing::written_nothing, al_view_typed::proofs::ExpressionsMade::object_made, al_view_typed::proofs::ExpressionsMade::component_made, al_view_typed::proofs::ExpressionsMade::indexed_made))]
+#[tactic(auto, using(al_code_output::proofs::Writing::written_append))]
 pub fn emit_address(out: &mut Output, depth: u32, name: &TypedName) -> Result<(), NoMemory>
     ensures { OnOk result (out.new ≡ written out.old (address_of depth (name_model name.now))) }
 {
-    match name {
-        TypedName::Object { place, .. } => emit_place(out, depth, place),
-        TypedName::Component { whole, offset } => {
-            emit_address(out, depth, whole)?;
-            emit_sized(out, Sized::Field, *offset)
-        }
-        TypedName::Indexed {
-            array,
-            index,
-            bounds,
-            words,
-        } => {
-            emit_address(out, depth, array)?;
-            emit_value(out, depth, index)?;
-            emit_index(out, bounds, *words)
+    let Parts { object, mut parts } = parts_of(out.alloc(), name)?;
+    emit_place(out, depth, object)?;
+    while let Some(part) = parts.pop() {
+        match part {
+            Part::Selected(offset) => emit_sized(out, Sized::Field, offset)?,
+            Part::Indexed(index, bounds, words) => {
+                emit_element(out, depth, index, bounds, words)?;
+            }
         }
     }
+    Ok(())
+}
+
+/// What leads from the address of an array to that of a component, of so many words.
+#[cycle(expression)]
+#[tactic(auto, using(al_code_output::proofs::Writing::written_append))]
+fn emit_element(
+    out: &mut Output,
+    depth: u32,
+    index: &Typed,
+    bounds: &Bounds,
+    words: u32,
+) -> Result<(), NoMemory>
+    ensures { OnOk result (out.new ≡ written out.old (value_of depth (typed_model index.now) ++ index_code bounds.now words)) }
+{
+    emit_value(out, depth, index)?;
+    emit_index(out, bounds, words)
 }
 
 /// A value with its check.

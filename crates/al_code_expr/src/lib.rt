@@ -6,6 +6,7 @@ mod chain;
 mod codeless;
 mod expressions;
 mod operators;
+mod parts;
 mod pieces;
 
 pub use expressions::{emit_address, emit_call, emit_checked, emit_value};

@@ -3,9 +3,8 @@ use Rattle.std.proofs.Common.{IfOk, Result, Ok, Err, rules, ◌≡◌, ℕ, zero
 use Rattle.std.specs.Prelude.{slice_get, slice_index_or, if◌then◌else◌}
 use Rattle.std.specs.List.{All}
 use Rattle.std.proofs.lemmas.Bool.{false_from_ne_true}
-use Rattle.al_base.specs.Rules.{number_of}
 use Rattle.al_base.specs.declared.place.Place.{Place}
-use Rattle.al_base.specs.declared.rule.Rule.TheVariants.{NotConformant}
+use Rattle.al_base_fault.specs.declared.check_rule.CheckRule.TheVariants.{NotConformant}
 use Rattle.al_decl_completion.specs.Completing.{Completes, IsFirst}
 use Rattle.al_decl_completion.specs.Standing.{lone_body_fault}
 use Rattle.al_decl_completion.specs.declared.specification.BodyHead.TheVariants as head
@@ -28,7 +27,7 @@ use Rattle.al_decl_completes.specs.Matching.{completes, conforms}
 use Rattle.al_decl_completes.proofs.Deciding.{completes-so, completes-yes, conforms-so, conforms-yes}
 
 abbrev answered : Place → Bool → Option Fault
-answered place b = if b then None else Some (fault_at place (number_of NotConformant))
+answered place b = if b then None else Some (fault_at place NotConformant)
 
 pub conformance-is : (place : Place) (s : Specification) (p : Profile) (fault : Option Fault) → IsConformance place s p fault → fault ≡ conformance place s p
 conformance-is place s p None h = sym (ap (answered place) (conforms-so s p h))

@@ -1,8 +1,7 @@
 -- Which declaration a body completes (ARM 3.11.1, 6.3.1, 10.1.4).
 use Rattle.std.specs.Prelude.{ℕ, suc, zero, Bool, true, List, [], ◌∷◌, Option, Some, None, if◌then◌else◌}
-use Rattle.al_base.specs.Rules.{number_of}
 use Rattle.al_base.specs.declared.place.Place.{Place}
-use Rattle.al_base.specs.declared.rule.Rule.TheVariants.{NotConformant}
+use Rattle.al_base_fault.specs.declared.check_rule.CheckRule.TheVariants.{NotConformant}
 use Rattle.al_decl_completion.specs.Standing.{lone_body_fault}
 use Rattle.al_decl_completion.specs.declared.specification.Specification.{Specification}
 use Rattle.al_decl_judged.specs.declared.names.DefiningName.{DefiningName}
@@ -18,12 +17,12 @@ use Rattle.al_decl_completes.specs.Matching.{completes, conforms}
 
 -- E303 at the name of what doesn't conform
 abbrev pub conformance : Place → Specification → Profile → Option Fault
-conformance place s profile = if conforms s profile then None else Some (fault_at place (number_of NotConformant))
+conformance place s profile = if conforms s profile then None else Some (fault_at place NotConformant)
 
 -- what waits at this number with this view is completed; what is no subprogram isn't
 abbrev pub view_completed : ℕ → Place → Specification → ViewKind → Completing
 view_completed number place s (OfSubprogram v) = Declared number v.symbol v.flag (conformance place s v.profile)
-view_completed number place s _ = Alone (Some (fault_at place (number_of NotConformant)))
+view_completed number place s _ = Alone (Some (fault_at place NotConformant))
 
 -- the first that waits under that name with these types, where so many stand before the list; else the body stands alone, where it
 -- may declare its subprogram

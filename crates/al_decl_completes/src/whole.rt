@@ -5,8 +5,8 @@ ghost use Rattle.al_decl_profile.specs.Profiles.{specification_of};
 ghost use Rattle.al_view.specs.declared.view.ViewKind.TheVariants.{OfSubprogram};
 ghost use Rattle.al_decl_completes.specs.CompletingFound.{conformance, unit_completing, view_completed};
 
-use al_base::{NoMemory, Place, Rule};
-use al_base_fault::Fault;
+use al_base::{NoMemory, Place};
+use al_base_fault::{CheckRule, Fault};
 use al_decl_completion::{Specification, Uncompleted, conformance_fault};
 use al_decl_profile::{Completing, Heading, copied_flag, specification_of};
 use al_view::{Profile, SubprogramView, ViewKind};
@@ -53,8 +53,8 @@ fn view_completed(
             subprogram_completed(alloc, place, specification, subprogram)
         }
         _ => {
-            let code = Rule::NotConformant.number();
-            Ok(Completing::Alone(Some(Fault { place, code })))
+            let rule = CheckRule::NotConformant;
+            Ok(Completing::Alone(Some(Fault { place, rule })))
         }
     }
 }

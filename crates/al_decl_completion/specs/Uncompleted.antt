@@ -1,8 +1,7 @@
 -- Declarations that wait for their bodies (ARM 3.11.1(1, 6)).
 use Rattle.std.specs.Prelude.{ℕ, Bool, true, false, List, [], ◌∷◌, ◌++◌, Option, Some, None, is_some, if◌then◌else◌}
-use Rattle.al_base.specs.Rules.{number_of}
 use Rattle.al_base.specs.declared.place.Place.{Place}
-use Rattle.al_base.specs.declared.rule.Rule.TheVariants.{MissingCompletion}
+use Rattle.al_base_fault.specs.declared.check_rule.CheckRule.TheVariants.{MissingCompletion}
 use Rattle.al_base_fault.specs.Faults.{fault_at}
 use Rattle.al_base_fault.specs.declared.fault.Fault.{Fault}
 use Rattle.al_query.specs.declared.answer.Completion.{Completion}
@@ -24,4 +23,4 @@ with_declared uncompleted name view = if wants_body view then uncompleted ++ rec
 -- the fault at the word `begin` or `end` after a part, where a declaration still waits
 abbrev pub missing_fault : Place → List Completion → Option Fault
 missing_fault place [] = None
-missing_fault place (c ∷ cs) = Some (fault_at place (number_of MissingCompletion))
+missing_fault place (c ∷ cs) = Some (fault_at place MissingCompletion)

@@ -1,14 +1,13 @@
 // Conformance of specifications.
 ghost use Rattle.std.specs.Prelude.{◌≡◌, ◌↔◌, IsTrue, Some, None, MatchOption};
 ghost use Rattle.std.specs.Option.{option_copied};
-ghost use Rattle.al_base.specs.Rules.{number_of};
-ghost use Rattle.al_base.specs.declared.rule.Rule.TheVariants.{NotConformant};
+ghost use Rattle.al_base_fault.specs.declared.check_rule.CheckRule.TheVariants.{NotConformant};
 ghost use Rattle.al_base_fault.specs.Faults.{fault_at};
 ghost use Rattle.al_decl_completion.specs.Conformance.{Conforms, EachWith, FormalConforms, FormalIsOf, HasTypesOf, MarkConforms, MarkIsOf, ReturnedConforms, ReturnedIsOf};
 
 use crate::specification::{Formal, Returned, Specification};
-use al_base::{Place, Rule};
-use al_base_fault::Fault;
+use al_base::Place;
+use al_base_fault::{CheckRule, Fault};
 use al_view::{Parameter, Profile, Same, Subtype};
 
 fn mark_conforms(mark: &Option<Subtype>, subtype: &Subtype) -> bool
@@ -69,13 +68,13 @@ pub fn conformance_fault(
     specification: &Specification,
     profile: &Profile,
 ) -> Option<Fault>
-    ensures { MatchOption result (Conforms specification.now profile.now) (λ fault. (Conforms specification.now profile.now → ⊥) × (fault ≡ fault_at place (number_of NotConformant))) }
+    ensures { MatchOption result (Conforms specification.now profile.now) (λ fault. (Conforms specification.now profile.now → ⊥) × (fault ≡ fault_at place NotConformant)) }
 {
     if conforms(specification, profile) {
         return None;
     }
-    let code = Rule::NotConformant.number();
-    Some(Fault { place, code })
+    let rule = CheckRule::NotConformant;
+    Some(Fault { place, rule })
 }
 
 fn mark_is_of(mark: &Option<Subtype>, subtype: &Subtype) -> bool

@@ -2,19 +2,17 @@
 ghost use Rattle.std.specs.Prelude.{◌≡◌, Some};
 ghost use Rattle.std.specs.List.{list_any};
 ghost use Rattle.std.specs.Str.{bytes_eq};
-ghost use Rattle.al_base.specs.Rules.{number_of};
 ghost use Rattle.al_base_fault.specs.Faults.{fault_at};
 ghost use Rattle.al_decl_completion.specs.Standing.{dotted_name_fault, is_in, lone_body_fault, mode_fault, stub_fault};
 
-use al_base::{Name, Place, Rule};
-use al_base_fault::Fault;
+use al_base::{Name, Place};
+use al_base_fault::{CheckRule, Fault};
 use al_view::Mode;
 
-fn fault_of(place: Place, rule: Rule) -> Option<Fault>
-    ensures { result ≡ Some (fault_at place (number_of rule)) }
+fn fault_of(place: Place, rule: CheckRule) -> Option<Fault>
+    ensures { result ≡ Some (fault_at place rule) }
 {
-    let code = rule.number();
-    Some(Fault { place, code })
+    Some(Fault { place, rule })
 }
 
 /// What is wrong with a body that completes no declaration, at its defining name.
@@ -22,12 +20,12 @@ pub fn lone_body_fault(place: Place, has_homograph: bool, may_declare: bool) -> 
     ensures { result ≡ lone_body_fault place has_homograph may_declare }
 {
     if has_homograph {
-        return fault_of(place, Rule::Duplicate);
+        return fault_of(place, CheckRule::Duplicate);
     }
     if may_declare {
         return None;
     }
-    fault_of(place, Rule::NotConformant)
+    fault_of(place, CheckRule::NotConformant)
 }
 
 fn is_among(names: &[Name], name: &[u8]) -> bool
@@ -41,10 +39,10 @@ pub fn stub_fault(place: Place, may_stand: bool, stubs: &[Name], name: &[u8]) ->
     ensures { result ≡ stub_fault place may_stand stubs.now name.now }
 {
     if !may_stand {
-        return fault_of(place, Rule::NotAllowedHere);
+        return fault_of(place, CheckRule::NotAllowedHere);
     }
     if is_among(stubs, name) {
-        return fault_of(place, Rule::Duplicate);
+        return fault_of(place, CheckRule::Duplicate);
     }
     None
 }
@@ -55,7 +53,7 @@ pub fn dotted_name_fault(place: Place, is_dotted: bool, is_unit: bool) -> Option
     ensures { result ≡ dotted_name_fault place is_dotted is_unit }
 {
     if is_dotted && !is_unit {
-        return fault_of(place, Rule::NotAllowedHere);
+        return fault_of(place, CheckRule::NotAllowedHere);
     }
     None
 }
@@ -71,7 +69,7 @@ pub fn mode_fault(place: Place, of_function: bool, mode: Mode) -> Option<Fault>
     ensures { result ≡ mode_fault place of_function mode }
 {
     if of_function && !is_in(mode) {
-        return fault_of(place, Rule::NotAllowedHere);
+        return fault_of(place, CheckRule::NotAllowedHere);
     }
     None
 }

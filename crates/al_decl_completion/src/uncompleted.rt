@@ -6,8 +6,8 @@ ghost use Rattle.al_decl_completion.specs.Completing.{Completes, IsFirst};
 
 use crate::completing::completed_of;
 use crate::specification::BodyHead;
-use al_base::{Name, NoMemory, Place, Rule};
-use al_base_fault::Fault;
+use al_base::{Name, NoMemory, Place};
+use al_base_fault::{CheckRule, Fault};
 use al_query::Completion;
 use al_view::{Seq, View, ViewKind};
 use std::alloc::Global;
@@ -121,8 +121,8 @@ impl Uncompleted {
         if self.declared.is_empty() {
             return None;
         }
-        let code = Rule::MissingCompletion.number();
-        Some(Fault { place, code })
+        let rule = CheckRule::MissingCompletion;
+        Some(Fault { place, rule })
     }
 
     /// What the body of a package's declaration must complete, which the unit answers others.

@@ -1,7 +1,6 @@
 -- One declaration as it stands in a text, at its place (ARM 3.2.1, 3.2.2, 3.3.1, 3.3.2).
 use Rattle.std.specs.Prelude.{ℕ, List, Option, Some, None, Result, Err, unwrap_or}
-use Rattle.al_base.specs.Rules.{number_of}
-use Rattle.al_base.specs.declared.rule.Rule.TheVariants.{NotAllowedHere}
+use Rattle.al_base_fault.specs.declared.check_rule.CheckRule.TheVariants.{NotAllowedHere}
 use Rattle.al_decl.specs.Forms.{array_checked, enumeration_checked, integer_checked, number_checked, objects_checked, private_checked, subtype_checked}
 use Rattle.al_decl_record.specs.Records.{null_record_checked, record_checked}
 use Rattle.al_decl_judged.specs.declared.names.DefiningName.{DefiningName}
@@ -31,7 +30,7 @@ object_checked R t h o = form_checked R t h o.names.first.line (defining_names o
 
 -- a name that may not be declared here: it is taken, or it isn't allowed
 abbrev pub refused : Option Fault → DefiningName → Fault
-refused duplicate n = unwrap_or duplicate (fault_at n.place (number_of NotAllowedHere))
+refused duplicate n = unwrap_or duplicate (fault_at n.place NotAllowedHere)
 
 -- a private type stands in the visible part of a package alone (ARM 7.3(4))
 abbrev pub private_fault : (Query → AnswerKind) → Environment → DefiningName → Fault

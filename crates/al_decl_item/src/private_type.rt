@@ -6,8 +6,8 @@ ghost use Rattle.al_decl_item.specs.Items.{private_fault, private_item, refused}
 ghost use Rattle.al_query.specs.Reads.{FromAnswers};
 ghost use Rattle.al_view_typed.specs.DeclarationTrees.{declaration_model};
 
-use al_base::{NoMemory, Rule};
-use al_base_fault::{CheckResult, Fault};
+use al_base::NoMemory;
+use al_base_fault::{CheckResult, CheckRule, Fault};
 use al_decl::check_private;
 use al_decl_here::{Environment, fixed_duplicate};
 use al_decl_judged::{DefiningName, TypeName};
@@ -23,7 +23,7 @@ fn refused(duplicate: Option<Fault>, name: &DefiningName) -> Fault
         Some(fault) => fault,
         None => Fault {
             place: name.place,
-            code: Rule::NotAllowedHere.number(),
+            rule: CheckRule::NotAllowedHere,
         },
     }
 }

@@ -2,14 +2,13 @@
 use Rattle.std.specs.Prelude.{ℕ, List, [], ◌∷◌, ◌++◌, map, Option, Some, None, option_map, if◌then◌else◌}
 use Rattle.std.specs.List.{find, list_any}
 use Rattle.std.specs.Str.{bytes_eq}
-use Rattle.al_base.specs.Rules.{number_of}
-use Rattle.al_base.specs.declared.rule.Rule.TheVariants.{Duplicate}
+use Rattle.al_base_fault.specs.declared.check_rule.CheckRule.TheVariants.{Duplicate}
 use Rattle.al_base_fault.specs.Faults.{fault_at}
 use Rattle.al_base_fault.specs.declared.fault.Fault.{Fault}
 use Rattle.al_decl_judged.specs.declared.names.DefiningName.{DefiningName}
 
 abbrev pub duplicate_at : DefiningName → Fault
-duplicate_at n = fault_at n.place (number_of Duplicate)
+duplicate_at n = fault_at n.place Duplicate
 
 -- the first of these names that stands before it, among those before or among these
 abbrev pub repeated : List DefiningName → List DefiningName → Option Fault

@@ -1,8 +1,7 @@
 -- Expressions that must be static (ARM 4.9).
 use Rattle.std.specs.Prelude.{Option, Some, None, Result, Ok, Err}
-use Rattle.al_base.specs.Rules.{number_of}
 use Rattle.al_base.specs.declared.place.Place.{Place}
-use Rattle.al_base.specs.declared.rule.Rule.TheVariants.{NotStatic}
+use Rattle.al_base_fault.specs.declared.check_rule.CheckRule.TheVariants.{NotStatic}
 use Rattle.al_base_fault.specs.Faults.{fault_at}
 use Rattle.al_base_fault.specs.Judging.{both, map_ok}
 use Rattle.al_base_fault.specs.declared.fault.Fault.{Fault}
@@ -21,7 +20,7 @@ place_label (Labelled labels form) = labels.place
 -- a value that is wanted at that place
 abbrev pub wanted_at : Place → Option StaticValue → Result StaticValue Fault
 wanted_at place (Some value) = Ok value
-wanted_at place None = Err (fault_at place (number_of NotStatic))
+wanted_at place None = Err (fault_at place NotStatic)
 
 -- an expression that must be static
 abbrev pub static_of : TypedTree → Result StaticValue Fault

@@ -4,8 +4,8 @@ ghost use Rattle.al_decl_judged.specs.DefiningNames.{duplicate_at, named_so, nam
 ghost use Rattle.al_decl_judged.specs.Progressing.{with_all_counted};
 
 use crate::progress::Progress;
-use al_base::{Name, NoMemory, Place, Rule};
-use al_base_fault::Fault;
+use al_base::{Name, NoMemory, Place};
+use al_base_fault::{CheckRule, Fault};
 use al_view::{Seq, Symbol};
 use indexmap::IndexSet;
 use std::alloc::Global;
@@ -41,10 +41,10 @@ impl Drop for TypeName {
 pub fn duplicate_at(name: &DefiningName) -> Fault
     ensures { result ≡ duplicate_at name.now }
 {
-    let code = Rule::Duplicate.number();
+    let rule = CheckRule::Duplicate;
     Fault {
         place: name.place,
-        code,
+        rule,
     }
 }
 

@@ -3,8 +3,8 @@ ghost use Rattle.std.specs.Prelude.{◌≡◌};
 ghost use Rattle.al_view_typed.specs.ExpressionViews.{typed_model};
 ghost use Rattle.al_decl_judged.specs.StaticPieces.{place_label, static_of, static_range, value_label, wanted_at};
 
-use al_base::{Place, Rule};
-use al_base_fault::{CheckResult, Fault, both};
+use al_base::Place;
+use al_base_fault::{CheckResult, CheckRule, Fault, both};
 use al_decl_type::StaticRange;
 use al_view::{Bounds, StaticValue};
 use al_view_typed::Typed;
@@ -31,8 +31,8 @@ fn wanted_at(place: Place, value: Option<StaticValue>) -> CheckResult<StaticValu
     match value {
         Some(value) => Ok(value),
         None => {
-            let code = Rule::NotStatic.number();
-            Err(Fault { place, code })
+            let rule = CheckRule::NotStatic;
+            Err(Fault { place, rule })
         }
     }
 }

@@ -1,9 +1,8 @@
 -- Which declaration a body completes, and whether it conforms (ARM 3.11.1, 6.3.1).
 use Rattle.std.specs.Prelude.{◌≡◌, ℕ, Bool, true, List, Option, MatchOption, slice_index_or}
 use Rattle.std.specs.List.{All}
-use Rattle.al_base.specs.Rules.{number_of}
 use Rattle.al_base.specs.declared.place.Place.{Place}
-use Rattle.al_base.specs.declared.rule.Rule.TheVariants.{NotConformant}
+use Rattle.al_base_fault.specs.declared.check_rule.CheckRule.TheVariants.{NotConformant}
 use Rattle.al_base_fault.specs.declared.fault.Fault.{Fault}
 use Rattle.al_base_fault.specs.Faults.{fault_at}
 use Rattle.al_view.specs.declared.symbol.Symbol.{Symbol}
@@ -24,7 +23,7 @@ use Rattle.al_decl_profile.specs.declared.body.Completing.TheVariants.{Declared,
 
 -- a specification conforms to a profile, or E303 stands at its name
 abbrev pub IsConformance : Place → Specification → Profile → Option Fault → Type 0
-IsConformance place s profile fault = MatchOption fault (Conforms s profile) (λ f. (Conforms s profile → ⊥) × (f ≡ fault_at place (number_of NotConformant)))
+IsConformance place s profile fault = MatchOption fault (Conforms s profile) (λ f. (Conforms s profile → ⊥) × (f ≡ fault_at place NotConformant))
 
 -- what is completed is a subprogram with that symbol and flag, to which the specification conforms or not
 abbrev pub IsCompleted : Place → Specification → Symbol → Option ObjectPlace → Option Fault → ViewKind → Type 0

@@ -2,9 +2,8 @@
 use Rattle.std.specs.Prelude.{◌≡◌, ℕ, zero, suc, Bool, true, false, ◌&&◌, List, [], ◌∷◌, fold, Option, Some, None, option_map, is_some, slice_get, Result, Ok, Err, if◌then◌else◌}
 use Rattle.std.specs.List.{remove}
 use Rattle.std.specs.Str.{bytes_eq}
-use Rattle.al_base.specs.Rules.{number_of}
 use Rattle.al_base.specs.declared.place.Place.{Place as TextPlace}
-use Rattle.al_base.specs.declared.rule.Rule.TheVariants.{Duplicate, NotConformant}
+use Rattle.al_base_fault.specs.declared.check_rule.CheckRule.TheVariants.{Duplicate, NotConformant}
 use Rattle.al_base_fault.specs.Faults.{fault_at}
 use Rattle.al_base_fault.specs.declared.fault.Fault.{Fault}
 use Rattle.al_decl_completion.specs.Completing.{is_entry}
@@ -72,7 +71,7 @@ named_duplicate t h n heads.Entry = head_duplicate t h (bare_head n)
 named_duplicate t h n _ = duplicate t h.scope OfComponent n
 
 abbrev pub lone_fault : TextPlace → Bool → Fault
-lone_fault place has_homograph = if has_homograph then fault_at place (number_of Duplicate) else fault_at place (number_of NotConformant)
+lone_fault place has_homograph = if has_homograph then fault_at place Duplicate else fault_at place NotConformant
 
 abbrev pub lone_body : Table → Environment → DefiningName → BodyHead → Fault
 lone_body t h n head = lone_fault n.place (is_some (named_duplicate t h n head))

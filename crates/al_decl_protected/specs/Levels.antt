@@ -1,9 +1,8 @@
 -- Priorities of tasks and ceilings of protected objects (ARM D.1, D.3), and where tasks and protected objects may stand.
 use Rattle.std.specs.Prelude.{ℕ, Bool, pos, codes, Option, Some, None, Result, Ok, Err, int_lt, nat_le, unsigned_abs, if◌then◌else◌}
 use Rattle.std.specs.Str.{bytes_eq}
-use Rattle.al_base.specs.Rules.{number_of}
 use Rattle.al_base.specs.declared.place.Place.{Place as TextPlace}
-use Rattle.al_base.specs.declared.rule.Rule.TheVariants.{NotLibraryLevel, OutOfLimits, WrongKind}
+use Rattle.al_base_fault.specs.declared.check_rule.CheckRule.TheVariants.{NotLibraryLevel, OutOfLimits, WrongKind}
 use Rattle.al_base_fault.specs.Faults.{earlier, fault_at}
 use Rattle.al_base_fault.specs.Judging.{next, unless}
 use Rattle.al_base_fault.specs.declared.fault.Fault.{Fault}
@@ -25,7 +24,7 @@ use Rattle.al_decl_reader.specs.PartReadings.{PartReading}
 -- ---- levels
 
 abbrev pub out_of_limits : TextPlace → Fault
-out_of_limits place = fault_at place (number_of OutOfLimits)
+out_of_limits place = fault_at place OutOfLimits
 
 -- there are the priorities 0 to 30
 abbrev pub level_at : TextPlace → StaticValue → Result ℕ Fault
@@ -41,7 +40,7 @@ abbrev pub is_priority : AspectTree → Bool
 is_priority a = bytes_eq a.name.text (codes "priority")
 
 abbrev pub wrong_aspect : AspectTree → Fault
-wrong_aspect a = fault_at (place_of a.name) (number_of WrongKind)
+wrong_aspect a = fault_at (place_of a.name) WrongKind
 
 -- of an aspect: there is no other than Priority
 abbrev pub aspect_level : PartReading → Place → AspectTree → Result ℕ Fault
@@ -56,7 +55,7 @@ level_read R place usual (Some a) = aspect_level R place a
 
 -- below library level none may stand
 abbrev pub library_fault : Progress → TextPlace → Option Fault
-library_fault p place = if is_library_level p then None else Some (fault_at place (number_of NotLibraryLevel))
+library_fault p place = if is_library_level p then None else Some (fault_at place NotLibraryLevel)
 
 abbrev pub name_fault : Table → Environment → DefiningName → Option Fault
 name_fault t h n = earlier (duplicate t h.scope OfComponent n) (library_fault h.progress n.place)

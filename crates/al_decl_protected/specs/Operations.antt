@@ -1,9 +1,8 @@
 -- Operations of a protected object where they are declared (ARM 9.4, 9.5.2).
 use Rattle.std.specs.Prelude.{Bool, true, false, ◌&&◌, List, [], ◌∷◌, ◌++◌, Option, Some, None, Result, Ok, if◌then◌else◌}
 use Rattle.std.specs.List.{list_any}
-use Rattle.al_base.specs.Rules.{number_of}
 use Rattle.al_base.specs.declared.place.Place.{Place as TextPlace}
-use Rattle.al_base.specs.declared.rule.Rule.TheVariants.{SecondEntry}
+use Rattle.al_base_fault.specs.declared.check_rule.CheckRule.TheVariants.{SecondEntry}
 use Rattle.al_base_fault.specs.Faults.{earlier, fault_at}
 use Rattle.al_base_fault.specs.Judging.{next, unless}
 use Rattle.al_base_fault.specs.declared.fault.Fault.{Fault}
@@ -70,7 +69,7 @@ operation_of symbol object entry head = record { name = head.name.name; subprogr
 -- a protected object has one entry at most (ARM D.7(3))
 abbrev pub second_entry : Bool → TextPlace → List Operation → Option Fault
 second_entry entry place operations =
-    if entry && list_any (λ (o : Operation). is_entry o.subprogram.call) operations then Some (fault_at place (number_of SecondEntry)) else None
+    if entry && list_any (λ (o : Operation). is_entry o.subprogram.call) operations then Some (fault_at place SecondEntry) else None
 
 abbrev pub operation_fault : Table → Environment → Bool → Heading → List Operation → Option Fault
 operation_fault t h entry head operations =

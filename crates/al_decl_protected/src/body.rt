@@ -11,8 +11,8 @@ ghost use Rattle.al_query.specs.declared.answer.Completion.{Completion};
 ghost use Rattle.al_view_typed.specs.DeclarationTrees.{declaration_model};
 
 use crate::operation::bare_head;
-use al_base::{Name, NoMemory, Place, Rule};
-use al_base_fault::{CheckResult, Fault};
+use al_base::{Name, NoMemory, Place};
+use al_base_fault::{CheckResult, CheckRule, Fault};
 use al_decl_completion::{BodyHead, Uncompleted};
 use al_decl_here::{Environment, fixed_duplicate};
 use al_decl_judged::DefiningName;
@@ -112,12 +112,11 @@ fn lone_fault(place: Place, has_homograph: bool) -> Fault
     ensures { result ≡ lone_fault place has_homograph }
 {
     let rule = if has_homograph {
-        Rule::Duplicate
+        CheckRule::Duplicate
     } else {
-        Rule::NotConformant
+        CheckRule::NotConformant
     };
-    let code = rule.number();
-    Fault { place, code }
+    Fault { place, rule }
 }
 
 /// The declaration at that number has its body and waits no more.

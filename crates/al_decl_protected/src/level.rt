@@ -7,8 +7,8 @@ ghost use Rattle.al_query.specs.Reads.{FromAnswers};
 ghost use Rattle.al_tree.specs.DeclarationViews.{aspect_model};
 ghost use Rattle.al_view_typed.specs.ExpressionViews.{typed_model};
 
-use al_base::{NoMemory, Place, Rule};
-use al_base_fault::{CheckResult, Fault, earlier, unless};
+use al_base::{NoMemory, Place};
+use al_base_fault::{CheckResult, CheckRule, Fault, earlier, unless};
 use al_decl_here::{Environment, begin_one, fixed_duplicate};
 use al_decl_judged::{DefiningName, Progress, place_label, static_of};
 use al_decl_reader::PartAnalyzer;
@@ -22,8 +22,8 @@ use std::alloc::Global;
 fn out_of_limits(place: Place) -> Fault
     ensures { result ≡ out_of_limits place }
 {
-    let code = Rule::OutOfLimits.number();
-    Fault { place, code }
+    let rule = CheckRule::OutOfLimits;
+    Fault { place, rule }
 }
 
 /// The priority of this value, of which the expression stands there; E305 outside of 0 to 30.
@@ -67,10 +67,10 @@ fn is_priority(aspect: &Aspect) -> bool
 fn wrong_aspect(aspect: &Aspect) -> Fault
     ensures { result ≡ wrong_aspect (aspect_model aspect.now) }
 {
-    let code = Rule::WrongKind.number();
+    let rule = CheckRule::WrongKind;
     Fault {
         place: aspect.name.place,
-        code,
+        rule,
     }
 }
 
@@ -116,8 +116,8 @@ fn library_fault(progress: &Progress, place: Place) -> Option<Fault>
     if progress.is_library_level() {
         return None;
     }
-    let code = Rule::NotLibraryLevel.number();
-    Some(Fault { place, code })
+    let rule = CheckRule::NotLibraryLevel;
+    Some(Fault { place, rule })
 }
 
 fn name_fault<A: Answers>(

@@ -15,8 +15,8 @@ ghost use Rattle.al_scope.specs.Places.{with_declared};
 ghost use Rattle.al_view.specs.declared.view.ObjectPlace.TheVariants.{Static};
 ghost use Rattle.al_view.specs.declared.view.ViewKind.TheVariants.{OfSubprogram};
 
-use al_base::{Name, NoMemory, Place, Rule};
-use al_base_fault::{CheckResult, Fault, earlier};
+use al_base::{Name, NoMemory, Place};
+use al_base_fault::{CheckResult, CheckRule, Fault, earlier};
 use al_decl_headings::heading_at;
 use al_decl_here::Environment;
 use al_decl_judged::DefiningName;
@@ -155,8 +155,8 @@ fn second_entry(is_entry: bool, place: Place, operations: &[Operation]) -> Optio
     ensures { result ≡ second_entry is_entry place operations.now }
 {
     if is_entry && has_entry(operations) {
-        let code = Rule::SecondEntry.number();
-        return Some(Fault { place, code });
+        let rule = CheckRule::SecondEntry;
+        return Some(Fault { place, rule });
     }
     None
 }

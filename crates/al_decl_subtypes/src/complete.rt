@@ -2,8 +2,8 @@
 ghost use Rattle.std.specs.Prelude.{◌≡◌};
 ghost use Rattle.al_decl_subtypes.specs.Complete.{completed, is_incomplete};
 
-use al_base::{Place, Rule, UnitKey};
-use al_base_fault::{CheckResult, Fault};
+use al_base::{Place, UnitKey};
+use al_base_fault::{CheckResult, CheckRule, Fault};
 use al_scope::is_private;
 use al_view::{SubtypeView, is_unit};
 
@@ -34,7 +34,7 @@ pub(crate) fn completed(
                 drop(of);
                 return Err(Fault {
                     place,
-                    code: Rule::NotComplete.number(),
+                    rule: CheckRule::NotComplete,
                 });
             }
             Ok(of)

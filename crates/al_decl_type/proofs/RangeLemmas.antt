@@ -4,6 +4,7 @@ use Rattle.std.specs.Prelude.{◌-ℤ◌, unsigned_abs, int_lt, int_le, is_ok}
 use Rattle.std.proofs.lemmas.Int.{ints}
 use Rattle.al_base_fault.specs.declared.fault.Fault.{Fault}
 use Rattle.al_base_fault.specs.Faults.{fault_at}
+use Rattle.al_base_fault.specs.declared.check_rule.CheckRule.TheVariants.{OutOfLimits}
 use Rattle.al_view.specs.declared.types.Bounds.{Bounds}
 use Rattle.al_view.proofs.SymbolLemmas.{and_both, both}
 use Rattle.al_decl_type.specs.declared.subtype.StaticRange.{StaticRange}
@@ -61,7 +62,7 @@ narrowed range within ok value inside = at (is_null range.bounds) refl
         absurd (cc)
     at false some =
         let parts = both (int_le range.bounds.low value) (int_le value range.bounds.high) inside in
-        let ends = inside_both (is_null range.bounds) (is_within range.bounds.low within) (is_within range.bounds.high within) range.bounds (fault_at range.low 305) (fault_at range.high 305) ok some in
+        let ends = inside_both (is_null range.bounds) (is_within range.bounds.low within) (is_within range.bounds.high within) range.bounds (fault_at range.low OutOfLimits) (fault_at range.high OutOfLimits) ok some in
         let low = both (int_le within.low range.bounds.low) (int_le range.bounds.low within.high) ends.0 in
         let high = both (int_le within.low range.bounds.high) (int_le range.bounds.high within.high) ends.1 in
         and_both (int_le within.low value) (int_le value within.high)
@@ -70,7 +71,7 @@ narrowed range within ok value inside = at (is_null range.bounds) refl
 
 fits : (range : StaticRange) (within : Bounds) → ((value : ℤ) → is_within value range.bounds ≡ true → is_within value within ≡ true) → is_ok (fitted range within) ≡ true
 fits range within all =
-    right_if (is_null range.bounds) (is_within range.bounds.low within) (is_within range.bounds.high within) range.bounds (fault_at range.low 305) (fault_at range.high 305)
+    right_if (is_null range.bounds) (is_within range.bounds.low within) (is_within range.bounds.high within) range.bounds (fault_at range.low OutOfLimits) (fault_at range.high OutOfLimits)
     (λ some.
     let order = not_lt-le range.bounds.low range.bounds.high some in (
       all range.bounds.low (and_both (int_le range.bounds.low range.bounds.low) (int_le range.bounds.low range.bounds.high) (le-self range.bounds.low) order),

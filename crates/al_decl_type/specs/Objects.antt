@@ -3,6 +3,7 @@ use Rattle.std.specs.Prelude.{Bool, true, false, not, ◌&&◌, List, [], Option
 use Rattle.al_base.specs.declared.place.Place.{Place}
 use Rattle.al_base_fault.specs.declared.fault.Fault.{Fault}
 use Rattle.al_base_fault.specs.Faults.{fault_at}
+use Rattle.al_base_fault.specs.declared.check_rule.CheckRule.TheVariants.{NoValue}
 use Rattle.al_view.specs.declared.types.Bounds.{Bounds}
 use Rattle.al_view.specs.declared.types.StaticValue.{StaticValue}
 use Rattle.al_view.specs.declared.types.TypeView.{TypeView}
@@ -57,4 +58,4 @@ whole_subtype types of = record {
 
 -- a constant has a value (ARM 3.3.1(6)); else there is a fault at its name
 abbrev pub missing_value : Bool → Bool → Place → Option Fault
-missing_value is_constant has_value name = if is_constant && not has_value then Some (fault_at name 309) else None
+missing_value is_constant has_value name = if is_constant && not has_value then Some (fault_at name NoValue) else None

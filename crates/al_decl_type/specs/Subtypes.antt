@@ -5,6 +5,7 @@ use Rattle.al_base.specs.declared.place.Place.{Place}
 use Rattle.al_base_fault.specs.declared.fault.Fault.{Fault}
 use Rattle.al_base_fault.specs.Faults.{fault_at}
 use Rattle.al_base_fault.specs.Judging.{next, map_ok}
+use Rattle.al_base_fault.specs.declared.check_rule.CheckRule.TheVariants.{OutOfLimits, WrongKind}
 use Rattle.al_view.specs.declared.types.Bounds.{Bounds}
 use Rattle.al_view.specs.declared.types.Subtype.{Subtype}
 use Rattle.al_view.specs.declared.types.TypeView.{TypeView}
@@ -28,14 +29,14 @@ subtype_bounds types subtype = option_or subtype.bounds (option_and_then (λ of.
 -- the bounds of a mark that is constrained, and so is scalar (ARM 3.2.2(11))
 abbrev pub scalar_bounds : Place → Option Bounds → Result Bounds Fault
 scalar_bounds mark (Some bounds) = Ok bounds
-scalar_bounds mark None = Err (fault_at mark 404)
+scalar_bounds mark None = Err (fault_at mark WrongKind)
 
 -- a range that is null, or both of whose bounds lie in these (ARM 3.5(6)); else its first bound that lies outside is out of limits
 abbrev pub fitted : StaticRange → Bounds → Result Bounds Fault
 fitted range within =
     if is_null range.bounds then Ok range.bounds
-    else if not (is_within range.bounds.low within) then Err (fault_at range.low 305)
-    else if not (is_within range.bounds.high within) then Err (fault_at range.high 305)
+    else if not (is_within range.bounds.low within) then Err (fault_at range.low OutOfLimits)
+    else if not (is_within range.bounds.high within) then Err (fault_at range.high OutOfLimits)
     else Ok range.bounds
 
 -- the mark's type with these bounds

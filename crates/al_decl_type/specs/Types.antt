@@ -3,6 +3,7 @@ use Rattle.std.specs.Prelude.{ℕ, nat_le, List, [], ◌∷◌, ◌++◌, map, f
 use Rattle.al_base.specs.declared.place.Place.{Place}
 use Rattle.al_base_fault.specs.declared.fault.Fault.{Fault}
 use Rattle.al_base_fault.specs.Faults.{fault_at}
+use Rattle.al_base_fault.specs.declared.check_rule.CheckRule.TheVariants.{OutOfLimits}
 use Rattle.al_view.specs.declared.symbol.Symbol.{Symbol}
 use Rattle.al_view.specs.declared.types.Bounds.{Bounds}
 use Rattle.al_view.specs.declared.types.Component.{Component}
@@ -27,7 +28,7 @@ values_of of = unwrap_or (option_map values_in (subtype_bounds of.types of.subty
 
 -- a type after those that it is of, where a value has at most 4,096 words; else its defining name is where this is out of limits
 abbrev pub within_limits : Place → List TypeView → TypeView → Result (List TypeView) Fault
-within_limits name types of = if nat_le (layout_words of.layout) 4096 then Ok (types ++ of ∷ []) else Err (fault_at name 305)
+within_limits name types of = if nat_le (layout_words of.layout) 4096 then Ok (types ++ of ∷ []) else Err (fault_at name OutOfLimits)
 
 abbrev pub integer_type : Symbol → Bounds → List TypeView
 integer_type t bounds = scalar t (Integer bounds)

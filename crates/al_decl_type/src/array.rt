@@ -6,7 +6,7 @@ ghost use Rattle.al_decl_type.specs.Types.{array_type, array_view};
 use crate::subtype::{bounds_of, is_null};
 use crate::type_list::{add_types, words_of};
 use al_base::{NoMemory, Place};
-use al_base_fault::{CheckResult, Fault};
+use al_base_fault::{CheckResult, CheckRule, Fault};
 use al_view::{Bounds, Layout, Seq, SubtypeView, Symbol, TypeDefinition, TypeView, Types};
 use al_view_predefined::StandardTypes;
 use std::alloc::Global;
@@ -78,7 +78,7 @@ pub fn array_type(
     let Some(words) = array_words(bounds_of(standard, index), each) else {
         return Ok(Err(Fault {
             place: name,
-            code: 305,
+            rule: CheckRule::OutOfLimits,
         }));
     };
     let mut types = Seq::empty(alloc);

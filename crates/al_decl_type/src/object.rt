@@ -4,7 +4,7 @@ ghost use Rattle.al_decl_type.specs.Objects.{constant_value, formal_view, is_inp
 
 use crate::subtype::is_within;
 use al_base::{NoMemory, Place};
-use al_base_fault::Fault;
+use al_base_fault::{CheckRule, Fault};
 use al_view::{Bounds, Mode, ObjectPlace, ObjectView, StaticValue, SubtypeView, View, ViewKind};
 use std::alloc::Global;
 
@@ -15,7 +15,7 @@ pub fn missing_value(is_constant: bool, has_value: bool, name: Place) -> Option<
     if is_constant && !has_value {
         Some(Fault {
             place: name,
-            code: 309,
+            rule: CheckRule::NoValue,
         })
     } else {
         None

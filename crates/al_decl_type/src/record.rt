@@ -6,7 +6,7 @@ ghost use Rattle.al_decl_type.specs.Types.{component_of, components_of, part_typ
 use crate::array::MOST_WORDS;
 use crate::type_list::{add_types, words_of};
 use al_base::{Name, NoMemory, Place};
-use al_base_fault::{CheckResult, Fault};
+use al_base_fault::{CheckResult, CheckRule, Fault};
 use al_view::{Component, Layout, Seq, SubtypeView, Symbol, TypeDefinition, TypeView, Types};
 use al_view_predefined::StandardTypes;
 use std::alloc::Global;
@@ -142,7 +142,7 @@ pub fn record_type(
     let Some(words) = total(each.as_slice()) else {
         return Ok(Err(Fault {
             place: name,
-            code: 305,
+            rule: CheckRule::OutOfLimits,
         }));
     };
     let offsets = offsets(alloc, each.as_slice())?;

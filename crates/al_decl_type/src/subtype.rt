@@ -4,7 +4,7 @@ ghost use Rattle.al_decl_type.specs.Subtypes.{fitted, is_null, is_within, scalar
 
 use crate::type_list::other_types;
 use al_base::{NoMemory, Place};
-use al_base_fault::{CheckResult, Fault};
+use al_base_fault::{CheckResult, CheckRule, Fault};
 use al_view::{Bounds, Subtype, SubtypeView};
 use al_view_predefined::StandardTypes;
 use std::alloc::Global;
@@ -50,7 +50,10 @@ pub fn scalar_bounds(
 {
     match bounds_of(standard, mark) {
         Some(bounds) => Ok(bounds),
-        None => Err(Fault { place, code: 404 }),
+        None => Err(Fault {
+            place,
+            rule: CheckRule::WrongKind,
+        }),
     }
 }
 
@@ -64,13 +67,13 @@ fn fitted(range: StaticRange, within: Bounds) -> CheckResult<Bounds>
     if !is_within(range.bounds.low, within) {
         return Err(Fault {
             place: range.low,
-            code: 305,
+            rule: CheckRule::OutOfLimits,
         });
     }
     if !is_within(range.bounds.high, within) {
         return Err(Fault {
             place: range.high,
-            code: 305,
+            rule: CheckRule::OutOfLimits,
         });
     }
     Ok(range.bounds)

@@ -84,13 +84,13 @@ fn begin<R: ReadFiles, C: UnitCheck, P: Answers>(
     edited: Option<Edited>,
     main: &[u8],
 ) -> Result<Begun, NoMemory>
-    requires reading { AreReadFor C.header R.library }
+    requires reading { AreReadFor C.Text.header R.library }
     requires predefined { ArePredefined (P.table predefined.now) }
     requires last { IfSome last.now (λ b. IsGraphOf (R.library (R.files b.read)) b.graph.value × IsOrdered (R.library (R.files b.read)) b.main gave.now.compiled) }
-    requires settled { IfSome last.now (λ b. IsSettledBy C.meaning C.header (P.table predefined.now) R.library (at_unit cache.old.entries) (record { files = R.files b.read; main = b.main; gave = gave.now })) }
+    requires settled { IfSome last.now (λ b. IsSettledBy C.meaning C.Text.header (P.table predefined.now) R.library (at_unit cache.old.entries) (record { files = R.files b.read; main = b.main; gave = gave.now })) }
     requires edited { IfSome edited (λ e. IfSome last.now (λ b. HaveSameHeaders (R.library (R.files b.read)) (R.library (R.files read.now)) × HaveTextsBut (R.library (R.files b.read)) (R.library (R.files read.now)) e)) }
     ensures graph { IfOk result (λ b. IsGraphOf (R.library (R.files read.now)) b.graph.value) }
-    ensures prepared { IfOk result (λ b. IsPrepared C.meaning C.header (P.table predefined.now) (R.library (R.files read.now)) main.now (at_unit cache.old.entries) b.prepared.planned (at_unit b.prepared.entries) b.prepared.checked.items) }
+    ensures prepared { IfOk result (λ b. IsPrepared C.meaning C.Text.header (P.table predefined.now) (R.library (R.files read.now)) main.now (at_unit cache.old.entries) b.prepared.planned (at_unit b.prepared.entries) b.prepared.checked.items) }
     ensures counted { IfOk result (λ b. C.count cache.new.checker ≡ raised (C.count cache.old.checker) (length b.prepared.checked.items)) }
     ensures entries { cache.new.entries ≡ cache.old.entries }
 {
@@ -118,16 +118,16 @@ pub(crate) fn build_read<R: ReadFiles, C: UnitCheck, P: Answers>(
     edited: Option<Edited>,
     main: &[u8],
 ) -> Result<LastBuild<R>, NoMemory>
-    requires reading { AreReadFor C.header R.library }
+    requires reading { AreReadFor C.Text.header R.library }
     requires predefined { ArePredefined (P.table predefined.now) }
     requires last { IfSome last.now (λ b. IsGraphOf (R.library (R.files b.read)) b.graph.value × IsOrdered (R.library (R.files b.read)) b.main gave.old.compiled) }
-    requires settled { IfSome last.now (λ b. IsSettledBy C.meaning C.header (P.table predefined.now) R.library (at_unit cache.old.entries) (record { files = R.files b.read; main = b.main; gave = gave.old })) }
+    requires settled { IfSome last.now (λ b. IsSettledBy C.meaning C.Text.header (P.table predefined.now) R.library (at_unit cache.old.entries) (record { files = R.files b.read; main = b.main; gave = gave.old })) }
     requires edited { IfSome edited (λ e. IfSome last.now (λ b. HaveSameHeaders (R.library (R.files b.read)) (R.library (R.files read)) × HaveTextsBut (R.library (R.files b.read)) (R.library (R.files read)) e)) }
     ensures files { IfOk result (λ b. R.files b.read ≡ R.files read) }
     ensures graph { IfOk result (λ b. IsGraphOf (R.library (R.files b.read)) b.graph.value) }
     ensures main { IfOk result (λ b. b.main ≡ main.now) }
-    ensures rebuilt { OnOk result (IsRebuilt C.meaning C.header (P.table predefined.now) (R.library (R.files read)) main.now (at_unit cache.old.entries) (at_unit cache.new.entries) gave.new) }
-    ensures right { IfOk result (λ b. IsCompiled C.meaning (setting_of C.header (P.table predefined.now) (R.library (R.files b.read))) b.main gave.new.compiled) }
+    ensures rebuilt { OnOk result (IsRebuilt C.meaning C.Text.header (P.table predefined.now) (R.library (R.files read)) main.now (at_unit cache.old.entries) (at_unit cache.new.entries) gave.new) }
+    ensures right { IfOk result (λ b. IsCompiled C.meaning (setting_of C.Text.header (P.table predefined.now) (R.library (R.files b.read))) b.main gave.new.compiled) }
     ensures counted { OnOk result (C.count cache.new.checker ≡ raised (C.count cache.old.checker) (length gave.new.checked)) }
     ensures patched { OnOk result (IsPatched (linked_in gave.old.compiled) (linked_in gave.new.compiled) gave.new.patched) }
     ensures err { OnErr result ((cache.new.entries ≡ cache.old.entries) × (gave.new ≡ gave.old)) }

@@ -104,13 +104,13 @@ pub(crate) fn edited_now<R: ReadFiles, C: UnitCheck, P: Answers>(
     edited: &Edited,
     gave: &Rebuilt,
 ) -> Result<Option<UnitKey>, NoMemory>
-    requires reading { AreReadFor C.header R.library }
+    requires reading { AreReadFor C.Text.header R.library }
     requires predefined { ArePredefined (P.table predefined.now) }
     requires graph { IfSome same (λ b. IsGraphOf (R.library (R.files b.now.read)) b.now.graph.value) }
-    requires settled { IfSome same (λ b. IsSettledBy C.meaning C.header (P.table predefined.now) R.library (at_unit cache.now.entries) (record { files = R.files b.now.read; main = b.now.main; gave = gave.now })) }
+    requires settled { IfSome same (λ b. IsSettledBy C.meaning C.Text.header (P.table predefined.now) R.library (at_unit cache.now.entries) (record { files = R.files b.now.read; main = b.now.main; gave = gave.now })) }
     requires headers { IfSome same (λ b. HaveSameHeaders (R.library (R.files b.now.read)) (R.library (R.files read.now))) }
     requires texts { IfSome same (λ b. HaveTextsBut (R.library (R.files b.now.read)) (R.library (R.files read.now)) edited.now) }
-    ensures renewable { IfOk result (λ found. IfSome found (λ unit. IsRenewable C.meaning C.header (P.table predefined.now) (R.library (R.files read.now)) (at_unit cache.now.entries) unit)) }
+    ensures renewable { IfOk result (λ found. IfSome found (λ unit. IsRenewable C.meaning C.Text.header (P.table predefined.now) (R.library (R.files read.now)) (at_unit cache.now.entries) unit)) }
     ensures clean { IfOk result (λ found. IfSome found (IsCleanBut (R.library (R.files read.now)) (at_unit cache.now.entries))) }
 {
     order_is_for_builds();

@@ -1,11 +1,12 @@
 // The library.
-ghost use Rattle.std.specs.Prelude.{◌≡◌, ℕ, List, [], None, Some, Ok, Err, IfOk, IsTrue, MatchResult, OnOk, OnErr, length, map, option_map};
+ghost use Rattle.std.specs.Prelude.{◌≡◌, ℕ, List, [], None, Some, Ok, Err, IfOk, IfSome, IsTrue, MatchResult, OnOk, OnErr, length, map, option_map};
 ghost use Rattle.al_base.specs.Batch.{key_of};
 ghost use Rattle.al_base.specs.Files.{with_file, without_file, with_renamed, put_refusal, delete_refusal, rename_refusal, AnswersRefusal, AnswersFirst};
 ghost use Rattle.al_unit_obsolete.specs.Units.{unit_model, units_of};
 ghost use Rattle.al_unit_map.specs.Units.{at_unit};
 ghost use Rattle.al_entries.specs.EntryLaw.{AllKeepLaw};
 ghost use Rattle.al_engine_setting.specs.Settings.{ArePredefined};
+ghost use Rattle.al_engine_reported.specs.Answers.{answer_of};
 ghost use Rattle.al_engine_reported.specs.Gave.{order_of, program_of};
 ghost use Rattle.al_engine.specs.States.{AreReadFor, IsBuiltRight, IsOfNow, last_checked, patched_last};
 ghost use Rattle.al_engine.specs.Builds.{IsBuild};
@@ -19,7 +20,7 @@ use al_base::{Diagnostic, Files, Name, NoMemory, Refusal, UnitKey};
 use al_engine_batch::{Compiled, Program};
 use al_engine_rebuild::Rebuilt;
 use al_engine_recheck::UnitCache;
-use al_engine_reported::{diagnostics_of, order_of, program_of};
+use al_engine_reported::{BuildAnswer, answer_of, diagnostics_of, order_of, program_of};
 use al_query::Answers;
 use al_query_check::UnitCheck;
 use al_tasks_run::{RunReport, run};
@@ -56,13 +57,13 @@ impl<R: ReadFiles, C: UnitCheck, P: Answers> Model for Engine<R, C, P> {
 
     ghost view = { λ e. record { cache = e.cache; predefined = e.predefined; files = e.files; built = option_map (λ b. record { files = R.files b.read; main = b.main; gave = e.gave }) e.last } };
 
-    ghost invariant = { λ e. IsRight C.meaning C.header (P.table e.predefined) R.library e.files (at_unit e.cache.entries) e.is_edited (option_map (λ b. (R.files b.read, b.graph.value)) e.last) (option_map (λ b. record { files = R.files b.read; main = b.main; gave = e.gave }) e.last) e.gave.compiled };
+    ghost invariant = { λ e. IsRight C.meaning C.Text.header (P.table e.predefined) R.library e.files (at_unit e.cache.entries) e.is_edited (option_map (λ b. (R.files b.read, b.graph.value)) e.last) (option_map (λ b. record { files = R.files b.read; main = b.main; gave = e.gave }) e.last) e.gave.compiled };
 }
 
 impl<R: ReadFiles, C: UnitCheck, P: Answers> Engine<R, C, P> {
     /// A library with no file and no build. It takes no memory.
     pub fn new(alloc: Global, checker: C, predefined: P) -> Self
-        requires reading { AreReadFor C.header R.library }
+        requires reading { AreReadFor C.Text.header R.library }
         requires predefined { ArePredefined (P.table predefined) }
         ensures checker { (result.cache.checker ≡ checker) × (result.predefined ≡ predefined) }
         ensures nothing { (result.cache.entries ≡ []) × (result.files ≡ []) × (result.built ≡ None) }
@@ -81,8 +82,8 @@ impl<R: ReadFiles, C: UnitCheck, P: Answers> Engine<R, C, P> {
     /// What every library keeps, whatever happened: each entry the law of what was read, and the last build is what compiling its
     /// files from nothing gives. It does nothing.
     pub fn keeps(&self)
-        ensures law { AllKeepLaw C.meaning C.header (at_unit self.now.cache.entries) }
-        ensures built { IsBuiltRight C.meaning C.header (P.table self.now.predefined) R.library self.now.built }
+        ensures law { AllKeepLaw C.meaning C.Text.header (at_unit self.now.cache.entries) }
+        ensures built { IsBuiltRight C.meaning C.Text.header (P.table self.now.predefined) R.library self.now.built }
     {
         let _last = &self.last;
         self.cache.keep_the_law();
@@ -156,28 +157,39 @@ impl<R: ReadFiles, C: UnitCheck, P: Answers> Engine<R, C, P> {
     /// Makes the last build once more, where no file was edited since: no unit is checked, and what it gave stays. It takes no memory.
     fn repeat(&mut self)
         ensures files { (self.new.files ≡ self.old.files) × (self.new.predefined ≡ self.old.predefined) }
-        ensures built { (main : List ℕ) → IsOfNow self.old.files main self.old.built → IsBuild C.meaning C.header C.count (P.table self.old.predefined) R.library main self.old self.new }
+        ensures built { (main : List ℕ) → IsOfNow self.old.files main self.old.built → IsBuild C.meaning C.Text.header C.count (P.table self.old.predefined) R.library main self.old self.new }
     {
         let _before = self.cache.checks();
         self.gave.checked = Seq::empty(self.alloc);
         self.gave.patched = 0;
     }
 
+    /// What the last build answered; that nothing is wrong before the first. It takes no memory.
+    fn answer(&self) -> BuildAnswer
+        ensures { IfSome self.now.built (λ b. result ≡ answer_of b.gave.compiled) }
+    {
+        match &self.last {
+            Some(_) => answer_of(&self.gave.compiled),
+            None => BuildAnswer::Faults(0),
+        }
+    }
+
     /// Compiles the files, with this main unit in lower case, and checks again what an edit reached. The last build is this one then,
-    /// whether something is wrong with the files or not. Where no file was edited since the last build of the same main unit, no file
-    /// and no unit is looked at.
+    /// whether something is wrong with the files or not; what it gave is answered in short. Where no file was edited since the last build of
+    /// the same main unit, no file and no unit is looked at.
     ///
     /// # Errors
     ///
     /// `NoMemory` where memory was wanted and not given: the files, the last build and all entries are as before.
-    pub fn build(&mut self, main: &[u8]) -> Result<(), NoMemory>
+    pub fn build(&mut self, main: &[u8]) -> Result<BuildAnswer, NoMemory>
         ensures files { (self.new.files ≡ self.old.files) × (self.new.predefined ≡ self.old.predefined) }
-        ensures ok { OnOk result (IsBuild C.meaning C.header C.count (P.table self.old.predefined) R.library main.now self.old self.new) }
+        ensures ok { OnOk result (IsBuild C.meaning C.Text.header C.count (P.table self.old.predefined) R.library main.now self.old self.new) }
+        ensures answer { IfOk result (λ answer. IfSome self.new.built (λ b. answer ≡ answer_of b.gave.compiled)) }
         ensures err { OnErr result ((self.new.cache.entries ≡ self.old.cache.entries) × (self.new.built ≡ self.old.built)) }
     {
         if self.is_built(main) {
             self.repeat();
-            return Ok(());
+            return Ok(self.answer());
         }
         let again = read_again(self.alloc, &self.files, &self.last)?;
         let (read, edited) = again;
@@ -193,7 +205,7 @@ impl<R: ReadFiles, C: UnitCheck, P: Answers> Engine<R, C, P> {
         )?;
         self.is_edited = false;
         self.last = Some(last);
-        Ok(())
+        Ok(self.answer())
     }
 
     /// The last build, if there was one: its main unit, and what compiling gave. It takes no memory.

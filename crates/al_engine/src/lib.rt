@@ -9,5 +9,6 @@ mod graphs;
 mod last_build;
 mod read_files;
 
+pub use al_engine_reported::BuildAnswer;
 pub use engine::Engine;
 pub use read_files::ReadFiles;

@@ -45,12 +45,12 @@ pub fn check_library<C: UnitCheck, P: Answers>(
     graph: &UnitGraph,
     edited: &Option<UnitKey>,
 ) -> Result<CheckedLibrary, NoMemory>
-    requires headed { AreHeaded C.header sources.now }
+    requires headed { AreHeaded C.Text.header sources.now }
     requires bodies { NameParentBodies sources.now }
     requires predefined { ArePredefined (P.table predefined.now) }
     requires graph { IsGraphOf sources.now graph.now }
-    requires edited { IfSome edited.now (λ unit. IsRenewable C.meaning C.header (P.table predefined.now) sources.now (at_unit cache.old.entries) unit) }
-    ensures checked { IfOk result (λ r. IsRechecked C.meaning C.header (setting_of C.header (P.table predefined.now) sources.now) (at_unit cache.old.entries) (at_unit r.entries) r.checked.items) }
+    requires edited { IfSome edited.now (λ unit. IsRenewable C.meaning C.Text.header (P.table predefined.now) sources.now (at_unit cache.old.entries) unit) }
+    ensures checked { IfOk result (λ r. IsRechecked C.meaning C.Text.header (setting_of C.Text.header (P.table predefined.now) sources.now) (at_unit cache.old.entries) (at_unit r.entries) r.checked.items) }
     ensures renewed { IfSome edited.now (λ unit. IfOk result (λ r. IsRenewal (at_unit cache.old.entries) unit (at_unit r.entries))) }
     ensures counted { IfOk result (λ r. C.count cache.new.checker ≡ raised (C.count cache.old.checker) (length r.checked.items)) }
     ensures entries { cache.new.entries ≡ cache.old.entries }

@@ -118,14 +118,14 @@ pub fn prepare<C: UnitCheck, P: Answers>(
     known: Option<&[UnitKey]>,
     edited: &Option<UnitKey>,
 ) -> Result<PreparedBuild, NoMemory>
-    requires headed { AreHeaded C.header sources.now }
+    requires headed { AreHeaded C.Text.header sources.now }
     requires bodies { NameParentBodies sources.now }
     requires predefined { ArePredefined (P.table predefined.now) }
     requires graph { IsGraphOf sources.now graph.now }
     requires known { IfSome known (λ order. IsElaboration sources.now main.now (map key_of order.now)) }
-    requires edited { IfSome edited.now (λ unit. IsRenewable C.meaning C.header (P.table predefined.now) sources.now (at_unit cache.old.entries) unit) }
+    requires edited { IfSome edited.now (λ unit. IsRenewable C.meaning C.Text.header (P.table predefined.now) sources.now (at_unit cache.old.entries) unit) }
     requires clean { IfSome edited.now (IsCleanBut sources.now (at_unit cache.old.entries)) }
-    ensures prepared { IfOk result (λ p. IsPrepared C.meaning C.header (P.table predefined.now) sources.now main.now (at_unit cache.old.entries) p.planned (at_unit p.entries) p.checked.items) }
+    ensures prepared { IfOk result (λ p. IsPrepared C.meaning C.Text.header (P.table predefined.now) sources.now main.now (at_unit cache.old.entries) p.planned (at_unit p.entries) p.checked.items) }
     ensures counted { IfOk result (λ p. C.count cache.new.checker ≡ raised (C.count cache.old.checker) (length p.checked.items)) }
     ensures entries { cache.new.entries ≡ cache.old.entries }
 {
@@ -158,7 +158,7 @@ impl PreparedBuild {
         cache: &mut UnitCache<C>,
         gave: &mut Rebuilt,
     ) -> Result<(), NoMemory>
-        requires law { AllKeepLaw C.meaning C.header (at_unit self.entries) }
+        requires law { AllKeepLaw C.meaning C.Text.header (at_unit self.entries) }
         requires closed { IsClosedPlan self.planned }
         ensures rebuilt { OnOk result ((header : List ℕ → Header) (predefined : Query → AnswerKind) (lib : Library) (main : List ℕ) (old : UnitKey → Option Stored) → IsPrepared C.meaning header predefined lib main old self.planned (at_unit self.entries) self.checked.items → IsRebuilt C.meaning header predefined lib main old (at_unit cache.new.entries) gave.new) }
         ensures patched { OnOk result (IsPatched (linked_in gave.old.compiled) (linked_in gave.new.compiled) gave.new.patched) }

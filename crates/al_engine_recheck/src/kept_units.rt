@@ -44,7 +44,7 @@ impl<C: UnitCheck> Model for UnitCache<C> {
 
     ghost view = { λ k. record { checker = k.checker; entries = k.entries } };
 
-    ghost invariant = { λ k. AllKeepLaw C.meaning C.header (at_unit k.entries) };
+    ghost invariant = { λ k. AllKeepLaw C.meaning C.Text.header (at_unit k.entries) };
 }
 
 impl<C: UnitCheck> UnitCache<C> {
@@ -62,7 +62,7 @@ impl<C: UnitCheck> UnitCache<C> {
 
     /// Every entry keeps the reads law. It does nothing.
     pub fn keep_the_law(&self)
-        ensures { AllKeepLaw C.meaning C.header (at_unit self.now.entries) }
+        ensures { AllKeepLaw C.meaning C.Text.header (at_unit self.now.entries) }
     {
         let _entries = &self.entries;
     }
@@ -97,9 +97,9 @@ impl<C: UnitCheck> UnitCache<C> {
         order: &[UnitKey],
         edited: &Option<UnitKey>,
     ) -> Result<Rechecked, NoMemory>
-        requires order { HasOrder C.header (P.table predefined.now) sources.now order.now }
-        requires edited { IfSome edited.now (λ unit. IsRenewable C.meaning C.header (P.table predefined.now) sources.now (at_unit self.old.entries) unit) }
-        ensures rechecked { IfOk result (λ r. IsRechecked C.meaning C.header (setting_of C.header (P.table predefined.now) sources.now) (at_unit self.old.entries) (at_unit r.entries) r.checked.items) }
+        requires order { HasOrder C.Text.header (P.table predefined.now) sources.now order.now }
+        requires edited { IfSome edited.now (λ unit. IsRenewable C.meaning C.Text.header (P.table predefined.now) sources.now (at_unit self.old.entries) unit) }
+        ensures rechecked { IfOk result (λ r. IsRechecked C.meaning C.Text.header (setting_of C.Text.header (P.table predefined.now) sources.now) (at_unit self.old.entries) (at_unit r.entries) r.checked.items) }
         ensures renewed { IfSome edited.now (λ unit. IfOk result (λ r. IsRenewal (at_unit self.old.entries) unit (at_unit r.entries))) }
         ensures counted { IfOk result (λ r. C.count self.new.checker ≡ raised (C.count self.old.checker) (length r.checked.items)) }
         ensures entries { self.new.entries ≡ self.old.entries }
@@ -121,8 +121,8 @@ impl<C: UnitCheck> UnitCache<C> {
         sources: &Sources,
         made: UnitMap<Entry>,
     ) -> Result<UnitMap<Entry>, NoMemory>
-        requires { AllKeepLaw C.meaning C.header (at_unit made) }
-        ensures law { IfOk result (λ entries. AllKeepLaw C.meaning C.header (at_unit entries)) }
+        requires { AllKeepLaw C.meaning C.Text.header (at_unit made) }
+        ensures law { IfOk result (λ entries. AllKeepLaw C.meaning C.Text.header (at_unit entries)) }
         ensures entries { IfOk result (λ entries. (u : UnitKey) → at_unit entries u ≡ staying sources.now (at_unit self.now.entries) (at_unit made) u) }
     {
         staying_keep_the_law();
@@ -143,9 +143,9 @@ impl<C: UnitCheck> UnitCache<C> {
         made: UnitMap<Entry>,
         edited: &Option<UnitKey>,
     ) -> Result<UnitMap<Entry>, NoMemory>
-        requires law { AllKeepLaw C.meaning C.header (at_unit made) }
+        requires law { AllKeepLaw C.meaning C.Text.header (at_unit made) }
         requires renewed { IfSome edited.now (λ unit. IsRenewal (at_unit self.now.entries) unit (at_unit made)) }
-        ensures law { IfOk result (λ entries. AllKeepLaw C.meaning C.header (at_unit entries)) }
+        ensures law { IfOk result (λ entries. AllKeepLaw C.meaning C.Text.header (at_unit entries)) }
         ensures entries { IfOk result (λ entries. (u : UnitKey) → at_unit entries u ≡ staying sources.now (at_unit self.now.entries) (at_unit made) u) }
     {
         match edited {
@@ -159,7 +159,7 @@ impl<C: UnitCheck> UnitCache<C> {
 
     /// Has these entries from here on, in the place of those of before. It takes no memory.
     pub fn take_over(&mut self, entries: UnitMap<Entry>)
-        requires { AllKeepLaw C.meaning C.header (at_unit entries) }
+        requires { AllKeepLaw C.meaning C.Text.header (at_unit entries) }
         ensures checker { self.new.checker ≡ self.old.checker }
         ensures entries { self.new.entries ≡ entries }
     {

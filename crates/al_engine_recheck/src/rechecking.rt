@@ -33,9 +33,9 @@ pub fn recheck<C: UnitCheck, P: Answers>(
     old: &UnitMap<Entry>,
     order: &[UnitKey],
 ) -> Result<Rechecked, NoMemory>
-    requires law { AllKeepLaw C.meaning C.header (at_unit old.now) }
-    requires order { HasOrder C.header (P.table predefined.now) sources.now order.now }
-    ensures rechecked { IfOk result (λ r. IsRechecked C.meaning C.header (setting_of C.header (P.table predefined.now) sources.now) (at_unit old.now) (at_unit r.entries) r.checked.items) }
+    requires law { AllKeepLaw C.meaning C.Text.header (at_unit old.now) }
+    requires order { HasOrder C.Text.header (P.table predefined.now) sources.now order.now }
+    ensures rechecked { IfOk result (λ r. IsRechecked C.meaning C.Text.header (setting_of C.Text.header (P.table predefined.now) sources.now) (at_unit old.now) (at_unit r.entries) r.checked.items) }
     ensures counted { IfOk result (λ r. C.count checker.new ≡ raised (C.count checker.old) (length r.checked.items)) }
 {
     let refreshed = refresh(alloc, checker, predefined, sources, old, order)?;

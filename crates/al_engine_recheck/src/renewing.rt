@@ -44,7 +44,7 @@ fn renewed<C: UnitCheck, P: Answers>(
     entries: &UnitMap<Entry>,
     unit: &UnitKey,
 ) -> Result<Entry, NoMemory>
-    ensures keeps { IfOk result (λ entry. KeepsLaw C.meaning C.header unit.now entry) }
+    ensures keeps { IfOk result (λ entry. KeepsLaw C.meaning C.Text.header unit.now entry) }
     ensures current { IfOk result (λ entry. IsCurrent entry (text_of sources.now unit.now) (present (P.table predefined.now) (results_of (at_unit entries.now)))) }
     ensures counted { OnOk result (C.count checker.new ≡ one_more (C.count checker.old)) }
 {
@@ -106,9 +106,9 @@ fn renew<C: UnitCheck, P: Answers>(
     order: &[UnitKey],
     unit: &UnitKey,
 ) -> Result<Rechecked, NoMemory>
-    requires order { HasOrder C.header (P.table predefined.now) sources.now order.now }
-    requires renewable { IsRenewable C.meaning C.header (P.table predefined.now) sources.now (at_unit old.now) unit.now }
-    ensures rechecked { IfOk result (λ r. IsRechecked C.meaning C.header (setting_of C.header (P.table predefined.now) sources.now) (at_unit old.now) (at_unit r.entries) r.checked.items) }
+    requires order { HasOrder C.Text.header (P.table predefined.now) sources.now order.now }
+    requires renewable { IsRenewable C.meaning C.Text.header (P.table predefined.now) sources.now (at_unit old.now) unit.now }
+    ensures rechecked { IfOk result (λ r. IsRechecked C.meaning C.Text.header (setting_of C.Text.header (P.table predefined.now) sources.now) (at_unit old.now) (at_unit r.entries) r.checked.items) }
     ensures renewed { IfOk result (λ r. IsRenewal (at_unit old.now) unit.now (at_unit r.entries)) }
     ensures counted { IfOk result (λ r. C.count checker.new ≡ raised (C.count checker.old) (length r.checked.items)) }
 {
@@ -132,10 +132,10 @@ pub(crate) fn update<C: UnitCheck, P: Answers>(
     order: &[UnitKey],
     edited: &Option<UnitKey>,
 ) -> Result<Rechecked, NoMemory>
-    requires law { AllKeepLaw C.meaning C.header (at_unit old.now) }
-    requires order { HasOrder C.header (P.table predefined.now) sources.now order.now }
-    requires edited { IfSome edited.now (λ unit. IsRenewable C.meaning C.header (P.table predefined.now) sources.now (at_unit old.now) unit) }
-    ensures rechecked { IfOk result (λ r. IsRechecked C.meaning C.header (setting_of C.header (P.table predefined.now) sources.now) (at_unit old.now) (at_unit r.entries) r.checked.items) }
+    requires law { AllKeepLaw C.meaning C.Text.header (at_unit old.now) }
+    requires order { HasOrder C.Text.header (P.table predefined.now) sources.now order.now }
+    requires edited { IfSome edited.now (λ unit. IsRenewable C.meaning C.Text.header (P.table predefined.now) sources.now (at_unit old.now) unit) }
+    ensures rechecked { IfOk result (λ r. IsRechecked C.meaning C.Text.header (setting_of C.Text.header (P.table predefined.now) sources.now) (at_unit old.now) (at_unit r.entries) r.checked.items) }
     ensures renewed { IfSome edited.now (λ unit. IfOk result (λ r. IsRenewal (at_unit old.now) unit (at_unit r.entries))) }
     ensures counted { IfOk result (λ r. C.count checker.new ≡ raised (C.count checker.old) (length r.checked.items)) }
 {

@@ -38,7 +38,7 @@ pub fn refresh<C: UnitCheck, P: Answers>(
     old: &UnitMap<Entry>,
     order: &[UnitKey],
 ) -> Result<Refreshed, NoMemory>
-    ensures built { (is_faultless : UnitKey → Bool) → let s = setting C.header sources.now is_faultless (P.table predefined.now) in (is : IsSetting s) → IsOrder s is.rank order.now → AllKeepLaw C.meaning C.header (at_unit old.now) → IfOk result (λ r. IsBuilt C.meaning C.header s (at_unit old.now) (at_unit r.entries) order.now r.checked) }
+    ensures built { (is_faultless : UnitKey → Bool) → let s = setting C.Text.header sources.now is_faultless (P.table predefined.now) in (is : IsSetting s) → IsOrder s is.rank order.now → AllKeepLaw C.meaning C.Text.header (at_unit old.now) → IfOk result (λ r. IsBuilt C.meaning C.Text.header s (at_unit old.now) (at_unit r.entries) order.now r.checked) }
     ensures counted { IfOk result (λ r. C.count checker.new ≡ raised (C.count checker.old) (length r.checked)) }
 {
     let _before = checker.checks();

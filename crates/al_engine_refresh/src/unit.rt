@@ -11,7 +11,7 @@ use crate::present::{Present, rests_on_sound, text_of};
 use al_base::{NoMemory, UnitKey};
 use al_entries::Entry;
 use al_query::{Answers, Recorder};
-use al_query_check::UnitCheck;
+use al_query_check::{ReadText, UnitCheck};
 use al_unit_graph::Sources;
 use al_unit_map::UnitMap;
 use al_view::{Seq, copied_unit};
@@ -37,11 +37,31 @@ fn current_entry<A: Answers>(
     }
 }
 
-/// A new entry of a unit, by a check that asks these answers.
+/// A new entry of a unit with this text, which was read, by a check that asks these answers.
+fn check_read<C: UnitCheck, A: Answers + Drop>(
+    alloc: Global,
+    checker: &mut C,
+    unit: &UnitKey,
+    text: Rc<Vec<u8>>,
+    read: &C::Text,
+    asked: A,
+) -> Result<Entry, NoMemory>
+    requires { C.Text.text read.now ≡ text.value.items }
+    ensures keeps { IfOk result (λ entry. KeepsLaw C.meaning C.Text.header unit.now entry) }
+    ensures current { IfOk result (λ entry. IsCurrent entry text.value.items (A.table asked)) }
+    ensures counted { OnOk result (C.count checker.new ≡ one_more (C.count checker.old)) }
+{
+    let mut recorder = Recorder::new(alloc, asked);
+    let checked = checker.check(alloc, unit, read, &mut recorder)?;
+    let log = recorder.into_log();
+    Entry::new(alloc, text, log, checked)
+}
+
+/// A new entry of a unit with this text, which is read for it, by a check that asks these answers.
 ///
 /// # Errors
 ///
-/// `NoMemory` where memory was wanted and not given; the check is counted all the same.
+/// `NoMemory` where memory was wanted and not given.
 pub fn check_unit<C: UnitCheck, A: Answers + Drop>(
     alloc: Global,
     checker: &mut C,
@@ -49,14 +69,12 @@ pub fn check_unit<C: UnitCheck, A: Answers + Drop>(
     text: Rc<Vec<u8>>,
     asked: A,
 ) -> Result<Entry, NoMemory>
-    ensures keeps { IfOk result (λ entry. KeepsLaw C.meaning C.header unit.now entry) }
+    ensures keeps { IfOk result (λ entry. KeepsLaw C.meaning C.Text.header unit.now entry) }
     ensures current { IfOk result (λ entry. IsCurrent entry text.value.items (A.table asked)) }
     ensures counted { OnOk result (C.count checker.new ≡ one_more (C.count checker.old)) }
 {
-    let mut recorder = Recorder::new(alloc, asked);
-    let checked = checker.check(alloc, unit, text.as_slice(), &mut recorder)?;
-    let log = recorder.into_log();
-    Entry::new(alloc, text, log, checked)
+    let read = C::Text::read(alloc, text.clone()?)?;
+    check_read(alloc, checker, unit, text, &read, asked)
 }
 
 /// The entries of a build so far, and the units that it checked, in its order.
@@ -94,7 +112,7 @@ pub(crate) fn refresh_unit<C: UnitCheck, P: Answers>(
     unit: &UnitKey,
     done: &mut Done,
 ) -> Result<(), NoMemory>
-    ensures { let t = present (P.table predefined.now) (results_of (at_unit done.old.entries)) in OnOk result (Handled C.meaning C.header unit.now (text_of sources.now unit.now) (has_sound_dependences sources.now (results_of (at_unit done.old.entries)) unit.now) t (at_unit old.now unit.now) (record { at = at_unit done.old.entries; checked = done.old.checked; count = C.count checker.old }) (record { at = at_unit done.new.entries; checked = done.new.checked; count = C.count checker.new })) }
+    ensures { let t = present (P.table predefined.now) (results_of (at_unit done.old.entries)) in OnOk result (Handled C.meaning C.Text.header unit.now (text_of sources.now unit.now) (has_sound_dependences sources.now (results_of (at_unit done.old.entries)) unit.now) t (at_unit old.now unit.now) (record { at = at_unit done.old.entries; checked = done.old.checked; count = C.count checker.old }) (record { at = at_unit done.new.entries; checked = done.new.checked; count = C.count checker.new })) }
 {
     if !rests_on_sound(sources, &done.entries, unit)? {
         return Ok(());

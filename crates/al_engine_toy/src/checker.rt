@@ -16,6 +16,7 @@ ghost use Rattle.al_engine_toy.specs.Toys.{AsksWell, HasParent, IsChecked, IsJud
 
 use crate::outcomes::{faulty, plain};
 use crate::reading::{first_named, is_body_of, is_marked};
+use crate::text::ToyText;
 use al_base::{Name, NoMemory, UnitKey, UnitKind};
 use al_base_shortage::one_more;
 use al_query::{Answer, Answers, Completion, Property, Query, Recorder};
@@ -201,6 +202,20 @@ fn checked<A: Answers>(
     }
 }
 
+/// What a unit with a text is, as it was read.
+fn checked_text<A: Answers>(
+    alloc: Global,
+    unit: &UnitKey,
+    text: &ToyText,
+    recorder: &mut Recorder<A>,
+) -> Result<Checked, NoMemory>
+    requires { recorder.old.log ≡ [] }
+    ensures asked { recorder.new.asked ≡ recorder.old.asked }
+    ensures checked { IfOk result (λ c. IsChecked unit.now text.now recorder.new.log (checked_model c)) }
+{
+    checked(alloc, unit, text.as_slice(), recorder)
+}
+
 /// A checker that asks its unit's parent for a parent, and that one whether it is marked.
 #[derive(Drop)]
 pub struct Toy {
@@ -217,9 +232,9 @@ impl Toy {
 }
 
 impl UnitCheck for Toy {
-    ghost meaning = { toy_meaning };
+    type Text = ToyText;
 
-    ghost header = { header_in };
+    ghost meaning = { toy_meaning };
 
     ghost count = { λ t. t.made };
 
@@ -227,11 +242,11 @@ impl UnitCheck for Toy {
         &mut self,
         alloc: Global,
         unit: &UnitKey,
-        text: &[u8],
+        text: &ToyText,
         recorder: &mut Recorder<A>,
     ) -> Result<Checked, NoMemory> {
         self.made = one_more(self.made);
-        checked(alloc, unit, text, recorder)
+        checked_text(alloc, unit, text, recorder)
     }
 
     fn checks(&self) -> u64 {

@@ -7,7 +7,9 @@ mod files;
 mod outcomes;
 mod packages;
 mod reading;
+mod text;
 
 pub use checker::Toy;
 pub use files::{sources_after, sources_of, toys_are_read};
 pub use packages::Packages;
+pub use text::ToyText;

@@ -1,7 +1,8 @@
 -- What a list of labellings means, by how many there are.
 use Rattle.std.proofs.Common.{◌≡◌, ◌≤◌, List, [], ◌∷◌, length, Ok, Err, refl, ap, arith}
 use Rattle.al_base.specs.declared.place.Place.{Place}
-use Rattle.al_base.specs.declared.rule.Rule.TheVariants.{Ambiguous, NoInterpretation}
+use Rattle.al_base_fault.specs.CheckRules.{as_rule, rule_number}
+use Rattle.al_base_fault.specs.declared.check_rule.CheckRule.TheVariants.{Ambiguous, NoInterpretation}
 use Rattle.al_base.specs.Rules.{number_of}
 use Rattle.al_overload_choice.specs.Labelling.{Label, acceptable, labellings}
 use Rattle.al_base_fault.specs.declared.fault.Fault.{Fault}
@@ -19,12 +20,12 @@ meaning_several place (l ∷ []) h = absurd (omega arith)
 meaning_several place (l ∷ (m ∷ more)) h = refl
 
 -- the numbers of both rules differ
-apart : number_of NoInterpretation ≡ number_of Ambiguous → ⊥
+apart : number_of (as_rule NoInterpretation) ≡ number_of (as_rule Ambiguous) → ⊥
 unfolding number_of
 apart e = let f : 402 ≡ 403 = e in omega arith
 
 code_apart : (place : Place) → nothing_fits place ≡ several_fit place → ⊥
-code_apart place e = apart (ap (λ (f : Fault). f.code) e)
+code_apart place e = apart (ap (λ (f : Fault). rule_number f.rule) e)
 
 one_back : (place : Place) (all : List Label) (l : Label) → meaning place all ≡ Ok l → all ≡ l ∷ []
 one_back place [] l e = absurd cc

@@ -1,8 +1,7 @@
 -- What an expression means in a complete context (ARM 8.6(29 to 31)).
 use Rattle.std.specs.Prelude.{◌≡◌, ◌≤◌, ◌↔◌, List, [], ◌∷◌, length, Option, Some, None, Result, Ok, Err}
 use Rattle.al_base.specs.declared.place.Place.{Place}
-use Rattle.al_base.specs.declared.rule.Rule.TheVariants.{Ambiguous, NoInterpretation}
-use Rattle.al_base.specs.Rules.{number_of}
+use Rattle.al_base_fault.specs.declared.check_rule.CheckRule.TheVariants.{Ambiguous, NoInterpretation}
 use Rattle.al_overload_choice.specs.Labelling.{Label, Tree, acceptable, labellings}
 use Rattle.al_overload_choice.specs.declared.types.Expected.{Expected}
 use Rattle.al_base_fault.specs.Faults.{fault_at}
@@ -10,10 +9,10 @@ use Rattle.al_base_fault.specs.declared.fault.Fault.{Fault}
 
 -- where nothing fits, and where several interpretations are acceptable, at the context's first token
 abbrev pub nothing_fits : Place → Fault
-nothing_fits place = fault_at place (number_of NoInterpretation)
+nothing_fits place = fault_at place NoInterpretation
 
 abbrev pub several_fit : Place → Fault
-several_fit place = fault_at place (number_of Ambiguous)
+several_fit place = fault_at place Ambiguous
 
 -- the only one of these labellings
 abbrev pub meaning : Place → List Label → Result Label Fault

@@ -4,8 +4,8 @@ ghost use Rattle.al_overload_choice.specs.Counts.{label_of, plain};
 ghost use Rattle.al_base_fault.specs.Judging.{map_ok};
 ghost use Rattle.al_overload.specs.Meanings.{nothing_fits, resolved, several_fit};
 
-use al_base::{NoMemory, Place, Rule};
-use al_base_fault::{CheckResult, Fault};
+use al_base::{NoMemory, Place};
+use al_base_fault::{CheckResult, CheckRule, Fault};
 use al_overload_choice::{Expected, Expression, Interpretation, Labelled, interpret};
 use std::alloc::Global;
 
@@ -15,7 +15,7 @@ pub fn nothing_fits(place: Place) -> Fault
 {
     Fault {
         place,
-        code: Rule::NoInterpretation.number(),
+        rule: CheckRule::NoInterpretation,
     }
 }
 
@@ -24,7 +24,7 @@ fn several_fit(place: Place) -> Fault
 {
     Fault {
         place,
-        code: Rule::Ambiguous.number(),
+        rule: CheckRule::Ambiguous,
     }
 }
 

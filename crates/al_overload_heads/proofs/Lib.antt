@@ -4,3 +4,4 @@ pub mod Gathered
 pub mod HeadsMade
 pub mod ChainLemmas
 pub mod Standing
+pub mod PartLemmas

@@ -1,5 +1,6 @@
 pub mod Everywhere
 pub mod Parts
+pub mod PartChains
 pub mod Universal
 pub mod Signs
 pub mod Aggregates

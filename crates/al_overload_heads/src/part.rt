@@ -1,7 +1,9 @@
 // Objects and parts of objects, with their nominal subtypes (ARM 3.3, 4.1).
-ghost use Rattle.std.specs.Prelude.{◌≡◌, option_map};
+ghost use Rattle.std.specs.Prelude.{◌≡◌, ◌<◌, ◌≤◌, IfSome, option_map};
 ghost use Rattle.std.specs.Option.{option_and_then, option_copied};
 ghost use Rattle.al_overload_term.specs.TermViews.{term_model};
+ghost use Rattle.al_overload_term.specs.declared.term.Term.{size-Term};
+ghost use Rattle.al_overload_heads.specs.PartChains.{before, built_up, link_of, linked_part};
 ghost use Rattle.al_overload_heads.specs.Parts.{component_in, component_named, component_of, declared_under, definition_of, element_in, element_of, nominal, object_in, part_of, sole_object};
 
 use al_overload_term::Term;
@@ -161,18 +163,16 @@ pub(crate) fn indexed_part<'a>(
     }
 }
 
-/// The nominal subtype of a term that is an object or a part of one, without regard to indexes. What is selected or indexed in a
-/// call's result, in a conversion or in a qualified expression is none.
+/// What stands before the last selector of a term, with the selector, or before the last indexes.
 #[tactic(auto, using(crate::proofs::TermsSeen::terms_made))]
-pub fn part_of<'a>(standard: &'a StandardTypes, term: &'a Term) -> Option<(&'a Subtype, &'a Types)>
-    ensures { option_map (λ part. nominal part.1.now part.0.now) result ≡ part_of (term_model term.now) }
+fn link_of(term: &Term) -> Option<(&Term, Option<&[u8]>)>
+    ensures link { option_map (λ l. (term_model l.0.now, option_map (λ name. name.now) l.1)) result ≡ link_of (term_model term.now) }
+    ensures below { IfSome result (λ l. size-Term l.0.now < size-Term term.now) }
 {
     match term {
-        Term::Named { place: _, views } => sole_object(views.as_slice()),
-        Term::Selected { prefix, name } => {
-            selected_part(standard, name.as_slice(), part_of(standard, prefix))
-        }
-        Term::Applied { name, arguments: _ } => indexed_part(standard, part_of(standard, name)),
+        Term::Selected { prefix, name } => Some((prefix, Some(name.as_slice()))),
+        Term::Applied { name, arguments: _ } => Some((name, None)),
+        Term::Named { .. } => None,
         Term::Number { .. } => None,
         Term::Text { .. } => None,
         Term::Bound { .. } => None,
@@ -191,6 +191,97 @@ pub fn part_of<'a>(standard: &'a StandardTypes, term: &'a Term) -> Option<(&'a S
         Term::Aggregate { .. } => None,
         Term::Others { .. } => None,
         Term::Nothing { .. } => None,
+    }
+}
+
+/// What stands before so many selectors and indexes at the end of a term, or before all, where there are fewer; and how many these are.
+fn before(term: &Term, most: usize) -> (&Term, usize)
+    ensures most { term_model result.0.now ≡ before most (term_model term.now) }
+    ensures count { term_model result.0.now ≡ before result.1 (term_model term.now) }
+    ensures below { size-Term result.0.now ≤ size-Term term.now }
+{
+    let mut rest = term;
+    for count in 0..most {
+        let Some((prefix, _)) = link_of(rest) else {
+            return (rest, count);
+        };
+        rest = prefix;
+    }
+    (rest, most)
+}
+
+/// The part that a selector, or else indexes, make of what has this nominal subtype.
+fn linked_part<'a>(
+    standard: &'a StandardTypes,
+    name: Option<&[u8]>,
+    whole: Option<(&'a Subtype, &'a Types)>,
+) -> Option<(&'a Subtype, &'a Types)>
+    ensures { option_map (λ part. nominal part.1.now part.0.now) result ≡ linked_part (option_map (λ n. n.now) name.entry) (option_map (λ part. nominal part.1.now part.0.now) whole.entry) }
+{
+    match name {
+        Some(name) => selected_part(standard, name, whole),
+        None => indexed_part(standard, whole),
+    }
+}
+
+/// The part that the last so many selectors and indexes of a term make of what has this nominal subtype. It goes halfway down and joins both
+/// halves, so that it takes no memory, and of the stack as much as the number of links has digits.
+fn built_up<'a>(
+    standard: &'a StandardTypes,
+    term: &'a Term,
+    count: usize,
+    part: Option<(&'a Subtype, &'a Types)>,
+) -> Option<(&'a Subtype, &'a Types)>
+    ensures { option_map (λ part. nominal part.1.now part.0.now) result ≡ built_up count (term_model term.now) (option_map (λ part. nominal part.1.now part.0.now) part.entry) }
+{
+    if count == 0 {
+        return part;
+    }
+    if count == 1 {
+        return last_part(standard, term, part);
+    }
+    let upper = count / 2;
+    let (middle, _) = before(term, upper);
+    let inner = built_up(standard, middle, count - upper, part);
+    built_up(standard, term, upper, inner)
+}
+
+/// The part that the last selector or the last indexes of a term make of what has this nominal subtype.
+fn last_part<'a>(
+    standard: &'a StandardTypes,
+    term: &'a Term,
+    part: Option<(&'a Subtype, &'a Types)>,
+) -> Option<(&'a Subtype, &'a Types)>
+    ensures { option_map (λ part. nominal part.1.now part.0.now) result ≡ built_up 1 (term_model term.now) (option_map (λ part. nominal part.1.now part.0.now) part.entry) }
+{
+    match link_of(term) {
+        Some((_, name)) => linked_part(standard, name, part),
+        None => part,
+    }
+}
+
+/// The same of what stands before a selector or indexes, which may be a part of parts.
+#[cycle(parts)]
+fn inner_part<'a>(standard: &'a StandardTypes, term: &'a Term) -> Option<(&'a Subtype, &'a Types)>
+    ensures { option_map (λ part. nominal part.1.now part.0.now) result ≡ part_of (term_model term.now) }
+{
+    let (first, count) = before(term, usize::MAX);
+    let part = part_of(standard, first);
+    built_up(standard, term, count, part)
+}
+
+/// The nominal subtype of a term that is an object or a part of one, without regard to indexes. What is selected or indexed in a
+/// call's result, in a conversion or in a qualified expression is none.
+#[cycle(parts)]
+pub fn part_of<'a>(standard: &'a StandardTypes, term: &'a Term) -> Option<(&'a Subtype, &'a Types)>
+    ensures { option_map (λ part. nominal part.1.now part.0.now) result ≡ part_of (term_model term.now) }
+{
+    match link_of(term) {
+        Some((prefix, name)) => linked_part(standard, name, inner_part(standard, prefix)),
+        None => match declared_under(term) {
+            Some(visible) => sole_object(visible),
+            None => None,
+        },
     }
 }
 

@@ -1,7 +1,6 @@
 -- Names of a text: an identifier, or one that is selected in what a name before it denotes (ARM 4.1.3).
 use Rattle.std.specs.Prelude.{ℕ, List, [], ◌∷◌, ◌++◌, Bool, true, false, Option, Some, None, option_map}
-use Rattle.al_base.specs.declared.rule.Rule.TheVariants.{NotVisible}
-use Rattle.al_base.specs.Rules.{number_of}
+use Rattle.al_base_fault.specs.declared.check_rule.CheckRule.TheVariants.{NotVisible}
 use Rattle.al_tree_grammar.specs.Grammar.{Label}
 use Rattle.al_base_fault.specs.Faults.{fault_at}
 use Rattle.al_base_fault.specs.declared.fault.Fault.{Fault}
@@ -44,7 +43,7 @@ key_of (e.InRange left n low high) = None
 key_of (e.Group group) = None
 
 abbrev pub not_visible : Label → Fault
-not_visible l = fault_at (place_of l) (number_of NotVisible)
+not_visible l = fault_at (place_of l) NotVisible
 
 abbrev pub is_none : List ViewKind → Bool
 is_none [] = true

@@ -5,8 +5,8 @@ ghost use Rattle.al_overload_keys.specs.Keys.{dotted, is_none, key_of, not_visib
 ghost use Rattle.al_tree.specs.ExpressionViews.{expression_model, longer_model};
 ghost use Rattle.al_tree.specs.Lexemes.{identifier_label};
 
-use al_base::{NoMemory, Rule};
-use al_base_fault::Fault;
+use al_base::NoMemory;
+use al_base_fault::{CheckRule, Fault};
 use al_tree::{Expression, Identifier, Longer, NamePart};
 use al_view::View;
 use std::alloc::Global;
@@ -115,7 +115,7 @@ pub fn not_visible(identifier: &Identifier) -> Fault
 {
     Fault {
         place: identifier.place,
-        code: Rule::NotVisible.number(),
+        rule: CheckRule::NotVisible,
     }
 }
 

@@ -1,5 +1,6 @@
--- Pairs of bounds by what their bounds are.
-use Rattle.std.proofs.Common.{◌≡◌, List, Result, Option, ap, ◌∙◌}
+-- Bounds, and pairs of them by what their bounds are.
+use Rattle.std.proofs.Common.{◌≡◌, ℕ, List, Result, Option, ap, ◌∙◌}
+use Rattle.al_base.specs.declared.place.Place.{Place}
 use Rattle.al_overload_choice.specs.Labelling.{Label}
 use Rattle.al_base_fault.specs.Judging.{both, map_ok}
 use Rattle.al_base_fault.specs.declared.fault.Fault.{Fault}
@@ -9,9 +10,11 @@ use Rattle.al_view.specs.declared.symbol.Symbol.{Symbol}
 use Rattle.al_view.specs.declared.types.TypeView.{TypeView}
 use Rattle.al_overload_heads.specs.declared.everywhere.Predefined.{Predefined}
 use Rattle.al_overload_term.specs.Places.{first_place}
+use Rattle.al_overload_nodes.specs.Nodes.{ReadingTree}
+use Rattle.al_overload_label.specs.Readings.{operand_read}
 use Rattle.al_overload_label.specs.Static.{checked_as}
 use Rattle.al_overload_label.specs.declared.staticness.Staticness.{Staticness}
-use Rattle.al_overload_types.specs.FromAnswers.{DeterminedType, among, pair_type, range_type}
+use Rattle.al_overload_types.specs.FromAnswers.{DeterminedType, among, pair_type, range_type, types_in}
 use Rattle.al_overload_label.specs.Ranges.{PairTree, bound_at, found_type, pair_at, pair_of, pair_read}
 use Rattle.al_overload_label.specs.declared.range.FoundType.{FoundType}
 
@@ -25,3 +28,14 @@ pair_is p own wanted types at low high label determined range a b x kind of_rang
     ∙ ap (λ (y : Result TypedTree Fault). map_ok (pair_of (found_type (range_type p determined))) (both y b)) first
     ∙ ap (λ (y : Result TypedTree Fault). map_ok (pair_of (found_type (range_type p determined))) (both (checked_as wanted (first_place low) (bound_at p own types low 0 low label determined)) y)) last
     ∙ ap (pair_at p own wanted types low high label) kind
+
+pub bound_is : (p : Predefined) (own : Option Symbol) (wanted : Staticness) (types among_these : List TypeView) (low bound : TermTree) (k : ℕ) (label : Label) (determined : DeterminedType) (here first : Place) (read : ReadingTree) (x : Result TypedTree Fault)
+    → here ≡ first_place bound → first ≡ first_place low → among_these ≡ types_in types determined
+    → read ≡ operand_read p own first k bound label among_these determined.of
+    → x ≡ checked_as wanted here read → x ≡ checked_as wanted (first_place bound) (bound_at p own types low k bound label determined)
+bound_is p own wanted types among_these low bound k label determined here first read x at begun known is made =
+    made
+    ∙ ap (checked_as wanted here) is
+    ∙ ap (λ (l : List TypeView). checked_as wanted here (operand_read p own first k bound label l determined.of)) known
+    ∙ ap (λ (z : Place). checked_as wanted here (operand_read p own z k bound label (types_in types determined) determined.of)) begun
+    ∙ ap (λ (z : Place). checked_as wanted z (bound_at p own types low k bound label determined)) at

@@ -4,12 +4,12 @@ use Rattle.al_base.specs.declared.place.Place.{Place}
 use Rattle.al_overload_choice.specs.Labelling.{Label}
 use Rattle.al_base_fault.specs.Judging.{map_ok}
 use Rattle.al_base_fault.specs.declared.fault.Fault.{Fault}
-use Rattle.al_overload_term.proofs.TermsMade.{applied_made, member_made}
+use Rattle.al_overload_term.proofs.TermsMade.{applied_made, member_made, selected_made}
 use Rattle.al_overload_term.specs.Places.{first_place}
 use Rattle.al_overload_term.specs.Terms.{TermTree, TermTree as t}
 use Rattle.al_overload_term.specs.TermViews.{term_model, terms_of}
 use Rattle.al_overload_term.specs.declared.term.Term.{Term}
-use Rattle.al_overload_term.specs.declared.term.Term.TheVariants.{Applied, Member}
+use Rattle.al_overload_term.specs.declared.term.Term.TheVariants.{Applied, Member, Selected}
 use Rattle.al_view_typed.specs.ExpressionTrees.{CallTree}
 use Rattle.al_view_typed.specs.ExpressionViews.{call_model}
 use Rattle.al_view_typed.specs.declared.expression.TypedCall.{TypedCall}
@@ -17,10 +17,7 @@ use Rattle.al_view_typed.specs.declared.label.Conversion.{Conversion}
 use Rattle.al_view.specs.declared.symbol.Symbol.{Symbol}
 use Rattle.al_view.specs.declared.types.TypeView.{TypeView}
 use Rattle.al_view.specs.declared.view.SubtypeView.{SubtypeView}
-use Rattle.al_overload_heads.specs.Parts.{part_of}
 use Rattle.al_overload_heads.specs.declared.everywhere.Predefined.{Predefined}
-use Rattle.al_overload_heads.specs.declared.part.Nominal.{Nominal}
-use Rattle.al_overload_nodes.specs.Names.{selected_node}
 use Rattle.al_overload_nodes.specs.Nodes.{ReadingTree, misfit}
 use Rattle.al_overload_nodes.specs.Views.{reading_model}
 use Rattle.al_overload_nodes.specs.declared.node.Reading.{Reading}
@@ -42,15 +39,16 @@ kept_is a made (Err k) h e = tt
 pub call_by : {E : Type 0} (r : Result (Result TypedCall Fault) E) (a b : Result CallTree Fault) → a ≡ b → IfOk r (λ (x : Result TypedCall Fault). map_ok call_model x ≡ a) → IfOk r (λ (x : Result TypedCall Fault). map_ok call_model x ≡ b)
 call_by r a b e h = let P : Result CallTree Fault → Type 0 = λ z. IfOk r (λ (x : Result TypedCall Fault). map_ok call_model x ≡ z) in subst P e h
 
-pub selected_is : {E : Type 0} (p : Predefined) (own : Option Symbol) (prefix : TermTree) (name : List ℕ) (label : Label) (types : List TypeView) (at : Symbol) (place : Place) (part : Option Nominal) (w : ReadingTree) (r : Result Reading E)
-    → place ≡ first_place prefix → part ≡ part_of prefix → w ≡ operand_read p own place 0 prefix label types at
-    → IfOk r (λ (x : Reading). reading_model x ≡ selected_node p.root place name part w)
-    → IfOk r (λ (x : Reading). reading_model x ≡ reading p own (t.SelectedTerm prefix name) label types at)
-selected_is p own prefix name label types at place part w r here known first made =
-    read_by r (selected_node p.root place name part w) (reading p own (t.SelectedTerm prefix name) label types at)
-    (ap (selected_node p.root place name part) first
-    ∙ ap (λ (q : Option Nominal). selected_node p.root place name q (operand_read p own place 0 prefix label types at)) known
-    ∙ ap (λ (q : Place). selected_node p.root q name (part_of prefix) (operand_read p own q 0 prefix label types at)) here) made
+pub selected_model : {E : Type 0} (p : Predefined) (own : Option Symbol) (term : Term) (prefix : Box Term Global) (name : List ℕ) (label : Label) (types : List TypeView) (at : Symbol) (v : Term) (n : List ℕ) (r : Result Reading E)
+    → term ≡ Selected prefix name → v ≡ prefix.value → n ≡ name
+    → IfOk r (λ (x : Reading). reading_model x ≡ reading p own (t.SelectedTerm (term_model v) n) label types at)
+    → IfOk r (λ (x : Reading). reading_model x ≡ reading p own (term_model term) label types at)
+selected_model p own term prefix name label types at v n r is here spelled made =
+    read_by r (reading p own (t.SelectedTerm (term_model v) n) label types at) (reading p own (term_model term) label types at)
+    (ap (λ (x : TermTree). reading p own x label types at)
+    (ap (λ (x : Term). t.SelectedTerm (term_model x) n) here
+    ∙ ap (λ (y : List ℕ). t.SelectedTerm (term_model prefix.value) y) spelled
+    ∙ sym (ap term_model is ∙ selected_made prefix name))) made
 
 pub attribute_is : {E : Type 0} (p : Predefined) (own : Option Symbol) (place : Place) (conversion : Conversion) (mark : SubtypeView) (argument : TermTree) (label : Label) (types : List TypeView) (at of : Symbol) (a : ReadingTree) (r : Result Reading E)
     → of ≡ argument_type p.root conversion mark → a ≡ operand_read p own place 0 argument label mark.types of

@@ -5,28 +5,24 @@ use Rattle.al_base.specs.declared.refusal.NoMemory.{NoMemory}
 use Rattle.al_overload_choice.specs.Labelling.{Label}
 use Rattle.al_overload_term.proofs.TermsMade.{applied_made, range_member_made}
 use Rattle.al_overload_term.specs.Places.{first_place}
-use Rattle.al_overload_term.specs.Terms.{TermTree, TermsTree}
+use Rattle.al_overload_term.specs.Terms.{TermTree, TermTree as t, TermsTree}
 use Rattle.al_overload_term.specs.TermViews.{term_model, terms_of}
 use Rattle.al_overload_term.specs.declared.term.Term.{Term}
 use Rattle.al_overload_term.specs.declared.term.Term.TheVariants.{Applied, RangeMember}
 use Rattle.al_view.specs.declared.symbol.Symbol.{Symbol}
 use Rattle.al_view.specs.declared.types.TypeView.{TypeView}
 use Rattle.al_view.specs.declared.view.ObjectView.{ObjectView}
-use Rattle.al_view.specs.declared.view.SubprogramView.{SubprogramView}
 use Rattle.al_overload_heads.specs.Parts.{declared_under, part_of}
 use Rattle.al_overload_heads.specs.declared.everywhere.Predefined.{Predefined}
-use Rattle.al_overload_heads.specs.declared.part.Nominal.{Nominal}
-use Rattle.al_overload_nodes.specs.Calls.{call_node}
 use Rattle.al_overload_nodes.specs.Gathering.{no_parts}
 use Rattle.al_overload_nodes.specs.Names.{object_node}
 use Rattle.al_overload_nodes.specs.Nodes.{ReadingTree, membership_node}
 use Rattle.al_overload_nodes.specs.Views.{reading_model}
 use Rattle.al_overload_nodes.specs.declared.node.Reading.{Reading}
 use Rattle.al_overload_types.specs.Leaves.{Application, application, applied_node, indexed_node}
-use Rattle.al_overload_types.specs.Leaves.Application.{CallOf, ElementOf, ElementOfPart}
 use Rattle.al_overload_types.specs.FromAnswers.{test_type, types_in}
 use Rattle.al_overload_label.specs.Pairs.{together}
-use Rattle.al_overload_label.specs.Readings.{actuals_read, index_read, operand_read, range_member_read, reading}
+use Rattle.al_overload_label.specs.Readings.{actuals_read, applied_read, index_read, operand_read, range_member_read, reading}
 use Rattle.al_overload_label.proofs.TermKinds.{read_by}
 
 -- two that each want memory, where both were made
@@ -49,46 +45,28 @@ three_made {A} {B} {C} P Q R one two three r s x y z made all is p q h =
 
 -- ---- components
 
-abbrev applied_by : Predefined → Option Symbol → TermTree → TermsTree → Label → List TypeView → Symbol → Application → ReadingTree
-applied_by p own n xs label types at a =
-    applied_node p.root own (first_place n) (λ s. actuals_read p own s label 0 no_parts xs) (operand_read p own (first_place n) 0 n label types at)
-    (λ k among of. index_read p own (first_place n) k label among of xs) a
+abbrev applied_by : Predefined → Option Symbol → Place → TermTree → TermsTree → Label → List TypeView → Symbol → Application → ReadingTree
+applied_by p own place n xs label types at a =
+    applied_node p.root own place (λ s. actuals_read p own s label 0 no_parts xs) (operand_read p own place 0 n label types at)
+    (λ k among of. index_read p own place k label among of xs) a
 
-applied_model : (p : Predefined) (own : Option Symbol) (term : Term) (name : Box Term Global) (arguments : Vec Term Global) (label : Label) (types : List TypeView) (at : Symbol) (a : Application)
-    → term ≡ Applied name arguments → a ≡ application (declared_under (term_model name.value)) (part_of (term_model name.value)) label
-    → applied_by p own (term_model name.value) (terms_of (map term_model arguments.items)) label types at a ≡ reading p own (term_model term) label types at
-applied_model p own term name arguments label types at a is found =
-    ap (applied_by p own (term_model name.value) (terms_of (map term_model arguments.items)) label types at) found
+-- what it is by how it is applied
+pub applied_is : (p : Predefined) (own : Option Symbol) (place : Place) (n : TermTree) (xs : TermsTree) (label : Label) (types : List TypeView) (at : Symbol) (a : Application)
+    → a ≡ application (declared_under n) (part_of n) label → applied_by p own place n xs label types at a ≡ applied_read p own place n xs label types at
+applied_is p own place n xs label types at a found = ap (applied_by p own place n xs label types at) found
+
+-- a whole term that begins there
+pub applied_model : (p : Predefined) (own : Option Symbol) (term : Term) (name : Box Term Global) (arguments : Vec Term Global) (n : Term) (xs : List Term) (label : Label) (types : List TypeView) (at : Symbol) (place : Place)
+    → term ≡ Applied name arguments → n ≡ name.value → xs ≡ arguments.items → place ≡ first_place (term_model n)
+    → applied_read p own place (term_model n) (terms_of (map term_model xs)) label types at ≡ reading p own (term_model term) label types at
+applied_model p own term name arguments n xs label types at place is here items begins =
+    ap (λ (q : Place). applied_read p own q (term_model n) (terms_of (map term_model xs)) label types at) begins
+    ∙ ap (λ (x : Term). reading p own (t.AppliedTerm (term_model x) (terms_of (map term_model xs))) label types at) here
+    ∙ ap (λ (ys : List Term). reading p own (t.AppliedTerm (term_model name.value) (terms_of (map term_model ys))) label types at) items
     ∙ ap (λ (x : TermTree). reading p own x label types at) (sym (ap term_model is ∙ applied_made name arguments))
-
-abbrev called_by : Predefined → Option Symbol → Place → SubprogramView → List Term → Label → ReadingTree
-called_by p own place s xs label = call_node p.root own place s (actuals_read p own s label 0 no_parts (terms_of (map term_model xs)))
-
-pub applied_call_model : {E : Type 0} (p : Predefined) (own : Option Symbol) (term : Term) (name : Box Term Global) (arguments : Vec Term Global) (xs : List Term) (label : Label) (types : List TypeView) (at : Symbol) (place : Place) (s : SubprogramView) (r : Result Reading E)
-    → term ≡ Applied name arguments → xs ≡ arguments.items → place ≡ first_place (term_model name.value)
-    → CallOf s ≡ application (declared_under (term_model name.value)) (part_of (term_model name.value)) label
-    → IfOk r (λ (x : Reading). reading_model x ≡ called_by p own place s xs label)
-    → IfOk r (λ (x : Reading). reading_model x ≡ reading p own (term_model term) label types at)
-applied_call_model p own term name arguments xs label types at place s r is items here found made =
-    read_by r (called_by p own place s xs label) (reading p own (term_model term) label types at)
-    (ap (λ (ys : List Term). called_by p own place s ys label) items
-    ∙ ap (λ (q : Place). called_by p own q s arguments.items label) here
-    ∙ applied_model p own term name arguments label types at (CallOf s) is found) made
 
 abbrev element_by : Predefined → Option Symbol → Place → ObjectView → List Term → Label → ReadingTree → ReadingTree
 element_by p own place o xs label w = indexed_node p.root place o.types o.subtype.base w (λ index. index_read p own place 0 label o.types index (terms_of (map term_model xs)))
-
-pub element_model : {E : Type 0} (p : Predefined) (own : Option Symbol) (term : Term) (name : Box Term Global) (arguments : Vec Term Global) (xs : List Term) (label : Label) (types : List TypeView) (at : Symbol) (place : Place) (o : ObjectView) (w : ReadingTree) (r : Result Reading E)
-    → term ≡ Applied name arguments → xs ≡ arguments.items → place ≡ first_place (term_model name.value)
-    → ElementOf o ≡ application (declared_under (term_model name.value)) (part_of (term_model name.value)) label → w ≡ object_node p.root place o
-    → IfOk r (λ (x : Reading). reading_model x ≡ element_by p own place o xs label w)
-    → IfOk r (λ (x : Reading). reading_model x ≡ reading p own (term_model term) label types at)
-element_model p own term name arguments xs label types at place o w r is items here found whole made =
-    read_by r (element_by p own place o xs label w) (reading p own (term_model term) label types at)
-    (ap (element_by p own place o xs label) whole
-    ∙ ap (λ (ys : List Term). element_by p own place o ys label (object_node p.root place o)) items
-    ∙ ap (λ (q : Place). element_by p own q o arguments.items label (object_node p.root q o)) here
-    ∙ applied_model p own term name arguments label types at (ElementOf o) is found) made
 
 -- the same by what the object's own node is
 pub object_element_is : {E : Type 0} (p : Predefined) (own : Option Symbol) (place : Place) (o : ObjectView) (xs : List Term) (label : Label) (w : ReadingTree) (r : Result Reading E)
@@ -96,30 +74,6 @@ pub object_element_is : {E : Type 0} (p : Predefined) (own : Option Symbol) (pla
     → IfOk r (λ (x : Reading). reading_model x ≡ element_by p own place o xs label (object_node p.root place o))
 object_element_is p own place o xs label w r whole made =
     read_by r (element_by p own place o xs label w) (element_by p own place o xs label (object_node p.root place o)) (ap (element_by p own place o xs label) whole) made
-
-abbrev part_element_by : Predefined → Option Symbol → Place → Nominal → List Term → Label → ReadingTree → ReadingTree
-part_element_by p own place q xs label w = indexed_node p.root place q.types q.subtype.base w (λ index. index_read p own place 1 label q.types index (terms_of (map term_model xs)))
-
-pub part_element_model : {E : Type 0} (p : Predefined) (own : Option Symbol) (term : Term) (name : Box Term Global) (arguments : Vec Term Global) (xs : List Term) (label : Label) (types : List TypeView) (at : Symbol) (place : Place) (q : Nominal) (w : ReadingTree) (r : Result Reading E)
-    → term ≡ Applied name arguments → xs ≡ arguments.items → place ≡ first_place (term_model name.value)
-    → ElementOfPart q ≡ application (declared_under (term_model name.value)) (part_of (term_model name.value)) label → w ≡ operand_read p own place 0 (term_model name.value) label types at
-    → IfOk r (λ (x : Reading). reading_model x ≡ part_element_by p own place q xs label w)
-    → IfOk r (λ (x : Reading). reading_model x ≡ reading p own (term_model term) label types at)
-part_element_model p own term name arguments xs label types at place q w r is items here found whole made =
-    read_by r (part_element_by p own place q xs label w) (reading p own (term_model term) label types at)
-    (ap (part_element_by p own place q xs label) whole
-    ∙ ap (λ (ys : List Term). part_element_by p own place q ys label (operand_read p own place 0 (term_model name.value) label types at)) items
-    ∙ ap (λ (y : Place). part_element_by p own y q arguments.items label (operand_read p own y 0 (term_model name.value) label types at)) here
-    ∙ applied_model p own term name arguments label types at (ElementOfPart q) is found) made
-
-abbrev indexed_by : Predefined → Option Symbol → Place → List TypeView → Symbol → List Term → Label → Reading → ReadingTree
-indexed_by p own place types of xs label w = indexed_node p.root place types of (reading_model w) (λ index. index_read p own place 1 label types index (terms_of (map term_model xs)))
-
-pub part_element_is : {E : Type 0} (p : Predefined) (own : Option Symbol) (place : Place) (types : List TypeView) (of : Symbol) (xs : List Term) (label : Label) (v w : Reading) (r : Result Reading E)
-    → v ≡ w → IfOk r (λ (x : Reading). reading_model x ≡ indexed_by p own place types of xs label v)
-    → IfOk r (λ (x : Reading). reading_model x ≡ indexed_by p own place types of xs label w)
-part_element_is p own place types of xs label v w r same made =
-    read_by r (indexed_by p own place types of xs label v) (indexed_by p own place types of xs label w) (ap (indexed_by p own place types of xs label) same) made
 
 -- ---- membership tests
 

@@ -106,6 +106,12 @@ abbrev mutual
 abbrev pub operand_read : Predefined → Option Symbol → Place → ℕ → TermTree → Label → List TypeView → Symbol → ReadingTree
 operand_read p own place k operand label types at = labelled place (λ l. reading p own operand l types at) (operand_label k label)
 
+-- a name with what stands in parentheses after it
+abbrev pub applied_read : Predefined → Option Symbol → Place → TermTree → TermsTree → Label → List TypeView → Symbol → ReadingTree
+applied_read p own place prefix arguments label types at =
+    applied_node p.root own place (λ s. actuals_read p own s label 0 no_parts arguments) (operand_read p own place 0 prefix label types at)
+    (λ k among of. index_read p own place k label among of arguments) (application (declared_under prefix) (part_of prefix) label)
+
 -- ---- terms that are the same wherever they stand
 
 abbrev pub conversion_read : Predefined → Option Symbol → Place → SubtypeView → TermTree → ReadingTree

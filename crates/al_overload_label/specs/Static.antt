@@ -1,8 +1,7 @@
 -- Contexts whose expression must be static (ARM 4.9).
 use Rattle.std.specs.Prelude.{Bool, false, ◌==◌, ◌&&◌, if◌then◌else◌, List, Option, Some, None, Result, Ok, Err}
-use Rattle.al_base.specs.Rules.{number_of}
 use Rattle.al_base.specs.declared.place.Place.{Place}
-use Rattle.al_base.specs.declared.rule.Rule.TheVariants.{NotStatic}
+use Rattle.al_base_fault.specs.declared.check_rule.CheckRule.TheVariants.{NotStatic}
 use Rattle.al_base_fault.specs.Faults.{fault_at}
 use Rattle.al_base_fault.specs.Judging.{unless}
 use Rattle.al_base_fault.specs.declared.fault.Fault.{Fault}
@@ -26,7 +25,7 @@ use Rattle.al_view_typed.specs.ExpressionTrees.{TypedTree}
 abbrev pub unless_static : Place → Known → Option Fault
 unless_static place (Value v) = None
 unless_static place (Fails at) = None
-unless_static place (Open fault) = Some (fault_at place (number_of NotStatic))
+unless_static place (Open fault) = Some (fault_at place NotStatic)
 
 -- what has an interpretation and begins there, with the first of the rules that it breaks, those of contexts inside it among them
 abbrev pub checked_as : Staticness → Place → ReadingTree → Result TypedTree Fault

@@ -1,40 +1,41 @@
-// Chains of operators, which lean to the left: `A - B + C` has `A - B` at the left of its `+`.
+// Chains, which lean to the left: `A - B + C` has `A - B` at the left of its `+`, and `A (1).C` has `A (1)` before its dot.
 ghost use Rattle.std.specs.Prelude.{◌≡◌, IfOk, option_map};
 ghost use Rattle.al_overload_choice.specs.Counts.{label_of};
-ghost use Rattle.al_overload_label.specs.Chains.{IsAt, chained_node, joint_node, stepped};
+ghost use Rattle.al_overload_label.specs.Chains.{IsAt, IsLastOf, chained_node, joint_node, stepped};
 ghost use Rattle.al_overload_nodes.specs.Views.{reading_model};
+ghost use Rattle.al_overload_term.specs.Places.{first_place};
+ghost use Rattle.al_overload_term.specs.Terms.{TermTree as trees};
 ghost use Rattle.al_overload_term.specs.TermViews.{term_model};
 ghost use Rattle.al_overload_types.specs.Leaves.{labelled};
 ghost use Rattle.al_overload_label.specs.Readings.{reading};
 
-use crate::made::{kept_binary, kept_short_circuit, kept_unfit};
+use crate::made::{kept, kept_binary, kept_element, kept_selected, kept_short_circuit, kept_unfit};
 use al_base::{NoMemory, Place};
 use al_overload_choice::Labelled;
+use al_overload_heads::part_of;
 use al_overload_nodes::{Labeller, Reading, Signature};
+use al_overload_picks::{Indexing, operand_label};
 use al_overload_term::Term;
-use al_view::{Symbol, Types};
+use al_view::{Subtype, Symbol, Types};
 use al_view_typed::{BinaryOperator, ShortCircuit};
 
-/// What stands between the operands of a chain, with their types.
+/// A link of a chain: what stands after its first operand, or after its prefix, as that was read.
 #[derive(Drop)]
-pub(crate) enum Sign<'a> {
-    /// An operator, with its signature.
-    Operator(BinaryOperator, Signature<'a>),
-    /// `and then` or `or else`, among these types.
-    ShortCircuit(ShortCircuit, &'a Types),
-}
-
-/// An operator of a chain with its right operand as that was read.
-#[derive(Drop)]
-pub(crate) struct Joint<'a> {
-    pub(crate) sign: Sign<'a>,
-    pub(crate) second: Box<Reading>,
+pub(crate) enum Joint<'a> {
+    /// An operator with its signature and its right operand.
+    Operator(BinaryOperator, Signature<'a>, Box<Reading>),
+    /// `and then` or `or else` among these types, with its right operand.
+    ShortCircuit(ShortCircuit, &'a Types, Box<Reading>),
+    /// A selector after what has this nominal subtype.
+    Selector(&'a [u8], Option<(&'a Subtype, &'a Types)>),
+    /// An index of an array among these types.
+    Index(&'a Types, Indexing<'a>, Box<Reading>),
 }
 
 /// A step down a chain.
 #[derive(Drop)]
 pub(crate) enum Step<'a> {
-    /// An operator; what stands at its left, with its labelling, and at which type among which it stands.
+    /// A link; what stands at its left, with its labelling, and at which type among which it stands.
     Down {
         joint: Joint<'a>,
         left: &'a Term,
@@ -42,11 +43,11 @@ pub(crate) enum Step<'a> {
         types: &'a Types,
         at: &'a Symbol,
     },
-    /// What stands there, as it was read: no operator, or one that its labelling doesn't fit.
+    /// What stands there, as it was read: no link, or one that its labelling doesn't fit.
     Last(Box<Reading>),
 }
 
-/// An operator with what was read at its left.
+/// A link with what was read at its left.
 pub(crate) fn joined(
     labeller: &Labeller,
     place: Place,
@@ -55,18 +56,19 @@ pub(crate) fn joined(
 ) -> Result<Box<Reading>, NoMemory>
     ensures { IfOk result (λ r. reading_model r.value ≡ joint_node labeller.now.predefined place joint.entry (reading_model first.value)) }
 {
-    let Joint { sign, second } = joint;
-    match sign {
-        Sign::Operator(operator, of) => {
+    match joint {
+        Joint::Operator(operator, of, second) => {
             kept_binary(labeller, place, operator, &of, first, second)
         }
-        Sign::ShortCircuit(form, types) => {
+        Joint::ShortCircuit(form, types, second) => {
             kept_short_circuit(labeller, place, types, form, first, second)
         }
+        Joint::Selector(name, part) => kept_selected(labeller, place, name, part, first),
+        Joint::Index(types, by, index) => kept_element(labeller, place, types, &by, first, index),
     }
 }
 
-/// What a chain is, from its first operand on. The last operator of the text comes first.
+/// What a chain is, from its first operand on. The last link of the text comes first.
 #[tactic(auto, using(crate::proofs::ChainLemmas::first_joined))]
 pub(crate) fn chained(
     labeller: &Labeller,
@@ -84,7 +86,7 @@ pub(crate) fn chained(
     Ok(reading)
 }
 
-/// The step to what stands at the left of an operator; where that has no labelling, the whole is read already.
+/// The step to what stands at the left of a link; where that has no labelling, the whole is read already.
 pub(crate) fn down<'a>(
     labeller: &Labeller,
     place: Place,
@@ -111,4 +113,36 @@ pub(crate) fn down<'a>(
             Ok(Step::Last(reading))
         }
     }
+}
+
+/// What ends a chain.
+pub(crate) fn last<'a>(
+    labeller: &Labeller,
+    reading: Result<Reading, NoMemory>,
+) -> Result<Step<'a>, NoMemory>
+    ensures { IfOk result (λ s. IsLastOf reading s) }
+{
+    let reading = kept(labeller.alloc, reading)?;
+    Ok(Step::Last(reading))
+}
+
+/// The step at a selector.
+#[inline(never)]
+pub(crate) fn step_selected<'a>(
+    labeller: &'a Labeller,
+    prefix: &'a Term,
+    name: &'a [u8],
+    place: Place,
+    label: &'a Labelled,
+    types: &'a Types,
+    at: &'a Symbol,
+) -> Result<Step<'a>, NoMemory>
+    requires { place ≡ first_place (term_model prefix.now) }
+    ensures read { IfOk result (λ s. stepped labeller.now.predefined labeller.now.own place s ≡ reading labeller.now.predefined labeller.now.own (trees.SelectedTerm (term_model prefix.now) name.now) (label_of label.now) types.now at.now) }
+    ensures at { IfOk result (λ s. IsAt prefix.now s) }
+{
+    let part = part_of(&labeller.predefined.standard, prefix);
+    let joint = Joint::Selector(name, part);
+    let first_label = operand_label(label, 0);
+    down(labeller, place, joint, prefix, first_label, types, at)
 }

@@ -2,18 +2,22 @@
 ghost use Rattle.std.specs.Prelude.{◌≡◌, ◌&&◌, IfOk, Ok, option_map};
 ghost use Rattle.al_overload_choice.specs.Counts.{label_of};
 ghost use Rattle.al_overload_heads.specs.Universal.{computes_two, is_universal};
+ghost use Rattle.al_overload_heads.specs.Parts.{nominal};
+ghost use Rattle.al_overload_nodes.specs.Names.{element_node, selected_node};
 ghost use Rattle.al_overload_nodes.specs.Nodes.{literal, membership_node, misfit};
 ghost use Rattle.al_overload_nodes.specs.Operators.{binary_node, binary_signature, short_circuit_node, signature};
 ghost use Rattle.al_overload_nodes.specs.Views.{reading_model};
+ghost use Rattle.al_overload_picks.specs.Types.{indexing_of};
 ghost use Rattle.al_overload_term.specs.TermViews.{term_model};
 ghost use Rattle.al_overload_types.specs.Leaves.{bound_node, length_node};
 
 use al_base::{NoMemory, Place};
 use al_overload_choice::Labelled;
 use al_overload_nodes::{Labeller, Reading, Signature, misfit};
+use al_overload_picks::Indexing;
 use al_overload_term::Term;
 use al_overload_types::{are_universal, bound_reading, length_reading};
-use al_view::{Bounds, StaticValue, SubtypeView, Symbol, Types, View};
+use al_view::{Bounds, StaticValue, Subtype, SubtypeView, Symbol, Types, View};
 use al_view_typed::{BinaryOperator, ShortCircuit};
 use std::alloc::Global;
 
@@ -161,6 +165,68 @@ pub(crate) fn kept_short_circuit(
     ensures { IfOk result (λ r. reading_model r.value ≡ short_circuit_node labeller.now.predefined.root place types.now labeller.now.predefined.types.boolean.symbol form (reading_model first.value) (reading_model second.value)) }
 {
     let reading = short_circuit_of(labeller, place, types, form, first, second);
+    kept(labeller.alloc, reading)
+}
+
+/// `whole.name`
+#[inline(never)]
+fn selected_of(
+    labeller: &Labeller,
+    place: Place,
+    name: &[u8],
+    part: Option<(&Subtype, &Types)>,
+    whole: Box<Reading>,
+) -> Result<Reading, NoMemory>
+    ensures { IfOk result (λ r. reading_model r ≡ selected_node labeller.now.predefined.root place name.now (option_map (λ p. nominal p.1.now p.0.now) part.entry) (reading_model whole.value)) }
+{
+    let whole = Box::into_inner(whole);
+    labeller.selected(place, name, part, whole)
+}
+
+/// The same on the heap.
+#[inline(never)]
+pub(crate) fn kept_selected(
+    labeller: &Labeller,
+    place: Place,
+    name: &[u8],
+    part: Option<(&Subtype, &Types)>,
+    whole: Box<Reading>,
+) -> Result<Box<Reading>, NoMemory>
+    ensures { IfOk result (λ r. reading_model r.value ≡ selected_node labeller.now.predefined.root place name.now (option_map (λ p. nominal p.1.now p.0.now) part.entry) (reading_model whole.value)) }
+{
+    let reading = selected_of(labeller, place, name, part, whole);
+    kept(labeller.alloc, reading)
+}
+
+/// `whole (index)`
+#[inline(never)]
+fn element_of(
+    labeller: &Labeller,
+    place: Place,
+    types: &Types,
+    by: &Indexing<'_>,
+    whole: Box<Reading>,
+    index: Box<Reading>,
+) -> Result<Reading, NoMemory>
+    ensures { IfOk result (λ r. reading_model r ≡ element_node labeller.now.predefined.root place types.now (indexing_of by.now.index.now by.now.bounds by.now.component.now) (reading_model whole.value) (reading_model index.value)) }
+{
+    let (whole, index) = (Box::into_inner(whole), Box::into_inner(index));
+    labeller.element(place, types, by, whole, index)
+}
+
+/// The same on the heap.
+#[inline(never)]
+pub(crate) fn kept_element(
+    labeller: &Labeller,
+    place: Place,
+    types: &Types,
+    by: &Indexing<'_>,
+    whole: Box<Reading>,
+    index: Box<Reading>,
+) -> Result<Box<Reading>, NoMemory>
+    ensures { IfOk result (λ r. reading_model r.value ≡ element_node labeller.now.predefined.root place types.now (indexing_of by.now.index.now by.now.bounds by.now.component.now) (reading_model whole.value) (reading_model index.value)) }
+{
+    let reading = element_of(labeller, place, types, by, whole, index);
     kept(labeller.alloc, reading)
 }
 

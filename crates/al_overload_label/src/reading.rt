@@ -8,7 +8,7 @@ ghost use Rattle.al_base_fault.specs.Judging.{map_ok};
 ghost use Rattle.al_overload_term.specs.Terms.{TermTree as trees};
 ghost use Rattle.al_overload_term.specs.TermViews.{term_model, terms_of};
 ghost use Rattle.al_overload_nodes.specs.Gathering.{no_parts};
-ghost use Rattle.al_overload_label.specs.Readings.{actuals_read, conversion_read, index_read, member_read, operand_read, qualified_read, reading, short_circuit_read, values_read};
+ghost use Rattle.al_overload_label.specs.Readings.{actuals_read, applied_read, conversion_read, index_read, member_read, operand_read, qualified_read, reading, short_circuit_read, values_read};
 ghost use Rattle.al_overload_types.specs.Leaves.{actual_read, component_read, indexed_node, inner};
 ghost use Rattle.al_overload_term.specs.Places.{first_place};
 ghost use Rattle.al_overload_label.specs.Chains.{IsAt, IsBelow, stepped};
@@ -16,7 +16,7 @@ ghost use Rattle.al_overload_nodes.specs.Calls.{call_node};
 ghost use Rattle.al_overload_nodes.specs.Names.{object_node};
 ghost use Rattle.al_overload_nodes.specs.Views.{actuals_model, reading_model, values_model};
 
-use crate::chain::{Joint, Sign, Step, chained, down, joined};
+use crate::chain::{Joint, Step, chained, down, joined, last, step_selected};
 use crate::made::{
     infix_signature, kept, kept_unfit, membership_of, read_bound, read_length, read_number, unfit,
 };
@@ -27,7 +27,6 @@ use al_base::{NoMemory, Place};
 use al_base_fault::CheckResult;
 use al_overload::nothing_fits;
 use al_overload_choice::Labelled;
-use al_overload_heads::part_of;
 use al_overload_nodes::{Actuals, Labeller, Reading, Values, add_actual, faulty, grouped, misfit};
 use al_overload_picks::{how_indexed, operand_label, range_in};
 use al_overload_term::{Term, first_place};
@@ -57,25 +56,15 @@ pub(crate) fn read(
             named_reading(labeller, *place, views.as_slice(), label, types, at)
         }
         Term::Selected { prefix, name } => {
-            read_selected(labeller, prefix, name.as_slice(), label, types, at)
+            let place = first_place(prefix);
+            let step = step_selected(labeller, prefix, name.as_slice(), place, label, types, at)?;
+            read_step(labeller, prefix, place, step)
         }
         Term::Applied { name, arguments } => {
             let place = first_place(name);
             let arguments = arguments.as_slice();
-            match how_applied(&labeller.predefined.standard, name, label) {
-                Application::CallOf(subprogram) => {
-                    read_call(labeller, arguments, place, subprogram, label)
-                }
-                Application::ElementOf(object) => {
-                    read_object_element(labeller, arguments, place, object, label)
-                }
-                Application::ElementOfPart(subtype, part) => {
-                    let whole = read_kept(labeller, name, place, 0, label, types, at)?;
-                    let of = &subtype.base;
-                    read_part_element(labeller, arguments, place, label, part, of, whole)
-                }
-                Application::Misapplied => unfit(place),
-            }
+            let step = step_applied(labeller, arguments, name, place, label, types, at)?;
+            read_step(labeller, name, place, step)
         }
         Term::Bound {
             place,
@@ -173,8 +162,8 @@ pub(crate) fn read(
     }
 }
 
-/// The same on the heap. A chain of operators is gone down by a loop, so that it takes no more of the stack than one operator does. All that
-/// stands at the left of its operators begins where it begins itself.
+/// The same on the heap. A chain of operators, selectors and indexes is gone down by a loop, so that it takes no more of the stack than one link
+/// does. All that stands at the left of its links begins where it begins itself.
 #[cycle(reading)]
 #[inline(never)]
 fn read_boxed(
@@ -206,7 +195,7 @@ fn read_boxed(
     }
 }
 
-/// A step down a chain of operators: the operator with its right operand, and what stands at its left; or what is no chain.
+/// A step down a chain: its last link, and what stands at the left of that; or what is no chain.
 #[cycle(reading)]
 #[inline(never)]
 #[tactic(auto, using(al_overload_nodes::proofs::TermsSeen::terms_made))]
@@ -236,6 +225,13 @@ fn step<'a>(
         }
         Term::ShortCircuit { form, left, right } => {
             step_short_circuit(labeller, right, left, place, *form, label, types)
+        }
+        Term::Selected { prefix, name } => {
+            step_selected(labeller, prefix, name.as_slice(), place, label, types, at)
+        }
+        Term::Applied { name, arguments } => {
+            let arguments = arguments.as_slice();
+            step_applied(labeller, arguments, name, place, label, types, at)
         }
         _ => {
             let reading = read_other(labeller, term, label, types, at)?;
@@ -269,8 +265,7 @@ fn step_infix<'a>(
     };
     let second = read_kept(labeller, right, place, 1, label, of.types, of.right)?;
     let (among, stands_at) = (of.types, of.left);
-    let sign = Sign::Operator(operator, of);
-    let joint = Joint { sign, second };
+    let joint = Joint::Operator(operator, of, second);
     let first_label = operand_label(label, 0);
     down(labeller, place, joint, left, first_label, among, stands_at)
 }
@@ -293,10 +288,85 @@ fn step_short_circuit<'a>(
 {
     let of = &labeller.predefined.types.boolean.symbol;
     let second = read_kept(labeller, right, place, 1, label, types, of)?;
-    let sign = Sign::ShortCircuit(form, types);
-    let joint = Joint { sign, second };
+    let joint = Joint::ShortCircuit(form, types, second);
     let first_label = operand_label(label, 0);
     down(labeller, place, joint, left, first_label, types, of)
+}
+
+/// The step at what stands in parentheses after a name.
+#[cycle(reading)]
+#[inline(never)]
+fn step_applied<'a>(
+    labeller: &'a Labeller,
+    arguments: &'a [Term],
+    name: &'a Term,
+    place: Place,
+    label: &'a Labelled,
+    types: &'a Types,
+    at: &'a Symbol,
+) -> Result<Step<'a>, NoMemory>
+    ensures read { IfOk result (λ s. stepped labeller.now.predefined labeller.now.own place s ≡ applied_read labeller.now.predefined labeller.now.own place (term_model name.now) (terms_of (map term_model arguments.now)) (label_of label.now) types.now at.now) }
+    ensures at { IfOk result (λ s. IsAt name.now s) }
+{
+    match how_applied(&labeller.predefined.standard, name, label) {
+        Application::CallOf(subprogram) => {
+            let reading = read_call(labeller, arguments, place, subprogram, label);
+            last(labeller, reading)
+        }
+        Application::ElementOf(object) => {
+            let reading = read_object_element(labeller, arguments, place, object, label);
+            last(labeller, reading)
+        }
+        Application::ElementOfPart(subtype, part) => {
+            let of = &subtype.base;
+            step_index(labeller, arguments, name, place, label, part, of, types, at)
+        }
+        Application::Misapplied => last(labeller, unfit(place)),
+    }
+}
+
+/// The step at an index after a part of an object, which is of this type among these.
+#[cycle(reading)]
+#[inline(never)]
+fn step_index<'a>(
+    labeller: &'a Labeller,
+    arguments: &'a [Term],
+    name: &'a Term,
+    place: Place,
+    label: &'a Labelled,
+    part: &'a Types,
+    of: &'a Symbol,
+    types: &'a Types,
+    at: &'a Symbol,
+) -> Result<Step<'a>, NoMemory>
+    ensures read { IfOk result (λ s. stepped labeller.now.predefined labeller.now.own place s ≡ indexed_node labeller.now.predefined.root place part.now of.now (operand_read labeller.now.predefined labeller.now.own place 0 (term_model name.now) (label_of label.now) types.now at.now) (λ index. index_read labeller.now.predefined labeller.now.own place 1 (label_of label.now) part.now index (terms_of (map term_model arguments.now)))) }
+    ensures at { IfOk result (λ s. IsAt name.now s) }
+{
+    let Some(by) = how_indexed(&labeller.predefined.standard, part, of) else {
+        let reading = kept_unfit(labeller.alloc, place)?;
+        return Ok(Step::Last(reading));
+    };
+    let index = kept_index(labeller, arguments, place, label, part, by.index)?;
+    let joint = Joint::Index(part, by, index);
+    let first_label = operand_label(label, 0);
+    down(labeller, place, joint, name, first_label, types, at)
+}
+
+/// The only index after a part of an object, on the heap.
+#[cycle(reading)]
+#[inline(never)]
+fn kept_index(
+    labeller: &Labeller,
+    arguments: &[Term],
+    place: Place,
+    label: &Labelled,
+    types: &Types,
+    at: &Symbol,
+) -> Result<Box<Reading>, NoMemory>
+    ensures { IfOk result (λ r. reading_model r.value ≡ index_read labeller.now.predefined labeller.now.own place 1 (label_of label.now) types.now at.now (terms_of (map term_model arguments.now))) }
+{
+    let reading = read_index(labeller, arguments, place, 1, label, types, at);
+    kept(labeller.alloc, reading)
 }
 
 /// What a step makes of its term, once what stands at the left is read too.
@@ -396,24 +466,6 @@ fn read_object_element(
     read_element(labeller, arguments, place, 0, label, types, of, whole)
 }
 
-/// A component of a part of an object.
-#[cycle(reading)]
-#[inline(never)]
-fn read_part_element(
-    labeller: &Labeller,
-    arguments: &[Term],
-    place: Place,
-    label: &Labelled,
-    types: &Types,
-    of: &Symbol,
-    whole: Box<Reading>,
-) -> Result<Reading, NoMemory>
-    ensures { IfOk result (λ r. reading_model r ≡ indexed_node labeller.now.predefined.root place types.now of.now (reading_model whole.value) (λ index. index_read labeller.now.predefined labeller.now.own place 1 (label_of label.now) types.now index (terms_of (map term_model arguments.now)))) }
-{
-    let whole = Box::into_inner(whole);
-    read_element(labeller, arguments, place, 1, label, types, of, whole)
-}
-
 /// What stands in parentheses.
 #[cycle(reading)]
 #[inline(never)]
@@ -446,25 +498,6 @@ fn read_aggregate(
 {
     let values = read_values(labeller, components, types, at, label)?;
     aggregate_reading(labeller, place, types, at, values)
-}
-
-/// A component by its name of what stands before the dot.
-#[cycle(reading)]
-#[inline(never)]
-fn read_selected(
-    labeller: &Labeller,
-    prefix: &Term,
-    name: &[u8],
-    label: &Labelled,
-    types: &Types,
-    at: &Symbol,
-) -> Result<Reading, NoMemory>
-    ensures { IfOk result (λ r. reading_model r ≡ reading labeller.now.predefined labeller.now.own (trees.SelectedTerm (term_model prefix.now) name.now) (label_of label.now) types.now at.now) }
-{
-    let place = first_place(prefix);
-    let whole = read_operand(labeller, prefix, place, 0, label, types, at)?;
-    let part = part_of(&labeller.predefined.standard, prefix);
-    labeller.selected(place, name, part, whole)
 }
 
 /// A conversion to this subtype, whose operand is a context by itself.

@@ -5,8 +5,8 @@ ghost use Rattle.al_overload_label.specs.Static.{checked_as, stands_there, unles
 ghost use Rattle.al_overload_nodes.specs.Views.{reading_model};
 ghost use Rattle.al_view_typed.specs.ExpressionViews.{typed_model};
 
-use al_base::{Place, Rule};
-use al_base_fault::{CheckResult, Fault, unless};
+use al_base::Place;
+use al_base_fault::{CheckResult, CheckRule, Fault, unless};
 use al_overload_nodes::{Reading, checked};
 use al_static::Known;
 use al_view_typed::Typed;
@@ -28,7 +28,7 @@ fn unless_static(place: Place, known: Known) -> Option<Fault>
         Known::Fails(_) => None,
         Known::Open(_) => Some(Fault {
             place,
-            code: Rule::NotStatic.number(),
+            rule: CheckRule::NotStatic,
         }),
     }
 }

@@ -8,8 +8,8 @@ ghost use Rattle.al_overload_name.specs.Candidates.{is_no_value, with_all};
 ghost use Rattle.al_overload_name.specs.Heads.{all_candidates, named, operated};
 
 use crate::candidate::{add_candidates, is_no_value};
-use al_base::{NoMemory, Place, Rule};
-use al_base_fault::{CheckResult, Fault};
+use al_base::{NoMemory, Place};
+use al_base_fault::{CheckResult, CheckRule, Fault};
 use al_overload_choice::{Candidate, Expression, Operands};
 use al_view::{Symbol, View};
 use al_view_predefined::StandardTypes;
@@ -68,12 +68,12 @@ pub fn name(
     ensures { IfOk result (λ checked. map_ok plain checked ≡ named root.now place visible.now (plain_all operands)) }
 {
     if visible.is_empty() {
-        let code = Rule::NotVisible.number();
-        return Ok(Err(Fault { place, code }));
+        let rule = CheckRule::NotVisible;
+        return Ok(Err(Fault { place, rule }));
     }
     if is_any_no_value(visible) {
-        let code = Rule::WrongKind.number();
-        return Ok(Err(Fault { place, code }));
+        let rule = CheckRule::WrongKind;
+        return Ok(Err(Fault { place, rule }));
     }
     let head = all_of(alloc, standard, root, visible, operands)?;
     Ok(Ok(head))

@@ -3,8 +3,7 @@ use Rattle.std.specs.Prelude.{ℕ, ◌+◌, ◌-◌, min, Bool, true, false, cod
 use Rattle.std.specs.Option.{option_map_or}
 use Rattle.std.specs.Str.{bytes_eq}
 use Rattle.al_base.specs.declared.place.Place.{Place}
-use Rattle.al_base.specs.declared.rule.Rule.TheVariants.{OwnOperation}
-use Rattle.al_base.specs.Rules.{number_of}
+use Rattle.al_base_fault.specs.declared.check_rule.CheckRule.TheVariants.{OwnOperation}
 use Rattle.al_base_fault.specs.Faults.{fault_at}
 use Rattle.al_base_fault.specs.Judging.{next, map_ok, unless}
 use Rattle.al_base_fault.specs.declared.fault.Fault.{Fault}
@@ -75,7 +74,7 @@ is_own_of s object = is_of_object object s.call s.flag
 
 -- an operation of the protected object in whose bodies the text stands
 abbrev pub own_fault : Option Symbol → Place → SubprogramView → Option Fault
-own_fault own place s = if option_map_or (is_own_of s) own false then Some (fault_at place (number_of OwnOperation)) else None
+own_fault own place s = if option_map_or (is_own_of s) own false then Some (fault_at place OwnOperation) else None
 
 abbrev pub call_with : SubprogramView → List ActualTree → Callee → Result CallTree Fault
 call_with s actuals callee = Ok (Called callee s.flag (actual_words s) (actuals_of actuals))

@@ -2,8 +2,7 @@
 use Rattle.std.specs.Prelude.{ℕ, Bool, false, not, List, [], ◌∷◌, Option, None, Result, Ok, Err}
 use Rattle.std.specs.Option.{option_map_or}
 use Rattle.al_base.specs.declared.place.Place.{Place}
-use Rattle.al_base.specs.declared.rule.Rule.TheVariants.{NotAVariable}
-use Rattle.al_base.specs.Rules.{number_of}
+use Rattle.al_base_fault.specs.declared.check_rule.CheckRule.TheVariants.{NotAVariable}
 use Rattle.al_base_fault.specs.Faults.{earlier, fault_at}
 use Rattle.al_base_fault.specs.Judging.{both, next, map_ok}
 use Rattle.al_base_fault.specs.declared.fault.Fault.{Fault}
@@ -91,4 +90,4 @@ is_variable (t.AppliedTerm prefix arguments) = is_variable prefix
 is_variable _ = false
 
 abbrev pub no_variable : Place → Fault
-no_variable place = fault_at place (number_of NotAVariable)
+no_variable place = fault_at place NotAVariable

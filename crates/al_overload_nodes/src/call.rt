@@ -10,8 +10,8 @@ use crate::gather::Actuals;
 use crate::labeller::Labeller;
 use crate::name::no_variable;
 use crate::node::{Reading, misfit};
-use al_base::{NoMemory, Place, Rule};
-use al_base_fault::{CheckResult, Fault, unless};
+use al_base::{NoMemory, Place};
+use al_base_fault::{CheckResult, CheckRule, Fault, unless};
 use al_overload::nothing_fits;
 use al_overload_picks::{range_in, words_in};
 use al_static::Known;
@@ -102,7 +102,7 @@ fn own_fault(own: &Option<Symbol>, place: Place, subprogram: &SubprogramView) ->
     if is_own {
         return Some(Fault {
             place,
-            code: Rule::OwnOperation.number(),
+            rule: CheckRule::OwnOperation,
         });
     }
     None

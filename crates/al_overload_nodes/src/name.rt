@@ -10,8 +10,8 @@ ghost use Rattle.al_overload_nodes.specs.Views.{name_pair_model, reading_model};
 
 use crate::labeller::Labeller;
 use crate::node::{Reading, misfit};
-use al_base::{NoMemory, Place, Rule};
-use al_base_fault::{CheckResult, Fault, both, earlier};
+use al_base::{NoMemory, Place};
+use al_base_fault::{CheckResult, CheckRule, Fault, both, earlier};
 use al_overload::nothing_fits;
 use al_overload_picks::{Indexing, component_at, range_in, words_in};
 use al_overload_term::Term;
@@ -145,7 +145,7 @@ pub fn no_variable(place: Place) -> Fault
 {
     Fault {
         place,
-        code: Rule::NotAVariable.number(),
+        rule: CheckRule::NotAVariable,
     }
 }
 

@@ -20,7 +20,7 @@ is_at p q = (p.line == q.line) && (p.col == q.col)
 -- That the prefix as a whole has no interpretation, or several, is told of the context round it, which begins elsewhere; contexts inside it
 -- begin after its first token.
 unfoldable pub moved : Place → Place → Fault → Fault
-moved at first f = if is_at f.place first then fault_at at f.code else f
+moved at first f = if is_at f.place first then fault_at at f.rule else f
 
 abbrev pub moved_of : Place → Place → Result TypedTree Fault → Option Fault
 moved_of at first (Ok x) = None

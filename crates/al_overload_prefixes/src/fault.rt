@@ -31,7 +31,7 @@ fn moved(at: Place, first: Place, fault: Fault) -> Fault
     if is_at(fault.place, first) {
         Fault {
             place: at,
-            code: fault.code,
+            rule: fault.rule,
         }
     } else {
         fault

@@ -2,8 +2,7 @@
 use Rattle.std.specs.Prelude.{ℕ, Bool, true, false, List, [], ◌∷◌, ◌++◌, Option, Some, None, option_map, is_some, Result, Ok, Err, if◌then◌else◌}
 use Rattle.std.specs.List.{list_any}
 use Rattle.al_base.specs.declared.place.Place.{Place}
-use Rattle.al_base.specs.declared.rule.Rule.TheVariants.{WrongKind}
-use Rattle.al_base.specs.Rules.{number_of}
+use Rattle.al_base_fault.specs.declared.check_rule.CheckRule.TheVariants.{WrongKind}
 use Rattle.al_tree_grammar.specs.Grammar.{Label}
 use Rattle.al_base_fault.specs.Faults.{fault_at}
 use Rattle.al_base_fault.specs.Judging.{both, next, map_ok}
@@ -40,7 +39,7 @@ pub data ReadTree : Type 0 where
   RangeRead : Place → SubtypeView → ReadTree
 
 abbrev pub wrong_kind : Place → Fault
-wrong_kind p = fault_at p (number_of WrongKind)
+wrong_kind p = fault_at p WrongKind
 
 -- the first token
 unfoldable pub read_place : ReadTree → Place

@@ -13,8 +13,8 @@ use crate::mark::mark_in;
 use crate::operation::{operation_of, protected_in};
 use crate::pair::{boxed, together};
 use crate::prefix::{Prefix, name_prefix, term_prefix};
-use al_base::{Name, NoMemory, Place, Rule};
-use al_base_fault::{CheckResult, Fault};
+use al_base::{Name, NoMemory, Place};
+use al_base_fault::{CheckResult, CheckRule, Fault};
 use al_overload_keys::{Names, dotted, is_none, not_visible};
 use al_overload_name::is_any_no_value;
 use al_overload_term::{Term, first_place};
@@ -44,7 +44,7 @@ pub fn wrong_kind(place: Place) -> Fault
 {
     Fault {
         place,
-        code: Rule::WrongKind.number(),
+        rule: CheckRule::WrongKind,
     }
 }
 

@@ -5,6 +5,7 @@ mod laws;
 mod number;
 mod pieces;
 mod temporary;
+mod turn;
 
 pub use laws::each_has_a_word_of_its_own;
 pub use number::{number_call, number_slots};

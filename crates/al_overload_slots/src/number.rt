@@ -1,9 +1,13 @@
 // The words that temporaries of an expression take.
-ghost use Rattle.std.specs.Prelude.{◌≡◌, map};
+ghost use Rattle.std.specs.Prelude.{◌≡◌, if◌then◌else◌, map};
 ghost use Rattle.al_view_typed.specs.ExpressionViews.{actual_model, actuals_of, call_model, form_model, name_model, typed_model, value_model, values_of};
 ghost use Rattle.al_overload_slots.specs.Slots.{actual_after, actual_numbered, actuals_after, actuals_numbered, after, call_after, call_numbered, form_after, form_numbered, name_after, name_numbered, next_word, numbered, value_after, value_numbered, values_after, values_numbered};
 
 use crate::temporary::takes;
+use crate::turn::{
+    ascend, ascend_operand, descend, descend_operand, form_leans, has_prefix, leans, no_name,
+    no_operand, put_right, take_right,
+};
 use al_view_typed::{Actual, CheckedValue, Form, Typed, TypedCall, TypedName};
 
 /// The word after this one; after the last one that there is, that one again.
@@ -28,19 +32,41 @@ pub fn number_slots(typed: &mut Typed, word: u32) -> u32
     }
 }
 
+/// Left operands are gone down by a loop, and right ones have their words on the way back.
 #[cycle(slots)]
-#[tactic(auto, using(crate::proofs::Layers::typed_layers, al_view_typed::proofs::ExpressionsMade::typed_made))]
 fn number_typed(typed: &mut Typed, word: u32) -> u32
     ensures tree { typed_model typed.new ≡ numbered word (typed_model typed.old) }
     ensures word { result ≡ after word (typed_model typed.old) }
 {
-    if typed.labels.value.is_some() {
-        return word;
+    let mut passed = no_operand();
+    'down: while leans(typed) {
+        descend_operand(typed, &mut passed);
     }
-    number_form(&mut typed.form, word)
+    let is_static = typed.labels.value.is_some();
+    let mut word = number_first(&mut typed.form, is_static, word);
+    'up: while form_leans(&passed.form) {
+        ascend_operand(typed, &mut passed);
+        let mut right = no_operand();
+        take_right(typed, &mut right);
+        word = number_slots(&mut right, word);
+        put_right(typed, &mut right);
+    }
+    word
 }
 
-/// The left operand of a chain, which isn't looked at once more.
+/// What no operator with two operands makes.
+#[cycle(slots)]
+fn number_first(form: &mut Form, is_static: bool, word: u32) -> u32
+    ensures tree { form_model form.new ≡ (if is_static then form_model form.old else form_numbered word (form_model form.old)) }
+    ensures word { result ≡ (if is_static then word else form_after word (form_model form.old)) }
+{
+    if is_static {
+        return word;
+    }
+    number_form(form, word)
+}
+
+/// A left operand, which isn't looked at once more.
 #[cycle(slots)]
 fn number_left(operand: &mut Box<Typed>, word: u32) -> u32
     ensures tree { typed_model operand.new.value ≡ numbered word (typed_model operand.old.value) }
@@ -96,29 +122,26 @@ fn number_form(form: &mut Form, word: u32) -> u32
     }
 }
 
-/// What stands before a component, in its box.
+/// The indexes of a name. What stands before a component is gone down by a loop, and indexes have their words on the way back.
 #[cycle(slots)]
-fn number_prefix(prefix: &mut Box<TypedName>, word: u32) -> u32
-    ensures tree { name_model prefix.new.value ≡ name_numbered word (name_model prefix.old.value) }
-    ensures word { result ≡ name_after word (name_model prefix.old.value) }
-{
-    number_name(prefix, word)
-}
-
-#[cycle(slots)]
-#[tactic(auto, using(al_view_typed::proofs::ExpressionsMade::object_made, al_view_typed::proofs::ExpressionsMade::component_made, al_view_typed::proofs::ExpressionsMade::indexed_made))]
 fn number_name(name: &mut TypedName, word: u32) -> u32
     ensures tree { name_model name.new ≡ name_numbered word (name_model name.old) }
     ensures word { result ≡ name_after word (name_model name.old) }
 {
-    match name {
-        TypedName::Object { .. } => word,
-        TypedName::Component { whole, offset: _ } => number_prefix(whole, word),
-        TypedName::Indexed { array, index, .. } => {
-            let word = number_prefix(array, word);
-            number_operand(index, word)
+    let mut passed = no_name();
+    'down: while has_prefix(name) {
+        descend(name, &mut passed);
+    }
+    let mut word = word;
+    'up: while has_prefix(&passed) {
+        ascend(name, &mut passed);
+        match name {
+            TypedName::Object { .. } => {}
+            TypedName::Component { .. } => {}
+            TypedName::Indexed { index, .. } => word = number_operand(index, word),
         }
     }
+    word
 }
 
 #[cycle(slots)]

@@ -10,6 +10,7 @@ ghost use Rattle.al_base_shortage.specs.Counts.{one_more};
 ghost use Rattle.al_query_outcome.specs.Results.{checked_model};
 ghost use Rattle.al_query_outcome.specs.Words.{words_of};
 
+use crate::text::ReadText;
 use al_base::{NoMemory, UnitKey};
 use al_query::{Answers, Recorder};
 use al_query_outcome::Checked;
@@ -21,19 +22,18 @@ pub trait UnitCheck {
     ghost use Rattle.al_base.specs.declared.unit_key.UnitKey.{UnitKey};
     ghost use Rattle.al_query.specs.declared.answer.AnswerKind.{AnswerKind};
     ghost use Rattle.al_query.specs.declared.query.Query.{Query};
-    ghost use Rattle.al_unit_graph.specs.Headers.{Header};
     ghost use Rattle.al_query_outcome.specs.Results.{Outcome};
+
+    /// What is read of a text for a check.
+    type Text: ReadText;
 
     /// The outcome of a unit with a text under a table. No checker's state has a part in it.
     ghost meaning: { UnitKey → List ℕ → (Query → AnswerKind) → Outcome };
 
-    /// What a text says of its unit.
-    ghost header: { List ℕ → Header };
-
     /// How many checks were made.
     ghost count: { Self → ℕ };
 
-    /// Checks a unit with its text.
+    /// Checks a unit with its text, as it was read.
     /// - `asked`: who is asked stays the same.
     /// - `meaning`: under every table that agrees with the log the outcome is the same.
     /// - `others`, `grounded`: each question is of a predefined unit, or of another unit, which this one names (ARM 10.1.1(26))
@@ -50,20 +50,20 @@ pub trait UnitCheck {
         &mut self,
         alloc: Global,
         unit: &UnitKey,
-        text: &[u8],
+        text: &Self::Text,
         recorder: &mut Recorder<A>,
     ) -> Result<Checked, NoMemory>
         requires { recorder.old.log ≡ [] }
         ensures asked { recorder.new.asked ≡ recorder.old.asked }
-        ensures meaning { IfOk result (λ checked. (t : Query → AnswerKind) → Agrees t recorder.new.log → checked_model checked ≡ meaning unit.now text.now t) }
+        ensures meaning { IfOk result (λ checked. (t : Query → AnswerKind) → Agrees t recorder.new.log → checked_model checked ≡ meaning unit.now (Self.Text.text text.now) t) }
         ensures others { OnOk result (AsksOthers unit.now recorder.new.log) }
-        ensures grounded { OnOk result (Grounded (named_by (header text.now)) recorder.new.log) }
-        ensures words { OnOk result (AsksByNames unit.now (words_of text.now) recorder.new.log) }
-        ensures names { IfOk result (λ checked. NamesOnly (unit.now ∷ known_after (named_by (header text.now)) recorder.new.log) (checked_model checked)) }
+        ensures grounded { OnOk result (Grounded (named_by (Self.Text.header (Self.Text.text text.now))) recorder.new.log) }
+        ensures words { OnOk result (AsksByNames unit.now (words_of (Self.Text.text text.now)) recorder.new.log) }
+        ensures names { IfOk result (λ checked. NamesOnly (unit.now ∷ known_after (named_by (Self.Text.header (Self.Text.text text.now))) recorder.new.log) (checked_model checked)) }
         ensures uses { IfOk result (λ checked. UsesOnly unit.now recorder.new.log (checked_model checked)) }
         ensures defines { IfOk result (λ checked. DefinesOwn unit.now (checked_model checked)) }
         ensures shows { IfOk result (λ checked. ShowsOnly unit.now recorder.new.log (checked_model checked)) }
-        ensures parts { IfOk result (λ checked. HoldsBy recorder.new.log (λ t. DefinesParts unit.now (header text.now) t (checked_model checked))) }
+        ensures parts { IfOk result (λ checked. HoldsBy recorder.new.log (λ t. DefinesParts unit.now (Self.Text.header (Self.Text.text text.now)) t (checked_model checked))) }
         ensures code { IfOk result (λ checked. HasCode unit.now (checked_model checked)) }
         ensures faults { IfOk result (λ checked. FaultsFit unit.now (checked_model checked)) }
         ensures counted { count self.new ≡ one_more (count self.old) };

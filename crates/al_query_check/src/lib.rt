@@ -2,5 +2,7 @@
 #![tactic(auto)]
 
 mod check;
+mod text;
 
 pub use check::UnitCheck;
+pub use text::ReadText;

@@ -1,5 +1,7 @@
 -- The innermost region of a place.
-use Rattle.std.proofs.Common.{◌≡◌, ℕ, ◌+◌, ◌-◌, ◌<◌, ◌≤◌, Bool, true, false, cond, zero, suc, List, [], ◌∷◌, ◌++◌, length, set, get_or, slice_get, Some, None, refl, sym, subst, ap, arith}
+use Rattle.std.proofs.Common.{◌≡◌, ℕ, ◌+◌, ◌-◌, ◌<◌, ◌≤◌, Bool, true, false, cond, zero, suc, List, [], ◌∷◌, ◌++◌, length, set, drop, get_or, slice_get, Some, None, add-one, refl, sym, subst, ap, ◌∙◌, arith}
+use Rattle.std.proofs.lemmas.List.{drop_all}
+use Rattle.std.proofs.Math.Seq.{drop-cons}
 use Rattle.std.specs.List.Sorted.{IsStrictlySortedBy}
 use Rattle.al_query.specs.declared.query.Query.{Query}
 use Rattle.al_view.specs.declared.symbol.Symbol.{Symbol}
@@ -47,6 +49,26 @@ inner_declared-is (x ∷ y ∷ ys) zero d h = absurd (omega arith)
 inner_declared-is (x ∷ y ∷ ys) (suc n) d h =
     let less : n + 1 ≡ length (y ∷ ys) = omega arith in
     inner_declared-is (y ∷ ys) n d less
+
+-- ---- the place of a region, looked for from the outermost one inward
+
+drop_here : (xs : List Region) (i : ℕ) (x : Region) → i < length xs → x ≡ get_or xs i x → drop i xs ≡ x ∷ drop (i + 1) xs
+drop_here xs i x within is = drop-cons xs i x within ∙ ap (λ (y : Region). y ∷ drop (suc i) xs) (sym is) ∙ ap (λ (k : ℕ). x ∷ drop k xs) (sym (add-one i))
+
+pub place_found : (s : Symbol) (xs : List Region) (i : ℕ) (x : Region) (whole : ℕ) → i < length xs → x ≡ get_or xs i x → is_region_of s x ≡ true → i + place_of s (drop i xs) ≡ whole → i ≡ whole
+place_found s xs i x whole within is found known =
+    let here : place_of s (drop i xs) ≡ 0 = ap (place_of s) (drop_here xs i x within is) ∙ ap (λ (b : Bool). cond b 0 (suc (place_of s (drop (i + 1) xs)))) found in
+    omega (arith, here, known)
+
+pub place_passed : (s : Symbol) (xs : List Region) (i : ℕ) (x : Region) (whole : ℕ) → i < length xs → x ≡ get_or xs i x → is_region_of s x ≡ false → i + place_of s (drop i xs) ≡ whole → (i + 1) + place_of s (drop (i + 1) xs) ≡ whole
+place_passed s xs i x whole within is not known =
+    let here : place_of s (drop i xs) ≡ suc (place_of s (drop (i + 1) xs)) = ap (place_of s) (drop_here xs i x within is) ∙ ap (λ (b : Bool). cond b 0 (suc (place_of s (drop (i + 1) xs)))) not in
+    omega (arith, here, known)
+
+pub no_place_left : (s : Symbol) (xs : List Region) (i whole : ℕ) → length xs ≤ i → i + place_of s (drop i xs) ≡ whole → i ≡ whole
+no_place_left s xs i whole past known =
+    let none : place_of s (drop i xs) ≡ 0 = ap (place_of s) (drop_all i xs past) in
+    omega (arith, none, known)
 
 -- a part more at the construct's region
 with_part-at : (s : Symbol) (p : UnitPart) (xs : List Region) (d new : Region) → place_of s xs < length xs → new ≡ record (get_or xs (place_of s xs) d) { parts = (get_or xs (place_of s xs) d).parts ++ p ∷ [] } → set xs (place_of s xs) new ≡ with_part s p xs

@@ -1,11 +1,12 @@
 -- A search outward gives what all regions would.
-use Rattle.std.proofs.Common.{◌≡◌, ℕ, ◌-◌, ◌≤◌, List, [], ◌∷◌, ◌++◌, Bool, true, false, cond, not, ◌||◌, filter, take, drop, length, get_or, refl, sym, ◌∙◌, ap, arith}
-use Rattle.std.proofs.lemmas.Grind.{common_steps}
+use Rattle.std.proofs.Common.{◌≡◌, ℕ, ◌+◌, ◌-◌, ◌<◌, ◌≤◌, List, [], ◌∷◌, ◌++◌, Bool, true, false, cond, not, ◌||◌, filter, map, take, length, get_or, refl, sym, ◌∙◌, ap, subst, arith}
+use Rattle.std.proofs.lemmas.List.{take_all, take_more}
 use Rattle.std.specs.List.{list_any}
 use Rattle.std.proofs.lemmas.List.Folds.{list_any-append}
 use Rattle.al_view.specs.declared.view.ViewKind.{ViewKind}
 use Rattle.al_view.specs.Named.{Declarations}
-use Rattle.al_query.specs.Reads.{Table}
+use Rattle.al_query.specs.Reads.{FromAnswers, HoldsBy, Log, Table}
+use Rattle.al_scope.specs.Asked.{AsksParts}
 use Rattle.al_scope.specs.declared.hiding.RegionEntry.{RegionEntry}
 use Rattle.al_scope.specs.declared.hiding.Search.{Search}
 use Rattle.al_scope.specs.declared.region.Region.{Region}
@@ -14,7 +15,7 @@ use Rattle.al_scope.specs.Searches.{IsSearch, LocalNamesAskNothing, any_decides,
 use Rattle.al_scope.specs.Visible.{clash, decides, direct, found_in, shuts_out, use_visible}
 use Rattle.al_scope.proofs.DecideLemmas.{any-decided, filter-none}
 use Rattle.al_scope.proofs.HidingLemmas.{append-none}
-use Rattle.al_scope.proofs.PartLemmas.{or-left, or-right, parts-nothing, parts-of}
+use Rattle.al_scope.proofs.PartLemmas.{or-left, or-right, parts-none, parts-nothing, parts-of, parts-right, parts-turned}
 
 or-turned : (a b : Bool) → (a || b) ≡ (b || a)
 or-turned true true = refl
@@ -79,12 +80,60 @@ searched-more t m name r inner h =
     ap (λ b. region_parts (cond b (searched t m name inner) (r ∷ inner))) h
     ∙ ap (λ l. r.parts ++ region_parts l) (sym (searched-all t m name inner h))
 
--- the first region and the others
-pub rest_split : (xs : List Region) (x : Region) → 1 ≤ length xs → x ≡ get_or xs 0 x → xs ≡ x ∷ take (length xs - 1) (drop 1 xs)
-rest_split [] x some is = absurd (omega (arith, some))
-rest_split (y ∷ ys) x some is =
-    let e : take (length (y ∷ ys) - 1) ys ≡ ys = grind (arith, common_steps) in
-    ap (λ (z : Region). z ∷ ys) (sym is) ∙ ap (λ (zs : List Region). x ∷ zs) (sym e)
+-- the last region and those round it
+pub last_split : (xs : List Region) (x : Region) → 1 ≤ length xs → x ≡ get_or xs (length xs - 1) x → xs ≡ take (length xs - 1) xs ++ x ∷ []
+last_split xs x some is =
+    let within : length xs - 1 < length xs = omega (arith, some) in
+    let more : length xs ≡ (length xs - 1) + 1 = omega (arith, some) in
+    sym (take_all (length xs) xs (omega arith))
+    ∙ ap (λ (n : ℕ). take n xs) more
+    ∙ take_more xs (length xs - 1) x within
+    ∙ ap (λ (y : Region). take (length xs - 1) xs ++ y ∷ []) (sym is)
+
+pub none_left : (xs : List Region) → length xs ≡ 0 → xs ≡ []
+none_left [] none = refl
+none_left (x ∷ xs) none = absurd (cc)
+
+-- ---- a search, of which these regions have been looked into
+
+pub record IsLooking (m : Declarations) (name : List ℕ) (done : List Region) (before now : Log) (s : Search) : Type 0 where
+  pub answered : FromAnswers before now (λ t. IsSearch (map (found_in t m name) done) s)
+  pub asks : AsksParts (region_parts done) name before now
+  pub stops : HoldsBy now (λ t. AsksParts (region_parts (searched t m name done)) name before now)
+
+pub looking_nowhere : (m : Declarations) (name : List ℕ) (log : Log) (s : Search) → IsSearch [] s → IsLooking m name [] log log s
+looking_nowhere m name log s is = record { answered = λ t h. (h, is); asks = parts-none [] name log; stops = λ t h. parts-none [] name log }
+
+pub looking_outward : (m : Declarations) (name : List ℕ) (x : Region) (done : List Region) (before mid now : Log) (s next : Search) (found : RegionEntry)
+    → IsLooking m name done before mid s → s.is_decided ≡ false → FromAnswers mid now (λ t. found ≡ found_in t m name x) → AsksParts x.parts name mid now
+    → ((founds : List RegionEntry) → IsSearch founds s → IsSearch (found ∷ founds) next) → IsLooking m name (x ∷ done) before now next
+looking_outward m name x done before mid now s next found known goes_on from asks more = record {
+  answered = λ t h.
+      let f = from t h in
+      let a = known.answered t f.0 in
+      (a.0, subst (λ (e : RegionEntry). IsSearch (e ∷ map (found_in t m name) done) next) f.1 (more (map (found_in t m name) done) a.1));
+  asks = parts-turned (region_parts done) x.parts name before mid now known.asks asks;
+  stops = λ t h.
+      let f = from t h in
+      let a = known.answered t f.0 in
+      let none : any_decides t m name done ≡ false = sym a.1.decided ∙ goes_on in
+      parts-of (x.parts ++ region_parts (searched t m name done)) (region_parts (searched t m name (x ∷ done))) name before now (sym (searched-more t m name x done none))
+      (parts-turned (region_parts (searched t m name done)) x.parts name before mid now (known.stops t f.0) asks);
+}
+
+-- where one of them decides, those further out make no difference
+pub looking_ended : (m : Declarations) (name : List ℕ) (outer done : List Region) (before now : Log) (s : Search) → IsLooking m name done before now s → s.is_decided ≡ true → IsLooking m name (outer ++ done) before now s
+looking_ended m name [] done before now s known decided = known
+looking_ended m name (x ∷ outer) done before now s known decided =
+    let rest = looking_ended m name outer done before now s known decided in
+    record {
+      answered = λ t h. let a = rest.answered t h in (a.0, outward-decided (map (found_in t m name) (outer ++ done)) (found_in t m name x) s a.1 decided);
+      asks = parts-right x.parts (region_parts (outer ++ done)) name before now rest.asks;
+      stops = λ t h.
+          let a = rest.answered t h in
+          let one : any_decides t m name (outer ++ done) ≡ true = sym a.1.decided ∙ decided in
+          parts-of (region_parts (searched t m name (outer ++ done))) (region_parts (searched t m name (x ∷ (outer ++ done)))) name before now (sym (searched-stop t m name x (outer ++ done) one)) (rest.stops t h);
+    }
 
 -- a region that decides alone, innermost
 last-decides : (t : Table) (m : Declarations) (name : List ℕ) (outer : List Region) (r : Region) → decides (found_in t m name r) ≡ true → any_decides t m name (outer ++ r ∷ []) ≡ true

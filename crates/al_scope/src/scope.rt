@@ -54,16 +54,14 @@ fn place_of(regions: &[Region], construct: &Symbol) -> usize
     ensures is { result ≡ place_of construct.now regions.now }
     ensures most { result ≤ length regions.now }
 {
-    match regions {
-        [] => 0,
-        [region, inner @ ..] => {
-            if region.is_of(construct) {
-                0
-            } else {
-                place_of(inner, construct) + 1
-            }
+    let mut place = 0;
+    for region in regions {
+        if region.is_of(construct) {
+            return place;
         }
+        place += 1;
     }
+    place
 }
 
 /// The outermost region that is a construct's of that unit.

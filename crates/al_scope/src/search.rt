@@ -65,18 +65,17 @@ pub fn search_outward<A: Answers>(
     ensures stops { IfOk result (λ _. HoldsBy recorder.new.log (λ t. AsksParts (region_parts (searched t mentioned.now name.now regions.now)) name.now recorder.old.log recorder.new.log)) }
     ensures takes_none { regions.now ≡ [] → is_ok result ≡ true }
 {
-    match regions {
-        [] => Ok(Search::new(alloc)),
-        [region, inner @ ..] => {
-            let mut search = search_outward(alloc, mentioned, inner, name, recorder)?;
-            if search.is_decided {
-                return Ok(search);
-            }
-            let found = find(alloc, mentioned, region, name, recorder)?;
-            search.go_outward(alloc, found)?;
-            Ok(search)
+    let mut search = Search::new(alloc);
+    let mut rest = regions;
+    'outward: while let [outer @ .., region] = rest {
+        if search.is_decided {
+            return Ok(search);
         }
+        let found = find(alloc, mentioned, region, name, recorder)?;
+        search.go_outward(alloc, found)?;
+        rest = outer;
     }
+    Ok(search)
 }
 
 /// What is potentially use-visible of a name, by the use clauses that hold in the innermost region. Where none hold it takes

@@ -1,8 +1,7 @@
 -- Which pragmas are right (ARM 2.8, 10.2.1).
 use Rattle.std.specs.Prelude.{ℕ, Bool, true, false, ◌&&◌, List, [], ◌∷◌, codes, Option, Some, None, if◌then◌else◌}
 use Rattle.std.specs.Str.{bytes_eq}
-use Rattle.al_base.specs.Rules.{number_of}
-use Rattle.al_base.specs.declared.rule.Rule.TheVariants.{BadPragma}
+use Rattle.al_base_fault.specs.declared.check_rule.CheckRule.TheVariants.{BadPragma}
 use Rattle.al_tree_grammar.specs.Grammar.{Label}
 use Rattle.al_base_fault.specs.Faults.{fault_at}
 use Rattle.al_base_fault.specs.declared.fault.Fault.{Fault}
@@ -11,7 +10,7 @@ use Rattle.al_tree_syntax.specs.DeclarationTrees.{CompoundNameTree, PragmaArgume
 
 -- E307 at the pragma's identifier, unless it is right
 abbrev pub unless_right : Bool → PragmaTree → Option Fault
-unless_right right p = if right then None else Some (fault_at (place_of p.name) (number_of BadPragma))
+unless_right right p = if right then None else Some (fault_at (place_of p.name) BadPragma)
 
 -- a name of this identifier alone
 abbrev pub is_alone : List ℕ → List Label → List ℕ → Bool

@@ -5,8 +5,7 @@ ghost use Rattle.al_tree.specs.DeclarationViews.{pragma_arguments_model, pragma_
 ghost use Rattle.al_tree.specs.Lexemes.{identifier_label};
 ghost use Rattle.al_scope_uses.specs.Pragmas.{is_alone, is_elaborate_body, names_only, pragma_fault, unless_right};
 
-use al_base::Rule;
-use al_base_fault::Fault;
+use al_base_fault::{CheckRule, Fault};
 use al_tree::{Identifier, Pragma, PragmaArguments};
 
 /// E307 at the pragma's identifier, unless it is right.
@@ -18,7 +17,7 @@ pub fn unless_right(right: bool, pragma: &Pragma) -> Option<Fault>
     }
     Some(Fault {
         place: pragma.name.place,
-        code: Rule::BadPragma.number(),
+        rule: CheckRule::BadPragma,
     })
 }
 

@@ -1,9 +1,10 @@
 // The library of a session.
 ghost use Rattle.std.specs.Prelude.{◌≡◌, IfOk};
-ghost use Rattle.al_unit_headers.specs.Headed.{ReadsHeaders};
 ghost use Rattle.al_session_served.specs.Library.{empty};
 
 use al_base::NoMemory;
+use al_check_text::AdaText;
+use al_check_text::laws::headers_are_read;
 use al_engine_files::AdaFiles;
 use al_query_check::UnitCheck;
 use al_query_predefined::PredefinedUnits;
@@ -14,16 +15,19 @@ use std::alloc::Global;
 /// A library of Ada units over a checker: its files, what is kept of its units, and its last build.
 pub type Engine<C> = Served<AdaFiles, C, PredefinedUnits>;
 
-/// A library with no file and no build.
+/// A library with no file and no build, of whatever checker takes what is read of Ada texts.
 ///
 /// # Errors
 ///
 /// `NoMemory` where memory was wanted and not given.
-pub fn new_engine<C: UnitCheck + Drop>(alloc: Global, checker: C) -> Result<Engine<C>, NoMemory>
-    requires { ReadsHeaders C.header }
+pub fn new_engine<C: UnitCheck<Text = AdaText> + Drop>(
+    alloc: Global,
+    checker: C,
+) -> Result<Engine<C>, NoMemory>
     ensures { IfOk result (λ library. library ≡ empty) }
 {
     AdaFiles::are_read();
+    headers_are_read();
     units_are_predefined();
     match PredefinedUnits::new(alloc) {
         Ok(predefined) => Ok(Served::new(alloc, checker, predefined)),

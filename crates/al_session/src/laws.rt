@@ -10,33 +10,33 @@ use al_query_check::UnitCheck;
 
 /// What compiling files gives for a main unit is one thing, and so is what a run of its image puts out.
 pub fn builds_are_settled<C: UnitCheck>()
-    ensures { IsSettled (library_meaning C.meaning C.header) }
+    ensures { IsSettled (library_meaning C.meaning C.Text.header) }
 {}
 
 /// A session is one thing: the input, and which commands find no memory, settle its replies, the library that it leaves and how it ends.
 pub fn sessions_are_one<C: UnitCheck>()
-    ensures { SessionsAreOne (library_meaning C.meaning C.header) }
+    ensures { SessionsAreOne (library_meaning C.meaning C.Text.header) }
 {
     al_session_served::sessions_are_one::<Engine<C>>();
 }
 
 /// The names of a library's files ascend, and those of its last build's files do, whatever the commands were.
 pub fn sessions_are_ordered<C: UnitCheck>()
-    ensures { SessionsAreOrdered (library_meaning C.meaning C.header) }
+    ensures { SessionsAreOrdered (library_meaning C.meaning C.Text.header) }
 {
     al_session_served::sessions_are_ordered::<Engine<C>>();
 }
 
 /// What the last build gave is what compiling its files from an empty library gives, whatever the commands were.
 pub fn builds_are_right<C: UnitCheck>()
-    ensures { BuildsAreRight (library_meaning C.meaning C.header) }
+    ensures { BuildsAreRight (library_meaning C.meaning C.Text.header) }
 {
     al_session_served::builds_are_right::<Engine<C>>();
 }
 
 /// The diagnostics of the last build stand by file, place and code, and none twice, whatever the commands were.
 pub fn reports_ascend<C: UnitCheck>()
-    ensures { ReportsAscend C.meaning C.header }
+    ensures { ReportsAscend C.meaning C.Text.header }
 {
     sessions_are_ordered::<C>();
     builds_are_right::<C>();

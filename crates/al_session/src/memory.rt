@@ -24,9 +24,9 @@ pub fn serve_bytes<C: UnitCheck>(
 ) -> Result<Vec<u8>, Device>
     requires some { 1 ≤ tick }
     requires few { tick ≤ 10000 }
-    ensures served { IfOk result (λ replies. ServesBytes (with_tick (library_meaning C.meaning C.header) tick) input.now library.old library.new replies.items) }
-    ensures read { IsErrOf result Device.Read → StopsReadingBytes (with_tick (library_meaning C.meaning C.header) tick) input.now library.old library.new }
-    ensures write { IsErrOf result Device.Write → StopsWritingBytes (with_tick (library_meaning C.meaning C.header) tick) input.now library.old library.new }
+    ensures served { IfOk result (λ replies. ServesBytes (with_tick (library_meaning C.meaning C.Text.header) tick) input.now library.old library.new replies.items) }
+    ensures read { IsErrOf result Device.Read → StopsReadingBytes (with_tick (library_meaning C.meaning C.Text.header) tick) input.now library.old library.new }
+    ensures write { IsErrOf result Device.Write → StopsWritingBytes (with_tick (library_meaning C.meaning C.Text.header) tick) input.now library.old library.new }
 {
     al_session_served::serve_bytes(alloc, library, tick, input)
 }

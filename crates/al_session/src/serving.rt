@@ -34,11 +34,11 @@ pub fn serve_within<S: Source, K: Sink, C: UnitCheck>(
     requires write_faults { K.faults writer.old < 2 ^ 64 - 1 }
     requires some { 1 ≤ tick }
     requires few { tick ≤ 10000 }
-    ensures served { IfOk result (Serves (with_tick (library_meaning C.meaning C.header) tick) commands (source_moment S.ahead S.faults S.pulls reader.old) (source_moment S.ahead S.faults S.pulls reader.new)
+    ensures served { IfOk result (Serves (with_tick (library_meaning C.meaning C.Text.header) tick) commands (source_moment S.ahead S.faults S.pulls reader.old) (source_moment S.ahead S.faults S.pulls reader.new)
         (sink_moment K.written K.faults K.waits writer.old) (sink_moment K.written K.faults K.waits writer.new) library.old library.new) }
-    ensures read { IsErrOf result Device.Read → StopsReading (with_tick (library_meaning C.meaning C.header) tick) commands pulls (source_moment S.ahead S.faults S.pulls reader.old) (source_moment S.ahead S.faults S.pulls reader.new)
+    ensures read { IsErrOf result Device.Read → StopsReading (with_tick (library_meaning C.meaning C.Text.header) tick) commands pulls (source_moment S.ahead S.faults S.pulls reader.old) (source_moment S.ahead S.faults S.pulls reader.new)
         (sink_moment K.written K.faults K.waits writer.old) (sink_moment K.written K.faults K.waits writer.new) library.old library.new }
-    ensures write { IsErrOf result Device.Write → StopsWriting (with_tick (library_meaning C.meaning C.header) tick) commands (source_moment S.ahead S.faults S.pulls reader.old)
+    ensures write { IsErrOf result Device.Write → StopsWriting (with_tick (library_meaning C.meaning C.Text.header) tick) commands (source_moment S.ahead S.faults S.pulls reader.old)
         (sink_moment K.written K.faults K.waits writer.old) (sink_moment K.written K.faults K.waits writer.new) library.old library.new }
 {
     al_session_served::serve_within(alloc, reader, writer, library, tick, commands, pulls)
@@ -61,11 +61,11 @@ pub fn serve<S: Source, K: Sink, C: UnitCheck>(
     requires write_faults { K.faults writer.old < 2 ^ 64 - 1 }
     requires some { 1 ≤ tick }
     requires few { tick ≤ 10000 }
-    ensures served { IfOk result (Serves (with_tick (library_meaning C.meaning C.header) tick) MAX_COMMANDS (source_moment S.ahead S.faults S.pulls reader.old) (source_moment S.ahead S.faults S.pulls reader.new)
+    ensures served { IfOk result (Serves (with_tick (library_meaning C.meaning C.Text.header) tick) MAX_COMMANDS (source_moment S.ahead S.faults S.pulls reader.old) (source_moment S.ahead S.faults S.pulls reader.new)
         (sink_moment K.written K.faults K.waits writer.old) (sink_moment K.written K.faults K.waits writer.new) library.old library.new) }
-    ensures read { IsErrOf result Device.Read → StopsReading (with_tick (library_meaning C.meaning C.header) tick) MAX_COMMANDS MAX_PULLS (source_moment S.ahead S.faults S.pulls reader.old) (source_moment S.ahead S.faults S.pulls reader.new)
+    ensures read { IsErrOf result Device.Read → StopsReading (with_tick (library_meaning C.meaning C.Text.header) tick) MAX_COMMANDS MAX_PULLS (source_moment S.ahead S.faults S.pulls reader.old) (source_moment S.ahead S.faults S.pulls reader.new)
         (sink_moment K.written K.faults K.waits writer.old) (sink_moment K.written K.faults K.waits writer.new) library.old library.new }
-    ensures write { IsErrOf result Device.Write → StopsWriting (with_tick (library_meaning C.meaning C.header) tick) MAX_COMMANDS (source_moment S.ahead S.faults S.pulls reader.old)
+    ensures write { IsErrOf result Device.Write → StopsWriting (with_tick (library_meaning C.meaning C.Text.header) tick) MAX_COMMANDS (source_moment S.ahead S.faults S.pulls reader.old)
         (sink_moment K.written K.faults K.waits writer.old) (sink_moment K.written K.faults K.waits writer.new) library.old library.new }
 {
     serve_within(

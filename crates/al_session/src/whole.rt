@@ -1,15 +1,16 @@
 // A session from a library with no file.
 ghost use Rattle.std.specs.Prelude.{◌≡◌, ◌+◌, ◌-◌, ◌^◌, ◌<◌, ◌≤◌, IfOk, IsErrOf, OnErr};
-ghost use Rattle.al_unit_headers.specs.Headed.{ReadsHeaders};
 ghost use Rattle.al_session_stream.specs.Input.{source_moment};
 ghost use Rattle.al_session_stream.specs.Output.{sink_moment};
 ghost use Rattle.al_session_served.specs.Library.{State, empty, with_tick};
 ghost use Rattle.al_session_served.specs.Serving.{Serves, StopsReading, StopsWriting};
+ghost use Rattle.al_check_text.specs.Texts.{header_in};
 ghost use Rattle.al_session.specs.Meanings.{library_meaning};
 
 use crate::engine::new_engine;
 use crate::serving::serve;
 use al_base::NoMemory;
+use al_check_text::AdaText;
 use al_query_check::UnitCheck;
 use al_session_served::{Ended, MAX_COMMANDS, MAX_PULLS};
 use al_session_stream::{Device, Sink, Source};
@@ -24,24 +25,23 @@ use std::alloc::Global;
 /// # Errors
 ///
 /// `NoMemory` where memory for the library was wanted and not given.
-pub fn session<S: Source, K: Sink, C: UnitCheck + Drop>(
+pub fn session<S: Source, K: Sink, C: UnitCheck<Text = AdaText> + Drop>(
     alloc: Global,
     checker: C,
     reader: &mut S,
     writer: &mut K,
     tick: u32,
 ) -> Result<Result<Ended, Device>, NoMemory>
-    requires headers { ReadsHeaders C.header }
     requires read_faults { S.faults reader.old < 2 ^ 64 - 1 }
     requires room { S.pulls reader.old + MAX_PULLS < 2 ^ 64 }
     requires write_faults { K.faults writer.old < 2 ^ 64 - 1 }
     requires some { 1 ≤ tick }
     requires few { tick ≤ 10000 }
-    ensures served { IfOk result (λ came. IfOk came (λ ended. (after : State) × Serves (with_tick (library_meaning C.meaning C.header) tick) MAX_COMMANDS (source_moment S.ahead S.faults S.pulls reader.old) (source_moment S.ahead S.faults S.pulls reader.new)
+    ensures served { IfOk result (λ came. IfOk came (λ ended. (after : State) × Serves (with_tick (library_meaning C.meaning header_in) tick) MAX_COMMANDS (source_moment S.ahead S.faults S.pulls reader.old) (source_moment S.ahead S.faults S.pulls reader.new)
         (sink_moment K.written K.faults K.waits writer.old) (sink_moment K.written K.faults K.waits writer.new) empty after ended)) }
-    ensures read { IfOk result (λ came. IsErrOf came Device.Read → (after : State) × StopsReading (with_tick (library_meaning C.meaning C.header) tick) MAX_COMMANDS MAX_PULLS (source_moment S.ahead S.faults S.pulls reader.old) (source_moment S.ahead S.faults S.pulls reader.new)
+    ensures read { IfOk result (λ came. IsErrOf came Device.Read → (after : State) × StopsReading (with_tick (library_meaning C.meaning header_in) tick) MAX_COMMANDS MAX_PULLS (source_moment S.ahead S.faults S.pulls reader.old) (source_moment S.ahead S.faults S.pulls reader.new)
         (sink_moment K.written K.faults K.waits writer.old) (sink_moment K.written K.faults K.waits writer.new) empty after) }
-    ensures write { IfOk result (λ came. IsErrOf came Device.Write → (after : State) × StopsWriting (with_tick (library_meaning C.meaning C.header) tick) MAX_COMMANDS (source_moment S.ahead S.faults S.pulls reader.old)
+    ensures write { IfOk result (λ came. IsErrOf came Device.Write → (after : State) × StopsWriting (with_tick (library_meaning C.meaning header_in) tick) MAX_COMMANDS (source_moment S.ahead S.faults S.pulls reader.old)
         (sink_moment K.written K.faults K.waits writer.old) (sink_moment K.written K.faults K.waits writer.new) empty after) }
     ensures refused { OnErr result ((reader.new ≡ reader.old) × (writer.new ≡ writer.old)) }
 {

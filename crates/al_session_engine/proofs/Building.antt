@@ -1,6 +1,5 @@
 -- A build of the engine is one of a session.
-use Rattle.std.proofs.Common.{◌≡◌, ℕ, List, Option, Some, Result, Ok, Err, refl, sym, ap, subst, ◌∙◌}
-use Rattle.std.specs.Prelude.{OnErr, OnOk}
+use Rattle.std.proofs.Common.{◌≡◌, ℕ, List, Option, Some, refl, sym, ap, subst, ◌∙◌}
 use Rattle.al_base.specs.Files.{Texts}
 use Rattle.al_base.specs.declared.unit_key.UnitKey.{UnitKey}
 use Rattle.al_unit_map.specs.Units.{at_unit}
@@ -27,7 +26,8 @@ module _ (meaning : TextMeaning) (header : List ℕ → Header) (predefined : Qu
     build_compiles : CompilesTo meaning header predefined library old.files main build.last.gave.compiled
     build_compiles = compiled_to old.files main (at_unit old.cache.entries) (at_unit new.cache.entries) build.last.gave (subst (λ (t : Query → AnswerKind). IsRebuilt meaning header t (library old.files) main (at_unit old.cache.entries) (at_unit new.cache.entries) build.last.gave) same build.rebuilt)
 
-    last_only : IsLastOnly meaning header predefined library new.built
+    -- so what is left is what compiling its files gives
+    pub last_only : IsLastOnly meaning header predefined library new.built
     last_only =
         let at_main : CompilesTo meaning header predefined library old.files build.last.main build.last.gave.compiled = subst (λ (m : List ℕ). CompilesTo meaning header predefined library old.files m build.last.gave.compiled) (sym build.main_is) build_compiles in
         let there : CompilesTo meaning header predefined library build.last.files build.last.main build.last.gave.compiled = subst (λ (f : Texts). CompilesTo meaning header predefined library f build.last.main build.last.gave.compiled) (sym build.files_are) at_main in
@@ -44,18 +44,9 @@ module _ (meaning : TextMeaning) (header : List ℕ → Header) (predefined : Qu
           ∙ ap (λ m. record { now = old.files; built = Some (record { files = old.files; main = m; gave = result_of build.last.gave.compiled }) }) build.main_is;
     }
 
-  module _ {C P X E : Type 0} (count : C → ℕ) (table : Query → AnswerKind) (same : table ≡ predefined) (main : List ℕ) (old new : Held C P) (result : Result X E) (ok : OnOk result (IsBuild meaning header count table library main old new)) where
-    -- what a build leaves is what compiling its files gives, whether it found memory or not
-    pub keeps_only : OnErr result ((new.cache.entries ≡ old.cache.entries) × (new.built ≡ old.built)) → IsLastOnly meaning header predefined library old.built → IsLastOnly meaning header predefined library new.built
-    keeps_only err right = at result ok err
-      where
-        at : (r : Result X E) → OnOk r (IsBuild meaning header count table library main old new) → OnErr r ((new.cache.entries ≡ old.cache.entries) × (new.built ≡ old.built)) → IsLastOnly meaning header predefined library new.built
-        at (Ok x) ok err = last_only count table same main old new ok
-        at (Err e) ok err = subst (λ (b : Option Built). IsLastOnly meaning header predefined library b) (sym err.1) right
+    pub built_from : (state : State) → state_of old.files old.built ≡ state → new.files ≡ old.files → IsBuilt (meaning_of meaning header predefined library) main state (state_of new.files new.built)
+    built_from state view files = subst (λ (s : State). IsBuilt (meaning_of meaning header predefined library) main s (state_of new.files new.built)) view (is_built files)
 
-    pub builds : (state : State) → state_of old.files old.built ≡ state → new.files ≡ old.files → OnOk result (IsBuilt (meaning_of meaning header predefined library) main state (state_of new.files new.built))
-    builds state view files = at result ok
-      where
-        at : (r : Result X E) → OnOk r (IsBuild meaning header count table library main old new) → OnOk r (IsBuilt (meaning_of meaning header predefined library) main state (state_of new.files new.built))
-        at (Ok x) ok = subst (λ (s : State). IsBuilt (meaning_of meaning header predefined library) main s (state_of new.files new.built)) view (is_built count table same main old new ok files)
-        at (Err e) ok = tt
+  -- a build that finds no memory leaves it so
+  pub still_only : (old new : Option Built) → new ≡ old → IsLastOnly meaning header predefined library old → IsLastOnly meaning header predefined library new
+  still_only old new same right = subst (λ (b : Option Built). IsLastOnly meaning header predefined library b) (sym same) right

@@ -3,7 +3,7 @@ ghost use Rattle.std.specs.Prelude.{◌≡◌};
 ghost use Rattle.al_engine_setting.specs.Settings.{ArePredefined};
 ghost use Rattle.al_engine.specs.States.{AreReadFor};
 ghost use Rattle.al_session_served.specs.Library.{empty};
-ghost use Rattle.al_session_engine.specs.Meanings.{meaning_of};
+ghost use Rattle.al_session_engine.specs.Meanings.{meaning_of, state_of};
 ghost use Rattle.al_session_engine.specs.Settled.{is_settled};
 
 use crate::outcomes::{end_of, outcome_of};
@@ -29,13 +29,13 @@ impl<R: ReadFiles, C: UnitCheck, P: FixedAnswers> Model for Served<R, C, P> {
 
     ghost view = { λ s. state_of s.engine.files s.engine.built };
 
-    ghost invariant = { λ s. IsLastOnly C.meaning C.header P.answers R.library s.engine.built };
+    ghost invariant = { λ s. IsLastOnly C.meaning C.Text.header P.answers R.library s.engine.built };
 }
 
 impl<R: ReadFiles, C: UnitCheck, P: FixedAnswers> Served<R, C, P> {
     /// A library with no file and no build. It takes no memory.
     pub fn new(alloc: Global, checker: C, predefined: P) -> Self
-        requires reading { AreReadFor C.header R.library }
+        requires reading { AreReadFor C.Text.header R.library }
         requires predefined { ArePredefined P.answers }
         ensures { result ≡ empty }
     {
@@ -43,10 +43,18 @@ impl<R: ReadFiles, C: UnitCheck, P: FixedAnswers> Served<R, C, P> {
             engine: Engine::new(alloc, checker, predefined),
         }
     }
+
+    /// The library itself, which tells what no reply does: the units that the last build checked, how many checks were made, the image as it
+    /// is held. It takes no memory.
+    pub fn engine(&self) -> &Engine<R, C, P>
+        ensures { state_of result.now.files result.now.built ≡ self.now }
+    {
+        &self.engine
+    }
 }
 
 impl<R: ReadFiles, C: UnitCheck, P: FixedAnswers> UnitLibrary for Served<R, C, P> {
-    ghost meaning = { meaning_of C.meaning C.header P.answers R.library };
+    ghost meaning = { meaning_of C.meaning C.Text.header P.answers R.library };
 
     ghost state = { λ s. s };
 
@@ -67,7 +75,8 @@ impl<R: ReadFiles, C: UnitCheck, P: FixedAnswers> UnitLibrary for Served<R, C, P
     }
 
     fn build(&mut self, unit: &[u8]) -> Result<(), NoMemory> {
-        self.engine.build(unit)
+        self.engine.build(unit)?;
+        Ok(())
     }
 
     fn last(&self) -> Option<Built<'_>> {
@@ -96,5 +105,5 @@ impl<R: ReadFiles, C: UnitCheck, P: FixedAnswers> UnitLibrary for Served<R, C, P
         self.engine.obsolete()
     }
 
-    ghost settled = { is_settled C.meaning C.header P.answers R.library };
+    ghost settled = { is_settled C.meaning C.Text.header P.answers R.library };
 }

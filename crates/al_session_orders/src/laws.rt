@@ -8,7 +8,7 @@ use al_session::builds_are_right;
 /// Whatever the commands were, the order of elaboration that the last build gave obeys every dependence and every pragma of its files,
 /// be there an image or not (ARM 10.2(9), 10.2.1).
 pub fn builds_obey<C: UnitCheck>()
-    ensures { BuildsObey C.meaning C.header }
+    ensures { BuildsObey C.meaning C.Text.header }
 {
     orders_of_texts_obey();
     builds_are_right::<C>();

@@ -1,7 +1,6 @@
 // Sessions from their first byte to their last.
-use al_base::NoMemory;
+use al_base::{NoMemory, Refusal};
 use al_check::{AdaCheck, ada_check};
-use al_check_bounded::laws::headers_are_read;
 use al_session::{Counted, Device, Ended, Engine, new_engine, serve_bytes, serve_within};
 use std::alloc::Global;
 use std::io;
@@ -20,7 +19,6 @@ static HELLO_REPLIES: &[u8] = b"ok\nbuilt 1 115\noutput 3\nhi\n\nend finished\n"
 
 /// A library of Ada units with no file.
 fn new_library(alloc: Global) -> Result<Engine<AdaCheck>, NoMemory> {
-    headers_are_read();
     new_engine(alloc, ada_check())
 }
 
@@ -120,5 +118,34 @@ fn reads_run_out_within_a_command(rt: HostRuntime) -> Result<(), Fail> {
         (ended, replies.as_slice(), units.as_slice()),
         (Err(Device::Read), b"".as_slice(), NO_UNITS)
     );
+    Ok(())
+}
+
+/// What the library of a session tells, which no reply does: how many units its last build checked, and how many checks there were ever;
+/// then how many things are wrong with the files, the items of the order, and the bytes of the image.
+fn told_afterwards(
+    library: &Engine<AdaCheck>,
+) -> Result<((usize, u64), (usize, usize, usize)), Refusal> {
+    let engine = library.engine();
+    let checks = (engine.last_checked().len(), engine.checks());
+    let found = engine.diagnostics()?.len();
+    let order = engine.order()?.len();
+    let image = engine.image()?.bytes().len();
+    Ok((checks, (found, order, image)))
+}
+
+/// The library that a session was given can be asked before it, behind it, and behind a second session that builds the same once more.
+#[test]
+fn the_library_is_asked_afterwards(rt: HostRuntime) -> Result<(), Fail> {
+    let alloc = rt.alloc();
+    let mut library = new_library(alloc)?;
+    assert_eq!(rt; told_afterwards(&library), Err(Refusal::NotBuilt));
+    let replies = serve_bytes(alloc, &mut library, 100, HELLO)?;
+    assert_eq!(rt; replies.as_slice(), HELLO_REPLIES);
+    assert_eq!(rt; told_afterwards(&library), Ok(((1, 1), (0, 1, 115))));
+    let again = serve_bytes(alloc, &mut library, 100, b"build hello\n")?;
+    assert_eq!(rt; again.as_slice(), b"built 1 115\n".as_slice());
+    assert_eq!(rt; told_afterwards(&library), Ok(((0, 1), (0, 1, 115))));
+    std::mem::forget(library);
     Ok(())
 }

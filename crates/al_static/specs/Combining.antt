@@ -1,8 +1,7 @@
 -- What is known of an expression by what is known of its operands (ARM 4.9).
 use Rattle.std.specs.Prelude.{ℤ, Bool, true, false, ◌&&◌, if◌then◌else◌, Option, Some, None}
 use Rattle.al_base.specs.declared.place.Place.{Place}
-use Rattle.al_base.specs.declared.rule.Rule.TheVariants.{StaticFailure}
-use Rattle.al_base.specs.Rules.{number_of}
+use Rattle.al_base_fault.specs.declared.check_rule.CheckRule.TheVariants.{StaticFailure}
 use Rattle.al_base_fault.specs.Faults.{earlier, fault_at}
 use Rattle.al_base_fault.specs.declared.fault.Fault.{Fault}
 use Rattle.al_view.specs.declared.types.Bounds.{Bounds}
@@ -18,7 +17,7 @@ use Rattle.al_static.specs.Words.{bit}
 
 -- a static expression whose first token stands there has no value
 abbrev pub failure_at : Place → Fault
-failure_at place = fault_at place (number_of StaticFailure)
+failure_at place = fault_at place StaticFailure
 
 abbrev pub is_static : Known → Bool
 is_static (Value v) = true
@@ -60,12 +59,16 @@ abbrev pub converted : Place → Conversion → Option Bounds → Known → Know
 converted place conversion bounds operand =
     if keeps_static conversion then of_one place (converted_value conversion bounds) operand else Open (failure_in operand)
 
+-- of a value that is tested and both bounds, one of which at least has no value
+abbrev pub untested : Place → Known → Known → Known → Known
+untested place v l h =
+    if is_static v && (is_static l && is_static h) then Fails place
+    else Open (earlier (failure_in v) (earlier (failure_in l) (failure_in h)))
+
 -- the value that is tested, and both bounds
 abbrev pub membership : Place → Bool → Known → Known → Known → Known
 membership place is_negated (Value v) (Value l) (Value h) = Value (record { word = bit (is_member is_negated v.word l.word h.word) })
-membership place is_negated v l h =
-    if is_static v && (is_static l && is_static h) then Fails place
-    else Open (earlier (failure_in v) (earlier (failure_in l) (failure_in h)))
+membership place is_negated v l h = untested place v l h
 
 -- Where the left operand decides, nothing is known to fail in the right one, which isn't evaluated (ARM 4.9(33)).
 abbrev pub decided : StaticValue → Known → Known

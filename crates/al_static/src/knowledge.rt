@@ -2,14 +2,14 @@
 ghost use Rattle.std.specs.Prelude.{◌≡◌, ◌&&◌, if◌then◌else◌};
 ghost use Rattle.std.specs.Option.{option_copied};
 ghost use Rattle.al_base_fault.specs.Faults.{earlier};
-ghost use Rattle.al_static.specs.Combining.{binary, converted, decided, failure_at, failure_in, is_static, joined, membership, named, short_circuit, static_at, unary, undecided};
+ghost use Rattle.al_static.specs.Combining.{binary, converted, decided, failure_at, failure_in, is_static, joined, membership, named, short_circuit, static_at, unary, undecided, untested};
 
 use crate::operator::{
     binary_value, converted_value, decides, is_member, is_scalar, keeps_static, unary_value,
 };
 use crate::word::bit;
-use al_base::{Place, Rule};
-use al_base_fault::{Fault, earlier};
+use al_base::Place;
+use al_base_fault::{CheckRule, Fault, earlier};
 use al_view::{Bounds, StaticValue};
 use al_view_typed::{BinaryOperator, Conversion, ShortCircuit, UnaryOperator};
 
@@ -30,7 +30,7 @@ fn failure_at(place: Place) -> Fault
 {
     Fault {
         place,
-        code: Rule::StaticFailure.number(),
+        rule: CheckRule::StaticFailure,
     }
 }
 
@@ -53,6 +53,16 @@ fn joined(place: Place, left: Known, right: Known) -> Known
     } else {
         Known::Open(earlier(left.failure(), right.failure()))
     }
+}
+
+/// A membership test that begins here, of a value and two bounds one of which at least has no value.
+fn untested(place: Place, value: Known, low: Known, high: Known) -> Known
+    ensures { result ≡ untested place value low high }
+{
+    if value.is_static() && low.is_static() && high.is_static() {
+        return Known::Fails(place);
+    }
+    Known::Open(earlier(value.failure(), earlier(low.failure(), high.failure())))
 }
 
 impl Known {
@@ -150,12 +160,7 @@ impl Known {
                 let word = bit(is_member(is_negated, value.word, low.word, high.word));
                 Known::Value(StaticValue { word })
             }
-            (value, low, high) => {
-                if value.is_static() && low.is_static() && high.is_static() {
-                    return Known::Fails(place);
-                }
-                Known::Open(earlier(value.failure(), earlier(low.failure(), high.failure())))
-            }
+            (value, low, high) => untested(place, value, low, high),
         }
     }
 

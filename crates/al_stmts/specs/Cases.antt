@@ -1,9 +1,8 @@
 -- Case statements (ARM 5.4): their choices, and then alternative by alternative.
 use Rattle.std.specs.Prelude.{ℕ, Bool, List, [], ◌∷◌, ◌++◌, map, Option, Some, None, Result, Ok, Err, if◌then◌else◌}
 use Rattle.std.specs.List.{filter_map}
-use Rattle.al_base.specs.Rules.{number_of}
 use Rattle.al_base.specs.declared.place.Place.{Place}
-use Rattle.al_base.specs.declared.rule.Rule.TheVariants.{BadChoices}
+use Rattle.al_base_fault.specs.declared.check_rule.CheckRule.TheVariants.{BadChoices}
 use Rattle.al_view.specs.declared.types.Bounds.{Bounds}
 use Rattle.al_base_fault.specs.Faults.{earlier, fault_at}
 use Rattle.al_base_fault.specs.Judging.{next, unless}
@@ -63,7 +62,7 @@ RightFor (Some selector) alternatives = AreRight selector alternatives
 RightFor None alternatives = Unit {0}
 
 abbrev pub right_or_told : Place → Bool → TypedTree → Result TypedTree Fault
-right_or_told place are_right s = if are_right then Ok s else Err (fault_at place (number_of BadChoices))
+right_or_told place are_right s = if are_right then Ok s else Err (fault_at place BadChoices)
 
 -- The selector with its choices, which are right for it or not: that they aren't is told, at `case`, only where neither the selector
 -- nor a choice has a fault.

@@ -1,8 +1,7 @@
 -- Statements without statements inside them, by their judged parts.
 use Rattle.std.specs.Prelude.{ℕ, Bool, true, false, not, List, Option, Some, None, Result, Ok, Err, if◌then◌else◌}
-use Rattle.al_base.specs.Rules.{number_of}
 use Rattle.al_base.specs.declared.place.Place.{Place}
-use Rattle.al_base.specs.declared.rule.Rule.TheVariants.{NotAVariable}
+use Rattle.al_base_fault.specs.declared.check_rule.CheckRule.TheVariants.{NotAVariable}
 use Rattle.al_view.specs.declared.types.Bounds.{Bounds}
 use Rattle.al_base_fault.specs.Faults.{fault_at}
 use Rattle.al_base_fault.specs.Judging.{both, next, unless}
@@ -36,9 +35,9 @@ is_variable (names.IndexedName array index bounds words) = is_variable array
 
 -- a name as the target of an assignment, or the fault at its first token that it is no variable (ARM 5.2(5))
 abbrev pub target_named : Labels → Option NameTree → Result TargetTree Fault
-target_named labels None = Err (fault_at labels.place (number_of NotAVariable))
+target_named labels None = Err (fault_at labels.place NotAVariable)
 target_named labels (Some name) =
-    if is_variable name then Ok (record { name = name; words = labels.words; bounds = labels.bounds }) else Err (fault_at labels.place (number_of NotAVariable))
+    if is_variable name then Ok (record { name = name; words = labels.words; bounds = labels.bounds }) else Err (fault_at labels.place NotAVariable)
 
 abbrev pub target_of : TypedTree → Result TargetTree Fault
 target_of (typed.Labelled labels form) = target_named labels (name_in form)

@@ -5,8 +5,8 @@ ghost use Rattle.al_view_typed.specs.ExpressionViews.{typed_model};
 ghost use Rattle.al_stmts.specs.Cases.{RightFor, bounds_of, held_against, held_by, right_or_told, selected};
 
 use crate::choices::CaseChoices;
-use al_base::{NoMemory, Place, Rule};
-use al_base_fault::{CheckResult, Fault, unless};
+use al_base::{NoMemory, Place};
+use al_base_fault::{CheckResult, CheckRule, Fault, unless};
 use al_stmts_choices::{Selector, are_right};
 use al_view::Bounds;
 use al_view_typed::Typed;
@@ -74,6 +74,6 @@ fn with_choices(place: Place, selector: Typed, are_right: bool) -> CheckResult<T
     if are_right {
         return Ok(selector);
     }
-    let code = Rule::BadChoices.number();
-    Err(Fault { place, code })
+    let rule = CheckRule::BadChoices;
+    Err(Fault { place, rule })
 }

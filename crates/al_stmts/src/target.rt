@@ -1,14 +1,13 @@
 // The target of an assignment (ARM 5.2).
 ghost use Rattle.std.specs.Prelude.{◌≡◌, Some, option_map};
-ghost use Rattle.al_base.specs.Rules.{number_of};
-ghost use Rattle.al_base.specs.declared.rule.Rule.TheVariants.{NotAVariable};
+ghost use Rattle.al_base_fault.specs.declared.check_rule.CheckRule.TheVariants.{NotAVariable};
 ghost use Rattle.al_base_fault.specs.Faults.{fault_at};
 ghost use Rattle.al_base_fault.specs.Judging.{map_ok};
 ghost use Rattle.al_view_typed.specs.ExpressionViews.{form_model, name_model, typed_model};
 ghost use Rattle.al_stmts.specs.Simple.{is_variable, target_named, target_of, target_model};
 
-use al_base::{Place, Rule};
-use al_base_fault::{CheckResult, Fault};
+use al_base::Place;
+use al_base_fault::{CheckResult, CheckRule, Fault};
 use al_view::Bounds;
 use al_view_typed::{Labels, Typed, TypedName};
 
@@ -37,10 +36,10 @@ fn is_variable(name: &TypedName) -> bool
 
 /// The fault at the first token of what is no variable.
 fn no_variable(place: Place) -> Fault
-    ensures { result ≡ fault_at place (number_of NotAVariable) }
+    ensures { result ≡ fault_at place NotAVariable }
 {
-    let code = Rule::NotAVariable.number();
-    Fault { place, code }
+    let rule = CheckRule::NotAVariable;
+    Fault { place, rule }
 }
 
 /// A name as a target.

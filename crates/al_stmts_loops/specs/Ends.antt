@@ -1,9 +1,8 @@
 -- Names at ends.
 use Rattle.std.specs.Prelude.{ℕ, Bool, false, List, Option, Some, None, if◌then◌else◌}
 use Rattle.std.specs.Str.{str_eq_ignore_ascii_case}
-use Rattle.al_base.specs.Rules.{number_of}
 use Rattle.al_base.specs.declared.place.Place.{Place}
-use Rattle.al_base.specs.declared.rule.Rule.TheVariants.{EndName}
+use Rattle.al_base_fault.specs.declared.check_rule.CheckRule.TheVariants.{EndName}
 use Rattle.al_base_fault.specs.Faults.{fault_at}
 use Rattle.al_base_fault.specs.declared.fault.Fault.{Fault}
 
@@ -16,4 +15,4 @@ ends (Some name) spelled = str_eq_ignore_ascii_case name spelled
 -- the fault at the name's first token; where no name stands at the end there is none
 abbrev pub end_fault : Option (List ℕ) → Option (Place × List ℕ) → Option Fault
 end_fault name None = None
-end_fault name (Some (place, spelled)) = if ends name spelled then None else Some (fault_at place (number_of EndName))
+end_fault name (Some (place, spelled)) = if ends name spelled then None else Some (fault_at place EndName)

@@ -2,9 +2,8 @@
 use Rattle.std.specs.Prelude.{ℕ, Bool, true, false, List, [], ◌∷◌, Option, Some, None, Result, Ok, Err}
 use Rattle.std.specs.List.{position}
 use Rattle.std.specs.Str.{bytes_eq}
-use Rattle.al_base.specs.Rules.{number_of}
 use Rattle.al_base.specs.declared.place.Place.{Place}
-use Rattle.al_base.specs.declared.rule.Rule.TheVariants.{BadExit}
+use Rattle.al_base_fault.specs.declared.check_rule.CheckRule.TheVariants.{BadExit}
 use Rattle.al_base_fault.specs.Faults.{fault_at}
 use Rattle.al_base_fault.specs.declared.fault.Fault.{Fault}
 
@@ -28,7 +27,7 @@ exit_checked place loops name = at (loops_between loops name)
   where
     at : Option ℕ → Result ℕ Fault
     at (Some n) = Ok n
-    at None = Err (fault_at place (number_of BadExit))
+    at None = Err (fault_at place BadExit)
 
 -- the loops round a loop
 abbrev pub without_innermost : EnclosingLoops → EnclosingLoops

@@ -1,8 +1,7 @@
 -- Return statements (ARM 6.5).
 use Rattle.std.specs.Prelude.{Bool, false, not, Option, Some, None, if◌then◌else◌}
-use Rattle.al_base.specs.Rules.{number_of}
 use Rattle.al_base.specs.declared.place.Place.{Place}
-use Rattle.al_base.specs.declared.rule.Rule.TheVariants.{BadReturn, NoReturn}
+use Rattle.al_base_fault.specs.declared.check_rule.CheckRule.TheVariants.{BadReturn, NoReturn}
 use Rattle.al_base_fault.specs.Faults.{fault_at}
 use Rattle.al_base_fault.specs.declared.fault.Fault.{Fault}
 use Rattle.al_stmts_loops.specs.declared.returns.EnclosingBody.{EnclosingBody}
@@ -19,7 +18,7 @@ may_return Task has_value = false
 
 -- the fault at the word `return`
 abbrev pub return_fault : Place → EnclosingBody → Bool → Option Fault
-return_fault place body has_value = if may_return body has_value then None else Some (fault_at place (number_of BadReturn))
+return_fault place body has_value = if may_return body has_value then None else Some (fault_at place BadReturn)
 
 -- whether a body lacks a return statement: a function has one (ARM 6.5(4))
 abbrev pub lacks_return : EnclosingBody → Bool → Bool
@@ -28,4 +27,4 @@ lacks_return _ has_return = false
 
 -- the fault at the word `end` of the body
 abbrev pub no_return_fault : Place → EnclosingBody → Bool → Option Fault
-no_return_fault place body has_return = if lacks_return body has_return then Some (fault_at place (number_of NoReturn)) else None
+no_return_fault place body has_return = if lacks_return body has_return then Some (fault_at place NoReturn) else None

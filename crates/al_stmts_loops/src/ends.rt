@@ -4,8 +4,8 @@ ghost use Rattle.std.specs.Option.{option_map};
 ghost use Rattle.std.specs.Str.{str_eq_ignore_ascii_case};
 ghost use Rattle.al_stmts_loops.specs.Ends.{end_fault, ends};
 
-use al_base::{Place, Rule};
-use al_base_fault::Fault;
+use al_base::Place;
+use al_base_fault::{CheckRule, Fault};
 
 /// A name after `end`: where its first token stands, and how it is spelled, with dots between its identifiers.
 #[derive(Clone, Copy, Debug)]
@@ -39,9 +39,9 @@ pub fn end_fault(name: Option<&[u8]>, end: Option<NameAtEnd>) -> Option<Fault>
     if is_end_of(name, end.spelled) {
         return None;
     }
-    let code = Rule::EndName.number();
+    let rule = CheckRule::EndName;
     Some(Fault {
         place: end.place,
-        code,
+        rule,
     })
 }

@@ -4,8 +4,8 @@ ghost use Rattle.std.specs.List.{position};
 ghost use Rattle.std.specs.Option.{option_map};
 ghost use Rattle.al_stmts_loops.specs.Exits.{exit_checked, loops_between, may_leave, without_innermost};
 
-use al_base::{Name, NoMemory, Place, Rule};
-use al_base_fault::{CheckResult, Fault};
+use al_base::{Name, NoMemory, Place};
+use al_base_fault::{CheckResult, CheckRule, Fault};
 use std::alloc::Global;
 use std::marker::Model;
 
@@ -94,10 +94,10 @@ impl Loops {
     pub fn checked_exit(&self, place: Place, name: Option<&[u8]>) -> CheckResult<u32>
         ensures { result ≡ exit_checked place self.now (option_map (λ n. n.now) name.entry) }
     {
-        let code = Rule::BadExit.number();
+        let rule = CheckRule::BadExit;
         match self.between(name) {
             Some(loops) => Ok(loops),
-            None => Err(Fault { place, code }),
+            None => Err(Fault { place, rule }),
         }
     }
 }

@@ -2,8 +2,8 @@
 ghost use Rattle.std.specs.Prelude.{◌≡◌};
 ghost use Rattle.al_stmts_loops.specs.Returns.{lacks_return, may_return, no_return_fault, return_fault};
 
-use al_base::{Place, Rule};
-use al_base_fault::Fault;
+use al_base::Place;
+use al_base_fault::{CheckRule, Fault};
 
 /// The innermost body that a statement stands in, blocks and loops aside (ARM 6.5(5)).
 #[derive(Clone, Copy, Debug, PartialEq, Eq)]
@@ -39,8 +39,8 @@ pub fn return_fault(place: Place, body: EnclosingBody, has_value: bool) -> Optio
     if may_return(body, has_value) {
         return None;
     }
-    let code = Rule::BadReturn.number();
-    Some(Fault { place, code })
+    let rule = CheckRule::BadReturn;
+    Some(Fault { place, rule })
 }
 
 fn lacks_return(body: EnclosingBody, has_return: bool) -> bool
@@ -60,8 +60,8 @@ pub fn no_return_fault(place: Place, body: EnclosingBody, has_return: bool) -> O
     ensures { result ≡ no_return_fault place body has_return }
 {
     if lacks_return(body, has_return) {
-        let code = Rule::NoReturn.number();
-        return Some(Fault { place, code });
+        let rule = CheckRule::NoReturn;
+        return Some(Fault { place, rule });
     }
     None
 }

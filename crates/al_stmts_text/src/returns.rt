@@ -1,7 +1,6 @@
 // Return statements (ARM 6.5).
 ghost use Rattle.std.specs.Prelude.{◌≡◌, IfOk, option_map};
-ghost use Rattle.al_base.specs.Rules.{number_of};
-ghost use Rattle.al_base.specs.declared.rule.Rule.TheVariants.{BadReturn};
+ghost use Rattle.al_base_fault.specs.declared.check_rule.CheckRule.TheVariants.{BadReturn};
 ghost use Rattle.al_base_fault.specs.Faults.{fault_at};
 ghost use Rattle.al_base_fault.specs.Judging.{map_ok};
 ghost use Rattle.al_query.specs.Reads.{FromAnswers};
@@ -15,8 +14,8 @@ ghost use Rattle.al_stmts_walk.specs.Walking.{alone_at, is_function, result_at, 
 ghost use Rattle.al_stmts_walked.specs.WalkedViews.{one_model};
 
 use crate::analyzer::Analyzer;
-use al_base::{NoMemory, Place, Rule};
-use al_base_fault::{CheckResult, Fault};
+use al_base::{NoMemory, Place};
+use al_base_fault::{CheckResult, CheckRule, Fault};
 use al_stmts::{ReturnContext, return_statement};
 use al_stmts_loops::EnclosingBody;
 use al_stmts_walked::{Enclosing, WalkedStatement};
@@ -37,10 +36,10 @@ fn is_function(body: EnclosingBody) -> bool
 
 /// A value after `return` that isn't wanted there.
 fn unwanted(place: Place, context: ReturnContext) -> CheckResult<TypedStatement>
-    ensures { map_ok statement_model result ≡ returned place context (Some (Err (fault_at place (number_of BadReturn)))) }
+    ensures { map_ok statement_model result ≡ returned place context (Some (Err (fault_at place BadReturn))) }
 {
-    let code = Rule::BadReturn.number();
-    return_statement(place, context, Some(Err(Fault { place, code })))
+    let rule = CheckRule::BadReturn;
+    return_statement(place, context, Some(Err(Fault { place, rule })))
 }
 
 /// A value after `return` in a function.

@@ -6,6 +6,8 @@ use Rattle.al_base.specs.declared.place.Place.{Place}
 use Rattle.al_view.specs.declared.view.ObjectPlace.TheVariants.{Frame}
 use Rattle.al_base_fault.specs.Faults.{fault_at}
 use Rattle.al_base_fault.specs.declared.fault.Fault.{Fault}
+use Rattle.al_base_fault.specs.declared.check_rule.CheckRule.{CheckRule}
+use Rattle.al_base_fault.specs.declared.check_rule.CheckRule.TheVariants.{BadChoices, BadReturn, EndName, MissingCompletion, NoReturn, NotVisible}
 use Rattle.al_tree_grammar.specs.Grammar.{Label}
 use Rattle.al_tree_syntax.specs.DeclarationTrees.{CommonTree, CompoundNameTree, DiscreteRangeTree, ObjectFormTree, SpecificationTree}
 use Rattle.al_tree_syntax.specs.DeclarationTrees.CommonTree.{ObjectDeclaration}
@@ -61,7 +63,7 @@ abbrev pub variable_at : Place → TypedTree
 variable_at place = Labelled (labels_at place) (NamedForm (ObjectName (Frame 1 3) false))
 
 abbrev pub named : Label → Result TypedTree Fault
-named l = if bytes_eq l.text (codes "foo") then Err (fault_at (place_of l) 401) else Ok (variable_at (place_of l))
+named l = if bytes_eq l.text (codes "foo") then Err (fault_at (place_of l) NotVisible) else Ok (variable_at (place_of l))
 
 abbrev pub found : ExpressionTree → Result TypedTree Fault
 found (Name l) = named l
@@ -80,7 +82,7 @@ range_found (Bounds r) = bounds_found (found r.low) (found r.high)
 range_found r = bounds_found (named (record { text = []; line = 1; col = 1 })) (named (record { text = []; line = 1; col = 1 }))
 
 abbrev pub mark_found : CompoundNameTree → Result (List DeclarationTree) Fault
-mark_found mark = if bytes_eq mark.first.text (codes "foo") then Err (fault_at (place_of mark.first) 401) else Ok []
+mark_found mark = if bytes_eq mark.first.text (codes "foo") then Err (fault_at (place_of mark.first) NotVisible) else Ok []
 
 abbrev pub form_found : ObjectFormTree → Result (List DeclarationTree) Fault
 form_found (TypedObject constant (NamedType s) initial) = mark_found s.mark
@@ -110,7 +112,7 @@ with_waiting (b ∷ bs) name = (name ∷ b.0, b.1) ∷ bs
 -- where any name waits
 abbrev pub waiting_fault : List (List ℕ) → Label → Option Fault
 waiting_fault [] l = None
-waiting_fault (n ∷ ns) l = Some (fault_at (place_of l) 302)
+waiting_fault (n ∷ ns) l = Some (fault_at (place_of l) MissingCompletion)
 
 abbrev pub waiting : Bodies → Label → Option Fault
 waiting [] l = None
@@ -188,8 +190,8 @@ foo col = record { text = codes "foo"; line = 1; col = col }
 abbrev pub x : ℕ → Label
 x col = record { text = codes "x"; line = 1; col = col }
 
-abbrev pub fault : ℕ → ℕ → Fault
-fault col code = fault_at (record { line = 1; col = col }) code
+abbrev pub fault : ℕ → CheckRule → Fault
+fault col rule = fault_at (record { line = 1; col = col }) rule
 
 -- x := x; foo := x;
 abbrev pub right_at : ℕ → StatementTree
@@ -225,43 +227,43 @@ told_of_items b is = all_faults (items_walked (toy b) (([], in_procedure) ∷ []
 
 -- foo := x; foo := x;
 abbrev pub FaultyStatementsEndNoList : Type 0
-FaultyStatementsEndNoList = (b : LabelledBody) → answered b (two (wrong_at 22) (wrong_at 32)) ≡ fault 22 401 ∷ fault 32 401 ∷ []
+FaultyStatementsEndNoList = (b : LabelledBody) → answered b (two (wrong_at 22) (wrong_at 32)) ≡ fault 22 NotVisible ∷ fault 32 NotVisible ∷ []
 
 -- while foo loop foo := x; end loop;
 abbrev pub FaultyConditionsHideNothing : Type 0
 FaultyConditionsHideNothing =
     (b : LabelledBody) → answered b (one (LoopStatement None (WhileLoop (at 22) (Name (foo 28)) (at 32) (one (wrong_at 37)) (record { end = at 50; closing = at 54; end_name = None }))))
-    ≡ fault 28 401 ∷ fault 37 401 ∷ []
+    ≡ fault 28 NotVisible ∷ fault 37 NotVisible ∷ []
 
 -- for x in x .. foo loop foo := x; end loop; foo := x;
 abbrev pub FaultyLoopRangesEndTheList : Type 0
 FaultyLoopRangesEndTheList =
     (b : LabelledBody) → answered b (two (LoopStatement None (ForLoop (at 22) (x 26) false (Bounds (record { low = Name (x 31); high = Name (foo 36) })) (at 40) (one (wrong_at 45)) (record { end = at 56; closing = at 60; end_name = None }))) (wrong_at 66))
-    ≡ fault 36 401 ∷ []
+    ≡ fault 36 NotVisible ∷ []
 
 -- loop declare x : foo; begin null; end; foo := x; end loop x;
 abbrev pub FaultyDeclarationsCutOffEnds : Type 0
 FaultyDeclarationsCutOffEnds =
     (b : LabelledBody) → answered b (one (LoopStatement None (PlainLoop (at 22) (two (block_with (object_of (foo 43))) (wrong_at 66)) (record { end = at 77; closing = at 81; end_name = Some (x 86) }))))
-    ≡ fault 43 401 ∷ []
+    ≡ fault 43 NotVisible ∷ []
 
 -- loop foo := x; end loop x;
 abbrev pub NamesAtEndsAreOfTheLoop : Type 0
 NamesAtEndsAreOfTheLoop =
     (b : LabelledBody) → answered b (one (LoopStatement None (PlainLoop (at 22) (one (wrong_at 27)) (record { end = at 40; closing = at 44; end_name = Some (x 49) }))))
-    ≡ fault 49 308 ∷ fault 27 401 ∷ []
+    ≡ fault 49 EndName ∷ fault 27 NotVisible ∷ []
 
 -- case x is when others => declare x : foo; begin null; end; end case; foo := x;
 abbrev pub FaultsBeforeADeclarationStay : Type 0
 FaultsBeforeADeclarationStay =
     (b : LabelledBody) → answered b (two (CaseStatement (at 22) (Name (x 27)) (Alternative OthersChoice [] (one (block_with (object_of (foo 67))))) NoAlternative (at 90) (at 94)) (wrong_at 100))
-    ≡ fault 22 503 ∷ fault 67 401 ∷ []
+    ≡ fault 22 BadChoices ∷ fault 67 NotVisible ∷ []
 
 -- if x then foo := x; elsif foo then foo := x; end if;
 abbrev pub OneFaultOfAllConditions : Type 0
 OneFaultOfAllConditions =
     (b : LabelledBody) → answered b (one (IfStatement (at 22) (Branch (Name (x 25)) (one (wrong_at 32))) (MoreElsifs (at 43) (Branch (Name (foo 49)) (one (wrong_at 58))) NoElsif) NoElse (at 70) (at 74)))
-    ≡ fault 49 401 ∷ fault 32 401 ∷ fault 58 401 ∷ []
+    ≡ fault 49 NotVisible ∷ fault 32 NotVisible ∷ fault 58 NotVisible ∷ []
 
 abbrev pub body_of : SpecificationTree → ItemsTree → StatementsTree → Option CompoundNameTree → ItemTree
 body_of s is ss end_name = BodyItem s (Body is (at 60) ss (record { end = at 90; end_name = end_name }))
@@ -276,25 +278,25 @@ function_x = FunctionSpecification (at 16) (record { first = x 25; selectors = [
 abbrev pub FunctionsReturn : Type 0
 FunctionsReturn =
     (b : LabelledBody) → told_of_items b (MoreItems (body_of function_x NoItem (one (wrong_at 66)) (Some (record { first = foo 94; selectors = [] }))) (object_of (foo 110)))
-    ≡ fault 66 401 ∷ fault 90 504 ∷ fault 94 308 ∷ []
+    ≡ fault 66 NotVisible ∷ fault 90 NoReturn ∷ fault 94 EndName ∷ []
 
 -- function x return x is function x return x is begin return x; end; begin null; end;
 abbrev pub ReturnsAreOfTheInnermostBody : Type 0
 ReturnsAreOfTheInnermostBody =
     (b : LabelledBody) → told_of_items b (MoreItems (body_of function_x (MoreItems (body_of function_x NoItem (one (ReturnStatement (at 66) (Some (Name (x 73))))) None) NoItem) (one NullStatement) None) NoItem)
-    ≡ fault 90 504 ∷ []
+    ≡ fault 90 NoReturn ∷ []
 
 -- procedure x is procedure x; begin foo := x; end;
 abbrev pub WhatWaitsEndsTheList : Type 0
 WhatWaitsEndsTheList =
     (b : LabelledBody) → told_of_items b (MoreItems (body_of procedure_x (MoreItems (SubprogramItem procedure_x) NoItem) (one (wrong_at 66)) None) (object_of (foo 110)))
-    ≡ fault 60 302 ∷ []
+    ≡ fault 60 MissingCompletion ∷ []
 
 -- procedure x is x : foo; begin foo := x; end;
 abbrev pub FaultyDeclarationsEndTheList : Type 0
 FaultyDeclarationsEndTheList =
     (b : LabelledBody) → told_of_items b (MoreItems (body_of procedure_x (object_of (foo 50)) (one (wrong_at 66)) None) (object_of (foo 110)))
-    ≡ fault 50 401 ∷ []
+    ≡ fault 50 NotVisible ∷ []
 
 -- ---- bodies of tasks and protected objects
 
@@ -305,7 +307,7 @@ inside_of_task e end_name = Handled NoItem (at 40) (one (ReturnStatement (at 50)
 abbrev pub NoValueIsReturnedInATask : Type 0
 NoValueIsReturnedInATask =
     (b : LabelledBody) → told_of_items b (MoreItems (TaskBodyItem (at 16) (x 26) (inside_of_task (Name (x 57)) (Some (foo 94)))) (object_of (foo 110)))
-    ≡ fault 50 501 ∷ fault 94 308 ∷ []
+    ≡ fault 50 BadReturn ∷ fault 94 EndName ∷ []
 
 abbrev pub wrong_operation : OperationBodyTree
 wrong_operation = SubprogramOperation procedure_x (Body NoItem (at 60) (one (wrong_at 66)) (record { end = at 80; end_name = None }))
@@ -317,10 +319,10 @@ wrong_entry = EntryOperation (at 100) (x 106) (Name (x 113)) (Handled NoItem (at
 abbrev pub WhatIsMissingEndsAProtectedBody : Type 0
 WhatIsMissingEndsAProtectedBody =
     (b : LabelledBody) → told_of_items b (MoreItems (ProtectedBodyItem (at 16) (foo 31) (MoreOperationBodies wrong_operation NoOperationBody) (record { end = at 90; end_name = Some (x 94) })) (object_of (foo 110)))
-    ≡ fault 66 401 ∷ fault 90 302 ∷ []
+    ≡ fault 66 NotVisible ∷ fault 90 MissingCompletion ∷ []
 
 -- protected body x is procedure x is begin foo := x; end; entry x when x is begin foo := x; end; end foo; a second item
 abbrev pub OperationsStandOneAfterAnother : Type 0
 OperationsStandOneAfterAnother =
     (b : LabelledBody) → told_of_items b (MoreItems (ProtectedBodyItem (at 16) (x 31) (MoreOperationBodies wrong_operation (MoreOperationBodies wrong_entry NoOperationBody)) (record { end = at 150; end_name = Some (foo 154) })) (object_of (foo 170)))
-    ≡ fault 66 401 ∷ fault 124 401 ∷ fault 154 308 ∷ []
+    ≡ fault 66 NotVisible ∷ fault 124 NotVisible ∷ fault 154 EndName ∷ []

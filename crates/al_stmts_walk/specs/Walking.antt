@@ -1,9 +1,8 @@
 -- The walk over statements, blocks and bodies: what is wrong with them, and what they are with their labels. What was walked over stands in a
 -- pair: how far the check has come after it, and what it gives.
 use Rattle.std.specs.Prelude.{ℕ, Bool, true, false, List, ◌∷◌, ◌++◌, fold, Option, Some, None, option_map, is_some, is_ok, Result, Ok, Err, if◌then◌else◌}
-use Rattle.al_base.specs.Rules.{number_of}
 use Rattle.al_base.specs.declared.place.Place.{Place}
-use Rattle.al_base.specs.declared.rule.Rule.TheVariants.{BadReturn}
+use Rattle.al_base_fault.specs.declared.check_rule.CheckRule.TheVariants.{BadReturn}
 use Rattle.al_base_fault.specs.Faults.{fault_at}
 use Rattle.al_base_fault.specs.Judging.{next}
 use Rattle.al_base_fault.specs.declared.fault.Fault.{Fault}
@@ -80,7 +79,7 @@ abbrev pub return_walked : {H : Type 0} → Reading H → Enclosing → H → Pl
 return_walked R r h place None = alone_at h (returned place r.returns None)
 return_walked R r h place (Some e) =
     if is_function r.returns.body then result_at R r.returns h place e
-    else alone_at h (returned place r.returns (Some (Err (fault_at place (number_of BadReturn)))))
+    else alone_at h (returned place r.returns (Some (Err (fault_at place BadReturn))))
 
 abbrev pub maybe_condition : {H : Type 0} → Reading H → H → Option ExpressionTree → H × Option (Result TypedTree Fault)
 maybe_condition R h None = (h, None)

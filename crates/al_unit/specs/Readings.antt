@@ -15,6 +15,11 @@ pub data Reading : Type 0 where
   Sentence : CompilationUnitTree → Reading
   Fails : Place → ℕ → Reading
 
+-- the compilation unit, if it is one
+abbrev pub unit_read : Reading → Option CompilationUnitTree
+unit_read (Sentence unit) = Some unit
+unit_read (Fails place code) = None
+
 -- where a token stands; after the last one, the end of the text
 abbrev pub token_place : List ℕ → List Token → ℕ → Place
 token_place text tokens n = unwrap_or (option_map (λ t. t.span.place) (slice_get tokens n)) (end_place_of text)

@@ -1,7 +1,8 @@
 // What the text of a file is.
-ghost use Rattle.std.specs.Prelude.{◌≡◌, ◌≤◌, IfOk, length};
+ghost use Rattle.std.specs.Prelude.{◌≡◌, ◌≤◌, IfOk, length, option_map};
 ghost use Rattle.al_lex.specs.Tokens.{lexed};
-ghost use Rattle.al_unit.specs.Readings.{reading_of, token_place};
+ghost use Rattle.al_tree.specs.UnitViews.{unit_model};
+ghost use Rattle.al_unit.specs.Readings.{reading_of, token_place, unit_read};
 ghost use Rattle.al_unit.specs.ReadingSeen.{reading_model};
 
 use al_base::{NoMemory, Place};
@@ -25,6 +26,18 @@ impl Drop for Reading {
         match self {
             Reading::Sentence(unit) => drop(unit),
             Reading::Fails(_, _) => {}
+        }
+    }
+}
+
+impl Reading {
+    /// The compilation unit, if it is one. It takes no memory.
+    pub fn into_unit(self) -> Option<CompilationUnit>
+        ensures { option_map (λ unit. unit_model unit) result ≡ unit_read (reading_model self) }
+    {
+        match self {
+            Reading::Sentence(unit) => Some(unit),
+            Reading::Fails(_, _) => None,
         }
     }
 }

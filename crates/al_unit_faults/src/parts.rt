@@ -11,17 +11,22 @@ use al_unit_graph::{Header, Sources};
 fn part_within<'a>(sources: &'a Sources, count: usize, header: &'a Header) -> Option<&'a [u8]>
     ensures { option_map (λ n. n.now) result ≡ part_within (suc count) sources.now (header_model header.now) }
 {
-    let Some(parent) = &header.parent_body else {
-        return Some(header.name.as_slice());
-    };
-    let name = parent.name.as_slice();
-    let Some(outer) = sources.unit_at(name, UnitKind::Sub) else {
-        return Some(name);
-    };
-    let Some(rest) = count.checked_sub(1) else {
-        return None;
-    };
-    part_within(sources, rest, outer)
+    let mut inner = header;
+    let mut left = count;
+    loop {
+        let Some(parent) = &inner.parent_body else {
+            return Some(inner.name.as_slice());
+        };
+        let name = parent.name.as_slice();
+        let Some(outer) = sources.unit_at(name, UnitKind::Sub) else {
+            return Some(name);
+        };
+        if left == 0 {
+            return None;
+        }
+        left -= 1;
+        inner = outer;
+    }
 }
 
 /// The library unit of which a unit is part: itself, or the one of the body in which a subunit's stub stands (ARM 10.1.3(8)); none

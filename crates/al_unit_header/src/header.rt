@@ -47,6 +47,14 @@ pub fn header_of(alloc: Global, unit: &CompilationUnit) -> Result<Header, NoMemo
     })
 }
 
+/// Whether a unit is a declaration that a body completes, as its header says. It takes no memory.
+#[tactic(auto, unfolding(al_tree::specs::UnitViews::unit_model, crate::specs::Units::header_of))]
+pub fn unit_needs_body(unit: &CompilationUnit) -> bool
+    ensures { result ≡ (header_of (unit_model unit.now)).needs_body }
+{
+    needs_body(&unit.item)
+}
+
 /// The parent body of a subunit, with where its name stands (ARM 10.1.3(8)).
 fn parent_body(alloc: Global, item: &LibraryItem) -> Result<Option<Mention>, NoMemory>
     ensures { IfOk result (λ parent. option_map mention_model parent ≡ option_map mention_of (parent_body_name (library_item_model item.now))) }

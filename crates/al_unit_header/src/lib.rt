@@ -10,6 +10,6 @@ mod package;
 mod stubs;
 mod types;
 
-pub use header::header_of;
+pub use header::{header_of, unit_needs_body};
 pub use laws::bodies_are_needed;
 pub use types::private_types;

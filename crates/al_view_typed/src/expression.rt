@@ -71,24 +71,24 @@ pub enum TypedName {
     },
 }
 
+// What stands before a component is let go by the loop, so that no name takes more of the stack than its nesting.
 impl Drop for TypedName {
     #[cycle(drop)]
-    fn drop(self) {
-        match self {
-            TypedName::Object {
-                place: _,
-                is_constant: _,
-            } => {}
-            TypedName::Component {
-                whole: _,
-                offset: _,
-            } => {}
-            TypedName::Indexed {
-                array: _,
-                index: _,
-                bounds: _,
-                words: _,
-            } => {}
+    fn drop(mut self) {
+        loop {
+            match self {
+                TypedName::Object {
+                    place: _,
+                    is_constant: _,
+                } => return,
+                TypedName::Component { whole, offset: _ } => self = Box::into_inner(whole),
+                TypedName::Indexed {
+                    array,
+                    index: _,
+                    bounds: _,
+                    words: _,
+                } => self = Box::into_inner(array),
+            }
         }
     }
 }

@@ -13,21 +13,26 @@ use Rattle.al_check_here.specs.Standings.{begun_at}
 use Rattle.al_check_here.specs.declared.state.UnitText.{UnitText}
 use Rattle.al_check_made.specs.Lines.{item_line}
 use Rattle.al_check_made.specs.declared.after.UnitFacts.{UnitFacts}
-use Rattle.al_check.specs.Ada.{text_of}
+use Rattle.al_check.specs.Ada.{text_of, without_withs}
 use Rattle.al_check.proofs.start.begun_at.Goals as goal
 
 pub returns-clause-unit_facts : goal.returns-clause-unit_facts
 unfolding unit_model
 returns-clause-unit_facts c =
-    let make = λ (needs : Bool) (line : ℕ) (names : List (List ℕ)) (round : Option UnitKey × Option ViewKind). let unit_facts : UnitFacts = record { needs_body = needs; line = line; parent = round.0; view = round.1; private_types = names } in unit_facts in
+    let make = λ (unit : UnitKey) (needs : Bool) (line : ℕ) (names : List (List ℕ)) (withs : List UnitKey) (round : Option UnitKey × Option ViewKind). let unit_facts : UnitFacts = record { unit = unit; needs_body = needs; line = line; parent = round.0; withs = withs; view = round.1; private_types = names } in unit_facts in
     let needs = (header_of (unit_model c.args.tree.now)).needs_body in
     let line = item_line (library_item_model c.args.tree.now.item) in
     let names = private_types (library_item_model c.args.tree.now.item) in
     let round = c.into_parts-parts.result.2 in
-    ap (λ (b : Bool). make b c.item_line-line.result c.new-private_types.result round) c.in_ok-needs_body.ensures
-    ∙ ap (λ (l : ℕ). make needs l c.new-private_types.result round) c.item_line-line.ensures
-    ∙ ap (λ (n : List (List ℕ)). make needs line n round) (c.new-private_types.ensures ∙ c.in_ok-private_types.ensures)
-    ∙ ap (make needs line names) c.into_parts-parts.ensures.round
+    let withs = c.withs_apart-apart.result.1 in
+    let unit = c.args.start.own.unit in
+    ap (λ (u : UnitKey). make u c.unit_needs_body-needs_body.result c.item_line-line.result c.new-private_types.result withs round) c.in_ok-unit.ensures
+    ∙ ap (λ (b : Bool). make unit b c.item_line-line.result c.new-private_types.result withs round) c.unit_needs_body-needs_body.ensures
+    ∙ ap (λ (l : ℕ). make unit needs l c.new-private_types.result withs round) c.item_line-line.ensures
+    ∙ ap (λ (n : List (List ℕ)). make unit needs line n withs round) (c.new-private_types.ensures ∙ c.in_ok-private_types.ensures)
+    ∙ ap (λ (apart : OwnText × List UnitKey). make unit needs line names apart.1 round) c.withs_apart-apart.ensures
+    ∙ ap (λ (text : OwnText × List UnitKey × List PrivateName). make unit needs line names text.0.withs round) c.into_parts-parts.ensures.text
+    ∙ ap (make unit needs line names c.args.start.own.withs) c.into_parts-parts.ensures.round
 
 pub returns-clause-state : goal.returns-clause-state
 unfolding unit_model
@@ -37,5 +42,6 @@ returns-clause-state c =
     let inner = c.args.private_part in
     c.new-state.ensures
     ∙ ap (λ (text : UnitText). begun_at text made.1.0 made.1.1 made.1.2) c.in_ok-text.ensures
-    ∙ ap (λ (text : OwnText × List UnitKey × List PrivateName). begun_at (text_of text.1 text.0 text.2 inner) made.1.0 made.1.1 made.1.2) c.into_parts-parts.ensures.text
-    ∙ ap (λ (place : Place × Progress × List Completion). begun_at (text_of s.packages s.own s.hidden inner) place.0 place.1 place.2) c.into_parts-parts.ensures.place
+    ∙ ap (λ (apart : OwnText × List UnitKey). begun_at (text_of made.0.1 apart.0 made.0.2 inner) made.1.0 made.1.1 made.1.2) c.withs_apart-apart.ensures
+    ∙ ap (λ (text : OwnText × List UnitKey × List PrivateName). begun_at (text_of text.1 (without_withs text.0) text.2 inner) made.1.0 made.1.1 made.1.2) c.into_parts-parts.ensures.text
+    ∙ ap (λ (place : Place × Progress × List Completion). begun_at (text_of s.packages (without_withs s.own) s.hidden inner) place.0 place.1 place.2) c.into_parts-parts.ensures.place

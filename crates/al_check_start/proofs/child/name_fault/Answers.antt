@@ -1,6 +1,5 @@
 use Rattle.std.proofs.Common.{◌∙◌, ◌&&◌, Bool, ℕ, List, Some, None, ap, if◌then◌else◌}
-use Rattle.al_base.specs.Rules.{number_of}
-use Rattle.al_base.specs.declared.rule.Rule.TheVariants.{Duplicate}
+use Rattle.al_base_fault.specs.declared.check_rule.CheckRule.TheVariants.{Duplicate}
 use Rattle.al_unit_header.specs.Units.{item_name, place_of}
 use Rattle.al_base_fault.specs.Faults.{fault_at}
 use Rattle.al_tree.specs.UnitViews.{library_item_model}
@@ -14,7 +13,7 @@ returns-clause-answered g c t h =
     let answered = c.in_ok-taken.ensures.answered t h in
     let item = library_item_model c.args.item.now in
     let view = c.args.view.now in
-    let fault = λ (d b : Bool). if d && b then Some (fault_at (place_of (item_name item)) (number_of Duplicate)) else None in (
+    let fault = λ (d b : Bool). if d && b then Some (fault_at (place_of (item_name item)) Duplicate) else None in (
       answered.0,
       c.duplicate_if-fault.ensures ∙ ap (λ (d : Bool). fault d c.in_ok-taken.taken) c.declares.ensures
           ∙ ap (λ (b : Bool). fault (declares item view) b) (answered.1 ∙ ap (λ (n : List ℕ). taken_in t (last_of n) (names.parent_of n)) c.as_slice.ensures),

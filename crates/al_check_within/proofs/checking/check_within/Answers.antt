@@ -13,7 +13,8 @@ use Rattle.al_check_promises.specs.Laws.{Promised}
 use Rattle.al_check_within.specs.Verdicts.{verdict_of}
 use Rattle.al_check_within.specs.Within.{AreBounds}
 use Rattle.al_check_within.proofs.Bounding.{means}
-use Rattle.al_check_within.proofs.Grounds.{by_words, grounded, still_known}
+use Rattle.al_check_within.proofs.Grounds.{by_words, grounded}
+use Rattle.al_check_within.proofs.Naming.{names_known}
 use Rattle.al_check_within.proofs.checking.check_within.Goals as goal
 
 pub returns-clause-checked : goal.returns-clause-checked
@@ -21,7 +22,7 @@ returns-clause-checked g c =
     let b = c.in_ok-bounds.bounds in
     let tree = unit_model c.args.tree.now in
     let h = headers.header_of (unit_model c.args.tree.now) in
-    let is = c.in_ok-header.ensures in
+    let is = c.requires.header in
     let one = c.bounds_of.new.recorder.log in
     let two = c.found_within.new.recorder.log in
     let three = c.concluded_within.new.recorder.log in
@@ -35,8 +36,8 @@ returns-clause-checked g c =
           let finds = found.found t gives.0 in
           means g.F.UnitFinder.units g.F.UnitFinder.names g.F.UnitFinder.verdict c.args.unit.now c.args.text.now tree t b _ (verdict_of c.in_ok-found.found.finding) (checked_model c.in_ok-checked.checked) is (are.answered t finds.0) finds.1 gives.1;
       grounded = grounded named b.known by_property (allowed b) one two three are.asks are.known found.asks last.asks;
-      promised = subst (λ (u : UnitKey). Promised u named three (checked_model c.in_ok-checked.checked)) are.own
-          (last.promised named (still_known named b.known b.known (allowed b) one two three are.known found.asks last.asks));
+      names = names_known named c.args.unit.now three (checked_model c.in_ok-checked.checked) (last.names named found.names);
+      promised = subst (λ (u : UnitKey). Promised u three (checked_model c.in_ok-checked.checked)) are.own (last.promised found.faults);
       parts = λ t a. subst (λ (u : UnitKey). DefinesParts u h t (checked_model c.in_ok-checked.checked)) are.own
           (subst (λ (x : plain.Header). DefinesParts c.in_ok-bounds.bounds.unit x t (checked_model c.in_ok-checked.checked)) is (last.parts t a));
     }

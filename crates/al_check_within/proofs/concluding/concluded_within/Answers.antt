@@ -3,40 +3,40 @@ use Rattle.std.proofs.lemmas.Result.{IfOk-weaker}
 use Rattle.al_query.specs.Asked.{OfKnown}
 use Rattle.al_query.proofs.AskLemmas.{asks_none}
 use Rattle.al_unit_graph.specs.Views.{header_model}
-use Rattle.al_query_outcome.specs.Defines.{DefinesParts}
-use Rattle.al_query_outcome.specs.Results.{Outcome}
 use Rattle.al_check_bounds.specs.Bounding.{allowed, bounded}
-use Rattle.al_check_promises.specs.Laws.{Promised}
-use Rattle.al_check_within.specs.Verdicts.{verdict_of}
+use Rattle.al_check_within.specs.Verdicts.{IsTold, NamesWithin, verdict_of}
 use Rattle.al_check_within.specs.Within.{concluded}
 use Rattle.al_check_within.specs.declared.finding.UnitVerdict.{UnitVerdict}
-use Rattle.al_check_within.proofs.LeftLemmas.{faulty_parts}
+use Rattle.al_check_within.proofs.Naming.{faulty_names}
 use Rattle.al_check_within.proofs.concluding.concluded_within.Goals as goal
 
 pub returns-in-Faulty-clause-answered : goal.returns-in-Faulty-clause-answered
-returns-in-Faulty-clause-answered g c =
+returns-in-Faulty-clause-answered g c t h =
     let b = c.args.bounds.now in
-    IfOk-weaker c.checked_faults.result _ _ (λ v e t h. (h, e ∙ ap (λ (f : UnitVerdict). concluded b (header_model c.args.header.now) (verdict_of f) (bounded b t)) (sym c.in-Faulty.is))) c.checked_faults.ensures
+    (h, ap (λ (f : UnitVerdict). concluded b (header_model c.args.header.now) (verdict_of f) (bounded b t)) (sym c.in-Faulty.is))
 
 pub returns-in-Faulty-clause-asks : goal.returns-in-Faulty-clause-asks
-returns-in-Faulty-clause-asks g c =
-    let b = c.args.bounds.now in
-    IfOk-weaker c.checked_faults.result _ _ (λ v e. asks_none (OfKnown b.known (allowed b)) c.args.recorder.now.log) c.checked_faults.ensures
+returns-in-Faulty-clause-asks g c = let b = c.args.bounds.now in asks_none (OfKnown b.known (allowed b)) c.args.recorder.now.log
 
 pub returns-in-Faulty-clause-others : goal.returns-in-Faulty-clause-others
-returns-in-Faulty-clause-others g c = IfOk-weaker c.checked_faults.result _ _ (λ v e h. h) c.checked_faults.ensures
+returns-in-Faulty-clause-others g c h = h
 
 pub returns-in-Faulty-clause-promised : goal.returns-in-Faulty-clause-promised
-returns-in-Faulty-clause-promised g c =
+returns-in-Faulty-clause-promised g c told =
     let b = c.args.bounds.now in
-    let log = c.args.recorder.now.log in
-    IfOk-weaker c.checked_faults.result _ _ (λ v e first among. subst (λ (o : Outcome). Promised b.unit first log o) (sym e) (c.faults_are_reported.ensures b.unit first log c.in-Faulty.faults)) c.checked_faults.ensures
+    c.faults_are_reported.ensures.faults b.unit c.args.recorder.now.log c.in-Faulty.faults (subst (λ (f : UnitVerdict). IsTold b.unit (verdict_of f)) c.in-Faulty.is told)
 
 pub returns-in-Faulty-clause-parts : goal.returns-in-Faulty-clause-parts
-returns-in-Faulty-clause-parts g c =
-    let b = c.args.bounds.now in
-    let h = header_model c.args.header.now in
-    IfOk-weaker c.checked_faults.result _ _ (λ v e t a. subst (λ (o : Outcome). DefinesParts b.unit h t o) (sym e) (faulty_parts b.unit h t c.in-Faulty.faults)) c.checked_faults.ensures
+returns-in-Faulty-clause-parts g c t a = tt
+
+pub returns-in-Faulty-clause-names : goal.returns-in-Faulty-clause-names
+returns-in-Faulty-clause-names g c units h = faulty_names units c.in-Faulty.faults
+
+pub returns-clause-promised : goal.returns-clause-promised
+returns-clause-promised g c = IfOk-weaker c.sound_within.result _ _ (λ v e told. e) c.sound_within.ensures.promised
+
+pub returns-clause-names : goal.returns-clause-names
+returns-clause-names g c = IfOk-weaker c.sound_within.result _ _ (λ v e units h. e units (subst (λ (f : UnitVerdict). NamesWithin units (verdict_of f)) c.in-Sound.is h)) c.sound_within.ensures.names
 
 pub returns-clause-answered : goal.returns-clause-answered
 returns-clause-answered g c =

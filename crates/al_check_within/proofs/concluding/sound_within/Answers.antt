@@ -5,6 +5,7 @@ use Rattle.al_view_typed.specs.UnitTrees.{unit_model}
 use Rattle.al_query.specs.Asked.{OfKnown}
 use Rattle.al_query.proofs.AskLemmas.{asks_then}
 use Rattle.al_query_outcome.specs.Defines.{DefinesParts}
+use Rattle.al_query_outcome.specs.ReadsLaw.{NamesOnly}
 use Rattle.al_query_outcome.specs.Results.{Outcome}
 use Rattle.al_query_outcome.specs.Tables.{interface_of}
 use Rattle.al_check_bounds.specs.Bounding.{allowed, bounded}
@@ -15,6 +16,7 @@ use Rattle.al_check_asked.specs.declared.wanted.Wanted.{Wanted}
 use Rattle.al_check_within.specs.LeftHere.{completed_by}
 use Rattle.al_check_within.proofs.Bounding.{same_kept, same_test}
 use Rattle.al_check_within.proofs.LeftLemmas.{completes_within}
+use Rattle.al_check_within.proofs.Naming.{checked_names}
 use Rattle.al_check_within.proofs.WereShown.{were_shown}
 use Rattle.al_check_within.proofs.concluding.sound_within.Goals as goal
 
@@ -24,15 +26,14 @@ returns-clause-answered g c =
     let h = header_model c.args.header.now in
     let i = interface_of c.args.sound.properties c.args.sound.parts in
     let tree = unit_model c.args.sound.tree in
-    let views = c.as_slice-2.ensures in
-    let known = c.as_slice.ensures in
+    let views = c.as_slice.ensures in
     IfOk-weaker c.self_checked.result _ _ (λ v e t a.
     let complete = c.in_ok-complete.ensures.answered t a in
     let answered = c.in_ok-shown.ensures.answered t complete.0 in (
       answered.0,
-      e ∙ same_test b.unit _ b.known _ c.in_ok-shown.shown c.in_ok-complete.complete i tree known views
-          ∙ same_kept b.unit b.known c.in_ok-shown.shown (shown_by c.in_ok-wanted.wanted (bounded b t)) c.in_ok-complete.complete (completed_by b h i tree (bounded b t)) i tree answered.1.same complete.1
-          ∙ ap (λ (w : Wanted). self_checked b.unit b.known (shown_by w (bounded b t)) (completed_by b h i tree (bounded b t)) i tree) c.in_ok-wanted.ensures,
+      e ∙ same_test b.unit _ c.in_ok-shown.shown c.in_ok-complete.complete i tree views
+          ∙ same_kept b.unit c.in_ok-shown.shown (shown_by c.in_ok-wanted.wanted (bounded b t)) c.in_ok-complete.complete (completed_by b h i tree (bounded b t)) i tree answered.1.same complete.1
+          ∙ ap (λ (w : Wanted). self_checked b.unit (shown_by w (bounded b t)) (completed_by b h i tree (bounded b t)) i tree) c.in_ok-wanted.ensures,
     )) c.self_checked.ensures
 
 pub returns-clause-promised : goal.returns-clause-promised
@@ -41,13 +42,20 @@ returns-clause-promised g c =
     let i = interface_of c.args.sound.properties c.args.sound.parts in
     let tree = unit_model c.args.sound.tree in
     let log = c.completed_by.new.recorder.log in
-    let views = c.as_slice-2.ensures in
-    let known = c.as_slice.ensures in
-    IfOk-weaker c.self_checked.result _ _ (λ v e first among.
-    subst (λ (o : Outcome). Promised b.unit first log o) (sym (e ∙ same_test b.unit _ b.known _ c.in_ok-shown.shown c.in_ok-complete.complete i tree known views))
-    (c.what_is_tested_keeps.ensures b.unit first b.known log c.in_ok-shown.shown i tree c.in_ok-complete.complete among
+    let views = c.as_slice.ensures in
+    IfOk-weaker c.self_checked.result _ _ (λ v e.
+    subst (λ (o : Outcome). Promised b.unit log o) (sym (e ∙ same_test b.unit _ c.in_ok-shown.shown c.in_ok-complete.complete i tree views))
+    (c.what_is_tested_keeps.ensures b.unit log c.in_ok-shown.shown i tree c.in_ok-complete.complete
     (were_shown b c.in_ok-wanted.wanted log (g.A.Answers.table c.completed_by.new.recorder.asked) c.in_ok-shown.shown c.shown_views_are_answered.ensures c.agrees.ensures (λ t a. (c.in_ok-shown.ensures.answered t (c.in_ok-complete.ensures.answered t a).0).1.among))))
     c.self_checked.ensures
+
+pub returns-clause-names : goal.returns-clause-names
+returns-clause-names g c =
+    let b = c.args.bounds.now in
+    let i = interface_of c.args.sound.properties c.args.sound.parts in
+    let tree = unit_model c.args.sound.tree in
+    IfOk-weaker c.self_checked.result _ _ (λ v e units h.
+    subst (λ (o : Outcome). NamesOnly units o) (sym e) (checked_names units b.unit _ c.in_ok-complete.complete i tree h)) c.self_checked.ensures
 
 pub returns-clause-parts : goal.returns-clause-parts
 returns-clause-parts g c =
@@ -55,12 +63,11 @@ returns-clause-parts g c =
     let h = header_model c.args.header.now in
     let i = interface_of c.args.sound.properties c.args.sound.parts in
     let tree = unit_model c.args.sound.tree in
-    let views = c.as_slice-2.ensures in
-    let known = c.as_slice.ensures in
+    let views = c.as_slice.ensures in
     IfOk-weaker c.self_checked.result _ _ (λ v e t a.
     let complete = c.in_ok-complete.ensures.answered t a in
     subst (λ (o : Outcome). DefinesParts b.unit h t o)
-    (sym (e ∙ same_test b.unit _ b.known _ c.in_ok-shown.shown c.in_ok-complete.complete i tree known views ∙ ap (λ (x : Bool). self_checked b.unit b.known c.in_ok-shown.shown x i tree) complete.1))
+    (sym (e ∙ same_test b.unit _ c.in_ok-shown.shown c.in_ok-complete.complete i tree views ∙ ap (λ (x : Bool). self_checked b.unit c.in_ok-shown.shown x i tree) complete.1))
     (completes_within b t h c.in_ok-shown.shown i tree c.parts_are_completed.ensures)) c.self_checked.ensures
 
 pub returns-clause-asks : goal.returns-clause-asks

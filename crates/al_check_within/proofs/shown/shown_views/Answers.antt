@@ -24,7 +24,7 @@ returns-then-kept-clause-answered g c t h =
       h,
       record {
         among = among;
-        same = same_test b.unit b.known c.in_ok-recorded.recorded all i tree among (passes b.unit _ b.known _ c.in_ok-recorded.recorded i tree c.in_ok-kept.kept c.as_slice-known.ensures c.as_slice.ensures c.in_ok-kept.ensures c.if-kept.true);
+        same = same_test b.unit c.in_ok-recorded.recorded all i tree among (passes b.unit _ c.in_ok-recorded.recorded i tree c.in_ok-kept.kept c.as_slice.ensures c.in_ok-kept.ensures c.if-kept.true);
       },
     )
 
@@ -42,6 +42,6 @@ returns-clause-answered g c =
       answered.0,
       record {
         among = λ v k. subst (λ (vs : List ViewKind). Contains vs v) answered.1 k;
-        same = ap (λ (vs : List ViewKind). is_kept b.unit b.known vs i tree) answered.1;
+        same = ap (λ (vs : List ViewKind). is_kept b.unit vs i tree) answered.1;
       },
     )) c.asked_within.ensures.answered

@@ -1,13 +1,16 @@
-use Rattle.std.proofs.Common.{◌≡◌, List, [], refl, sym, ap, ◌∙◌, arith}
+use Rattle.std.proofs.Common.{◌≡◌, List, [], refl, subst, sym, ap, ◌∙◌, arith}
 use Rattle.al_view_typed.specs.ExpressionTrees.{ValuesTree as values_trees, ActualsTree as actuals_trees}
-use Rattle.al_view_typed.specs.ExpressionViews.{actual_model, typed_model, value_model}
-use Rattle.al_code_expr.specs.Templates.{all_passed_code, checked_code, components_code, passed_code, value_of, variable_code, variables_code}
+use Rattle.al_view_typed.specs.ExpressionViews.{actual_model, name_model, typed_model, value_model}
+use Rattle.al_code_expr.specs.Parts.{IsPartBelow, part_code}
+use Rattle.al_code_expr.specs.Templates.{address_of, all_passed_code, checked_code, components_code, passed_code, value_of, variable_code, variables_code}
 use Rattle.al_code_output.proofs.Writing.{written_nothing, written_more}
 use Rattle.al_code_output.specs.Pieces.{Piece}
 use Rattle.al_code_output.specs.Written.{written}
 use Rattle.al_code_expr.proofs.CodelessLemmas.{codeless_checked, none_is, times_large, times_nothing}
 use Rattle.al_code_expr.proofs.Lists.{and_steps, or_steps, times_more, written_listed}
 use Rattle.al_code_expr.proofs.ChainLemmas.{next_written, nothing_left, popped_below}
+use Rattle.al_code_expr.proofs.PartLemmas.{next_part, no_part_left, popped_part_below}
+use Rattle.al_code_expr.specs.declared.parts.Part.{Part}
 use Rattle.al_code_expr.proofs.expressions.+expression.Goals as goal
 
 -- ---- chains
@@ -28,6 +31,33 @@ emit_value-loop-joint-preserved t c =
 pub emit_value-returns : goal.emit_value-returns
 emit_value-returns t c =
     nothing_left c.args.depth c.loop-joint.joints.items c.loop-joint.out (written c.args.out.now (value_of c.args.depth (typed_model c.args.typed.now))) (omega (arith, c.in_default-pop.ensures.cases.0)) c.loop-joint.invariant.0
+
+-- ---- parts of a name
+
+pub emit_address-emit_element-requires : goal.emit_address-emit_element-requires
+emit_address-emit_element-requires t c =
+    let below = popped_part_below c.args.name.now c.loop-part.parts.items c.pop.new.self.items c.pop.result c.in-Some.part c.pop.ensures.items c.in-Some.is c.loop-part.invariant.1 in
+    (omega (arith, c.decreases, subst (IsPartBelow c.args.name.now) c.in-Indexed.is below.1), tt)
+
+pub emit_address-loop-part-preserved-in-Continue-branch-3 : goal.emit_address-loop-part-preserved-in-Continue-branch-3
+emit_address-loop-part-preserved-in-Continue-branch-3 t c =
+    let below = popped_part_below c.args.name.now c.loop-part.parts.items c.pop.new.self.items c.pop.result c.in-Some.part c.pop.ensures.items c.in-Some.is c.loop-part.invariant.1 in (
+      next_part c.args.depth c.loop-part.parts.items c.pop.new.self.items c.pop.result c.in-Some.part c.loop-part.out c.emit_sized.new.out (written c.args.out.now (address_of c.args.depth (name_model c.args.name.now)))
+          c.pop.ensures.items c.in-Some.is (c.in_ok-emit_sized-in-Selected.ensures ∙ ap (λ (p : Part). written c.loop-part.out (part_code c.args.depth p)) (sym c.in-Selected.is)) c.loop-part.invariant.0,
+      below.0,
+    )
+
+pub emit_address-loop-part-preserved : goal.emit_address-loop-part-preserved
+emit_address-loop-part-preserved t c =
+    let below = popped_part_below c.args.name.now c.loop-part.parts.items c.pop.new.self.items c.pop.result c.in-Some.part c.pop.ensures.items c.in-Some.is c.loop-part.invariant.1 in (
+      next_part c.args.depth c.loop-part.parts.items c.pop.new.self.items c.pop.result c.in-Some.part c.loop-part.out c.emit_element.new.out (written c.args.out.now (address_of c.args.depth (name_model c.args.name.now)))
+          c.pop.ensures.items c.in-Some.is (c.in_ok-emit_element-in-Indexed.ensures ∙ ap (λ (p : Part). written c.loop-part.out (part_code c.args.depth p)) (sym c.in-Indexed.is)) c.loop-part.invariant.0,
+      below.0,
+    )
+
+pub emit_address-returns : goal.emit_address-returns
+emit_address-returns t c =
+    no_part_left c.args.depth c.loop-part.parts.items c.loop-part.out (written c.args.out.now (address_of c.args.depth (name_model c.args.name.now))) (omega (arith, c.in_default.ensures.cases.0)) c.loop-part.invariant.0
 
 -- ---- lists
 

@@ -1,10 +1,11 @@
 use Rattle.std.proofs.Common.{◌≡◌, length, take}
 use Rattle.std.specs.List.{flat_map}
-use Rattle.al_view_typed.specs.ExpressionViews.{actual_model, typed_model, value_model}
+use Rattle.al_view_typed.specs.ExpressionViews.{actual_model, name_model, typed_model, value_model}
 use Rattle.al_code_output.specs.Written.{written}
 use Rattle.al_code_expr.specs.Chains.{AreBelow, chained_code}
+use Rattle.al_code_expr.specs.Parts.{ArePartsBelow, parted_code}
 use Rattle.al_code_expr.specs.Pieces.{times}
-use Rattle.al_code_expr.specs.Templates.{checked_code, passed_code, value_of, variable_code}
+use Rattle.al_code_expr.specs.Templates.{address_of, checked_code, passed_code, value_of, variable_code}
 use Rattle.al_code_expr.proofs.expressions.+expression.Given as goal
 
 abbrev pub invariant-emit_components-loop-value : goal.invariant-emit_components-loop-value
@@ -26,3 +27,11 @@ invariant-emit_value-loop-joint l =
 
 abbrev pub decreases-emit_value-loop-joint : goal.decreases-emit_value-loop-joint
 decreases-emit_value-loop-joint l = length l.joints.items
+
+abbrev pub invariant-emit_address-loop-part : goal.invariant-emit_address-loop-part
+invariant-emit_address-loop-part l =
+    (written l.out (parted_code l.depth l.parts.items) ≡ written l.fn.out (address_of l.depth (name_model l.fn.name)))
+    × ArePartsBelow l.fn.name l.parts.items
+
+abbrev pub decreases-emit_address-loop-part : goal.decreases-emit_address-loop-part
+decreases-emit_address-loop-part l = length l.parts.items

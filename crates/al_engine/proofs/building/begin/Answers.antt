@@ -41,7 +41,7 @@ edited_now-requires-clause-settled g c =
     let library = g.R.ReadFiles.library in
     let files = g.R.ReadFiles.files in
     of_last c.args.last.now (λ b. b.now)
-    (λ b. IsSettledBy g.C.UnitCheck.meaning g.C.UnitCheck.header (g.P.Answers.table c.args.predefined.now) library (at_unit c.args.cache.now.entries) (record { files = files b.read; main = b.main; gave = c.args.gave.now }))
+    (λ b. IsSettledBy g.C.UnitCheck.meaning g.C.Text.ReadText.header (g.P.Answers.table c.args.predefined.now) library (at_unit c.args.cache.now.entries) (record { files = files b.read; main = b.main; gave = c.args.gave.now }))
     (λ b. HaveSameHeaders (library (files b.now.read)) (library (files c.args.read.now))) c.alike-found.result.0 c.alike-found.ensures.found c.requires.settled
 
 pub edited_now-requires-clause-headers : goal.edited_now-requires-clause-headers
@@ -52,13 +52,13 @@ edited_now-requires-clause-headers g c =
 
 pub prepare-requires-clause-edited : goal.prepare-requires-clause-edited
 prepare-requires-clause-edited g c =
-    subst (λ (l : Library). IfSome c.in_ok-unit.unit (λ unit. IsRenewable g.C.UnitCheck.meaning g.C.UnitCheck.header (g.P.Answers.table c.args.predefined.now) l (at_unit c.args.cache.now.entries) unit)) (sym c.sources-sources.ensures) c.in_ok-unit.ensures.renewable
+    subst (λ (l : Library). IfSome c.in_ok-unit.unit (λ unit. IsRenewable g.C.UnitCheck.meaning g.C.Text.ReadText.header (g.P.Answers.table c.args.predefined.now) l (at_unit c.args.cache.now.entries) unit)) (sym c.sources-sources.ensures) c.in_ok-unit.ensures.renewable
 
 pub prepare-requires-clause-clean : goal.prepare-requires-clause-clean
 prepare-requires-clause-clean g c = subst (λ (l : Library). IfSome c.in_ok-unit.unit (IsCleanBut l (at_unit c.args.cache.now.entries))) (sym c.sources-sources.ensures) c.in_ok-unit.ensures.clean
 
 pub prepare-requires-clause-headed : goal.prepare-requires-clause-headed
-prepare-requires-clause-headed g c = subst (λ (l : Library). AreHeaded g.C.UnitCheck.header l) (sym c.sources-sources.ensures) (c.requires.reading.headed (g.R.ReadFiles.files c.args.read.now))
+prepare-requires-clause-headed g c = subst (λ (l : Library). AreHeaded g.C.Text.ReadText.header l) (sym c.sources-sources.ensures) (c.requires.reading.headed (g.R.ReadFiles.files c.args.read.now))
 
 pub prepare-requires-clause-bodies : goal.prepare-requires-clause-bodies
 prepare-requires-clause-bodies g c = subst (λ (l : Library). NameParentBodies l) (sym c.sources-sources.ensures) (c.requires.reading.bodies (g.R.ReadFiles.files c.args.read.now))
@@ -75,5 +75,5 @@ prepare-requires-clause-known g c =
 pub returns-clause-prepared : goal.returns-clause-prepared
 returns-clause-prepared g c =
     let p = c.in_ok-prepared.prepared in
-    subst (λ (l : Library). IsPrepared g.C.UnitCheck.meaning g.C.UnitCheck.header (g.P.Answers.table c.args.predefined.now) l c.args.main.now (at_unit c.args.cache.now.entries) p.planned (at_unit p.entries) p.checked.items)
+    subst (λ (l : Library). IsPrepared g.C.UnitCheck.meaning g.C.Text.ReadText.header (g.P.Answers.table c.args.predefined.now) l c.args.main.now (at_unit c.args.cache.now.entries) p.planned (at_unit p.entries) p.checked.items)
     c.sources-sources.ensures c.in_ok-prepared.ensures.prepared

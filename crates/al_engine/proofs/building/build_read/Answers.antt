@@ -12,12 +12,12 @@ finish-requires-clause-closed g c = c.in_ok-begun.ensures.prepared.closed
 
 pub returns-clause-rebuilt : goal.returns-clause-rebuilt
 returns-clause-rebuilt g c =
-    c.in_ok-finish.ensures.rebuilt g.C.UnitCheck.header (g.P.Answers.table c.args.predefined.now) (g.R.ReadFiles.library (g.R.ReadFiles.files c.args.read)) c.args.main.now (at_unit c.args.cache.now.entries) c.in_ok-begun.ensures.prepared
+    c.in_ok-finish.ensures.rebuilt g.C.Text.ReadText.header (g.P.Answers.table c.args.predefined.now) (g.R.ReadFiles.library (g.R.ReadFiles.files c.args.read)) c.args.main.now (at_unit c.args.cache.now.entries) c.in_ok-begun.ensures.prepared
 
 pub returns-clause-right : goal.returns-clause-right
 returns-clause-right g c =
     let meaning = g.C.UnitCheck.meaning in
-    let header = g.C.UnitCheck.header in
+    let header = g.C.Text.ReadText.header in
     let table = g.P.Answers.table c.args.predefined.now in
     let lib = g.R.ReadFiles.library (g.R.ReadFiles.files c.args.read) in
     let old = at_unit c.args.cache.now.entries in

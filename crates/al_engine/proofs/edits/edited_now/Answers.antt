@@ -15,7 +15,7 @@ use Rattle.al_engine.proofs.edits.edited_now.Goals as goal
 pub returns-then-is_alone-clause-renewable : goal.returns-then-is_alone-clause-renewable
 returns-then-is_alone-clause-renewable g c =
     let meaning = g.C.UnitCheck.meaning in
-    let header = g.C.UnitCheck.header in
+    let header = g.C.Text.ReadText.header in
     let pre = g.P.Answers.table c.args.predefined.now in
     let library = g.R.ReadFiles.library in
     let files = g.R.ReadFiles.files in
@@ -43,7 +43,7 @@ returns-then-is_alone-clause-renewable g c =
 pub returns-then-is_alone-clause-clean : goal.returns-then-is_alone-clause-clean
 returns-then-is_alone-clause-clean g c =
     let meaning = g.C.UnitCheck.meaning in
-    let header = g.C.UnitCheck.header in
+    let header = g.C.Text.ReadText.header in
     let pre = g.P.Answers.table c.args.predefined.now in
     let library = g.R.ReadFiles.library in
     let files = g.R.ReadFiles.files in

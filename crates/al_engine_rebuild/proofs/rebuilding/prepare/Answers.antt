@@ -33,7 +33,7 @@ returns-clause-prepared g c =
       is_planned = c.in_ok-planned.ensures;
       entries = λ u. c.in_ok-entries.ensures.entries u ∙ ap (λ es. staying c.args.sources.now (at_unit es) made u) c.check_library.ensures.entries;
       closed =
-          c.partitions_are_closed.ensures g.C.UnitCheck.meaning g.C.UnitCheck.header (g.P.Answers.table c.args.predefined.now) c.args.sources.now c.args.graph.now.order.items c.requires.headed c.requires.bodies c.requires.predefined c.requires.graph.order
+          c.partitions_are_closed.ensures g.C.UnitCheck.meaning g.C.Text.ReadText.header (g.P.Answers.table c.args.predefined.now) c.args.sources.now c.args.graph.now.order.items c.requires.headed c.requires.bodies c.requires.predefined c.requires.graph.order
           _ made _ c.in_ok-given.ensures.checked c.args.main.now c.in_ok-planned.planned c.in_ok-planned.ensures;
       law = c.in_ok-entries.ensures.law;
     }

@@ -8,7 +8,7 @@ use Rattle.al_engine_recheck.proofs.renewing.renew.Goals as goal
 pub returns-clause-rechecked : goal.returns-clause-rechecked
 returns-clause-rechecked g c =
     let meaning = g.C.UnitCheck.meaning in
-    let header = g.C.UnitCheck.header in
+    let header = g.C.Text.ReadText.header in
     let pre = g.P.Answers.table c.args.predefined.now in
     let lib = c.args.sources.now in
     let old = at_unit c.args.old.now in
@@ -25,7 +25,7 @@ returns-clause-counted g c =
 pub returns-clause-renewed : goal.returns-clause-renewed
 returns-clause-renewed g c =
     let meaning = g.C.UnitCheck.meaning in
-    let header = g.C.UnitCheck.header in
+    let header = g.C.Text.ReadText.header in
     let pre = g.P.Answers.table c.args.predefined.now in
     let lib = c.args.sources.now in
     let old = at_unit c.args.old.now in

@@ -5,14 +5,14 @@ use Rattle.al_engine_refresh.proofs.refreshed.refresh.Goals as goal
 
 pub loop-unit-init : goal.loop-unit-init
 loop-unit-init g c = (
-  λ fl is o laws. loop-start g.C.UnitCheck.meaning g.C.UnitCheck.header c.args.sources.now fl (g.P.Answers.table c.args.predefined.now) is (at_unit c.args.old.now) c.args.order.now c.empty.result c.new.result c.new.ensures c.empty.ensures o,
+  λ fl is o laws. loop-start g.C.UnitCheck.meaning g.C.Text.ReadText.header c.args.sources.now fl (g.P.Answers.table c.args.predefined.now) is (at_unit c.args.old.now) c.args.order.now c.empty.result c.new.result c.new.ensures c.empty.ensures o,
   count-start (g.C.UnitCheck.count c.args.checker.now) c.checks-before.result c.empty.result c.checks-before.ensures (omega arith) c.empty.ensures,
 )
 
 pub loop-unit-preserved : goal.loop-unit-preserved
 loop-unit-preserved g c =
     let meaning = g.C.UnitCheck.meaning in
-    let header = g.C.UnitCheck.header in
+    let header = g.C.Text.ReadText.header in
     let lib = c.args.sources.now in
     let pre = g.P.Answers.table c.args.predefined.now in
     let old = at_unit c.args.old.now in
@@ -27,4 +27,4 @@ loop-unit-preserved g c =
 
 pub returns-clause-built : goal.returns-clause-built
 returns-clause-built g c fl is o laws =
-    loop-end g.C.UnitCheck.meaning g.C.UnitCheck.header c.args.sources.now fl (g.P.Answers.table c.args.predefined.now) is (at_unit c.args.old.now) (at_unit c.loop-unit.done.entries) c.args.order.now c.loop-unit.done.checked c.loop-unit.unit-index (omega arith) o (c.loop-unit.invariant.0 fl is o laws)
+    loop-end g.C.UnitCheck.meaning g.C.Text.ReadText.header c.args.sources.now fl (g.P.Answers.table c.args.predefined.now) is (at_unit c.args.old.now) (at_unit c.loop-unit.done.entries) c.args.order.now c.loop-unit.done.checked c.loop-unit.unit-index (omega arith) o (c.loop-unit.invariant.0 fl is o laws)

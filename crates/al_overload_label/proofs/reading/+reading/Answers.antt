@@ -1,23 +1,27 @@
-use Rattle.std.proofs.Common.{◌≡◌, map, refl, sym, ap, subst, ◌∙◌, arith, rules, Box, Global}
+use Rattle.std.proofs.Common.{◌≡◌, false, map, refl, sym, ap, subst, ◌∙◌, arith, rules, Box, Global}
+use Rattle.std.specs.Option.{option_copied, option_map_or}
 use Rattle.al_overload_choice.specs.Counts.{label_of}
-use Rattle.al_overload_heads.specs.Parts.{declared_under, nominal, part_of}
+use Rattle.al_overload_heads.specs.Parts.{nominal}
 use Rattle.al_overload_nodes.specs.Gathering.{no_parts}
 use Rattle.al_overload_nodes.specs.Names.{object_node}
-use Rattle.al_overload_nodes.specs.Views.{reading_model, values_model}
+use Rattle.al_overload_nodes.specs.Views.{actuals_model, reading_model, values_model}
 use Rattle.al_overload_nodes.specs.declared.node.Reading.{Reading}
 use Rattle.al_overload_term.specs.Places.{first_place}
 use Rattle.al_overload_term.specs.TermViews.{term_model, terms_of}
+use Rattle.al_overload_term.specs.Terms.{TermTree as trees}
 use Rattle.al_overload_term.specs.declared.term.Term.{Term, size-Term}
 use Rattle.al_overload_term.specs.declared.term.Term.TheViews.{sized-Infix, sized-ShortCircuit}
-use Rattle.al_overload_types.specs.Leaves.{application}
+use Rattle.al_overload_types.specs.Leaves.Application.{CallOf, ElementOf, ElementOfPart, Misapplied}
 use Rattle.al_overload_types.specs.FromAnswers.{test_type, types_in}
 use Rattle.al_overload_label.specs.Chains.{IsBelow, stepped}
 use Rattle.al_overload_label.specs.Readings.{operand_read, reading, values_read}
+use Rattle.al_overload_label.specs.Variables.{variable_as}
+use Rattle.al_overload_picks.specs.Labels.{operand_label}
 use Rattle.al_overload_label.specs.declared.chain.Step.{Step}
-use Rattle.al_overload_label.proofs.ChainLemmas.{infix_begins, infix_below, longer, short_circuit_begins, short_circuit_below}
-use Rattle.al_overload_label.proofs.Gathered.{values_step}
-use Rattle.al_overload_label.proofs.TermKinds.{attribute_is, kept_is, many_indexes, member_is, member_model, selected_is}
-use Rattle.al_overload_label.proofs.Wholes.{applied_call_model, element_model, object_element_is, part_element_is, part_element_model, range_member_model, three_made}
+use Rattle.al_overload_label.proofs.ChainLemmas.{applied_begins, applied_below, infix_begins, infix_below, last_at, last_read, longer, selected_begins, selected_below, short_circuit_begins, short_circuit_below, step_by}
+use Rattle.al_overload_label.proofs.Gathered.{actual_made, component_made, item_there, values_step}
+use Rattle.al_overload_label.proofs.TermKinds.{attribute_is, kept_is, many_indexes, member_is, member_model, read_by, selected_model}
+use Rattle.al_overload_label.proofs.Wholes.{applied_is, applied_model, object_element_is, range_member_model, three_made}
 use Rattle.al_overload_label.proofs.reading.+reading.Goals as goal
 
 pub read-returns-in-Member : goal.read-returns-in-Member
@@ -40,40 +44,26 @@ read_member-returns t c =
     member_is c.args.labeller.now.predefined c.args.labeller.now.own (term_model c.args.value.now) c.args.is_negated c.args.subtype.now (label_of c.args.label.now) c.first_place-place.result _
     c.in_mark_reading.result c.first_place-place.ensures c.in_ok-value.ensures c.in_mark_reading.ensures
 
-pub read_selected-returns : goal.read_selected-returns
-read_selected-returns t c = search (rules, selected_is)
+pub read_actual-returns : goal.read_actual-returns
+read_actual-returns t c =
+    actual_made c.add_actual.result c.args.subprogram.now (label_of c.args.label.now) c.args.position (actuals_model c.args.actuals.now) (actuals_model c.add_actual.new.actuals) (first_place (term_model c.args.argument.now))
+    (option_map_or (variable_as (term_model c.args.argument.now)) (operand_label c.args.position (label_of c.args.label.now)) false)
+    (λ l of. reading c.args.labeller.now.predefined c.args.labeller.now.own (term_model c.args.argument.now) l c.args.subprogram.now.types of)
+    c.in-Some.parameter.now c.first_place-place.result c.range_in-range.result c.variable_at-is_variable.result (reading_model c.in_ok-value.value)
+    (item_there c.args.subprogram.now.profile.parameters c.as_slice.result.now c.args.position c.get.result c.in-Some.parameter c.as_slice.ensures c.get.ensures.lookup c.in-Some.is) c.first_place-place.ensures c.range_in-range.ensures c.variable_at-is_variable.ensures
+    c.in_ok-value.ensures c.add_actual.ensures
 
-pub read-returns-in-CallOf : goal.read-returns-in-CallOf
-read-returns-in-CallOf t c =
-    applied_call_model c.args.labeller.now.predefined c.args.labeller.now.own c.args.term.now c.in-Applied.name c.in-Applied.arguments c.as_slice-arguments.result.now (label_of c.args.label.now) c.args.types.now c.args.at.now c.first_place-place.result c.in-CallOf.subprogram.now c.read_call.result
-    c.in-Applied.is c.as_slice-arguments.ensures.value (c.first_place-place.ensures ∙ ap (λ (x : Term). first_place (term_model x)) c.deref-in-Applied.ensures)
-    (c.in-CallOf.ensures ∙ ap (λ (x : Term). application (declared_under (term_model x)) (part_of (term_model x)) (label_of c.args.label.now)) c.deref-in-Applied-2.ensures)
-    c.read_call.ensures
+pub read_value-returns : goal.read_value-returns
+read_value-returns t c =
+    component_made c.add_value.result c.args.types.now c.args.at.now (label_of c.args.label.now) c.args.position (values_model c.args.values.now) (values_model c.add_value.new.values) (first_place (term_model c.args.component.now))
+    (λ l of. reading c.args.labeller.now.predefined c.args.labeller.now.own (term_model c.args.component.now) l c.args.types.now of)
+    c.in-Some.subtype.now c.first_place-place.result c.range_in-range.result (reading_model c.in_ok-value.value)
+    (sym c.component_of_type.ensures ∙ ap option_copied c.in-Some.is) c.first_place-place.ensures c.range_in-range.ensures
+    c.in_ok-value.ensures c.add_value.ensures
 
 pub read_object_element-returns : goal.read_object_element-returns
 read_object_element-returns t c =
     object_element_is c.args.labeller.now.predefined c.args.labeller.now.own c.args.place c.args.object.now c.args.arguments.now (label_of c.args.label.now) (reading_model c.in_ok-whole.whole) c.read_element.result c.in_ok-whole.ensures c.read_element.ensures
-
-pub read_part_element-returns : goal.read_part_element-returns
-read_part_element-returns t c =
-    part_element_is c.args.labeller.now.predefined c.args.labeller.now.own c.args.place c.args.types.now c.args.of.now c.args.arguments.now (label_of c.args.label.now) c.into_inner-whole.result c.args.whole.value c.read_element.result c.into_inner-whole.ensures c.read_element.ensures
-
-pub read-returns-in-ElementOf : goal.read-returns-in-ElementOf
-read-returns-in-ElementOf t c =
-    element_model c.args.labeller.now.predefined c.args.labeller.now.own c.args.term.now c.in-Applied.name c.in-Applied.arguments c.as_slice-arguments.result.now (label_of c.args.label.now) c.args.types.now c.args.at.now c.first_place-place.result c.in-ElementOf.object.now
-    (object_node c.args.labeller.now.predefined.root c.first_place-place.result c.in-ElementOf.object.now) c.read_object_element.result
-    c.in-Applied.is c.as_slice-arguments.ensures.value (c.first_place-place.ensures ∙ ap (λ (x : Term). first_place (term_model x)) c.deref-in-Applied.ensures)
-    (c.in-ElementOf.ensures ∙ ap (λ (x : Term). application (declared_under (term_model x)) (part_of (term_model x)) (label_of c.args.label.now)) c.deref-in-Applied-2.ensures)
-    refl c.read_object_element.ensures
-
-pub read-returns-in_ok-whole-in-ElementOfPart : goal.read-returns-in_ok-whole-in-ElementOfPart
-read-returns-in_ok-whole-in-ElementOfPart t c =
-    part_element_model c.args.labeller.now.predefined c.args.labeller.now.own c.args.term.now c.in-Applied.name c.in-Applied.arguments c.as_slice-arguments.result.now (label_of c.args.label.now) c.args.types.now c.args.at.now c.first_place-place.result (nominal c.in-ElementOfPart.part.now c.in-ElementOfPart.subtype.now)
-    (reading_model c.in_ok-whole-in-ElementOfPart.whole.value) c.read_part_element.result
-    c.in-Applied.is c.as_slice-arguments.ensures.value (c.first_place-place.ensures ∙ ap (λ (x : Term). first_place (term_model x)) c.deref-in-Applied.ensures)
-    (c.in-ElementOfPart.ensures ∙ ap (λ (x : Term). application (declared_under (term_model x)) (part_of (term_model x)) (label_of c.args.label.now)) c.deref-in-Applied-2.ensures)
-    (c.in_ok-whole-in-ElementOfPart.ensures ∙ ap (λ (x : Term). operand_read c.args.labeller.now.predefined c.args.labeller.now.own c.first_place-place.result 0 (term_model x) (label_of c.args.label.now) c.args.types.now c.args.at.now) c.deref-in-ElementOfPart.ensures)
-    c.read_part_element.ensures
 
 pub read-returns-in_ok-value-in-RangeMember : goal.read-returns-in_ok-value-in-RangeMember
 read-returns-in_ok-value-in-RangeMember t c =
@@ -123,6 +113,81 @@ step-returns-in-Infix-clause-below t c =
 pub step-returns-in-ShortCircuit-clause-below : goal.step-returns-in-ShortCircuit-clause-below
 step-returns-in-ShortCircuit-clause-below t c =
     short_circuit_below c.args.term.now c.deref-in-ShortCircuit-2.result.now c.in-ShortCircuit.form c.in-ShortCircuit.left c.in-ShortCircuit.right c.step_short_circuit.result c.in-ShortCircuit.is c.deref-in-ShortCircuit-2.ensures c.step_short_circuit.ensures.at
+
+pub step-step_selected-requires : goal.step-step_selected-requires
+step-step_selected-requires t c =
+    selected_begins c.args.term.now c.deref-in-Selected.result.now c.in-Selected.prefix c.in-Selected.name c.args.place c.in-Selected.is c.deref-in-Selected.ensures c.requires
+
+pub step-returns-in-Selected-clause-below : goal.step-returns-in-Selected-clause-below
+step-returns-in-Selected-clause-below t c =
+    selected_below c.args.term.now c.deref-in-Selected.result.now c.in-Selected.prefix c.in-Selected.name c.step_selected.result c.in-Selected.is c.deref-in-Selected.ensures c.step_selected.ensures.at
+
+pub step-returns-in-Applied-clause-read : goal.step-returns-in-Applied-clause-read
+step-returns-in-Applied-clause-read t c =
+    step_by c.args.labeller.now.predefined c.args.labeller.now.own c.args.place _ _ c.step_applied.result
+    (applied_model c.args.labeller.now.predefined c.args.labeller.now.own c.args.term.now c.in-Applied.name c.in-Applied.arguments c.deref-in-Applied.result.now c.as_slice-arguments.result.now (label_of c.args.label.now) c.args.types.now c.args.at.now c.args.place
+    c.in-Applied.is c.deref-in-Applied.ensures c.as_slice-arguments.ensures.value
+    (applied_begins c.args.term.now c.deref-in-Applied.result.now c.in-Applied.name c.in-Applied.arguments c.args.place c.in-Applied.is c.deref-in-Applied.ensures c.requires))
+    c.step_applied.ensures.read
+
+pub step-returns-in-Applied-clause-below : goal.step-returns-in-Applied-clause-below
+step-returns-in-Applied-clause-below t c =
+    applied_below c.args.term.now c.deref-in-Applied.result.now c.in-Applied.name c.in-Applied.arguments c.step_applied.result c.in-Applied.is c.deref-in-Applied.ensures c.step_applied.ensures.at
+
+pub step_applied-returns-in-CallOf-clause-read : goal.step_applied-returns-in-CallOf-clause-read
+step_applied-returns-in-CallOf-clause-read t c =
+    last_read c.args.labeller.now.predefined c.args.labeller.now.own c.args.place _ _ c.read_call-reading.result c.last.result
+    (applied_is c.args.labeller.now.predefined c.args.labeller.now.own c.args.place (term_model c.args.name.now) (terms_of (map term_model c.args.arguments.now)) (label_of c.args.label.now) c.args.types.now c.args.at.now (CallOf c.in-CallOf.subprogram.now) c.in-CallOf.ensures)
+    c.read_call-reading.ensures c.last.ensures
+
+pub step_applied-returns-in-CallOf-clause-at : goal.step_applied-returns-in-CallOf-clause-at
+step_applied-returns-in-CallOf-clause-at t c = last_at c.args.name.now c.read_call-reading.result c.last.result c.last.ensures
+
+pub step_applied-returns-in-ElementOf-clause-read : goal.step_applied-returns-in-ElementOf-clause-read
+step_applied-returns-in-ElementOf-clause-read t c =
+    last_read c.args.labeller.now.predefined c.args.labeller.now.own c.args.place _ _ c.read_object_element-reading.result c.last-in-ElementOf.result
+    (applied_is c.args.labeller.now.predefined c.args.labeller.now.own c.args.place (term_model c.args.name.now) (terms_of (map term_model c.args.arguments.now)) (label_of c.args.label.now) c.args.types.now c.args.at.now (ElementOf c.in-ElementOf.object.now) c.in-ElementOf.ensures)
+    c.read_object_element-reading.ensures c.last-in-ElementOf.ensures
+
+pub step_applied-returns-in-ElementOf-clause-at : goal.step_applied-returns-in-ElementOf-clause-at
+step_applied-returns-in-ElementOf-clause-at t c = last_at c.args.name.now c.read_object_element-reading.result c.last-in-ElementOf.result c.last-in-ElementOf.ensures
+
+pub step_applied-returns-in-ElementOfPart-clause-read : goal.step_applied-returns-in-ElementOfPart-clause-read
+step_applied-returns-in-ElementOfPart-clause-read t c =
+    step_by c.args.labeller.now.predefined c.args.labeller.now.own c.args.place _ _ c.step_index.result
+    (applied_is c.args.labeller.now.predefined c.args.labeller.now.own c.args.place (term_model c.args.name.now) (terms_of (map term_model c.args.arguments.now)) (label_of c.args.label.now) c.args.types.now c.args.at.now (ElementOfPart (nominal c.in-ElementOfPart.part.now c.in-ElementOfPart.subtype.now)) c.in-ElementOfPart.ensures)
+    c.step_index.ensures.read
+
+pub step_applied-returns-in-Misapplied-clause-read : goal.step_applied-returns-in-Misapplied-clause-read
+step_applied-returns-in-Misapplied-clause-read t c =
+    last_read c.args.labeller.now.predefined c.args.labeller.now.own c.args.place _ _ c.unfit.result c.last-in-Misapplied.result
+    (applied_is c.args.labeller.now.predefined c.args.labeller.now.own c.args.place (term_model c.args.name.now) (terms_of (map term_model c.args.arguments.now)) (label_of c.args.label.now) c.args.types.now c.args.at.now Misapplied c.in-Misapplied.ensures)
+    c.unfit.ensures c.last-in-Misapplied.ensures
+
+pub step_applied-returns-in-Misapplied-clause-at : goal.step_applied-returns-in-Misapplied-clause-at
+step_applied-returns-in-Misapplied-clause-at t c = last_at c.args.name.now c.unfit.result c.last-in-Misapplied.result c.last-in-Misapplied.ensures
+
+pub read-returns-in_ok-step-in-Selected : goal.read-returns-in_ok-step-in-Selected
+read-returns-in_ok-step-in-Selected t c =
+    selected_model c.args.labeller.now.predefined c.args.labeller.now.own c.args.term.now c.in-Selected.prefix c.in-Selected.name (label_of c.args.label.now) c.args.types.now c.args.at.now
+    c.deref-in-Selected.result.now c.as_slice-in-Selected.result.now c.read_step.result
+    c.in-Selected.is c.deref-in-Selected.ensures c.as_slice-in-Selected.ensures
+    (read_by c.read_step.result (stepped c.args.labeller.now.predefined c.args.labeller.now.own c.first_place-place.result c.in_ok-step-in-Selected.step)
+    (reading c.args.labeller.now.predefined c.args.labeller.now.own (trees.SelectedTerm (term_model c.deref-in-Selected.result.now) c.as_slice-in-Selected.result.now) (label_of c.args.label.now) c.args.types.now c.args.at.now)
+    c.in_ok-step-in-Selected.ensures.read c.read_step.ensures)
+
+pub read-returns-in_ok-step-in-Applied : goal.read-returns-in_ok-step-in-Applied
+read-returns-in_ok-step-in-Applied t c =
+    read_by c.read_step-in-Applied.result (stepped c.args.labeller.now.predefined c.args.labeller.now.own c.first_place-place-in-Applied.result c.in_ok-step-in-Applied.step)
+    (reading c.args.labeller.now.predefined c.args.labeller.now.own (term_model c.args.term.now) (label_of c.args.label.now) c.args.types.now c.args.at.now)
+    (c.in_ok-step-in-Applied.ensures.read
+    ∙ applied_model c.args.labeller.now.predefined c.args.labeller.now.own c.args.term.now c.in-Applied.name c.in-Applied.arguments c.deref-in-Applied-2.result.now c.as_slice-arguments.result.now (label_of c.args.label.now) c.args.types.now c.args.at.now c.first_place-place-in-Applied.result
+    c.in-Applied.is c.deref-in-Applied-2.ensures c.as_slice-arguments.ensures.value
+    (c.first_place-place-in-Applied.ensures ∙ ap (λ (x : Term). first_place (term_model x)) (c.deref-in-Applied.ensures ∙ sym c.deref-in-Applied-2.ensures)))
+    c.read_step-in-Applied.ensures
+
+pub kept_index-returns : goal.kept_index-returns
+kept_index-returns t c = kept_is _ c.read_index-reading.result c.kept.result c.read_index-reading.ensures c.kept.ensures
 
 pub read_boxed-loop-joints-preserved : goal.read_boxed-loop-joints-preserved
 read_boxed-loop-joints-preserved t c =

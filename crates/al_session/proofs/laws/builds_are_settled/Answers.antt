@@ -4,4 +4,4 @@ use Rattle.al_session_engine.specs.Settled.{is_settled}
 use Rattle.al_session.proofs.laws.builds_are_settled.Goals as goal
 
 pub returns : goal.returns
-returns g c = is_settled g.C.UnitCheck.meaning g.C.UnitCheck.header predefined_answer library_of
+returns g c = is_settled g.C.UnitCheck.meaning g.C.Text.ReadText.header predefined_answer library_of

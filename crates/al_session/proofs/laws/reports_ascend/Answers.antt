@@ -10,7 +10,7 @@ use Rattle.al_session.proofs.laws.reports_ascend.Goals as goal
 pub returns : goal.returns
 returns g c = λ tick at_end commands marks bytes all last findings session built faulty.
     let meaning = g.C.UnitCheck.meaning in
-    let header = g.C.UnitCheck.header in
+    let header = g.C.Text.ReadText.header in
     let ordered = c.sessions_are_ordered.ensures tick at_end commands marks bytes all session in
     let right = c.builds_are_right.ensures tick at_end commands marks bytes all session in
     let ascend = subst (λ b. IfSome b (λ l. Ascend l.files)) built ordered.built in

@@ -11,7 +11,7 @@ pub returns-clause-words : goal.returns-clause-words
 returns-clause-words g c = c.check_unit.ensures.names
 
 pub returns-clause-names : goal.returns-clause-names
-returns-clause-names g c = IfOk-weaker c.check_unit.result _ _ (λ v k. k.promised.names) c.check_unit.ensures.checked
+returns-clause-names g c = IfOk-weaker c.check_unit.result _ _ (λ v k. k.names) c.check_unit.ensures.checked
 
 pub returns-clause-uses : goal.returns-clause-uses
 returns-clause-uses g c = IfOk-weaker c.check_unit.result _ _ (λ v k. k.promised.uses) c.check_unit.ensures.checked

@@ -1,0 +1,26 @@
+// The text of a unit, as a checker takes it.
+ghost use Rattle.std.specs.Prelude.{◌≡◌, IfOk};
+
+use al_base::NoMemory;
+use std::alloc::Global;
+use std::rc::Rc;
+
+/// The text of a unit with what was read in it.
+pub trait ReadText: Drop {
+    ghost use Rattle.std.specs.Prelude.{ℕ, List};
+    ghost use Rattle.al_unit_graph.specs.Headers.{Header};
+
+    /// What a text says of its unit.
+    ghost header: { List ℕ → Header };
+
+    /// The text that was read.
+    ghost text: { Self → List ℕ };
+
+    /// Reads a text.
+    ///
+    /// # Errors
+    ///
+    /// `NoMemory` where memory was wanted and not given. What is wrong with the text is no error.
+    fn read(alloc: Global, bytes: Rc<Vec<u8>>) -> Result<Self, NoMemory>
+        ensures { IfOk result (λ read. text read ≡ bytes.value.items) };
+}
