@@ -51,6 +51,11 @@ def wrong_selectors(n):
     return procedure("X : Integer;", f"X := X{'.B' * n};")
 
 
+def wrong_indexes(n):
+    """Indexes one behind the other, after the name of an array of integers."""
+    return procedure("A : array (1 .. 2) of Integer;\nX : Integer;", f"X := A{'(1)' * n};")
+
+
 def use_types(n):
     types = lines(n, lambda i: f"type T{i} is range 0 .. 9;")
     users = lines(n, lambda i: f"use type P.T{i};")
@@ -142,6 +147,7 @@ WAYS = [
     ("arrays in arrays", arrays_in_arrays, 100),
     ("selectors of a name", selectors, 100),
     ("selectors that are not there", wrong_selectors, 1_000),
+    ("indexes that are not there", wrong_indexes, 500),
     ("use type clauses", use_types, 100),
     ("a chain of Elaborate_All", elaborate_all, 250),
     ("overloads of a name, each called", overloads, 100),
