@@ -2,7 +2,7 @@
 """growths.py PROGRAM STDIN STDOUT: refuses each growth of memory in turn, in a program that does once more what found no memory.
 
 The program must write what it always writes; or, where the growth is one of reading its input, nothing, with exit status 1. It is
-for al_engine_check_runs and al_engine_runs, and no part of the gate. Prints how many growths were refused.
+for al_engine_runs, and no part of the gate. Prints how many growths were refused.
 """
 import sys
 import tempfile

@@ -1,7 +1,8 @@
 #!/usr/bin/env python3
-"""memory.py PROGRAM [NAME ..]: refuses each growth of memory in turn, in the stored sessions, or in those of these names.
+"""memory.py PROGRAM [NAME ..]: refuses growths of memory, one at a time, in the stored sessions, or each in those of these names.
 
-Each session is run once for each growth, with that one refused (by refuse.c, built by the kit's clang and loaded before
+Of four sessions (`WHOLE`) each growth is refused in turn, and in those that are named; of each other one `FEW` of them, spread over all that it has. Such a
+session is run once for each, with that growth refused (by refuse.c, built by the kit's clang and loaded before
 the program). It must then write what it always writes; or `refused 10 no-memory` to one put, rename, build, run, report
 of units or report of obsolete units that is not refused otherwise, and to all else what the session without that command
 writes; or, where the growth is outside the session, nothing, with exit status 1. Those growths that come before the first
@@ -9,6 +10,7 @@ command is read are the same in each session with the same words: they are refus
 a line for each session, and last `N passed, M failed`.
 """
 import concurrent.futures
+import functools
 import os
 import pathlib
 import re
@@ -16,10 +18,14 @@ import shutil
 import subprocess
 import sys
 import tempfile
+import zlib
 
 from sessions import SESSIONS, TESTS, Count, input_of, words_of
 
 LONGEST = 4096
+# a name that use clauses show beside another one; a body that isn't elaborated; a subunit's slot; a task that waits for a moment
+WHOLE = {"use-visible-name-and-its-homograph", "body-not-yet-elaborated", "slot-of-a-subunit", "a-task-that-waits-for-a-moment"}
+FEW = 32
 REFUSED = b"refused 10 no-memory\n"
 OUTSIDE = "outside the session"
 UNSEEN = "with the plain replies"
@@ -42,14 +48,14 @@ class Refuser:
         self.program = program
         self.shim = shim_of("refuse.c", folder)
 
-    def growths_before(self, words):
-        """How many growths come before the first command is read: those of a session without a command."""
+    def growths(self, session, words):
+        """How many growths there are in a session."""
         few, many = 0, 1
-        while self.run(b"", many, words)[1]:
+        while self.run(session, many, words)[1]:
             few, many = many, 2 * many
         while few + 1 < many:
             middle = (few + many) // 2
-            few, many = (middle, many) if self.run(b"", middle, words)[1] else (few, middle)
+            few, many = (middle, many) if self.run(session, middle, words)[1] else (few, middle)
         return few
 
     def run(self, session, growth=0, words=()):
@@ -90,39 +96,66 @@ def replies_to(refuser, words, commands):
     return [written[k + 1][len(written[k]) :] for k in range(len(commands))]
 
 
-def outcomes(refuser, words, session):
-    """All that may come of a session where one growth is refused, each with a name."""
-    plain, _ = refuser.run(session, 0, words)
-    allowed = {(1, b"", b""): OUTSIDE, plain: UNSEEN}
-    commands = list(commands_of(session))
-    for k, reply in enumerate(replies_to(refuser, words, commands)):
-        if may_lack_memory(commands[k], reply):
-            others = replies_to(refuser, words, commands[:k] + commands[k + 1 :])
+class Allowed:
+    """What may come of a session where one growth is refused."""
+
+    def __init__(self, refuser, words, session):
+        self.refuser, self.words, self.session = refuser, words, session
+        self.plain = refuser.run(session, 0, words)[0]
+        self.commands = list(commands_of(session))
+        self.without = {}
+
+    @functools.cached_property
+    def replies(self):
+        return replies_to(self.refuser, self.words, self.commands)
+
+    def refused_at(self, k):
+        """The output where just the command k finds no memory."""
+        if k not in self.without:
+            others = replies_to(self.refuser, self.words, self.commands[:k] + self.commands[k + 1 :])
             others.insert(k, REFUSED)
-            line = commands[k].split(b"\n")[0].decode()
-            allowed.setdefault((plain[0], b"".join(others), plain[2]), f"at '{line[:20]}'")
-    return allowed
+            self.without[k] = b"".join(others)
+        return self.without[k]
+
+    def name(self, got):
+        """What this outcome is called, or None where it may not come."""
+        if got == self.plain:
+            return UNSEEN
+        if got == (1, b"", b""):
+            return OUTSIDE
+        if (got[0], got[2]) != (self.plain[0], self.plain[2]):
+            return None
+        for k, command in enumerate(self.commands):
+            is_here = got[1].startswith(b"".join(self.replies[:k]) + REFUSED) and may_lack_memory(command, self.replies[k])
+            if is_here and got[1] == self.refused_at(k):
+                line = command.split(b"\n")[0].decode()
+                return f"at '{line[:20]}'"
+        return None
 
 
-def sweep(refuser, name):
-    """What is told of a session with each growth refused in turn, and whether all was as it may be."""
+def chosen(name, first, last, is_whole):
+    """The growths of a session that are refused: all, or some, which begin elsewhere in each session."""
+    if is_whole or last - first < FEW:
+        return range(first, last + 1)
+    step = (last - first) // FEW + 1
+    return range(first + zlib.crc32(name.encode()) % step, last + 1, step)
+
+
+def sweep(refuser, name, is_whole):
+    """What is told of a session with these growths refused in turn, and whether all was as it may be."""
     session, words = input_of(name), words_of(name)
-    allowed = outcomes(refuser, words, session)
-    seen, strange = {}, []
-    first = refuser.growths_before(words) + 1 if session else 1
-    growth = first
-    got, refused = refuser.run(session, growth, words)
-    while refused:
-        if got in allowed:
-            seen[allowed[got]] = seen.get(allowed[got], 0) + 1
-        else:
-            strange.append((growth, got))
-        growth += 1
+    allowed = Allowed(refuser, words, session)
+    first = refuser.growths(b"", words) + 1 if session else 1
+    last = refuser.growths(session, words)
+    seen, lines = {}, []
+    for growth in chosen(name, first, last, is_whole):
         got, refused = refuser.run(session, growth, words)
-    outcome = ", ".join(f"{times} {what}" for what, times in seen.items())
-    lines = [f"{name}: {growth - first} growths refused: {outcome}"]
-    lines += [f"  failed at growth {at}: {it}" for at, it in strange]
-    return lines, not strange and growth > 1
+        told = allowed.name(got) if refused else None
+        seen[told] = seen.get(told, 0) + 1
+        if told is None:
+            lines.append(f"  failed at growth {growth}: {got}")
+    outcome = ", ".join(f"{times} {what}" for what, times in seen.items() if what)
+    return [f"{name}: {sum(seen.values())} of {last - first + 1} growths refused: {outcome}", *lines], not lines and last > 0
 
 
 def main():
@@ -131,7 +164,7 @@ def main():
     count = Count()
     with tempfile.TemporaryDirectory() as folder, concurrent.futures.ThreadPoolExecutor(os.cpu_count()) as pool:
         refuser = Refuser(program, folder)
-        for lines, passed in pool.map(lambda name: sweep(refuser, name), names):
+        for lines, passed in pool.map(lambda name: sweep(refuser, name, name in WHOLE or bool(sys.argv[2:])), names):
             print("\n".join(lines), flush=True)
             count.passed += passed
             count.failed += not passed

@@ -50,10 +50,10 @@ def run(program, words, given, output=subprocess.PIPE, before=None):
     with tempfile.TemporaryDirectory() as folder:
         try:
             done = subprocess.run(
-                [program, *words], stdout=output, stderr=subprocess.PIPE, cwd=folder, timeout=120, preexec_fn=before, **source
+                [program, *words], stdout=output, stderr=subprocess.PIPE, cwd=folder, timeout=300, preexec_fn=before, **source
             )
         except subprocess.TimeoutExpired:
-            return (-1, b"", b"no end within 120 seconds")
+            return (-1, b"", b"no end within 300 seconds")
     return (done.returncode, done.stdout or b"", done.stderr)
 
 
