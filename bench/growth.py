@@ -93,6 +93,73 @@ def arguments(n):
     return procedure(f"procedure F ({names} : Integer) is begin null; end F;", f"F ({', '.join('1' for _ in range(n))});")
 
 
+def wrong_arguments(n):
+    return procedure("X : Integer;\nprocedure F (X : Integer) is begin null; end F;", f"F ({', '.join(['X'] * n)});")
+
+
+def components(n):
+    """An aggregate of so many records without components."""
+    return procedure(f"type N is null record;\nX : N;\nA : array (1 .. {n}) of N := ({', '.join(['X'] * n)});")
+
+
+def wrong_attributes(n):
+    return procedure("X : Integer;", "X := X" + "'First" * n + ";")
+
+
+def names_after_dots(n):
+    return procedure("X : Integer;", f"M{'.M' * n};")
+
+
+def selected_objects(n):
+    """Selectors, indexes, attributes and calls, joined by an operator."""
+    declarations = "type R is record C : Integer; end record;\nX : R;\nA : array (1 .. 2) of Integer;\nY : Integer;\nfunction F (Z : Integer) return Integer is begin return Z; end F;"
+    return procedure(declarations, "Y := Y" + " + X.C + A (1) + A'First + F (1)" * (n // 4) + ";")
+
+
+def short_circuits(n):
+    return procedure("B : Boolean := True;", "B := B" + " and then B" * n + ";")
+
+
+def strings(n):
+    images = " & ".join(["Integer'Image (X)"] * n)
+    return put("m.adb", f"with Ada.Text_IO;\nprocedure M is\nX : Integer := 1;\nbegin\nAda.Text_IO.Put ({images});\nend M;\n")
+
+
+def minus_numbers(n):
+    return procedure("X : Integer := 1;", "X := X" + " - 1" * n + ";")
+
+
+def operations(n):
+    """Operations of a protected object, each with its body."""
+    heads = lines(n, lambda i: f"procedure P{i};")
+    bodies = lines(n, lambda i: f"procedure P{i} is begin null; end P{i};")
+    return (
+        put("p.ads", f"package P is\nprotected O is\n{heads}\nend O;\nend P;\n")
+        + put("p.adb", f"package body P is\nprotected body O is\n{bodies}\nend O;\nend P;\n")
+        + put("m.adb", "with P;\nprocedure M is begin P.O.P0; end M;\n")
+    )
+
+
+def calls_of_operations(n):
+    """As many calls as the protected object has operations."""
+    heads = lines(n, lambda i: f"procedure P{i};")
+    return put("p.ads", f"package P is\nprotected O is\n{heads}\nend O;\nend P;\n") + put("m.adb", f"with P;\nprocedure M is\nbegin\n{lines(n, lambda i: f'P.O.P{i};')}\nend M;\n")
+
+
+def types_of_a_record(n):
+    types = lines(n, lambda i: f"type T{i} is range 0 .. 9;")
+    return procedure(f"{types}\ntype R is record\n{lines(n, lambda i: f'C{i} : T{i};')}\nend record;")
+
+
+def types_of_a_profile(n):
+    types = lines(n, lambda i: f"type T{i} is range 0 .. 9;")
+    return procedure(f"{types}\nprocedure F ({'; '.join(f'X{i} : T{i}' for i in range(n))}) is begin null; end F;")
+
+
+def names_of_a_with_clause(n):
+    return put("p.ads", "package P is X : Integer; end P;\n") + put("m.adb", f"with {', '.join(['P'] * n)};\nuse {', '.join(['P'] * n)};\nprocedure M is begin X := 1; end M;\n")
+
+
 def stubs(n):
     return (
         put("m.adb", f"procedure M is\n{lines(n, lambda i: f'procedure S{i} is separate;')}\nbegin\nnull;\nend M;\n")
@@ -155,7 +222,20 @@ WAYS = [
     ("1 + 1 + ..", sum_of_numbers, 2_000),
     ("X + X + ..", sum_of_variables, 2_000),
     ("membership tests", membership_tests, 2_000),
+    ("X - 1 - 1 ..", minus_numbers, 2_000),
+    ("short circuits", short_circuits, 2_000),
+    ("images joined by &", strings, 2_000),
+    ("selectors, indexes, attributes, calls", selected_objects, 2_000),
+    ("attributes that are not there", wrong_attributes, 2_000),
+    ("names after dots in a call", names_after_dots, 2_000),
     ("arguments of a call", arguments, 2_000),
+    ("arguments that are too many", wrong_arguments, 2_000),
+    ("components of an aggregate", components, 2_000),
+    ("names of a with and a use clause", names_of_a_with_clause, 2_000),
+    ("operations of a protected object", operations, 125),
+    ("calls of these", calls_of_operations, 500),
+    ("types of the components of a record", types_of_a_record, 250),
+    ("types of the formals of a profile", types_of_a_profile, 250),
     ("stubs with their subunits", stubs, 250),
     ("packages with use clauses", use_clauses, 100),
     ("types with a literal of one name", literals, 100),
@@ -195,7 +275,7 @@ def tell(program, what, way, n):
     times = [max(0.1, it[0] - least) for it in figures]
     power = math.log2(times[2] / times[1])
     shown = "   ".join(f"{size:>6}: {time:>8.1f} ms {it[1]:>6.0f} MB" for size, time, it in zip((n, 2 * n, 4 * n), times, figures))
-    print(f"{what:<34} {shown}   n^{power:.1f}   {figures[2][2][:40]}", flush=True)
+    print(f"{what:<38} {shown}   n^{power:.1f}   {figures[2][2][:40]}", flush=True)
 
 
 def main():

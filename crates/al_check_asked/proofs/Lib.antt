@@ -1,3 +1,4 @@
 pub mod Joined
 pub mod NameLemmas
 pub mod Shown
+pub mod UnitLemmas

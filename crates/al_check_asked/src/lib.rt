@@ -7,6 +7,7 @@ mod laws;
 mod name_set;
 mod queries;
 mod recorded;
+mod unit_set;
 mod views;
 mod wanted;
 
@@ -14,4 +15,5 @@ pub use asking::asked_again;
 pub use laws::shown_views_are_answered;
 pub use name_set::NameSet;
 pub use recorded::recorded_views;
+pub use unit_set::UnitSet;
 pub use wanted::Wanted;

@@ -6,14 +6,15 @@ ghost use Rattle.al_query.specs.Known.{has_unit};
 ghost use Rattle.al_check_asked.specs.Questions.{has_part, is_wanted};
 
 use crate::name_set::NameSet;
+use crate::unit_set::UnitSet;
 use al_base::{Name, UnitKey};
 use al_query::{Property, Query};
-use al_view::{Part, Seq, is_unit};
+use al_view::{Part, Seq};
 
 /// Which questions may show a unit what it uses of others: of each of these units what it is, what its body must complete, and each of these
 /// names in each of its parts and before each of these stubs.
 pub struct Wanted {
-    pub units: Seq<UnitKey>,
+    pub units: UnitSet,
     pub stubs: Seq<Name>,
     pub names: NameSet,
 }
@@ -35,15 +36,6 @@ fn is_one_of(name: &[u8], names: &[Name]) -> bool
 }
 
 impl Wanted {
-    fn has_unit(&self, unit: &UnitKey) -> bool
-        ensures { result ≡ has_unit self.now.units unit.now }
-    {
-        self.units
-            .as_slice()
-            .iter()
-            .any(|other| is_unit(unit, other))
-    }
-
     fn has_part(&self, part: &Part) -> bool
         ensures { result ≡ has_part self.now.stubs part.now }
     {
@@ -58,7 +50,7 @@ impl Wanted {
     fn has_name(&self, unit: &UnitKey, part: &Part, name: &Name) -> bool
         ensures { result ≡ (has_unit self.now.units unit.now && (has_part self.now.stubs part.now && list_any (bytes_eq name.now) self.now.names)) }
     {
-        self.has_unit(unit) && self.has_part(part) && self.names.contains(name)
+        self.units.contains(unit) && self.has_part(part) && self.names.contains(name)
     }
 
     /// Whether the question is one of these.
@@ -70,11 +62,11 @@ impl Wanted {
             Query::Of {
                 unit,
                 property: Property::Kind,
-            } => self.has_unit(unit),
+            } => self.units.contains(unit),
             Query::Of {
                 unit,
                 property: Property::Completions,
-            } => self.has_unit(unit),
+            } => self.units.contains(unit),
             Query::Of { .. } => false,
         }
     }

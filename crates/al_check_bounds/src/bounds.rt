@@ -1,17 +1,16 @@
 // A table with bounds.
 ghost use Rattle.std.specs.Prelude.{◌≡◌};
 ghost use Rattle.al_query.specs.Answers.{declaration};
-ghost use Rattle.al_query.specs.Known.{has_unit};
 ghost use Rattle.al_query.specs.Queries.{unit_of};
 ghost use Rattle.al_view.specs.Symbols.{same_unit};
 ghost use Rattle.al_query_outcome.specs.ReadsLaw.{is_by_names};
 ghost use Rattle.al_check_bounds.specs.Bounding.{bounded, may_ask};
 
 use al_base::{NoMemory, UnitKey, UnitKind};
-use al_check_asked::NameSet;
+use al_check_asked::{NameSet, UnitSet};
 use al_query::{Answer, Answers, Property, Query};
 use al_query_outcome::no_answer;
-use al_view::{Seq, is_unit};
+use al_view::is_unit;
 use std::alloc::Global;
 
 /// What a unit may ask.
@@ -19,7 +18,7 @@ pub struct Bounds {
     /// The unit that asks, which isn't asked itself.
     pub unit: UnitKey,
     /// The units that it knows.
-    pub known: Seq<UnitKey>,
+    pub known: UnitSet,
     /// The names that it may ask for: the words of its text, and names that answers tell.
     pub names: NameSet,
 }
@@ -42,16 +41,6 @@ fn is_declaration_of(unit: &UnitKey, other: &UnitKey) -> bool
 }
 
 impl Bounds {
-    /// Whether the unit is known.
-    fn knows(&self, unit: &UnitKey) -> bool
-        ensures { result ≡ has_unit self.now.known unit.now }
-    {
-        self.known
-            .as_slice()
-            .iter()
-            .any(|known| is_unit(unit, known))
-    }
-
     /// Whether the question is by one of the names, or for a property; for what a body must complete, of the unit's own declaration.
     fn is_by_names(&self, query: &Query) -> bool
         ensures { result ≡ is_by_names self.now.unit self.now.names query.now }
@@ -72,7 +61,7 @@ impl Bounds {
         ensures { result ≡ may_ask self.now query.now }
     {
         let unit = query.unit();
-        self.knows(unit) && !is_unit(&self.unit, unit) && self.is_by_names(query)
+        self.known.contains(unit) && !is_unit(&self.unit, unit) && self.is_by_names(query)
     }
 }
 

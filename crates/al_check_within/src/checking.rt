@@ -19,13 +19,13 @@ use crate::finder::UnitFinder;
 use crate::finding::UnitResult;
 use crate::words::{with_names, words_of};
 use al_base::{NoMemory, UnitKey};
-use al_check_asked::NameSet;
+use al_check_asked::{NameSet, UnitSet};
 use al_check_bounds::{Bounded, Bounds, replay};
 use al_query::{Answers, Recorder};
 use al_query_outcome::Checked;
 use al_tree::CompilationUnit;
 use al_unit_graph::Header;
-use al_view::{Seq, copied_unit};
+use al_view::copied_unit;
 use std::alloc::Global;
 
 /// The names that may be asked for: the words of the text, and the names that answers tell.
@@ -65,11 +65,12 @@ fn bounds_of<F: UnitFinder, A: Answers>(
     ensures bounds { IfOk result (λ bounds. AreBounds (F.units unit.now (header_model header.now)) (F.names unit.now (header_model header.now)) (header_model header.now) unit.now text.now recorder.new.log bounds) }
 {
     let known = finder.units_known(alloc, unit, header, recorder)?;
+    let units = UnitSet::new(alloc, known)?;
     let names = names_of(alloc, finder, unit, text, header, recorder)?;
     let unit = copied_unit(alloc, unit)?;
     Ok(Bounds {
         unit,
-        known: Seq::new(known),
+        known: units,
         names,
     })
 }

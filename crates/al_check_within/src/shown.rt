@@ -10,31 +10,20 @@ ghost use Rattle.al_check_asked.specs.Questions.{shown_by};
 ghost use Rattle.al_check_within.specs.Within.{IsAsGood, wanted_of};
 
 use crate::segments::segments_of;
-use al_base::{NoMemory, UnitKey};
+use al_base::NoMemory;
 use al_check_asked::{Wanted, asked_again, recorded_views};
 use al_check_bounds::{Bounded, Bounds, replay};
 use al_check_promises::{SoundUnit, is_kept};
 use al_query::{Answers, ReadLog, Recorder};
-use al_view::{Seq, View, copied_unit};
+use al_view::{Seq, View};
 use std::alloc::Global;
-
-fn copied_units(alloc: Global, units: &[UnitKey]) -> Result<Seq<UnitKey>, NoMemory>
-    ensures { IfOk result (λ copy. copy ≡ units.now) }
-{
-    let mut copy = Seq::empty(alloc);
-    for unit in units {
-        let unit = copied_unit(alloc, unit)?;
-        copy.push(unit)?;
-    }
-    Ok(copy)
-}
 
 /// Which questions may show the unit what it uses of others.
 pub(crate) fn wanted_of(alloc: Global, bounds: &Bounds) -> Result<Wanted, NoMemory>
     ensures { IfOk result (λ wanted. wanted ≡ wanted_of bounds.now) }
 {
     Ok(Wanted {
-        units: copied_units(alloc, bounds.known.as_slice())?,
+        units: bounds.known.copy(alloc)?,
         stubs: segments_of(alloc, bounds.unit.name.as_slice())?,
         names: bounds.names.copy(alloc)?,
     })

@@ -54,20 +54,22 @@ short_circuit_begins term left form l r place is begins here =
 
 pub infix_below : {E : Type 0} (term left : Term) (operator : BinaryOperator) (views : List ViewKind) (l r : Box Term Global) (made : Result Step E)
     → term ≡ Infix operator views l r → left ≡ l.value → IfOk made (λ (s : Step). IsAt left s) → IfOk made (λ (s : Step). IsBelow term s)
-infix_below term left operator views l r (Ok (steps.Down joint x label types at)) is begins here =
-    let a = ap size-Term is in let b = ap size-Term (here ∙ begins) in (
+infix_below term left operator views l r (Ok (steps.Down joint x known label types at)) is begins here =
+    let a = ap size-Term is in let b = ap size-Term (here.0 ∙ begins) in (
       omega (arith, sized-Infix operator views l r, a, b),
-      ap (λ (y : Term). first_place (term_model y)) (here ∙ begins) ∙ ap first_place (sym (ap term_model is ∙ infix_made operator views l r)),
+      ap (λ (y : Term). first_place (term_model y)) (here.0 ∙ begins) ∙ ap first_place (sym (ap term_model is ∙ infix_made operator views l r)),
+      here.1,
     )
 infix_below term left operator views l r (Ok (steps.Last k)) is begins here = tt
 infix_below term left operator views l r (Err k) is begins here = tt
 
 pub short_circuit_below : {E : Type 0} (term left : Term) (form : ShortCircuitKind) (l r : Box Term Global) (made : Result Step E)
     → term ≡ ShortCircuit form l r → left ≡ l.value → IfOk made (λ (s : Step). IsAt left s) → IfOk made (λ (s : Step). IsBelow term s)
-short_circuit_below term left form l r (Ok (steps.Down joint x label types at)) is begins here =
-    let a = ap size-Term is in let b = ap size-Term (here ∙ begins) in (
+short_circuit_below term left form l r (Ok (steps.Down joint x known label types at)) is begins here =
+    let a = ap size-Term is in let b = ap size-Term (here.0 ∙ begins) in (
       omega (arith, sized-ShortCircuit form l r, a, b),
-      ap (λ (y : Term). first_place (term_model y)) (here ∙ begins) ∙ ap first_place (sym (ap term_model is ∙ short_circuit_made form l r)),
+      ap (λ (y : Term). first_place (term_model y)) (here.0 ∙ begins) ∙ ap first_place (sym (ap term_model is ∙ short_circuit_made form l r)),
+      here.1,
     )
 short_circuit_below term left form l r (Ok (steps.Last k)) is begins here = tt
 short_circuit_below term left form l r (Err k) is begins here = tt
@@ -79,10 +81,11 @@ selected_begins term left prefix name place is begins here =
 
 pub selected_below : {E : Type 0} (term left : Term) (prefix : Box Term Global) (name : List ℕ) (made : Result Step E)
     → term ≡ Selected prefix name → left ≡ prefix.value → IfOk made (λ (s : Step). IsAt left s) → IfOk made (λ (s : Step). IsBelow term s)
-selected_below term left prefix name (Ok (steps.Down joint x label types at)) is begins here =
-    let a = ap size-Term is in let b = ap size-Term (here ∙ begins) in (
+selected_below term left prefix name (Ok (steps.Down joint x known label types at)) is begins here =
+    let a = ap size-Term is in let b = ap size-Term (here.0 ∙ begins) in (
       omega (arith, sized-Selected prefix name, a, b),
-      ap (λ (y : Term). first_place (term_model y)) (here ∙ begins) ∙ ap first_place (sym (ap term_model is ∙ selected_made prefix name)),
+      ap (λ (y : Term). first_place (term_model y)) (here.0 ∙ begins) ∙ ap first_place (sym (ap term_model is ∙ selected_made prefix name)),
+      here.1,
     )
 selected_below term left prefix name (Ok (steps.Last k)) is begins here = tt
 selected_below term left prefix name (Err k) is begins here = tt
@@ -94,10 +97,11 @@ applied_begins term left name arguments place is begins here =
 
 pub applied_below : {E : Type 0} (term left : Term) (name : Box Term Global) (arguments : Vec Term Global) (made : Result Step E)
     → term ≡ Applied name arguments → left ≡ name.value → IfOk made (λ (s : Step). IsAt left s) → IfOk made (λ (s : Step). IsBelow term s)
-applied_below term left name arguments (Ok (steps.Down joint x label types at)) is begins here =
-    let a = ap size-Term is in let b = ap size-Term (here ∙ begins) in (
+applied_below term left name arguments (Ok (steps.Down joint x known label types at)) is begins here =
+    let a = ap size-Term is in let b = ap size-Term (here.0 ∙ begins) in (
       omega (arith, sized-Applied name arguments, a, b),
-      ap (λ (y : Term). first_place (term_model y)) (here ∙ begins) ∙ ap first_place (sym (ap term_model is ∙ applied_made name arguments)),
+      ap (λ (y : Term). first_place (term_model y)) (here.0 ∙ begins) ∙ ap first_place (sym (ap term_model is ∙ applied_made name arguments)),
+      here.1,
     )
 applied_below term left name arguments (Ok (steps.Last k)) is begins here = tt
 applied_below term left name arguments (Err k) is begins here = tt
@@ -106,13 +110,13 @@ applied_below term left name arguments (Err k) is begins here = tt
 
 pub last_read : {E : Type 0} (p : Predefined) (own : Option Symbol) (place : Place) (a b : ReadingTree) (made : Result Reading NoMemory) (s : Result Step E) → a ≡ b
     → IfOk made (λ (x : Reading). reading_model x ≡ a) → IfOk s (λ (k : Step). IsLastOf made k) → IfOk s (λ (k : Step). stepped p own place k ≡ b)
-last_read p own place a b made (Ok (steps.Down joint left label types at)) same h e = absurd e
+last_read p own place a b made (Ok (steps.Down joint left known label types at)) same h e = absurd e
 last_read p own place a b made (Ok (steps.Last r)) same h e =
     let P : Result Reading NoMemory → Type 0 = λ m. IfOk m (λ (x : Reading). reading_model x ≡ a) in subst P e h ∙ same
 last_read p own place a b made (Err k) same h e = tt
 
 pub last_at : {E : Type 0} (term : Term) (made : Result Reading NoMemory) (s : Result Step E) → IfOk s (λ (k : Step). IsLastOf made k) → IfOk s (λ (k : Step). IsAt term k)
-last_at term made (Ok (steps.Down joint left label types at)) e = absurd e
+last_at term made (Ok (steps.Down joint left known label types at)) e = absurd e
 last_at term made (Ok (steps.Last r)) e = tt
 last_at term made (Err k) e = tt
 

@@ -3,3 +3,5 @@ pub mod PairMade
 pub mod TermKinds
 pub mod Wholes
 pub mod ChainLemmas
+pub mod KnownLemmas
+pub mod OperandLabels

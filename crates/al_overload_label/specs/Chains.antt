@@ -4,7 +4,9 @@ use Rattle.al_base.specs.declared.place.Place.{Place}
 use Rattle.al_overload_choice.specs.Counts.{label_of}
 use Rattle.al_base.specs.declared.refusal.NoMemory.{NoMemory}
 use Rattle.al_overload_heads.specs.Parts.{nominal}
+use Rattle.al_overload_heads.specs.Universal.{is_universal}
 use Rattle.al_overload_heads.specs.declared.everywhere.Predefined.{Predefined}
+use Rattle.al_overload_label.specs.Known.{IsKnown}
 use Rattle.al_overload_label.specs.Readings.{reading}
 use Rattle.al_overload_label.specs.declared.chain.Joint.{Joint}
 use Rattle.al_overload_label.specs.declared.chain.Joint.TheVariants as joints
@@ -39,22 +41,22 @@ chained_node p place (joint ∷ joints) first = joint_node p place joint (chaine
 
 -- what a step down makes of a term, with what stands at the left
 abbrev pub stepped : Predefined → Option Symbol → Place → Step → ReadingTree
-stepped p own place (steps.Down joint left label types at) =
+stepped p own place (steps.Down joint left known label types at) =
     joint_node p place joint (reading p own (term_model left.now) (label_of label.now) types.now at.now)
 stepped p own place (steps.Last r) = reading_model r.value
 
--- where the step goes, if it goes on
+-- where the step goes, if it goes on, and what is known of that
 abbrev pub IsAt : Term → Step → Type 0
-IsAt term (steps.Down joint left label types at) = left.now ≡ term
+IsAt term (steps.Down joint left known label types at) = (left.now ≡ term) × IsKnown known (is_universal (term_model left.now))
 IsAt term (steps.Last r) = ⊤
 
--- what stands at the left is less deep than the whole, and begins where that does
+-- what stands at the left is less deep than the whole, begins where that does, and is what is known of it
 abbrev pub IsBelow : Term → Step → Type 0
-IsBelow term (steps.Down joint left label types at) =
-    (size-Term left.now < size-Term term) × (first_place (term_model left.now) ≡ first_place (term_model term))
+IsBelow term (steps.Down joint left known label types at) =
+    (size-Term left.now < size-Term term) × (first_place (term_model left.now) ≡ first_place (term_model term)) × IsKnown known (is_universal (term_model left.now))
 IsBelow term (steps.Last r) = ⊤
 
 -- the end of a chain, which is this
 abbrev pub IsLastOf : Result Reading NoMemory → Step → Type 0
-IsLastOf reading (steps.Down joint left label types at) = ⊥
+IsLastOf reading (steps.Down joint left known label types at) = ⊥
 IsLastOf reading (steps.Last r) = reading ≡ Ok r.value

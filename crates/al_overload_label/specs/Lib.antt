@@ -5,4 +5,6 @@ pub mod Contexts
 pub mod Static
 pub mod Ranges
 pub mod RangesSeen
+pub mod Known
 pub mod Chains
+pub mod OperandLabels

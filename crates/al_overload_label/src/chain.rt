@@ -2,6 +2,8 @@
 ghost use Rattle.std.specs.Prelude.{◌≡◌, IfOk, option_map};
 ghost use Rattle.al_overload_choice.specs.Counts.{label_of};
 ghost use Rattle.al_overload_label.specs.Chains.{IsAt, IsLastOf, chained_node, joint_node, stepped};
+ghost use Rattle.al_overload_heads.specs.Universal.{is_universal};
+ghost use Rattle.al_overload_label.specs.Known.{IsKnown};
 ghost use Rattle.al_overload_nodes.specs.Views.{reading_model};
 ghost use Rattle.al_overload_term.specs.Places.{first_place};
 ghost use Rattle.al_overload_term.specs.Terms.{TermTree as trees};
@@ -35,10 +37,11 @@ pub(crate) enum Joint<'a> {
 /// A step down a chain.
 #[derive(Drop)]
 pub(crate) enum Step<'a> {
-    /// A link; what stands at its left, with its labelling, and at which type among which it stands.
+    /// A link; what stands at its left, with whether that is of numbers alone, where it is known; its labelling, and at which type among which it stands.
     Down {
         joint: Joint<'a>,
         left: &'a Term,
+        known: Option<bool>,
         label: &'a Labelled,
         types: &'a Types,
         at: &'a Symbol,
@@ -92,10 +95,12 @@ pub(crate) fn down<'a>(
     place: Place,
     joint: Joint<'a>,
     left: &'a Term,
+    known: Option<bool>,
     label: Option<&'a Labelled>,
     types: &'a Types,
     at: &'a Symbol,
 ) -> Result<Step<'a>, NoMemory>
+    requires { IsKnown known (is_universal (term_model left.now)) }
     ensures read { IfOk result (λ s. stepped labeller.now.predefined labeller.now.own place s ≡ joint_node labeller.now.predefined place joint.entry (labelled place (λ l. reading labeller.now.predefined labeller.now.own (term_model left.now) l types.now at.now) (option_map (λ l. label_of l.now) label.entry))) }
     ensures at { IfOk result (λ s. IsAt left.now s) }
 {
@@ -103,6 +108,7 @@ pub(crate) fn down<'a>(
         Some(label) => Ok(Step::Down {
             joint,
             left,
+            known,
             label,
             types,
             at,
@@ -144,5 +150,5 @@ pub(crate) fn step_selected<'a>(
     let part = part_of(&labeller.predefined.standard, prefix);
     let joint = Joint::Selector(name, part);
     let first_label = operand_label(label, 0);
-    down(labeller, place, joint, prefix, first_label, types, at)
+    down(labeller, place, joint, prefix, None, first_label, types, at)
 }

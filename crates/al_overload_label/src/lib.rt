@@ -5,10 +5,12 @@ mod chain;
 mod context;
 mod made;
 mod meaning;
+mod operands;
 mod pair;
 mod range;
 mod reading;
 mod staticness;
+mod universal;
 mod variable;
 
 pub use context::{check_call, check_static_term, check_target, check_term, read_call, read_term};

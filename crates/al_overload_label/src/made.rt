@@ -1,23 +1,18 @@
 // Terms whose operands were read, and those that have none. Each stands by itself, so that what recurses needs little of the stack.
-ghost use Rattle.std.specs.Prelude.{◌≡◌, ◌&&◌, IfOk, Ok, option_map};
-ghost use Rattle.al_overload_choice.specs.Counts.{label_of};
-ghost use Rattle.al_overload_heads.specs.Universal.{computes_two, is_universal};
+ghost use Rattle.std.specs.Prelude.{◌≡◌, IfOk, Ok, option_map};
 ghost use Rattle.al_overload_heads.specs.Parts.{nominal};
 ghost use Rattle.al_overload_nodes.specs.Names.{element_node, selected_node};
 ghost use Rattle.al_overload_nodes.specs.Nodes.{literal, membership_node, misfit};
-ghost use Rattle.al_overload_nodes.specs.Operators.{binary_node, binary_signature, short_circuit_node, signature};
+ghost use Rattle.al_overload_nodes.specs.Operators.{binary_node, short_circuit_node, signature};
 ghost use Rattle.al_overload_nodes.specs.Views.{reading_model};
 ghost use Rattle.al_overload_picks.specs.Types.{indexing_of};
-ghost use Rattle.al_overload_term.specs.TermViews.{term_model};
 ghost use Rattle.al_overload_types.specs.Leaves.{bound_node, length_node};
 
 use al_base::{NoMemory, Place};
-use al_overload_choice::Labelled;
 use al_overload_nodes::{Labeller, Reading, Signature, misfit};
 use al_overload_picks::Indexing;
-use al_overload_term::Term;
-use al_overload_types::{are_universal, bound_reading, length_reading};
-use al_view::{Bounds, StaticValue, Subtype, SubtypeView, Symbol, Types, View};
+use al_overload_types::{bound_reading, length_reading};
+use al_view::{Bounds, StaticValue, Subtype, SubtypeView, Symbol, Types};
 use al_view_typed::{BinaryOperator, ShortCircuit};
 use std::alloc::Global;
 
@@ -85,23 +80,6 @@ pub(crate) fn read_length(
     ensures { IfOk result (λ r. reading_model r ≡ length_node labeller.now.predefined.root place types.now at.now bounds) }
 {
     length_reading(labeller, place, types, at, bounds)
-}
-
-/// The types of the operands and the result of an operator between these.
-pub(crate) fn infix_signature<'a>(
-    labeller: &'a Labeller,
-    operator: BinaryOperator,
-    visible: &'a [View],
-    left: &Term,
-    right: &Term,
-    label: &Labelled,
-    types: &'a Types,
-    at: &'a Symbol,
-) -> Option<Signature<'a>>
-    ensures { option_map (λ s. signature s.left.now s.right.now s.result_type.now s.types.now) result ≡ binary_signature labeller.now.predefined operator visible.now (computes_two operator && (is_universal (term_model left.now) && is_universal (term_model right.now))) (label_of label.now) types.now at.now }
-{
-    let of_numbers = are_universal(operator, left, right);
-    labeller.binary_signature(operator, visible, of_numbers, label, types, at)
 }
 
 /// `first operator second`

@@ -24,6 +24,7 @@ use al_overload::Context;
 use al_overload_choice::Labelled;
 use al_overload_heads::interpret_bounds;
 use al_overload_nodes::{Labeller, checked};
+use al_overload_picks::operand_label;
 use al_overload_term::{Term, first_place};
 use al_overload_types::{
     DeterminedType, among, everywhere, pair_type, range_type, type_told, types_in,
@@ -165,15 +166,8 @@ fn bound_at(
     ensures { IfOk result (λ typed. map_ok typed_model typed ≡ checked_as wanted (first_place (term_model bound.now)) (bound_at labeller.now.predefined labeller.now.own types.now (term_model low.now) position (term_model bound.now) (label_of label.now) (told_model determined.now))) }
 {
     let (among, of) = (types_in(types, determined), determined.of);
-    let reading = read_operand(
-        labeller,
-        bound,
-        first_place(low),
-        position,
-        label,
-        among,
-        of,
-    )?;
+    let own_label = operand_label(label, position);
+    let reading = read_operand(labeller, bound, first_place(low), own_label, among, of)?;
     Ok(checked_as(wanted, first_place(bound), reading))
 }
 

@@ -1,27 +1,29 @@
 // The labelled tree of a term with its labelling: what recurses.
-ghost use Rattle.std.specs.Prelude.{◌≡◌, IfOk, OnOk, false, map};
+ghost use Rattle.std.specs.Prelude.{◌≡◌, ◌&&◌, IfOk, OnOk, false, map, option_map};
 ghost use Rattle.std.specs.Option.{option_map_or};
 ghost use Rattle.al_overload_label.specs.Variables.{variable_as};
-ghost use Rattle.al_overload_picks.specs.Labels.{operand_label};
 ghost use Rattle.al_overload_choice.specs.Counts.{label_of};
 ghost use Rattle.al_base_fault.specs.Judging.{map_ok};
 ghost use Rattle.al_overload_term.specs.Terms.{TermTree as trees};
 ghost use Rattle.al_overload_term.specs.TermViews.{term_model, terms_of};
 ghost use Rattle.al_overload_nodes.specs.Gathering.{no_parts};
 ghost use Rattle.al_overload_label.specs.Readings.{actuals_read, applied_read, conversion_read, index_read, member_read, operand_read, qualified_read, reading, short_circuit_read, values_read};
-ghost use Rattle.al_overload_types.specs.Leaves.{actual_read, component_read, indexed_node, inner};
+ghost use Rattle.al_overload_types.specs.Leaves.{indexed_node, inner, labelled};
+ghost use Rattle.al_overload_label.specs.OperandLabels.{actual_with, component_with};
 ghost use Rattle.al_overload_term.specs.Places.{first_place};
+ghost use Rattle.al_overload_heads.specs.Universal.{computes_two, is_universal};
 ghost use Rattle.al_overload_label.specs.Chains.{IsAt, IsBelow, stepped};
+ghost use Rattle.al_overload_label.specs.Known.{IsKnown};
 ghost use Rattle.al_overload_nodes.specs.Calls.{call_node};
 ghost use Rattle.al_overload_nodes.specs.Names.{object_node};
 ghost use Rattle.al_overload_nodes.specs.Views.{actuals_model, reading_model, values_model};
 
 use crate::chain::{Joint, Step, chained, down, joined, last, step_selected};
-use crate::made::{
-    infix_signature, kept, kept_unfit, membership_of, read_bound, read_length, read_number, unfit,
-};
+use crate::made::{kept, kept_unfit, membership_of, read_bound, read_length, read_number, unfit};
 use crate::meaning::{interpret_conversion, interpret_qualified, types_of_test};
+use crate::operands::{labels_after, next_label, operand_labels};
 use crate::pair::together;
+use crate::universal::{found_universal, left_known};
 use crate::variable::variable_at;
 use al_base::{NoMemory, Place};
 use al_base_fault::CheckResult;
@@ -131,7 +133,7 @@ pub(crate) fn read(
             let place = first_place(left);
             let visible = views.as_slice();
             let step = step_infix(
-                labeller, right, left, place, *operator, visible, label, types, at,
+                labeller, right, left, None, place, *operator, visible, label, types, at,
             )?;
             read_step(labeller, left, place, step)
         }
@@ -169,26 +171,29 @@ pub(crate) fn read(
 fn read_boxed(
     labeller: &Labeller,
     term: &Term,
+    known: Option<bool>,
     label: &Labelled,
     types: &Types,
     at: &Symbol,
 ) -> Result<Box<Reading>, NoMemory>
+    requires { IsKnown known (is_universal (term_model term.now)) }
     ensures { IfOk result (λ r. reading_model r.value ≡ reading labeller.now.predefined labeller.now.own (term_model term.now) (label_of label.now) types.now at.now) }
 {
     let place = first_place(term);
     let mut joints = Vec::new(labeller.alloc);
-    let (mut rest, mut label, mut types, mut at) = (term, label, types, at);
+    let (mut rest, mut known, mut label, mut types, mut at) = (term, known, label, types, at);
     loop {
-        match step(labeller, rest, place, label, types, at)? {
+        match step(labeller, rest, known, place, label, types, at)? {
             Step::Down {
                 joint,
                 left,
+                known: known_left,
                 label: left_label,
                 types: among,
                 at: of,
             } => {
                 joints.push(joint)?;
-                (rest, label, types, at) = (left, left_label, among, of);
+                (rest, known, label, types, at) = (left, known_left, left_label, among, of);
             }
             Step::Last(first) => return chained(labeller, place, joints, first),
         }
@@ -202,12 +207,14 @@ fn read_boxed(
 fn step<'a>(
     labeller: &'a Labeller,
     term: &'a Term,
+    known: Option<bool>,
     place: Place,
     label: &'a Labelled,
     types: &'a Types,
     at: &'a Symbol,
 ) -> Result<Step<'a>, NoMemory>
-    requires { place ≡ first_place (term_model term.now) }
+    requires begins { place ≡ first_place (term_model term.now) }
+    requires known { IsKnown known (is_universal (term_model term.now)) }
     ensures read { IfOk result (λ s. stepped labeller.now.predefined labeller.now.own place s ≡ reading labeller.now.predefined labeller.now.own (term_model term.now) (label_of label.now) types.now at.now) }
     ensures below { IfOk result (λ s. IsBelow term.now s) }
 {
@@ -220,7 +227,7 @@ fn step<'a>(
         } => {
             let visible = views.as_slice();
             step_infix(
-                labeller, right, left, place, *operator, visible, label, types, at,
+                labeller, right, left, known, place, *operator, visible, label, types, at,
             )
         }
         Term::ShortCircuit { form, left, right } => {
@@ -247,6 +254,7 @@ fn step_infix<'a>(
     labeller: &'a Labeller,
     right: &'a Term,
     left: &'a Term,
+    known: Option<bool>,
     place: Place,
     operator: BinaryOperator,
     visible: &'a [View],
@@ -254,12 +262,13 @@ fn step_infix<'a>(
     types: &'a Types,
     at: &'a Symbol,
 ) -> Result<Step<'a>, NoMemory>
-    requires { place ≡ first_place (term_model left.now) }
+    requires begins { place ≡ first_place (term_model left.now) }
+    requires known { IsKnown known (computes_two operator && (is_universal (term_model left.now) && is_universal (term_model right.now))) }
     ensures read { IfOk result (λ s. stepped labeller.now.predefined labeller.now.own place s ≡ reading labeller.now.predefined labeller.now.own (trees.InfixTerm operator visible.now (term_model left.now) (term_model right.now)) (label_of label.now) types.now at.now) }
     ensures at { IfOk result (λ s. IsAt left.now s) }
 {
-    let Some(of) = infix_signature(labeller, operator, visible, left, right, label, types, at)
-    else {
+    let of_numbers = found_universal(known, operator, left, right);
+    let Some(of) = labeller.binary_signature(operator, visible, of_numbers, label, types, at) else {
         let reading = kept_unfit(labeller.alloc, place)?;
         return Ok(Step::Last(reading));
     };
@@ -267,7 +276,17 @@ fn step_infix<'a>(
     let (among, stands_at) = (of.types, of.left);
     let joint = Joint::Operator(operator, of, second);
     let first_label = operand_label(label, 0);
-    down(labeller, place, joint, left, first_label, among, stands_at)
+    let of_left = left_known(operator, left, right, of_numbers);
+    down(
+        labeller,
+        place,
+        joint,
+        left,
+        of_left,
+        first_label,
+        among,
+        stands_at,
+    )
 }
 
 /// The step at `left and then right` or `left or else right`.
@@ -290,7 +309,7 @@ fn step_short_circuit<'a>(
     let second = read_kept(labeller, right, place, 1, label, types, of)?;
     let joint = Joint::ShortCircuit(form, types, second);
     let first_label = operand_label(label, 0);
-    down(labeller, place, joint, left, first_label, types, of)
+    down(labeller, place, joint, left, None, first_label, types, of)
 }
 
 /// The step at what stands in parentheses after a name.
@@ -349,7 +368,7 @@ fn step_index<'a>(
     let index = kept_index(labeller, arguments, place, label, part, by.index)?;
     let joint = Joint::Index(part, by, index);
     let first_label = operand_label(label, 0);
-    down(labeller, place, joint, name, first_label, types, at)
+    down(labeller, place, joint, name, None, first_label, types, at)
 }
 
 /// The only index after a part of an object, on the heap.
@@ -385,11 +404,12 @@ fn read_step(
         Step::Down {
             joint,
             left: _,
+            known,
             label,
             types,
             at,
         } => {
-            let first = read_boxed(labeller, left, label, types, at)?;
+            let first = read_boxed(labeller, left, known, label, types, at)?;
             let reading = joined(labeller, place, first, joint)?;
             Ok(Box::into_inner(reading))
         }
@@ -428,7 +448,7 @@ fn read_kept(
     ensures { IfOk result (λ r. reading_model r.value ≡ operand_read labeller.now.predefined labeller.now.own place position (term_model term.now) (label_of label.now) types.now at.now) }
 {
     match operand_label(label, position) {
-        Some(label) => read_boxed(labeller, term, label, types, at),
+        Some(label) => read_boxed(labeller, term, None, label, types, at),
         None => kept_unfit(labeller.alloc, place),
     }
 }
@@ -550,7 +570,8 @@ fn read_attribute(
     ensures { IfOk result (λ r. reading_model r ≡ reading labeller.now.predefined labeller.now.own (trees.AttributeTerm place conversion subtype.now (term_model argument.now)) (label_of label.now) types.now at.now) }
 {
     let of = argument_type(&labeller.predefined.root, conversion, subtype);
-    let argument = read_operand(labeller, argument, place, 0, label, &subtype.types, of)?;
+    let first_label = operand_label(label, 0);
+    let argument = read_operand(labeller, argument, place, first_label, &subtype.types, of)?;
     attribute_reading(labeller, place, conversion, subtype, types, at, argument)
 }
 
@@ -571,7 +592,8 @@ fn read_others(
         return Ok(misfit(place));
     };
     let of = &by.component.base;
-    let value = read_operand(labeller, component, place, 0, label, types, of)?;
+    let first_label = operand_label(label, 0);
+    let value = read_operand(labeller, component, place, first_label, types, of)?;
     others_reading(labeller, place, types, at, by.bounds, by.component, value)
 }
 
@@ -594,7 +616,8 @@ fn read_prefixed(
     let Some(of) = labeller.unary_signature(visible, of_numbers, label, types, at) else {
         return Ok(misfit(place));
     };
-    let operand = read_operand(labeller, operand, place, 0, label, of.types, of.left)?;
+    let first_label = operand_label(label, 0);
+    let operand = read_operand(labeller, operand, place, first_label, of.types, of.left)?;
     labeller.unary(place, operator, &of, operand)
 }
 
@@ -612,24 +635,24 @@ fn read_member(
 {
     let place = first_place(value);
     let of = &subtype.subtype.base;
-    let value = read_operand(labeller, value, place, 0, label, &subtype.types, of)?;
+    let first_label = operand_label(label, 0);
+    let value = read_operand(labeller, value, place, first_label, &subtype.types, of)?;
     in_mark_reading(labeller, place, is_negated, subtype, value)
 }
 
-/// The operand of this position with its labelling.
+/// An operand with its labelling, if it has one.
 #[cycle(reading)]
 pub(crate) fn read_operand(
     labeller: &Labeller,
     term: &Term,
     place: Place,
-    position: usize,
-    label: &Labelled,
+    label: Option<&Labelled>,
     types: &Types,
     at: &Symbol,
 ) -> Result<Reading, NoMemory>
-    ensures { IfOk result (λ r. reading_model r ≡ operand_read labeller.now.predefined labeller.now.own place position (term_model term.now) (label_of label.now) types.now at.now) }
+    ensures { IfOk result (λ r. reading_model r ≡ labelled place (λ l. reading labeller.now.predefined labeller.now.own (term_model term.now) l types.now at.now) (option_map (λ l. label_of l.now) label.entry)) }
 {
-    match operand_label(label, position) {
+    match label {
         Some(label) => read(labeller, term, label, types, at),
         None => Ok(misfit(place)),
     }
@@ -694,7 +717,10 @@ fn read_index(
 {
     match arguments {
         [] => Ok(misfit(place)),
-        [index] => read_operand(labeller, index, place, position, label, types, at),
+        [index] => {
+            let label = operand_label(label, position);
+            read_operand(labeller, index, place, label, types, at)
+        }
         [_, _, ..] => Ok(misfit(place)),
     }
 }
@@ -710,15 +736,11 @@ pub(crate) fn read_actuals(
     ensures { IfOk result (λ a. actuals_model a ≡ actuals_read labeller.now.predefined labeller.now.own subprogram.now (label_of label.now) 0 no_parts (terms_of (map term_model arguments.now))) }
 {
     let mut actuals = Actuals::none(labeller.alloc);
+    let mut labels = operand_labels(label);
     for (position, argument) in arguments.iter().enumerate() {
-        read_actual(
-            labeller,
-            argument,
-            position,
-            subprogram,
-            label,
-            &mut actuals,
-        )?;
+        let one = next_label(labels);
+        read_actual(labeller, argument, position, subprogram, one, &mut actuals)?;
+        labels = labels_after(labels);
     }
     Ok(actuals)
 }
@@ -730,10 +752,10 @@ fn read_actual(
     argument: &Term,
     position: usize,
     subprogram: &SubprogramView,
-    label: &Labelled,
+    label: Option<&Labelled>,
     actuals: &mut Actuals,
 ) -> Result<(), NoMemory>
-    ensures { OnOk result (actuals_model actuals.new ≡ actual_read subprogram.now (label_of label.now) position (actuals_model actuals.old) (first_place (term_model argument.now)) (option_map_or (variable_as (term_model argument.now)) (operand_label position (label_of label.now)) false) (λ l of. reading labeller.now.predefined labeller.now.own (term_model argument.now) l subprogram.now.types of)) }
+    ensures { OnOk result (actuals_model actuals.new ≡ actual_with subprogram.now (option_map (λ l. label_of l.now) label.entry) position (actuals_model actuals.old) (first_place (term_model argument.now)) (option_map_or (variable_as (term_model argument.now)) (option_map (λ l. label_of l.now) label.entry) false) (λ l of. reading labeller.now.predefined labeller.now.own (term_model argument.now) l subprogram.now.types of)) }
 {
     let place = first_place(argument);
     let Some(parameter) = subprogram.profile.parameters.as_slice().get(position) else {
@@ -742,8 +764,8 @@ fn read_actual(
     let (types, subtype) = (&subprogram.types, &parameter.subtype);
     let range = range_in(&labeller.predefined.standard, types, subtype);
     let base = &subtype.base;
-    let value = read_operand(labeller, argument, place, position, label, types, base)?;
-    let is_variable = variable_at(labeller, argument, position, label);
+    let value = read_operand(labeller, argument, place, label, types, base)?;
+    let is_variable = variable_at(labeller, argument, label);
     add_actual(actuals, parameter.mode, range, place, is_variable, value)
 }
 
@@ -759,8 +781,11 @@ fn read_values(
     ensures { IfOk result (λ v. values_model v ≡ values_read labeller.now.predefined labeller.now.own types.now at.now (label_of label.now) 0 no_parts (terms_of (map term_model components.now))) }
 {
     let mut values = Values::none(labeller.alloc);
+    let mut labels = operand_labels(label);
     for (position, component) in components.iter().enumerate() {
-        read_value(labeller, component, position, types, at, label, &mut values)?;
+        let one = next_label(labels);
+        read_value(labeller, component, position, types, at, one, &mut values)?;
+        labels = labels_after(labels);
     }
     Ok(values)
 }
@@ -773,10 +798,10 @@ fn read_value(
     position: usize,
     types: &Types,
     at: &Symbol,
-    label: &Labelled,
+    label: Option<&Labelled>,
     values: &mut Values,
 ) -> Result<(), NoMemory>
-    ensures { OnOk result (values_model values.new ≡ component_read types.now at.now (label_of label.now) position (values_model values.old) (first_place (term_model component.now)) (λ l of. reading labeller.now.predefined labeller.now.own (term_model component.now) l types.now of)) }
+    ensures { OnOk result (values_model values.new ≡ component_with types.now at.now (option_map (λ l. label_of l.now) label.entry) position (values_model values.old) (first_place (term_model component.now)) (λ l of. reading labeller.now.predefined labeller.now.own (term_model component.now) l types.now of)) }
 {
     let place = first_place(component);
     let standard = &labeller.predefined.standard;
@@ -785,6 +810,6 @@ fn read_value(
     };
     let range = range_in(standard, types, subtype);
     let base = &subtype.base;
-    let value = read_operand(labeller, component, place, position, label, types, base)?;
+    let value = read_operand(labeller, component, place, label, types, base)?;
     add_value(values, range, value)
 }

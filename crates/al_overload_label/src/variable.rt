@@ -4,7 +4,6 @@ ghost use Rattle.std.specs.Option.{option_copied, option_map_or};
 ghost use Rattle.al_overload_choice.specs.Counts.{label_of};
 ghost use Rattle.al_overload_heads.specs.Parts.{declared_under, nominal};
 ghost use Rattle.al_overload_label.specs.Variables.{component_part, is_variable_object, object_of, or_nothing_fits, part_as, part_under, picked_object, target_part, target_part_of, variable_as, variable_under, whole_part};
-ghost use Rattle.al_overload_picks.specs.Labels.{operand_label};
 ghost use Rattle.al_overload_term.specs.TermViews.{term_model};
 
 use crate::meaning::interpret;
@@ -14,7 +13,7 @@ use al_overload::{Context, nothing_fits};
 use al_overload_choice::Labelled;
 use al_overload_heads::{Nominal, declared_under, part_of};
 use al_overload_nodes::{Labeller, is_variable};
-use al_overload_picks::{how_indexed, number_in, operand_label, pick};
+use al_overload_picks::{how_indexed, number_in, pick};
 use al_overload_term::{Term, first_place};
 use al_view::{ObjectView, Subtype, Types, View, ViewKind};
 use al_view_predefined::StandardTypes;
@@ -101,16 +100,11 @@ pub(crate) fn variable_as(standard: &StandardTypes, term: &Term, label: &Labelle
     }
 }
 
-/// Whether the argument of this position names a variable.
-pub(crate) fn variable_at(
-    labeller: &Labeller,
-    argument: &Term,
-    position: usize,
-    label: &Labelled,
-) -> bool
-    ensures { result ≡ option_map_or (variable_as (term_model argument.now)) (operand_label position (label_of label.now)) false }
+/// Whether an argument with its labelling names a variable.
+pub(crate) fn variable_at(labeller: &Labeller, argument: &Term, label: Option<&Labelled>) -> bool
+    ensures { result ≡ option_map_or (variable_as (term_model argument.now)) (option_map (λ l. label_of l.now) label.entry) false }
 {
-    match operand_label(label, position) {
+    match label {
         Some(label) => variable_as(&labeller.predefined.standard, argument, label),
         None => false,
     }

@@ -1,17 +1,18 @@
 -- What begins with an operand or a name, with one more link at its front and without it.
-use Rattle.std.proofs.Common.{◌≡◌, ◌≤◌, true, false, List, [], ◌∷◌, ◌++◌, Option, Some, None, refl, sym, ap, subst, ◌∙◌, append_assoc, append-nil, arith}
+use Rattle.std.proofs.Common.{◌≡◌, ℕ, ◌≤◌, true, false, List, [], ◌∷◌, ◌++◌, Option, Some, None, refl, sym, ap, subst, ◌∙◌, append_assoc, append-nil, arith}
 use Rattle.std.specs.Option.{option_to_list}
 use Rattle.std.specs.Prelude.{option_map}
 use Rattle.al_tree_grammar.specs.Grammar.{Label}
 use Rattle.al_overload_keys.proofs.Fields.{infix_fields, longer_fields, member_fields, prefixed_fields}
+use Rattle.al_overload_keys.specs.Keys.{key_of}
 use Rattle.al_overload_lookup.proofs.Found.{infix_names, longer_names, bounds_names, mark_names}
-use Rattle.al_overload_lookup.specs.Chains.{AreBelow, AreWithin, IsBelow, IsLeft, chained_names, last_part_names, leans, link_names, operation_names, test_names, tested_names}
-use Rattle.al_overload_lookup.specs.TextNames.{names_in}
+use Rattle.al_overload_lookup.specs.Chains.{AreBelow, AreWithin, IsBelow, IsLeft, chained_key, chained_names, leans, link_key, link_names, operation_names, test_names, tested_names}
+use Rattle.al_overload_lookup.specs.TextNames.{names_in, part_names}
 use Rattle.al_overload_lookup.specs.declared.chain.Link.{Link}
 use Rattle.al_overload_lookup.specs.declared.chain.Link.TheVariants as links
 use Rattle.al_overload_lookup.specs.declared.name.TextName.{TextName}
 use Rattle.al_tree_syntax.specs.ExpressionTrees.{ExpressionTree}
-use Rattle.al_tree.specs.ExpressionViews.{expression_model, infix_model, longer_model, member_of, member_model, prefixed_model}
+use Rattle.al_tree.specs.ExpressionViews.{expression_model, infix_model, longer_model, member_of, member_model, part_model, prefixed_model}
 use Rattle.al_tree.specs.Lexemes.{place_label}
 use Rattle.al_tree.specs.declared.expression.Expression.{Expression, size-Expression}
 use Rattle.al_tree.specs.declared.expression.Infix.{Infix, out-Infix}
@@ -40,7 +41,7 @@ prefixed_leans p = ap leans (prefixed_fields p)
 
 -- ---- a text by its last link
 
-pub longer_split : (n : Longer) → names_in (longer_model n) ≡ names_in (expression_model (out-Longer n).prefix) ++ last_part_names n
+pub longer_split : (n : Longer) → names_in (longer_model n) ≡ names_in (expression_model (out-Longer n).prefix) ++ part_names (key_of (expression_model (out-Longer n).prefix)) (part_model (out-Longer n).part)
 longer_split n = longer_names n
 
 pub infix_split : (i : Infix) → names_in (infix_model i) ≡ names_in (expression_model (out-Infix i).left) ++ operation_names i
@@ -61,30 +62,37 @@ member_split m = at (out-Member m).high refl
 
 -- ---- a list with one more link
 
-pub last_names : (links : List Link) (link : Link) → chained_names (links ++ link ∷ []) ≡ link_names link ++ chained_names links
-last_names [] link = sym (append-nil (link_names link))
-last_names (x ∷ links) link =
-    ap (λ (ns : List TextName). ns ++ link_names x) (last_names links link)
-    ∙ append_assoc (link_names link) (chained_names links) (link_names x)
+last_keys : (key : Option (List ℕ)) (links : List Link) (link : Link) → chained_key key (links ++ link ∷ []) ≡ chained_key (link_key key link) links
+last_keys key [] link = refl
+last_keys key (x ∷ links) link = ap (λ (k : Option (List ℕ)). link_key k x) (last_keys key links link)
+
+last_names : (key : Option (List ℕ)) (links : List Link) (link : Link) → chained_names key (links ++ link ∷ []) ≡ link_names key link ++ chained_names (link_key key link) links
+last_names key [] link = sym (append-nil (link_names key link))
+last_names key (x ∷ links) link =
+    ap (λ (ns : List TextName). ns ++ link_names (chained_key key (links ++ link ∷ [])) x) (last_names key links link)
+    ∙ ap (λ (k : Option (List ℕ)). (link_names key link ++ chained_names (link_key key link) links) ++ link_names k x) (last_keys key links link)
+    ∙ append_assoc (link_names key link) (chained_names (link_key key link) links) (link_names (chained_key (link_key key link) links) x)
 
 -- a step down
-pub first_link : (links new : List Link) (link : Link) (rest left whole : List TextName)
-    → new ≡ links ++ link ∷ [] → rest ≡ left ++ link_names link → rest ++ chained_names links ≡ whole → left ++ chained_names new ≡ whole
-first_link links new link rest left whole is step known =
-    ap (λ (ls : List Link). left ++ chained_names ls) is
-    ∙ ap (λ (ns : List TextName). left ++ ns) (last_names links link)
-    ∙ sym (append_assoc left (link_names link) (chained_names links))
-    ∙ ap (λ (ns : List TextName). ns ++ chained_names links) (sym step)
+pub first_link : (links new : List Link) (link : Link) (rest left whole : List TextName) (key before : Option (List ℕ))
+    → new ≡ links ++ link ∷ [] → rest ≡ left ++ link_names before link → key ≡ link_key before link → rest ++ chained_names key links ≡ whole → left ++ chained_names before new ≡ whole
+first_link links new link rest left whole key before is step key_is known =
+    ap (λ (ls : List Link). left ++ chained_names before ls) is
+    ∙ ap (λ (ns : List TextName). left ++ ns) (last_names before links link)
+    ∙ sym (append_assoc left (link_names before link) (chained_names (link_key before link) links))
+    ∙ ap (λ (ns : List TextName). ns ++ chained_names (link_key before link) links) (sym step)
+    ∙ ap (λ (k : Option (List ℕ)). rest ++ chained_names k links) (sym key_is)
     ∙ known
 
 -- a step up: what was found so far, and the next link
-pub next_link : (links old : List Link) (link : Link) (start found next whole : List TextName)
-    → old ≡ links ++ link ∷ [] → next ≡ found ++ link_names link → found ++ chained_names old ≡ start ++ whole → next ++ chained_names links ≡ start ++ whole
-next_link links old link start found next whole is step known =
-    ap (λ (ns : List TextName). ns ++ chained_names links) step
-    ∙ append_assoc found (link_names link) (chained_names links)
-    ∙ ap (λ (ns : List TextName). found ++ ns) (sym (last_names links link))
-    ∙ ap (λ (ls : List Link). found ++ chained_names ls) (sym is)
+next_link : (links old : List Link) (link : Link) (start found next whole : List TextName) (key after : Option (List ℕ))
+    → old ≡ links ++ link ∷ [] → next ≡ found ++ link_names key link → after ≡ link_key key link → found ++ chained_names key old ≡ start ++ whole → next ++ chained_names after links ≡ start ++ whole
+next_link links old link start found next whole key after is step key_is known =
+    ap (λ (k : Option (List ℕ)). next ++ chained_names k links) key_is
+    ∙ ap (λ (ns : List TextName). ns ++ chained_names (link_key key link) links) step
+    ∙ append_assoc found (link_names key link) (chained_names (link_key key link) links)
+    ∙ ap (λ (ns : List TextName). found ++ ns) (sym (last_names key links link))
+    ∙ ap (λ (ls : List Link). found ++ chained_names key ls) (sym is)
     ∙ known
 
 pub last_below : (whole : Expression) (links : List Link) (link : Link) → AreBelow whole (links ++ link ∷ []) → AreBelow whole links × IsBelow whole link
@@ -113,19 +121,15 @@ popped old new o link items is = items ∙ ap (λ (x : Option Link). new ++ opti
 pub popped_below : (whole : Expression) (old new : List Link) (o : Option Link) (link : Link) → old ≡ new ++ option_to_list o → o ≡ Some link → AreBelow whole old → AreBelow whole new × IsBelow whole link
 popped_below whole old new o link items is all = last_below whole new link (subst (AreBelow whole) (popped old new o link items is) all)
 
-pub next_found : (old new : List Link) (o : Option Link) (link : Link) (start found next whole : List TextName) → old ≡ new ++ option_to_list o → o ≡ Some link
-    → next ≡ found ++ link_names link → found ++ chained_names old ≡ start ++ whole → next ++ chained_names new ≡ start ++ whole
-next_found old new o link start found next whole items is step known = next_link new old link start found next whole (popped old new o link items is) step known
-
 -- ---- the same of a link of a known form
 
 pub next_below : (whole : Expression) (old new : List Link) (o : Option Link) (link made : Link) → old ≡ new ++ option_to_list o → o ≡ Some link → link ≡ made → AreBelow whole old → IsBelow whole made
 next_below whole old new o link made items is form all = subst (IsBelow whole) form (popped_below whole old new o link items is all).1
 
 -- what is left to find, and that it is less deep
-pub next_step : (expression : Expression) (old new : List Link) (o : Option Link) (link made : Link) (start found next whole : List TextName) → old ≡ new ++ option_to_list o → o ≡ Some link → link ≡ made
-    → next ≡ found ++ link_names made → (found ++ chained_names old ≡ start ++ whole) × AreBelow expression old → (next ++ chained_names new ≡ start ++ whole) × AreBelow expression new
-next_step expression old new o link made start found next whole items is form step known = (
-  next_found old new o link start found next whole items is (step ∙ ap (λ (l : Link). found ++ link_names l) (sym form)) known.0,
+pub next_step : (expression : Expression) (old new : List Link) (o : Option Link) (link made : Link) (start found next whole : List TextName) (key after : Option (List ℕ)) → old ≡ new ++ option_to_list o → o ≡ Some link → link ≡ made
+    → next ≡ found ++ link_names key made → after ≡ link_key key made → (found ++ chained_names key old ≡ start ++ whole) × AreBelow expression old → (next ++ chained_names after new ≡ start ++ whole) × AreBelow expression new
+next_step expression old new o link made start found next whole key after items is form step key_is known = (
+  next_link new old link start found next whole key after (popped old new o link items is) (step ∙ ap (λ (l : Link). found ++ link_names key l) (sym form)) (key_is ∙ ap (λ (l : Link). link_key key l) (sym form)) known.0,
   (popped_below expression old new o link items is known.1).0,
 )

@@ -43,7 +43,7 @@ with_view-other (e ∷ es) name other v h = at (bytes_eq name e.0) refl (with_vi
         ∙ sym (ap (λ b. unwrap_or (cond b (Some e.1) (lookup (bytes_eq other) es)) []) apart)
     at false i more = same-front (bytes_eq other e.0) e.1 (lookup (bytes_eq other) (with_view es name v)) (lookup (bytes_eq other) es) more
 
-views-other : (d : Declarations) (name other : List ℕ) (vs : List ViewKind) → bytes_eq other name ≡ false → views_of (with_views d name vs) other ≡ views_of d other
+pub views-other : (d : Declarations) (name other : List ℕ) (vs : List ViewKind) → bytes_eq other name ≡ false → views_of (with_views d name vs) other ≡ views_of d other
 views-other d name other [] h = refl
 views-other d name other (v ∷ vs) h = views-other (with_view d name v) name other vs h ∙ with_view-other d name other v h
 
@@ -59,7 +59,7 @@ selected-other : (key other : List ℕ) (v : ViewKind) (names : Names) (o : Opti
 selected-other key other v names (Some found) h = views-other names.visible key other found h
 selected-other key other v names None h = refl
 
-each-other : (t : Table) (place : Place) (packages : List UnitKey) (key name other : List ℕ) (names : Names) (vs : List ViewKind) → bytes_eq other key ≡ false → views_of (with_each t place packages key name names vs).visible other ≡ views_of names.visible other
+pub each-other : (t : Table) (place : Place) (packages : List UnitKey) (key name other : List ℕ) (names : Names) (vs : List ViewKind) → bytes_eq other key ≡ false → views_of (with_each t place packages key name names vs).visible other ≡ views_of names.visible other
 each-other t place packages key name other names [] h = refl
 each-other t place packages key name other names (v ∷ vs) h =
     each-other t place packages key name other (with_selected key v names (selected_in t place packages name v)) vs h
@@ -88,7 +88,7 @@ next_front t place packages names key name front q h = at (is_new names (Selecte
     at false = front q more
 
 -- a selector after a front under which nothing is visible
-stays : (t : Table) (place : Place) (packages : List UnitKey) (names : Names) (key name : List ℕ) → views_of names.visible key ≡ [] → looked_up t place packages names (Selected key name) ≡ names
+pub stays : (t : Table) (place : Place) (packages : List UnitKey) (names : Names) (key name : List ℕ) → views_of names.visible key ≡ [] → looked_up t place packages names (Selected key name) ≡ names
 unfolding looked_up
 stays t place packages names key name none = at (is_new names (Selected key name))
   where
@@ -103,7 +103,7 @@ all_stay t place packages names key (l ∷ ls) none front =
     ap (λ (n : Names). fold (looked_up t place packages) n (selector_names (dotted key l.text) ls)) (stays t place packages names key l.text none)
     ∙ all_stay t place packages names (dotted key l.text) ls (front (dotted key l.text) (longer key l.text)) (λ q h. front q (omega (arith, longer key l.text, h)))
 
-none_there : (vs : List ViewKind) → is_none vs ≡ true → vs ≡ []
+pub none_there : (vs : List ViewKind) → is_none vs ≡ true → vs ≡ []
 none_there [] h = refl
 none_there (v ∷ vs) h = absurd (cc)
 

@@ -3,3 +3,5 @@ pub mod Folds
 pub mod Found
 pub mod Chained
 pub mod Fronts
+pub mod Pieced
+pub mod Shorts

@@ -1,6 +1,6 @@
 -- What begins with an operand or a name: what stands after that.
-use Rattle.std.specs.Prelude.{◌<◌, ◌≤◌, Bool, true, false, List, [], ◌∷◌, ◌++◌, Option, Some, None, option_map, ⊤}
-use Rattle.al_overload_keys.specs.Keys.{key_of}
+use Rattle.std.specs.Prelude.{ℕ, ◌<◌, ◌≤◌, Bool, true, false, List, [], ◌∷◌, ◌++◌, Option, Some, None, option_map, ⊤}
+use Rattle.al_overload_keys.specs.Keys.{key_with}
 use Rattle.al_overload_lookup.specs.TextNames.{names_in, operator_sign, part_names, sign_names}
 use Rattle.al_overload_lookup.specs.declared.chain.Link.{Link}
 use Rattle.al_overload_lookup.specs.declared.chain.Link.TheVariants as links
@@ -20,9 +20,12 @@ leans (e.InMark left n mark) = true
 leans (e.InRange left n low high) = true
 leans _ = false
 
--- of the last part of a name
-abbrev pub last_part_names : Longer → List TextName
-last_part_names longer = part_names (key_of (expression_model (out-Longer longer).prefix)) (part_model (out-Longer longer).part)
+-- of the last part of a name, and the name with it
+abbrev pub last_part_names : Option (List ℕ) → Longer → List TextName
+last_part_names key longer = part_names key (part_model (out-Longer longer).part)
+
+abbrev pub last_part_key : Option (List ℕ) → Longer → Option (List ℕ)
+last_part_key key longer = key_with key (part_model (out-Longer longer).part)
 
 -- of an operator and its right operand
 abbrev pub operation_names : Infix → List TextName
@@ -36,15 +39,26 @@ tested_names low (Some high) = names_in low ++ names_in high
 abbrev pub test_names : Member → List TextName
 test_names member = tested_names (expression_model (out-Member member).low) (option_map expression_model (out-Member member).high)
 
-abbrev pub link_names : Link → List TextName
-link_names (links.Part longer) = last_part_names longer.now
-link_names (links.Operator operation) = operation_names operation.now
-link_names (links.Test member) = test_names member.now
+-- after a name, if what stands before is one
+abbrev pub link_names : Option (List ℕ) → Link → List TextName
+link_names key (links.Part longer) = last_part_names key longer.now
+link_names key (links.Operator operation) = operation_names operation.now
+link_names key (links.Test member) = test_names member.now
+
+-- the name that it is with this link, if it is one
+abbrev pub link_key : Option (List ℕ) → Link → Option (List ℕ)
+link_key key (links.Part longer) = last_part_key key longer.now
+link_key key (links.Operator operation) = None
+link_key key (links.Test member) = None
 
 -- the last link of the text comes first
-abbrev pub chained_names : List Link → List TextName
-chained_names [] = []
-chained_names (link ∷ links) = chained_names links ++ link_names link
+abbrev pub chained_key : Option (List ℕ) → List Link → Option (List ℕ)
+chained_key key [] = key
+chained_key key (link ∷ links) = link_key (chained_key key links) link
+
+abbrev pub chained_names : Option (List ℕ) → List Link → List TextName
+chained_names key [] = []
+chained_names key (link ∷ links) = chained_names key links ++ link_names (chained_key key links) link
 
 -- ---- links are less deep than the whole
 

@@ -1,3 +1,4 @@
 pub mod TextNames
 pub mod Lookups
 pub mod Chains
+pub mod Pieces

@@ -4,12 +4,13 @@
 mod chain;
 mod lookup;
 mod name;
+mod piece;
+mod pieces;
 mod select;
 mod selectors;
 mod sign;
 mod text;
 
-pub use lookup::{look_up_all, names};
+pub use lookup::names;
 pub use name::TextName;
 pub use selectors::look_up_selected;
-pub use text::names_in;

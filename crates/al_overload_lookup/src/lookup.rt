@@ -1,22 +1,22 @@
 // The names of an expression's text, looked up at its place.
 ghost use Rattle.std.specs.Prelude.{◌≡◌, IfOk, OnOk};
-ghost use Rattle.al_overload_lookup.specs.Lookups.{asked_units, found, is_new, looked_up, looked_up_all, names_at, with_prefixed, with_visible};
-ghost use Rattle.al_overload_lookup.specs.TextNames.{names_in};
+ghost use Rattle.al_overload_lookup.specs.Lookups.{asked_units, found, is_new, looked_up, names_at, with_prefixed, with_visible};
 ghost use Rattle.al_query.specs.Asked.{AsksOf, by_some_name};
 ghost use Rattle.al_query.specs.Reads.{FromAnswers};
 ghost use Rattle.al_scope.specs.Places.{place_units};
 ghost use Rattle.al_tree.specs.ExpressionViews.{expression_model};
 
 use crate::name::TextName;
+use crate::pieces::look_up_pieces;
 use crate::select::{add_each, add_views};
-use crate::text::names_in;
+use crate::text::pieces_in;
 use al_base::{NoMemory, UnitKey};
 use al_overload_keys::{Names, dotted, is_none};
 use al_query::{Answers, Recorder};
 use al_scope::Scope;
 use al_scope_seen::all_seen_at;
 use al_tree::Expression;
-use al_view::{Interface, Views};
+use al_view::Views;
 use std::alloc::Global;
 
 /// All that is visible under a name.
@@ -119,28 +119,6 @@ pub(crate) fn look_up<A: Answers>(
     Ok(())
 }
 
-/// What these names denote at a place, each looked up once.
-pub fn look_up_all<A: Answers>(
-    alloc: Global,
-    scope: &Scope,
-    packages: &[UnitKey],
-    of: &[TextName],
-    recorder: &mut Recorder<A>,
-) -> Result<Names, NoMemory>
-    ensures asked { recorder.new.asked ≡ recorder.old.asked }
-    ensures answered { IfOk result (λ names. FromAnswers recorder.old.log recorder.new.log (λ t. names ≡ looked_up_all t scope.now packages.now of.now)) }
-    ensures asks { IfOk result (λ _. AsksOf (asked_units scope.now packages.now) by_some_name recorder.old.log recorder.new.log) }
-{
-    let mut names = Names {
-        visible: Interface::new(alloc),
-        prefixes: Interface::new(alloc),
-    };
-    for one in of {
-        look_up(alloc, scope, packages, &mut names, one, recorder)?;
-    }
-    Ok(names)
-}
-
 /// What the names of an expression's text denote at its place, where these packages are mentioned.
 pub fn names<A: Answers>(
     alloc: Global,
@@ -153,7 +131,7 @@ pub fn names<A: Answers>(
     ensures answered { IfOk result (λ names. FromAnswers recorder.old.log recorder.new.log (λ t. names ≡ names_at t scope.now packages.now (expression_model expression.now))) }
     ensures asks { IfOk result (λ _. AsksOf (asked_units scope.now packages.now) by_some_name recorder.old.log recorder.new.log) }
 {
-    let of = names_in(alloc, expression)?;
-    let names = look_up_all(alloc, scope, packages, &of, recorder)?;
+    let pieces = pieces_in(alloc, expression)?;
+    let names = look_up_pieces(alloc, scope, packages, &pieces, recorder)?;
     Ok(names)
 }

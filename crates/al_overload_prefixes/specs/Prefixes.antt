@@ -1,6 +1,6 @@
 -- What is wrong in the prefix of an attribute (ARM 4.1.4). It tells the attribute nothing but its array, which is known without interpretation; but
 -- what stands in its indexes is part of the context round the attribute (ARM 8.6(4)), and must have its one interpretation there as all else has.
-use Rattle.std.specs.Prelude.{Bool, ◌&&◌, ◌==◌, [], Option, Some, None, is_some, Result, Ok, Err, if◌then◌else◌}
+use Rattle.std.specs.Prelude.{Bool, true, false, ◌&&◌, ◌||◌, ◌==◌, [], Option, Some, None, is_some, Result, Ok, Err, if◌then◌else◌}
 use Rattle.al_base.specs.declared.place.Place.{Place}
 use Rattle.al_overload_heads.specs.declared.everywhere.Predefined.{Predefined}
 use Rattle.al_base_fault.specs.Faults.{fault_at}
@@ -11,6 +11,8 @@ use Rattle.al_overload_readings.specs.Marks.{mark_in}
 use Rattle.al_overload_readings.specs.Readings.{ReadTree, ReadTree as reads}
 use Rattle.al_overload_term.specs.Places.{first_place}
 use Rattle.al_overload_term.specs.Terms.{TermTree}
+use Rattle.al_overload_terms.specs.Texts.{is_selector}
+use Rattle.al_tree_syntax.specs.ExpressionTrees.{ExpressionTree, ExpressionTree as e, PartTree, PartTree as part}
 use Rattle.al_view_typed.specs.ExpressionTrees.{TypedTree}
 use Rattle.al_view.specs.declared.symbol.Symbol.{Symbol}
 
@@ -54,3 +56,23 @@ argument_place at first (reads.RangeRead q s) = at
 abbrev pub place_after : Place → Place → Result ReadTree Fault → Place
 place_after at first (Ok r) = argument_place at first r
 place_after at first (Err f) = at
+
+abbrev pub is_attribute : PartTree → Bool
+is_attribute (part.Attribute l) = true
+is_attribute (part.Selector l) = false
+is_attribute (part.Arguments l first others) = false
+is_attribute part.RangeAttribute = false
+is_attribute (part.Operand group) = false
+
+-- Whether an argument after it may be one of a conversion or of Image: what has an argument of its own, or selectors after one, is neither a mark nor
+-- an attribute of one.
+abbrev pub may_be_mark : ExpressionTree → Bool
+may_be_mark (e.Name l) = true
+may_be_mark (e.Longer prefix p) = is_attribute p || (is_selector p && may_be_mark prefix)
+may_be_mark (e.Number l) = false
+may_be_mark (e.Text l) = false
+may_be_mark (e.Prefixed operator operand) = false
+may_be_mark (e.Infix left operator right) = false
+may_be_mark (e.InMark left n mark) = false
+may_be_mark (e.InRange left n low high) = false
+may_be_mark (e.Group group) = false

@@ -3,6 +3,7 @@
 
 mod at;
 mod fault;
+mod mark;
 mod text;
 
 pub use at::{bounds_with_at, context_with_at, range_with_at, read_with_at};

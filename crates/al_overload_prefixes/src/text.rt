@@ -12,6 +12,7 @@ ghost use Rattle.al_overload_terms.specs.Texts.{read};
 ghost use Rattle.al_tree.specs.ExpressionViews.{expression_model, expressions_of, group_model, member_model, part_model};
 
 use crate::fault::{place_after, prefix_fault};
+use crate::mark::may_be_mark;
 use al_base::{NoMemory, Place};
 use al_base_fault::{CheckResult, Fault, earlier};
 use al_overload_keys::{Names, first_place, group_place};
@@ -153,6 +154,7 @@ fn after_fault(
 }
 
 /// Where the context of an argument after a name begins.
+#[tactic(auto, using(crate::proofs::Marks::place_after_none))]
 fn argument_place(
     labeller: &Labeller,
     names: &Names,
@@ -162,6 +164,9 @@ fn argument_place(
 ) -> Result<Place, NoMemory>
     ensures { IfOk result (λ place. place ≡ place_after at (first_place (expression_model first.now)) (read (denoted names.now) (expression_model prefix.now))) }
 {
+    if !may_be_mark(prefix) {
+        return Ok(at);
+    }
     let name = prefix_read(labeller, names, prefix)?;
     let place = place_after(labeller.alloc, at, first_place(first), &name);
     drop(name);

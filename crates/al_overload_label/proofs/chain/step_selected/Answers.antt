@@ -1,4 +1,4 @@
-use Rattle.std.proofs.Common.{◌≡◌, ap}
+use Rattle.std.proofs.Common.{ap}
 use Rattle.al_overload_choice.specs.Counts.{label_of}
 use Rattle.al_overload_choice.specs.Labelling.{Label}
 use Rattle.std.proofs.Common.{Option}

@@ -1,4 +1,8 @@
+use Rattle.std.proofs.Common.{Option, ap, ◌∙◌}
 use Rattle.al_overload_choice.specs.Counts.{label_of}
+use Rattle.al_overload_choice.specs.Labelling.{Label}
+use Rattle.al_overload_label.specs.Readings.{reading}
+use Rattle.al_overload_types.specs.Leaves.{labelled}
 use Rattle.al_overload_label.proofs.PairMade.{bound_is}
 use Rattle.al_overload_label.proofs.range.bound_at.Goals as goal
 use Rattle.al_overload_nodes.specs.Views.{reading_model}
@@ -11,4 +15,6 @@ pub returns : goal.returns
 returns c =
     bound_is c.args.labeller.now.predefined c.args.labeller.now.own c.args.wanted c.args.types.now c.types_in-among.result.now (term_model c.args.low.now) (term_model c.args.bound.now) c.args.position (label_of c.args.label.now) (told_model c.args.determined.now)
     c.first_place-2.result c.first_place.result (reading_model c.in_ok-reading.reading) (map_ok typed_model c.checked_as.result)
-    c.first_place-2.ensures c.first_place.ensures c.types_in-among.ensures c.in_ok-reading.ensures c.checked_as.ensures
+    c.first_place-2.ensures c.first_place.ensures c.types_in-among.ensures
+    (c.in_ok-reading.ensures ∙ ap (λ (o : Option Label). labelled c.first_place.result (λ l. reading c.args.labeller.now.predefined c.args.labeller.now.own (term_model c.args.bound.now) l c.types_in-among.result.now c.args.determined.now.of.now) o) c.operand_label-own_label.ensures)
+    c.checked_as.ensures

@@ -1,9 +1,10 @@
-use Rattle.std.proofs.Common.{◌≡◌, false, map, refl, sym, ap, subst, ◌∙◌, arith, rules, Box, Global}
+use Rattle.std.proofs.Common.{◌≡◌, false, map, Option, sym, ap, subst, ◌∙◌, arith, Box, Global}
 use Rattle.std.specs.Option.{option_copied, option_map_or}
-use Rattle.al_overload_choice.specs.Counts.{label_of}
+use Rattle.std.specs.Prelude.{option_map}
+use Rattle.al_overload_choice.specs.Counts.{label_of, labels_of}
+use Rattle.al_overload_choice.specs.Labelling.{Label}
 use Rattle.al_overload_heads.specs.Parts.{nominal}
 use Rattle.al_overload_nodes.specs.Gathering.{no_parts}
-use Rattle.al_overload_nodes.specs.Names.{object_node}
 use Rattle.al_overload_nodes.specs.Views.{actuals_model, reading_model, values_model}
 use Rattle.al_overload_nodes.specs.declared.node.Reading.{Reading}
 use Rattle.al_overload_term.specs.Places.{first_place}
@@ -14,12 +15,15 @@ use Rattle.al_overload_term.specs.declared.term.Term.TheViews.{sized-Infix, size
 use Rattle.al_overload_types.specs.Leaves.Application.{CallOf, ElementOf, ElementOfPart, Misapplied}
 use Rattle.al_overload_types.specs.FromAnswers.{test_type, types_in}
 use Rattle.al_overload_label.specs.Chains.{IsBelow, stepped}
-use Rattle.al_overload_label.specs.Readings.{operand_read, reading, values_read}
+use Rattle.al_overload_label.specs.Readings.{actuals_read, operand_read, reading, values_read}
 use Rattle.al_overload_label.specs.Variables.{variable_as}
-use Rattle.al_overload_picks.specs.Labels.{operand_label}
+use Rattle.al_overload_types.specs.Leaves.{labelled}
+use Rattle.al_overload_label.specs.OperandLabels.{operand_labels}
+use Rattle.al_overload_label.proofs.OperandLabels.{after_is}
 use Rattle.al_overload_label.specs.declared.chain.Step.{Step}
 use Rattle.al_overload_label.proofs.ChainLemmas.{applied_begins, applied_below, infix_begins, infix_below, last_at, last_read, longer, selected_begins, selected_below, short_circuit_begins, short_circuit_below, step_by}
-use Rattle.al_overload_label.proofs.Gathered.{actual_made, component_made, item_there, values_step}
+use Rattle.al_overload_label.proofs.KnownLemmas.{infix_known}
+use Rattle.al_overload_label.proofs.Gathered.{actual_made, actuals_next, component_made, item_there, values_next}
 use Rattle.al_overload_label.proofs.TermKinds.{attribute_is, kept_is, many_indexes, member_is, member_model, read_by, selected_model}
 use Rattle.al_overload_label.proofs.Wholes.{applied_is, applied_model, object_element_is, range_member_model, three_made}
 use Rattle.al_overload_label.proofs.reading.+reading.Goals as goal
@@ -32,7 +36,9 @@ read-returns-in-Member t c =
 pub read_attribute-returns : goal.read_attribute-returns
 read_attribute-returns t c =
     attribute_is c.args.labeller.now.predefined c.args.labeller.now.own c.args.place c.args.conversion c.args.subtype.now (term_model c.args.argument.now) (label_of c.args.label.now) c.args.types.now c.args.at.now
-    c.argument_type-of.result.now _ c.attribute_reading.result c.argument_type-of.ensures c.in_ok-argument.ensures c.attribute_reading.ensures
+    c.argument_type-of.result.now _ c.attribute_reading.result c.argument_type-of.ensures
+    (c.in_ok-argument.ensures ∙ ap (λ (o : Option Label). labelled c.args.place (λ l. reading c.args.labeller.now.predefined c.args.labeller.now.own (term_model c.args.argument.now) l c.args.subtype.now.types c.argument_type-of.result.now) o) c.operand_label-first_label.ensures)
+    c.attribute_reading.ensures
 
 pub read_index-returns-in-len2-up : goal.read_index-returns-in-len2-up
 read_index-returns-in-len2-up t c =
@@ -42,12 +48,14 @@ read_index-returns-in-len2-up t c =
 pub read_member-returns : goal.read_member-returns
 read_member-returns t c =
     member_is c.args.labeller.now.predefined c.args.labeller.now.own (term_model c.args.value.now) c.args.is_negated c.args.subtype.now (label_of c.args.label.now) c.first_place-place.result _
-    c.in_mark_reading.result c.first_place-place.ensures c.in_ok-value.ensures c.in_mark_reading.ensures
+    c.in_mark_reading.result c.first_place-place.ensures
+    (c.in_ok-value.ensures ∙ ap (λ (o : Option Label). labelled c.first_place-place.result (λ l. reading c.args.labeller.now.predefined c.args.labeller.now.own (term_model c.args.value.now) l c.args.subtype.now.types c.args.subtype.now.subtype.base) o) c.operand_label-first_label.ensures)
+    c.in_mark_reading.ensures
 
 pub read_actual-returns : goal.read_actual-returns
 read_actual-returns t c =
-    actual_made c.add_actual.result c.args.subprogram.now (label_of c.args.label.now) c.args.position (actuals_model c.args.actuals.now) (actuals_model c.add_actual.new.actuals) (first_place (term_model c.args.argument.now))
-    (option_map_or (variable_as (term_model c.args.argument.now)) (operand_label c.args.position (label_of c.args.label.now)) false)
+    actual_made c.add_actual.result c.args.subprogram.now (option_map (λ l. label_of l.now) c.args.label) c.args.position (actuals_model c.args.actuals.now) (actuals_model c.add_actual.new.actuals) (first_place (term_model c.args.argument.now))
+    (option_map_or (variable_as (term_model c.args.argument.now)) (option_map (λ l. label_of l.now) c.args.label) false)
     (λ l of. reading c.args.labeller.now.predefined c.args.labeller.now.own (term_model c.args.argument.now) l c.args.subprogram.now.types of)
     c.in-Some.parameter.now c.first_place-place.result c.range_in-range.result c.variable_at-is_variable.result (reading_model c.in_ok-value.value)
     (item_there c.args.subprogram.now.profile.parameters c.as_slice.result.now c.args.position c.get.result c.in-Some.parameter c.as_slice.ensures c.get.ensures.lookup c.in-Some.is) c.first_place-place.ensures c.range_in-range.ensures c.variable_at-is_variable.ensures
@@ -55,7 +63,7 @@ read_actual-returns t c =
 
 pub read_value-returns : goal.read_value-returns
 read_value-returns t c =
-    component_made c.add_value.result c.args.types.now c.args.at.now (label_of c.args.label.now) c.args.position (values_model c.args.values.now) (values_model c.add_value.new.values) (first_place (term_model c.args.component.now))
+    component_made c.add_value.result c.args.types.now c.args.at.now (option_map (λ l. label_of l.now) c.args.label) c.args.position (values_model c.args.values.now) (values_model c.add_value.new.values) (first_place (term_model c.args.component.now))
     (λ l of. reading c.args.labeller.now.predefined c.args.labeller.now.own (term_model c.args.component.now) l c.args.types.now of)
     c.in-Some.subtype.now c.first_place-place.result c.range_in-range.result (reading_model c.in_ok-value.value)
     (sym c.component_of_type.ensures ∙ ap option_copied c.in-Some.is) c.first_place-place.ensures c.range_in-range.ensures
@@ -86,24 +94,39 @@ read-returns-in_ok-value-in-RangeMember t c =
 pub read_other-returns : goal.read_other-returns
 read_other-returns t c = kept_is _ c.read-reading.result c.kept.result c.read-reading.ensures c.kept.ensures
 
+pub read_actuals-loop-position-preserved : goal.read_actuals-loop-position-preserved
+read_actuals-loop-position-preserved t c = (
+  actuals_next c.args.labeller.now.predefined c.args.labeller.now.own c.args.subprogram.now (label_of c.args.label.now) c.args.arguments.now c.loop-position.position c.index-arguments-position.result (actuals_model c.loop-position.actuals) (actuals_model c.read_actual.new.actuals)
+      (actuals_read c.args.labeller.now.predefined c.args.labeller.now.own c.args.subprogram.now (label_of c.args.label.now) 0 no_parts (terms_of (map term_model c.args.arguments.now)))
+      (labels_of c.loop-position.labels.now) (option_map (λ l. label_of l.now) c.next_label-one.result)
+      c.loop-position.invariant.0 c.loop-position.invariant.1 c.next_label-one.ensures c.loop-position-test.true c.index-arguments-position.is c.in_ok-read_actual.ensures,
+  after_is c.loop-position.position (operand_labels (label_of c.args.label.now)) (labels_of c.loop-position.labels.now) _ c.loop-position.invariant.1 c.labels_after-labels.ensures,
+)
+
 pub read_values-loop-position-preserved : goal.read_values-loop-position-preserved
-read_values-loop-position-preserved t c =
-    values_step c.args.labeller.now.predefined c.args.labeller.now.own c.args.types.now c.args.at.now (label_of c.args.label.now) c.args.components.now c.loop-position.position c.index-components-position.result (values_model c.loop-position.values) (values_model c.read_value.new.values)
-    (values_read c.args.labeller.now.predefined c.args.labeller.now.own c.args.types.now c.args.at.now (label_of c.args.label.now) 0 no_parts (terms_of (map term_model c.args.components.now)))
-    c.loop-position.invariant c.loop-position-test.true c.index-components-position.is c.in_ok-read_value.ensures
+read_values-loop-position-preserved t c = (
+  values_next c.args.labeller.now.predefined c.args.labeller.now.own c.args.types.now c.args.at.now (label_of c.args.label.now) c.args.components.now c.loop-position.position c.index-components-position.result (values_model c.loop-position.values) (values_model c.read_value.new.values)
+      (values_read c.args.labeller.now.predefined c.args.labeller.now.own c.args.types.now c.args.at.now (label_of c.args.label.now) 0 no_parts (terms_of (map term_model c.args.components.now)))
+      (labels_of c.loop-position.labels.now) (option_map (λ l. label_of l.now) c.next_label-one.result)
+      c.loop-position.invariant.0 c.loop-position.invariant.1 c.next_label-one.ensures c.loop-position-test.true c.index-components-position.is c.in_ok-read_value.ensures,
+  after_is c.loop-position.position (operand_labels (label_of c.args.label.now)) (labels_of c.loop-position.labels.now) _ c.loop-position.invariant.1 c.labels_after-labels.ensures,
+)
 
 -- ---- steps down a chain of operators
 
 pub step-step_infix-requires : goal.step-step_infix-requires
 step-step_infix-requires t c = let a = ap size-Term c.in-Infix.is in let b = ap size-Term c.deref.ensures in (
   omega (arith, c.decreases, sized-Infix c.in-Infix.operator c.in-Infix.views c.in-Infix.left c.in-Infix.right, a, b),
-  infix_begins c.args.term.now c.deref-in-Infix.result.now c.in-Infix.operator c.in-Infix.views c.in-Infix.left c.in-Infix.right c.args.place c.in-Infix.is c.deref-in-Infix.ensures c.requires,
+  (
+    infix_begins c.args.term.now c.deref-in-Infix.result.now c.in-Infix.operator c.in-Infix.views c.in-Infix.left c.in-Infix.right c.args.place c.in-Infix.is c.deref-in-Infix.ensures c.requires.begins,
+    infix_known c.args.term.now c.deref-in-Infix.result.now c.deref.result.now c.in-Infix.operator c.in-Infix.views c.in-Infix.left c.in-Infix.right c.args.known c.in-Infix.is c.deref-in-Infix.ensures c.deref.ensures c.requires.known,
+  ),
 )
 
 pub step-step_short_circuit-requires : goal.step-step_short_circuit-requires
 step-step_short_circuit-requires t c = let a = ap size-Term c.in-ShortCircuit.is in let b = ap size-Term c.deref-in-ShortCircuit.ensures in (
   omega (arith, c.decreases, sized-ShortCircuit c.in-ShortCircuit.form c.in-ShortCircuit.left c.in-ShortCircuit.right, a, b),
-  short_circuit_begins c.args.term.now c.deref-in-ShortCircuit-2.result.now c.in-ShortCircuit.form c.in-ShortCircuit.left c.in-ShortCircuit.right c.args.place c.in-ShortCircuit.is c.deref-in-ShortCircuit-2.ensures c.requires,
+  short_circuit_begins c.args.term.now c.deref-in-ShortCircuit-2.result.now c.in-ShortCircuit.form c.in-ShortCircuit.left c.in-ShortCircuit.right c.args.place c.in-ShortCircuit.is c.deref-in-ShortCircuit-2.ensures c.requires.begins,
 )
 
 pub step-returns-in-Infix-clause-below : goal.step-returns-in-Infix-clause-below
@@ -116,7 +139,7 @@ step-returns-in-ShortCircuit-clause-below t c =
 
 pub step-step_selected-requires : goal.step-step_selected-requires
 step-step_selected-requires t c =
-    selected_begins c.args.term.now c.deref-in-Selected.result.now c.in-Selected.prefix c.in-Selected.name c.args.place c.in-Selected.is c.deref-in-Selected.ensures c.requires
+    selected_begins c.args.term.now c.deref-in-Selected.result.now c.in-Selected.prefix c.in-Selected.name c.args.place c.in-Selected.is c.deref-in-Selected.ensures c.requires.begins
 
 pub step-returns-in-Selected-clause-below : goal.step-returns-in-Selected-clause-below
 step-returns-in-Selected-clause-below t c =
@@ -127,7 +150,7 @@ step-returns-in-Applied-clause-read t c =
     step_by c.args.labeller.now.predefined c.args.labeller.now.own c.args.place _ _ c.step_applied.result
     (applied_model c.args.labeller.now.predefined c.args.labeller.now.own c.args.term.now c.in-Applied.name c.in-Applied.arguments c.deref-in-Applied.result.now c.as_slice-arguments.result.now (label_of c.args.label.now) c.args.types.now c.args.at.now c.args.place
     c.in-Applied.is c.deref-in-Applied.ensures c.as_slice-arguments.ensures.value
-    (applied_begins c.args.term.now c.deref-in-Applied.result.now c.in-Applied.name c.in-Applied.arguments c.args.place c.in-Applied.is c.deref-in-Applied.ensures c.requires))
+    (applied_begins c.args.term.now c.deref-in-Applied.result.now c.in-Applied.name c.in-Applied.arguments c.args.place c.in-Applied.is c.deref-in-Applied.ensures c.requires.begins))
     c.step_applied.ensures.read
 
 pub step-returns-in-Applied-clause-below : goal.step-returns-in-Applied-clause-below
@@ -202,4 +225,5 @@ read_boxed-loop-joints-preserved t c =
           c.loop-joints.invariant.0,
       c.loop-joints.invariant.1 ∙ sym below.1,
       omega (arith, below.0, c.loop-joints.invariant.2),
+      below.2,
     )

@@ -1,4 +1,5 @@
 use Rattle.std.proofs.Common.{◌≡◌, ◌++◌}
+use Rattle.al_overload_keys.specs.Keys.{key_of}
 use Rattle.al_overload_lookup.specs.Chains.{AreWithin, chained_names}
 use Rattle.al_overload_lookup.specs.TextNames.{names_in}
 use Rattle.al_tree.specs.ExpressionViews.{expression_model}
@@ -7,7 +8,7 @@ use Rattle.al_overload_lookup.proofs.chain.chain_of.Given as goal
 
 abbrev pub invariant-loop-link : goal.invariant-loop-link
 invariant-loop-link l =
-    (names_in (expression_model l.rest) ++ chained_names l.links.items ≡ names_in (expression_model l.fn.expression))
+    (names_in (expression_model l.rest) ++ chained_names (key_of (expression_model l.rest)) l.links.items ≡ names_in (expression_model l.fn.expression))
     × AreWithin l.fn.expression l.rest l.links.items
 
 abbrev pub decreases-loop-link : goal.decreases-loop-link

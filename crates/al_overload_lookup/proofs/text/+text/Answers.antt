@@ -1,8 +1,9 @@
-use Rattle.std.proofs.Common.{◌++◌, List, sym, ap, ◌∙◌, arith}
+use Rattle.std.proofs.Common.{◌++◌, List, None, refl, sym, ap, ◌∙◌, arith}
 use Rattle.std.proofs.lemmas.List.{take_all}
 use Rattle.std.specs.List.{flat_map}
 use Rattle.al_overload_lookup.proofs.Chained.{next_below, next_step}
 use Rattle.al_overload_lookup.proofs.Found.{all_listed}
+use Rattle.al_overload_lookup.specs.Pieces.{front, names_of}
 use Rattle.al_overload_lookup.specs.TextNames.{names_in}
 use Rattle.al_overload_lookup.specs.declared.chain.Link.TheVariants.{Operator, Part, Test}
 use Rattle.al_overload_lookup.specs.declared.name.TextName.{TextName}
@@ -14,8 +15,8 @@ pub add_all-returns : goal.add_all-returns
 add_all-returns t c =
     let all = take_all c.loop-expression.expression-index c.args.expressions.now (omega arith) in
     c.loop-expression.invariant
-    ∙ ap (λ (xs : List Expression). c.args.found.now.items ++ flat_map (λ (x : Expression). names_in (expression_model x)) xs) all
-    ∙ ap (λ (xs : List TextName). c.args.found.now.items ++ xs) (sym (all_listed c.args.expressions.now))
+    ∙ ap (λ (xs : List Expression). names_of c.args.found.now.items ++ flat_map (λ (x : Expression). names_in (expression_model x)) xs) all
+    ∙ ap (λ (xs : List TextName). names_of c.args.found.now.items ++ xs) (sym (all_listed c.args.expressions.now))
 
 -- ---- what stands first is no deeper than the whole, and each link is less deep
 
@@ -42,17 +43,17 @@ add_names-add_test-requires t c = (
 
 -- ---- the names of a link come next
 
-pub add_names-loop-link-preserved-in-Continue-branch-3 : goal.add_names-loop-link-preserved-in-Continue-branch-3
-add_names-loop-link-preserved-in-Continue-branch-3 t c =
-    next_step c.args.expression.now c.loop-link.links.items c.pop.new.self.items c.pop.result c.in-Some.link (Part c.in-Part.longer) c.args.found.now.items c.loop-link.found.items c.add_part.new.found.items (names_in (expression_model c.args.expression.now))
-    c.pop.ensures.items c.in-Some.is c.in-Part.is c.in_ok-add_part-in-Part.ensures c.loop-link.invariant
+pub add_names-loop-link-preserved-in-Part : goal.add_names-loop-link-preserved-in-Part
+add_names-loop-link-preserved-in-Part t c =
+    next_step c.args.expression.now c.loop-link.links.items c.pop.new.self.items c.pop.result c.in-Some.link (Part c.in-Part.longer) (names_of c.args.found.now.items) (names_of c.loop-link.found.items) (names_of c.add_part.new.found.items) (names_in (expression_model c.args.expression.now))
+    (front c.loop-link.named c.loop-link.found.items) (front c.in_ok-still-in-Part.still c.add_part.new.found.items) c.pop.ensures.items c.in-Some.is c.in-Part.is c.in_ok-still-in-Part.ensures.names c.in_ok-still-in-Part.ensures.key c.loop-link.invariant
 
-pub add_names-loop-link-preserved-in-Continue-branch-4 : goal.add_names-loop-link-preserved-in-Continue-branch-4
-add_names-loop-link-preserved-in-Continue-branch-4 t c =
-    next_step c.args.expression.now c.loop-link.links.items c.pop.new.self.items c.pop.result c.in-Some.link (Operator c.in-Operator.operation) c.args.found.now.items c.loop-link.found.items c.add_operation.new.found.items (names_in (expression_model c.args.expression.now))
-    c.pop.ensures.items c.in-Some.is c.in-Operator.is c.in_ok-add_operation-in-Operator.ensures c.loop-link.invariant
+pub add_names-loop-link-preserved-in-Operator : goal.add_names-loop-link-preserved-in-Operator
+add_names-loop-link-preserved-in-Operator t c =
+    next_step c.args.expression.now c.loop-link.links.items c.pop.new.self.items c.pop.result c.in-Some.link (Operator c.in-Operator.operation) (names_of c.args.found.now.items) (names_of c.loop-link.found.items) (names_of c.add_operation.new.found.items) (names_in (expression_model c.args.expression.now))
+    (front c.loop-link.named c.loop-link.found.items) None c.pop.ensures.items c.in-Some.is c.in-Operator.is c.in_ok-add_operation-in-Operator.ensures refl c.loop-link.invariant
 
 pub add_names-loop-link-preserved : goal.add_names-loop-link-preserved
 add_names-loop-link-preserved t c =
-    next_step c.args.expression.now c.loop-link.links.items c.pop.new.self.items c.pop.result c.in-Some.link (Test c.in-Test.member) c.args.found.now.items c.loop-link.found.items c.add_test.new.found.items (names_in (expression_model c.args.expression.now))
-    c.pop.ensures.items c.in-Some.is c.in-Test.is c.in_ok-add_test-in-Test.ensures c.loop-link.invariant
+    next_step c.args.expression.now c.loop-link.links.items c.pop.new.self.items c.pop.result c.in-Some.link (Test c.in-Test.member) (names_of c.args.found.now.items) (names_of c.loop-link.found.items) (names_of c.add_test.new.found.items) (names_in (expression_model c.args.expression.now))
+    (front c.loop-link.named c.loop-link.found.items) None c.pop.ensures.items c.in-Some.is c.in-Test.is c.in_ok-add_test-in-Test.ensures refl c.loop-link.invariant

@@ -1,16 +1,17 @@
 use Rattle.std.proofs.Common.{◌≡◌, ◌+◌, ◌*◌, ◌++◌, take, length}
 use Rattle.std.specs.List.{flat_map}
 use Rattle.al_overload_lookup.specs.Chains.{AreBelow, chained_names}
+use Rattle.al_overload_lookup.specs.Pieces.{front, names_of}
 use Rattle.al_overload_lookup.specs.TextNames.{names_in}
 use Rattle.al_tree.specs.ExpressionViews.{expression_model}
 use Rattle.al_overload_lookup.proofs.text.+text.Given as goal
 
 abbrev pub invariant-add_all-loop-expression : goal.invariant-add_all-loop-expression
-invariant-add_all-loop-expression l = l.found.items ≡ l.initial.found.items ++ flat_map (λ x. names_in (expression_model x)) (take l.expression-index l.expressions)
+invariant-add_all-loop-expression l = names_of l.found.items ≡ names_of l.initial.found.items ++ flat_map (λ x. names_in (expression_model x)) (take l.expression-index l.expressions)
 
 abbrev pub invariant-add_names-loop-link : goal.invariant-add_names-loop-link
 invariant-add_names-loop-link l =
-    (l.found.items ++ chained_names l.links.items ≡ l.fn.found.items ++ names_in (expression_model l.fn.expression))
+    (names_of l.found.items ++ chained_names (front l.named l.found.items) l.links.items ≡ names_of l.fn.found.items ++ names_in (expression_model l.fn.expression))
     × AreBelow l.fn.expression l.links.items
 
 abbrev pub decreases-add_names-loop-link : goal.decreases-add_names-loop-link
