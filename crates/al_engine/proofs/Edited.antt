@@ -1,5 +1,5 @@
 -- The unit that alone was edited since a build that found nothing wrong.
-use Rattle.std.proofs.Common.{◌≡◌, ◌⊎◌, inl, inr, ℕ, Bool, true, false, ◌&&◌, List, [], ◌∷◌, ◌++◌, map, Option, Some, None, refl, sym, ap, subst, ◌∙◌, if◌then◌else◌}
+use Rattle.std.proofs.Common.{◌≡◌, inl, inr, ℕ, Bool, true, false, List, [], ◌∷◌, Option, Some, None, refl, sym, ap, subst, ◌∙◌, if◌then◌else◌}
 use Rattle.std.specs.List.{Contains, flat_map}
 use Rattle.std.specs.Map.{keys_of}
 use Rattle.std.specs.Option.{is_some, option_and_then, option_map, option_map_or}
@@ -7,7 +7,6 @@ use Rattle.al_base.specs.Batch.{Finding, Key, key_of}
 use Rattle.al_base.specs.FileNames.{file_name_of}
 use Rattle.al_base.specs.declared.unit_key.UnitKey.{UnitKey}
 use Rattle.al_base_graph.proofs.Members.{first_or_later, nowhere}
-use Rattle.al_unit_graph.specs.Dependence.{direct}
 use Rattle.al_unit_graph.specs.Headers.{Contents, Header, Headed, Library, Source, Unread, key_of_unit}
 use Rattle.al_unit_graph.specs.Library.{held, is_rightly_named, is_unit, source_at, unit_at, unit_in}
 use Rattle.al_unit_faults.specs.GraphFaults.{file_faults}
@@ -116,7 +115,7 @@ module _ (meaning : TextMeaning) (header : List ℕ → Header) (pre : Query →
       by (Some e) never = refl
 
   -- so all entries were made by it
-  all-made : (w : UnitKey) → entries w ≡ is.made w
+  pub all-made : (w : UnitKey) → entries w ≡ is.made w
   all-made w = is.entries w ∙ by (is.made w) (is_there lib w) (has-made w)
     where
       by : (o : Option Stored) (b : Bool) → (b ≡ true → is_some o ≡ true) → keeping.or_else o (if b then before w else None) ≡ o

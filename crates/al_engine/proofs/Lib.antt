@@ -3,3 +3,5 @@ mod Taken
 mod Clean
 mod Edited
 mod Obsolete
+mod SameLemmas
+mod BuiltLemmas

@@ -2,13 +2,13 @@
 use Rattle.std.specs.Prelude.{ℕ, ◌≡◌, List, Some, length}
 use Rattle.al_base.specs.Files.{Texts}
 use Rattle.al_unit_graph.specs.Headers.{Header, Library}
-use Rattle.al_unit_map.specs.Units.{at_unit}
+use Rattle.al_query_store.specs.Keyed.{settled_at}
 use Rattle.al_query.specs.declared.answer.AnswerKind.{AnswerKind}
 use Rattle.al_query.specs.declared.query.Query.{Query}
 use Rattle.al_engine_refresh.specs.Builds.{raised}
 use Rattle.al_entries.specs.EntryLaw.{TextMeaning}
 use Rattle.al_engine_batch.specs.Patches.{IsPatched, linked_in}
-use Rattle.al_engine_rebuild.specs.Rebuilds.{IsRebuilt}
+use Rattle.al_engine_rebuild.specs.Rebuilds.{IsKept, IsRebuilt}
 use Rattle.al_engine.specs.States.{Built, Held, linked_last}
 
 -- the last build is of the files as they are and this main unit, over what was kept of the units; so many checks more were made
@@ -17,7 +17,9 @@ pub record IsBuild {C P : Type 0} (meaning : TextMeaning) (header : List ℕ →
   pub is_last : new.built ≡ Some last
   pub files_are : last.files ≡ old.files
   pub main_is : last.main ≡ main
-  pub rebuilt : IsRebuilt meaning header predefined (library old.files) main (at_unit old.cache.entries) (at_unit new.cache.entries) last.gave
+  pub rebuilt : IsRebuilt meaning header predefined (library old.files) main (settled_at old.cache.store) (settled_at new.cache.store) last.gave
+  -- what is kept of the units: which it reached, and how many stored answers it compared
+  pub kept : IsKept predefined (library old.files) old.cache.store new.cache.store rebuilt.made last.gave
   -- so many units of its image were written into that of the build before
   pub patched : IsPatched (linked_last old.built) (linked_in last.gave.compiled) last.gave.patched
   pub counted : count new.cache.checker ≡ raised (count old.cache.checker) (length last.gave.checked)

@@ -12,7 +12,9 @@ use Rattle.al_engine_setting.specs.Settings.{ArePredefined}
 use Rattle.al_entries.specs.EntryLaw.{TextMeaning}
 use Rattle.al_entries.specs.Stored.{Stored}
 use Rattle.al_engine_recheck.specs.UnitCache.{Kept}
-use Rattle.al_engine_recheck.specs.Rechecks.{setting_of}
+use Rattle.al_query_store.specs.Keyed.{before_at, settled_at}
+use Rattle.al_engine_keep.specs.Moves.{Entries}
+use Rattle.al_engine_recheck.specs.Rechecks.{AreReady, setting_of}
 use Rattle.al_link.specs.Relinking.{LinkedImage}
 use Rattle.al_engine_batch.specs.Batches.{IsCompiled}
 use Rattle.al_engine_batch.specs.Patches.{linked_in}
@@ -46,10 +48,12 @@ pub record AreReadFor (header : List ℕ → Header) (library : Texts → Librar
 abbrev pub IsBuiltRight : TextMeaning → (List ℕ → Header) → (Query → AnswerKind) → (Texts → Library) → Option Built → Type 0
 IsBuiltRight meaning header predefined library built = IfSome built (λ b. IsCompiled meaning (setting_of header predefined (library b.files)) b.main b.gave.compiled)
 
--- the entries of the units are those that a build settled, whatever there were before it
-pub record IsSettledBy (meaning : TextMeaning) (header : List ℕ → Header) (predefined : Query → AnswerKind) (library : Texts → Library) (entries : UnitKey → Option Stored) (b : Built) : Type 0 where
+-- the entries of the units are those that a build settled, whatever there were before it, and it reached those that are said to be
+-- reached
+pub record IsSettledBy (meaning : TextMeaning) (header : List ℕ → Header) (predefined : Query → AnswerKind) (library : Texts → Library) (store : Entries) (b : Built) : Type 0 where
   pub before : UnitKey → Option Stored
-  pub rebuilt : IsRebuilt meaning header predefined (library b.files) b.main before entries b.gave
+  pub rebuilt : IsRebuilt meaning header predefined (library b.files) b.main before (settled_at store) b.gave
+  pub reached : (u : UnitKey) → before_at store u ≡ rebuilt.made u
 
 -- the last build is of these files and this main unit
 abbrev pub IsOfNow : Texts → List ℕ → Option Built → Type 0
@@ -57,13 +61,15 @@ IsOfNow files main None = ⊥
 IsOfNow files main (Some b) = (b.files ≡ files) × (b.main ≡ main)
 
 -- what every library keeps, beside the law of its entries
-pub record IsRight (meaning : TextMeaning) (header : List ℕ → Header) (predefined : Query → AnswerKind) (library : Texts → Library) (files : Texts) (entries : UnitKey → Option Stored) (is_edited : Bool) (graph : Option (Texts × UnitGraph)) (built : Option Built) (gave : Compiled) : Type 0 where
+pub record IsRight (meaning : TextMeaning) (header : List ℕ → Header) (predefined : Query → AnswerKind) (library : Texts → Library) (files : Texts) (store : Entries) (is_edited : Bool) (graph : Option (Texts × UnitGraph)) (built : Option Built) (gave : Compiled) : Type 0 where
   pub read : AreReadFor header library
   pub predefined_units : ArePredefined predefined
   pub built_right : IsBuiltRight meaning header predefined library built
   -- the entries are those that the last build settled, and while no file was edited it is of the files as they are
-  pub settled : IfSome built (λ b. IsSettledBy meaning header predefined library entries b)
+  pub settled : IfSome built (λ b. IsSettledBy meaning header predefined library store b)
   pub unedited : is_edited ≡ false → IfSome built (λ b. b.files ≡ files)
+  -- nothing was made since, and the marks say which stored answers differ from those of the units that it reached
+  pub ready : AreReady predefined store
   -- the graph that is kept is that of the files of the last build
   pub keeps_graph : KeepsGraph library graph
   -- before the first build there is no image
@@ -72,6 +78,10 @@ pub record IsRight (meaning : TextMeaning) (header : List ℕ → Header) (prede
 -- the units that the last build checked
 abbrev pub last_checked : Option Built → List UnitKey
 last_checked built = option_map_or (λ b. b.gave.checked) built []
+
+-- how many stored answers the last build compared
+abbrev pub compared_last : Option Built → ℕ
+compared_last built = option_map_or (λ b. b.gave.compared) built 0
 
 -- of how many units the last build wrote code into the image of the one before
 abbrev pub patched_last : Option Built → ℕ

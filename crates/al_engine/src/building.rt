@@ -4,17 +4,18 @@ ghost use Rattle.al_base.specs.Batch.{key_of};
 ghost use Rattle.al_unit_graph.specs.Traces.{AreReadAlike};
 ghost use Rattle.al_unit_obsolete.specs.Obsolete.{obsolete_of};
 ghost use Rattle.al_engine_reported.specs.Gave.{files_reported};
-ghost use Rattle.al_unit_map.specs.Units.{at_unit};
+ghost use Rattle.al_query_store.specs.Keyed.{SameStates, settled_at};
+ghost use Rattle.al_engine_keep.specs.Moves.{IsLeft};
 ghost use Rattle.al_engine_refresh.specs.Builds.{raised};
 ghost use Rattle.al_engine_graph.specs.Graphs.{HaveSameHeaders};
 ghost use Rattle.al_engine_graph.specs.Kept.{IsGraphOf};
 ghost use Rattle.al_engine_graph.specs.Texts.{HaveTextsBut};
 ghost use Rattle.al_engine_setting.specs.Settings.{ArePredefined};
-ghost use Rattle.al_engine_recheck.specs.Rechecks.{setting_of};
+ghost use Rattle.al_engine_recheck.specs.Rechecks.{AreReady, setting_of};
 ghost use Rattle.al_engine_batch.specs.Batches.{IsCompiled};
 ghost use Rattle.al_engine_batch.specs.Patches.{IsPatched, linked_in};
 ghost use Rattle.al_engine_rebuild.specs.Prepared.{IsPrepared};
-ghost use Rattle.al_engine_rebuild.specs.Rebuilds.{IsRebuilt};
+ghost use Rattle.al_engine_rebuild.specs.Rebuilds.{IsKept, IsRebuilt};
 ghost use Rattle.al_engine.specs.Graphs.{IsOrdered};
 ghost use Rattle.al_engine.specs.States.{AreReadFor, IsSettledBy};
 
@@ -87,12 +88,13 @@ fn begin<R: ReadFiles, C: UnitCheck, P: Answers>(
     requires reading { AreReadFor C.Text.header R.library }
     requires predefined { ArePredefined (P.table predefined.now) }
     requires last { IfSome last.now (λ b. IsGraphOf (R.library (R.files b.read)) b.graph.value × IsOrdered (R.library (R.files b.read)) b.main gave.now.compiled) }
-    requires settled { IfSome last.now (λ b. IsSettledBy C.meaning C.Text.header (P.table predefined.now) R.library (at_unit cache.old.entries) (record { files = R.files b.read; main = b.main; gave = gave.now })) }
+    requires ready { AreReady (P.table predefined.now) cache.old.store }
+    requires settled { IfSome last.now (λ b. IsSettledBy C.meaning C.Text.header (P.table predefined.now) R.library cache.old.store (record { files = R.files b.read; main = b.main; gave = gave.now })) }
     requires edited { IfSome edited (λ e. IfSome last.now (λ b. HaveSameHeaders (R.library (R.files b.read)) (R.library (R.files read.now)) × HaveTextsBut (R.library (R.files b.read)) (R.library (R.files read.now)) e)) }
     ensures graph { IfOk result (λ b. IsGraphOf (R.library (R.files read.now)) b.graph.value) }
-    ensures prepared { IfOk result (λ b. IsPrepared C.meaning C.Text.header (P.table predefined.now) (R.library (R.files read.now)) main.now (at_unit cache.old.entries) b.prepared.planned (at_unit b.prepared.entries) b.prepared.checked.items) }
+    ensures prepared { IfOk result (λ b. IsPrepared C.meaning C.Text.header (P.table predefined.now) (R.library (R.files read.now)) main.now cache.old.store b.prepared.planned cache.new.store b.prepared.checked.items b.prepared.compared) }
     ensures counted { IfOk result (λ b. C.count cache.new.checker ≡ raised (C.count cache.old.checker) (length b.prepared.checked.items)) }
-    ensures entries { cache.new.entries ≡ cache.old.entries }
+    ensures left { IsLeft cache.old.store cache.new.store }
 {
     let found = alike(read, last, edited);
     let (same, edited) = found;
@@ -108,7 +110,7 @@ fn begin<R: ReadFiles, C: UnitCheck, P: Answers>(
 
 /// Builds a main unit of files that are read, over what is kept of the units and what the last build gave. It may be known of which files
 /// the texts are other ones than those of that build.
-pub(crate) fn build_read<R: ReadFiles, C: UnitCheck, P: Answers>(
+fn build_read<R: ReadFiles, C: UnitCheck, P: Answers>(
     alloc: Global,
     cache: &mut UnitCache<C>,
     predefined: &P,
@@ -121,16 +123,17 @@ pub(crate) fn build_read<R: ReadFiles, C: UnitCheck, P: Answers>(
     requires reading { AreReadFor C.Text.header R.library }
     requires predefined { ArePredefined (P.table predefined.now) }
     requires last { IfSome last.now (λ b. IsGraphOf (R.library (R.files b.read)) b.graph.value × IsOrdered (R.library (R.files b.read)) b.main gave.old.compiled) }
-    requires settled { IfSome last.now (λ b. IsSettledBy C.meaning C.Text.header (P.table predefined.now) R.library (at_unit cache.old.entries) (record { files = R.files b.read; main = b.main; gave = gave.old })) }
+    requires ready { AreReady (P.table predefined.now) cache.old.store }
+    requires settled { IfSome last.now (λ b. IsSettledBy C.meaning C.Text.header (P.table predefined.now) R.library cache.old.store (record { files = R.files b.read; main = b.main; gave = gave.old })) }
     requires edited { IfSome edited (λ e. IfSome last.now (λ b. HaveSameHeaders (R.library (R.files b.read)) (R.library (R.files read)) × HaveTextsBut (R.library (R.files b.read)) (R.library (R.files read)) e)) }
     ensures files { IfOk result (λ b. R.files b.read ≡ R.files read) }
     ensures graph { IfOk result (λ b. IsGraphOf (R.library (R.files b.read)) b.graph.value) }
     ensures main { IfOk result (λ b. b.main ≡ main.now) }
-    ensures rebuilt { OnOk result (IsRebuilt C.meaning C.Text.header (P.table predefined.now) (R.library (R.files read)) main.now (at_unit cache.old.entries) (at_unit cache.new.entries) gave.new) }
+    ensures rebuilt { OnOk result ((is : IsRebuilt C.meaning C.Text.header (P.table predefined.now) (R.library (R.files read)) main.now (settled_at cache.old.store) (settled_at cache.new.store) gave.new) × IsKept (P.table predefined.now) (R.library (R.files read)) cache.old.store cache.new.store is.made gave.new) }
     ensures right { IfOk result (λ b. IsCompiled C.meaning (setting_of C.Text.header (P.table predefined.now) (R.library (R.files b.read))) b.main gave.new.compiled) }
     ensures counted { OnOk result (C.count cache.new.checker ≡ raised (C.count cache.old.checker) (length gave.new.checked)) }
     ensures patched { OnOk result (IsPatched (linked_in gave.old.compiled) (linked_in gave.new.compiled) gave.new.patched) }
-    ensures err { OnErr result ((cache.new.entries ≡ cache.old.entries) × (gave.new ≡ gave.old)) }
+    ensures err { OnErr result (IsLeft cache.old.store cache.new.store × (gave.new ≡ gave.old)) }
 {
     rebuilds_are_compiled();
     let name = Name::from_slice(alloc, main)?;
@@ -142,6 +145,41 @@ pub(crate) fn build_read<R: ReadFiles, C: UnitCheck, P: Answers>(
         graph,
         main: name,
     })
+}
+
+/// The same; where memory is wanting, what is kept of the units is as before.
+pub(crate) fn build_or_cancel<R: ReadFiles, C: UnitCheck, P: Answers>(
+    alloc: Global,
+    cache: &mut UnitCache<C>,
+    predefined: &P,
+    last: &Option<LastBuild<R>>,
+    gave: &mut Rebuilt,
+    read: R,
+    edited: Option<Edited>,
+    main: &[u8],
+) -> Result<LastBuild<R>, NoMemory>
+    requires reading { AreReadFor C.Text.header R.library }
+    requires predefined { ArePredefined (P.table predefined.now) }
+    requires last { IfSome last.now (λ b. IsGraphOf (R.library (R.files b.read)) b.graph.value × IsOrdered (R.library (R.files b.read)) b.main gave.old.compiled) }
+    requires ready { AreReady (P.table predefined.now) cache.old.store }
+    requires settled { IfSome last.now (λ b. IsSettledBy C.meaning C.Text.header (P.table predefined.now) R.library cache.old.store (record { files = R.files b.read; main = b.main; gave = gave.old })) }
+    requires edited { IfSome edited (λ e. IfSome last.now (λ b. HaveSameHeaders (R.library (R.files b.read)) (R.library (R.files read)) × HaveTextsBut (R.library (R.files b.read)) (R.library (R.files read)) e)) }
+    ensures files { IfOk result (λ b. R.files b.read ≡ R.files read) }
+    ensures graph { IfOk result (λ b. IsGraphOf (R.library (R.files b.read)) b.graph.value) }
+    ensures main { IfOk result (λ b. b.main ≡ main.now) }
+    ensures rebuilt { OnOk result ((is : IsRebuilt C.meaning C.Text.header (P.table predefined.now) (R.library (R.files read)) main.now (settled_at cache.old.store) (settled_at cache.new.store) gave.new) × IsKept (P.table predefined.now) (R.library (R.files read)) cache.old.store cache.new.store is.made gave.new) }
+    ensures right { IfOk result (λ b. IsCompiled C.meaning (setting_of C.Text.header (P.table predefined.now) (R.library (R.files b.read))) b.main gave.new.compiled) }
+    ensures counted { OnOk result (C.count cache.new.checker ≡ raised (C.count cache.old.checker) (length gave.new.checked)) }
+    ensures patched { OnOk result (IsPatched (linked_in gave.old.compiled) (linked_in gave.new.compiled) gave.new.patched) }
+    ensures err { OnErr result (SameStates cache.old.store cache.new.store × (gave.new ≡ gave.old)) }
+{
+    match build_read(alloc, cache, predefined, last, gave, read, edited, main) {
+        Ok(last) => Ok(last),
+        Err(NoMemory) => {
+            cache.cancel();
+            Err(NoMemory)
+        }
+    }
 }
 
 /// The units of the files as they are that are obsolete since the last build, which gave this.

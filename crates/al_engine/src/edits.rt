@@ -9,12 +9,14 @@ ghost use Rattle.al_unit_graph.specs.Library.{is_unit};
 ghost use Rattle.al_unit_graph.specs.Views.{header_model};
 ghost use Rattle.al_query_outcome.specs.Equations.{unit_named};
 ghost use Rattle.al_unit_map.specs.Units.{at_unit};
+ghost use Rattle.al_query_store.specs.Keyed.{settled_at};
 ghost use Rattle.al_entries.specs.Stored.{Stored};
 ghost use Rattle.al_engine_refresh.specs.Builds.{text_of};
 ghost use Rattle.al_engine_graph.specs.Graphs.{HaveSameHeaders};
 ghost use Rattle.al_engine_graph.specs.Kept.{IsGraphOf};
 ghost use Rattle.al_engine_graph.specs.Texts.{HaveTextsBut, may_differ};
 ghost use Rattle.al_engine_setting.specs.Settings.{ArePredefined};
+ghost use Rattle.al_engine_recheck.specs.Rechecks.{AreAllReached};
 ghost use Rattle.al_engine_recheck.specs.Renewals.{IsRenewable};
 ghost use Rattle.al_engine_rebuild.specs.Renewed.{IsCleanBut};
 ghost use Rattle.al_engine_reported.specs.Gave.{order_of};
@@ -87,7 +89,7 @@ fn is_alone<C: UnitCheck>(
     graph: &UnitGraph,
     unit: &UnitKey,
 ) -> bool
-    ensures edited { IsTrue result → (e : Stored) × (at_unit cache.now.entries unit.now ≡ Some e) × (e.text ≡ text_of sources.now unit.now → ⊥) }
+    ensures edited { IsTrue result → (e : Stored) × (settled_at cache.now.store unit.now ≡ Some e) × (e.text ≡ text_of sources.now unit.now → ⊥) }
     ensures alone { IsTrue result → at_unit graph.now.bases unit.now ≡ None }
 {
     graph.bases.get(unit).is_none() && cache.is_edited(sources, unit)
@@ -107,11 +109,11 @@ pub(crate) fn edited_now<R: ReadFiles, C: UnitCheck, P: Answers>(
     requires reading { AreReadFor C.Text.header R.library }
     requires predefined { ArePredefined (P.table predefined.now) }
     requires graph { IfSome same (λ b. IsGraphOf (R.library (R.files b.now.read)) b.now.graph.value) }
-    requires settled { IfSome same (λ b. IsSettledBy C.meaning C.Text.header (P.table predefined.now) R.library (at_unit cache.now.entries) (record { files = R.files b.now.read; main = b.now.main; gave = gave.now })) }
+    requires settled { IfSome same (λ b. IsSettledBy C.meaning C.Text.header (P.table predefined.now) R.library cache.now.store (record { files = R.files b.now.read; main = b.now.main; gave = gave.now })) }
     requires headers { IfSome same (λ b. HaveSameHeaders (R.library (R.files b.now.read)) (R.library (R.files read.now))) }
     requires texts { IfSome same (λ b. HaveTextsBut (R.library (R.files b.now.read)) (R.library (R.files read.now)) edited.now) }
-    ensures renewable { IfOk result (λ found. IfSome found (λ unit. IsRenewable C.meaning C.Text.header (P.table predefined.now) (R.library (R.files read.now)) (at_unit cache.now.entries) unit)) }
-    ensures clean { IfOk result (λ found. IfSome found (IsCleanBut (R.library (R.files read.now)) (at_unit cache.now.entries))) }
+    ensures renewable { IfOk result (λ found. IfSome found (λ unit. AreAllReached cache.now.store × IsRenewable C.meaning C.Text.header (P.table predefined.now) (R.library (R.files read.now)) (settled_at cache.now.store) unit)) }
+    ensures clean { IfOk result (λ found. IfSome found (IsCleanBut (R.library (R.files read.now)) (settled_at cache.now.store))) }
 {
     order_is_for_builds();
     graphs_go_by_headers();

@@ -3,17 +3,17 @@ ghost use Rattle.std.specs.Prelude.{◌≡◌, ℕ, List, [], None, Some, Ok, Er
 ghost use Rattle.al_base.specs.Batch.{key_of};
 ghost use Rattle.al_base.specs.Files.{with_file, without_file, with_renamed, put_refusal, delete_refusal, rename_refusal, AnswersRefusal, AnswersFirst};
 ghost use Rattle.al_unit_obsolete.specs.Units.{unit_model, units_of};
-ghost use Rattle.al_unit_map.specs.Units.{at_unit};
+ghost use Rattle.al_query_store.specs.Keyed.{SameStates, settled_at};
 ghost use Rattle.al_entries.specs.EntryLaw.{AllKeepLaw};
 ghost use Rattle.al_engine_setting.specs.Settings.{ArePredefined};
 ghost use Rattle.al_engine_reported.specs.Answers.{answer_of};
 ghost use Rattle.al_engine_reported.specs.Gave.{order_of, program_of};
-ghost use Rattle.al_engine.specs.States.{AreReadFor, IsBuiltRight, IsOfNow, last_checked, patched_last};
+ghost use Rattle.al_engine.specs.States.{AreReadFor, IsBuiltRight, IsOfNow, compared_last, last_checked, patched_last};
 ghost use Rattle.al_engine.specs.Builds.{IsBuild};
 ghost use Rattle.al_engine.specs.Reports.{found_last, gave_last, obsolete_refusal, obsolete_since, reported};
 ghost use Rattle.al_engine.specs.Runs.{AnswersRun};
 
-use crate::building::{build_read, obsolete_since, read_again, read_now};
+use crate::building::{build_or_cancel, obsolete_since, read_again, read_now};
 use crate::last_build::LastBuild;
 use crate::read_files::ReadFiles;
 use al_base::{Diagnostic, Files, Name, NoMemory, Refusal, UnitKey};
@@ -30,7 +30,6 @@ use std::alloc::Global;
 use std::marker::Model;
 
 /// A library of compilation units: its files, what is kept of its units, and its last build.
-#[derive(Drop)]
 pub struct Engine<R: ReadFiles, C: UnitCheck, P: Answers> {
     alloc: Global,
     cache: UnitCache<C>,
@@ -43,12 +42,25 @@ pub struct Engine<R: ReadFiles, C: UnitCheck, P: Answers> {
     is_edited: bool,
 }
 
+impl<R: ReadFiles, C: UnitCheck + Drop, P: Answers + Drop> Drop for Engine<R, C, P> {
+    fn drop(self) {
+        let Engine {
+            alloc: _,
+            cache: _,
+            predefined: _,
+            files: _,
+            last: _,
+            gave: _,
+            is_edited: _,
+        } = self;
+    }
+}
+
 impl<R: ReadFiles, C: UnitCheck, P: Answers> Model for Engine<R, C, P> {
     ghost use Rattle.std.specs.Option.{option_map};
     ghost use Rattle.std.specs.Coded.{codes};
     ghost use Rattle.al_view_typed.specs.contracts.expression.Typed as expression;
     ghost use Rattle.al_view_typed.specs.contracts.statement.TypedStatement as statement;
-    ghost use Rattle.al_unit_map.specs.Units.{at_unit};
     ghost use Rattle.al_engine.specs.States.{Held, IsRight};
 
     ghost Value = { Held C P };
@@ -57,7 +69,7 @@ impl<R: ReadFiles, C: UnitCheck, P: Answers> Model for Engine<R, C, P> {
 
     ghost view = { λ e. record { cache = e.cache; predefined = e.predefined; files = e.files; built = option_map (λ b. record { files = R.files b.read; main = b.main; gave = e.gave }) e.last } };
 
-    ghost invariant = { λ e. IsRight C.meaning C.Text.header (P.table e.predefined) R.library e.files (at_unit e.cache.entries) e.is_edited (option_map (λ b. (R.files b.read, b.graph.value)) e.last) (option_map (λ b. record { files = R.files b.read; main = b.main; gave = e.gave }) e.last) e.gave.compiled };
+    ghost invariant = { λ e. IsRight C.meaning C.Text.header (P.table e.predefined) R.library e.files e.cache.store e.is_edited (option_map (λ b. (R.files b.read, b.graph.value)) e.last) (option_map (λ b. record { files = R.files b.read; main = b.main; gave = e.gave }) e.last) e.gave.compiled };
 }
 
 impl<R: ReadFiles, C: UnitCheck, P: Answers> Engine<R, C, P> {
@@ -66,7 +78,7 @@ impl<R: ReadFiles, C: UnitCheck, P: Answers> Engine<R, C, P> {
         requires reading { AreReadFor C.Text.header R.library }
         requires predefined { ArePredefined (P.table predefined) }
         ensures checker { (result.cache.checker ≡ checker) × (result.predefined ≡ predefined) }
-        ensures nothing { (result.cache.entries ≡ []) × (result.files ≡ []) × (result.built ≡ None) }
+        ensures nothing { (result.cache.store ≡ []) × (result.files ≡ []) × (result.built ≡ None) }
     {
         Engine {
             alloc,
@@ -82,7 +94,7 @@ impl<R: ReadFiles, C: UnitCheck, P: Answers> Engine<R, C, P> {
     /// What every library keeps, whatever happened: each entry the law of what was read, and the last build is what compiling its
     /// files from nothing gives. It does nothing.
     pub fn keeps(&self)
-        ensures law { AllKeepLaw C.meaning C.Text.header (at_unit self.now.cache.entries) }
+        ensures law { AllKeepLaw C.meaning C.Text.header (settled_at self.now.cache.store) }
         ensures built { IsBuiltRight C.meaning C.Text.header (P.table self.now.predefined) R.library self.now.built }
     {
         let _last = &self.last;
@@ -161,6 +173,7 @@ impl<R: ReadFiles, C: UnitCheck, P: Answers> Engine<R, C, P> {
     {
         let _before = self.cache.checks();
         self.gave.checked = Seq::empty(self.alloc);
+        self.gave.compared = 0;
         self.gave.patched = 0;
     }
 
@@ -185,7 +198,7 @@ impl<R: ReadFiles, C: UnitCheck, P: Answers> Engine<R, C, P> {
         ensures files { (self.new.files ≡ self.old.files) × (self.new.predefined ≡ self.old.predefined) }
         ensures ok { OnOk result (IsBuild C.meaning C.Text.header C.count (P.table self.old.predefined) R.library main.now self.old self.new) }
         ensures answer { IfOk result (λ answer. IfSome self.new.built (λ b. answer ≡ answer_of b.gave.compiled)) }
-        ensures err { OnErr result ((self.new.cache.entries ≡ self.old.cache.entries) × (self.new.built ≡ self.old.built)) }
+        ensures err { OnErr result (SameStates self.old.cache.store self.new.cache.store × (self.new.built ≡ self.old.built)) }
     {
         if self.is_built(main) {
             self.repeat();
@@ -193,7 +206,7 @@ impl<R: ReadFiles, C: UnitCheck, P: Answers> Engine<R, C, P> {
         }
         let again = read_again(self.alloc, &self.files, &self.last)?;
         let (read, edited) = again;
-        let last = build_read(
+        let last = build_or_cancel(
             self.alloc,
             &mut self.cache,
             &self.predefined,
@@ -225,6 +238,16 @@ impl<R: ReadFiles, C: UnitCheck, P: Answers> Engine<R, C, P> {
         match &self.last {
             Some(_) => self.gave.checked.as_slice(),
             None => &[],
+        }
+    }
+
+    /// How many stored answers the last build compared with those of now, to 2^64-1; 0 before the first. It takes no memory.
+    pub fn compared(&self) -> usize
+        ensures { result ≡ compared_last self.now.built }
+    {
+        match &self.last {
+            Some(_) => self.gave.compared,
+            None => 0,
         }
     }
 

@@ -1,6 +1,6 @@
 // The objects of units whose checks found no fault.
 ghost use Rattle.std.specs.Prelude.{◌≡◌, ◌++◌, map, Some, IfOk, OnOk};
-ghost use Rattle.al_unit_map.specs.Units.{at_unit};
+ghost use Rattle.al_query_store.specs.Keyed.{now_at};
 ghost use Rattle.al_query_outcome.specs.ReadsLaw.{HasCode};
 ghost use Rattle.al_query_outcome.specs.Results.{checked_model};
 ghost use Rattle.al_engine_refresh.specs.Builds.{results_of};
@@ -10,9 +10,8 @@ ghost use Rattle.al_engine_batch.specs.ObjectsSeen.{object_model};
 use al_base::{NoMemory, UnitKey};
 use al_code::emit;
 use al_code_object::Object;
-use al_entries::Entry;
+use al_engine_keep::KeptEntries;
 use al_query_outcome::Checked;
-use al_unit_map::UnitMap;
 use al_view::copied_unit;
 use std::alloc::Global;
 
@@ -52,12 +51,12 @@ fn add_checked(
 /// Adds the object of a unit, where it has an entry of which code can be made.
 fn add_object(
     alloc: Global,
-    entries: &UnitMap<Entry>,
+    entries: &KeptEntries,
     key: &UnitKey,
     objects: &mut Vec<UnitObject>,
 ) -> Result<(), NoMemory>
-    requires { AreCoded (at_unit entries.now) }
-    ensures { OnOk result (map object_model objects.new.items ≡ map object_model objects.old.items ++ objects_of key.now (results_of (at_unit entries.now) key.now)) }
+    requires { AreCoded (now_at entries.now) }
+    ensures { OnOk result (map object_model objects.new.items ≡ map object_model objects.old.items ++ objects_of key.now (results_of (now_at entries.now) key.now)) }
 {
     match entries.get(key) {
         Some(entry) => add_checked(alloc, key, entry.checked(), objects),
@@ -68,11 +67,11 @@ fn add_object(
 /// The objects of these units, in their order.
 pub(crate) fn objects_at(
     alloc: Global,
-    entries: &UnitMap<Entry>,
+    entries: &KeptEntries,
     units: &[UnitKey],
 ) -> Result<Vec<UnitObject>, NoMemory>
-    requires { AreCoded (at_unit entries.now) }
-    ensures { IfOk result (λ objects. map object_model objects.items ≡ objects_at (results_of (at_unit entries.now)) units.now) }
+    requires { AreCoded (now_at entries.now) }
+    ensures { IfOk result (λ objects. map object_model objects.items ≡ objects_at (results_of (now_at entries.now)) units.now) }
 {
     let mut objects = Vec::new(alloc);
     for unit in units {

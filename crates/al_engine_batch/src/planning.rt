@@ -5,7 +5,7 @@ ghost use Rattle.al_base.specs.Batch.{finding_of, key_of};
 ghost use Rattle.al_bind.specs.Binding.{IsBindFault, IsElaboration};
 ghost use Rattle.al_unit_faults.specs.FilesSeen.{file_faults_model};
 ghost use Rattle.al_unit_faults.specs.GraphFaults.{file_faults};
-ghost use Rattle.al_unit_map.specs.Units.{at_unit};
+ghost use Rattle.al_query_store.specs.Keyed.{now_at};
 ghost use Rattle.al_engine_found.specs.Found.{findings_of};
 ghost use Rattle.al_engine_refresh.specs.Builds.{results_of};
 ghost use Rattle.al_engine_batch.specs.Objects.{AreCoded};
@@ -19,11 +19,10 @@ use crate::planned::{Partition, Planned};
 use al_base::{Diagnostic, NoMemory, UnitKey};
 use al_bind::{BindFault, bind};
 use al_engine_found::findings_of;
-use al_entries::Entry;
+use al_engine_keep::KeptEntries;
 use al_link_placed::placed;
 use al_unit_faults::FileFaults;
 use al_unit_graph::Sources;
-use al_unit_map::UnitMap;
 use al_view::copied_unit;
 use std::alloc::Global;
 
@@ -58,13 +57,13 @@ fn bound(
 fn partition_of(
     alloc: Global,
     sources: &Sources,
-    entries: &UnitMap<Entry>,
+    entries: &KeptEntries,
     main: &[u8],
     order: Vec<UnitKey>,
 ) -> Result<Partition, NoMemory>
     requires ordered { IsElaboration sources.now main.now (map key_of order.items) }
-    requires coded { AreCoded (at_unit entries.now) }
-    ensures { IfOk result (λ p. IsPartition sources.now (results_of (at_unit entries.now)) main.now (map key_of p.order.items) p.main (map object_model p.objects.items)) }
+    requires coded { AreCoded (now_at entries.now) }
+    ensures { IfOk result (λ p. IsPartition sources.now (results_of (now_at entries.now)) main.now (map key_of p.order.items) p.main (map object_model p.objects.items)) }
 {
     let units = placed(alloc, sources, order.as_slice())?;
     let objects = objects_at(alloc, entries, units.as_slice())?;
@@ -80,13 +79,13 @@ fn partition_of(
 fn found_in(
     alloc: Global,
     sources: &Sources,
-    entries: &UnitMap<Entry>,
+    entries: &KeptEntries,
     faults: &[FileFaults],
     is_clean: bool,
 ) -> Result<Vec<Diagnostic>, NoMemory>
     requires faults { map file_faults_model faults.now ≡ map (λ file. (file, file_faults sources.now file)) (keys_of sources.now) }
-    requires clean { IsTrue is_clean → findings_of sources.now (results_of (at_unit entries.now)) ≡ [] }
-    ensures { IfOk result (λ found. map finding_of found.items ≡ findings_of sources.now (results_of (at_unit entries.now))) }
+    requires clean { IsTrue is_clean → findings_of sources.now (results_of (now_at entries.now)) ≡ [] }
+    ensures { IfOk result (λ found. map finding_of found.items ≡ findings_of sources.now (results_of (now_at entries.now))) }
 {
     if is_clean {
         return Ok(Vec::new(alloc));
@@ -103,17 +102,17 @@ fn found_in(
 pub fn plan(
     alloc: Global,
     sources: &Sources,
-    entries: &UnitMap<Entry>,
+    entries: &KeptEntries,
     faults: &[FileFaults],
     main: &[u8],
     known: Option<&[UnitKey]>,
     is_clean: bool,
 ) -> Result<Planned, NoMemory>
     requires faults { map file_faults_model faults.now ≡ map (λ file. (file, file_faults sources.now file)) (keys_of sources.now) }
-    requires coded { AreCoded (at_unit entries.now) }
+    requires coded { AreCoded (now_at entries.now) }
     requires known { IfSome known (λ order. IsElaboration sources.now main.now (map key_of order.now)) }
-    requires clean { IsTrue is_clean → findings_of sources.now (results_of (at_unit entries.now)) ≡ [] }
-    ensures { IfOk result (IsPlanned sources.now (results_of (at_unit entries.now)) main.now) }
+    requires clean { IsTrue is_clean → findings_of sources.now (results_of (now_at entries.now)) ≡ [] }
+    ensures { IfOk result (IsPlanned sources.now (results_of (now_at entries.now)) main.now) }
 {
     let found = found_in(alloc, sources, entries, faults, is_clean)?;
     if !found.is_empty() {

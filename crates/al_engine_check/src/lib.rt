@@ -3,4 +3,4 @@
 
 mod checking;
 
-pub use checking::{CheckedLibrary, check_library};
+pub use checking::check_library;

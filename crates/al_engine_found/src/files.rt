@@ -7,7 +7,7 @@ ghost use Rattle.al_unit_graph.specs.Headers.{key_of_unit};
 ghost use Rattle.al_unit_graph.specs.Views.{contents_model, header_model};
 ghost use Rattle.al_unit_faults.specs.FilesSeen.{file_faults_model};
 ghost use Rattle.al_unit_faults.specs.GraphFaults.{file_faults};
-ghost use Rattle.al_unit_map.specs.Units.{at_unit};
+ghost use Rattle.al_query_store.specs.Keyed.{now_at};
 ghost use Rattle.al_query_outcome.specs.Equations.{unit_named};
 ghost use Rattle.al_query_outcome.specs.Results.{checked_model};
 ghost use Rattle.al_entries.specs.Stored.{outcome_of};
@@ -16,11 +16,11 @@ ghost use Rattle.al_engine_found.specs.Found.{contents_findings, findings_of, ou
 
 use crate::finding::{add, add_all, add_ascending};
 use al_base::{Diagnostic, Name, NoMemory, Place, UnitKey};
+use al_engine_keep::KeptEntries;
 use al_entries::Entry;
 use al_query_outcome::Checked;
 use al_unit_faults::FileFaults;
 use al_unit_graph::{Contents, Header, Sources, kind_of};
-use al_unit_map::UnitMap;
 use std::alloc::Global;
 
 /// The key of the unit with this header.
@@ -66,12 +66,12 @@ fn add_outcome(
 /// Adds what the text of a file and the outcome of its unit say.
 fn add_contents(
     alloc: Global,
-    entries: &UnitMap<Entry>,
+    entries: &KeptEntries,
     file: &[u8],
     contents: &Contents,
     found: &mut Vec<Diagnostic>,
 ) -> Result<(), NoMemory>
-    ensures { OnOk result (map finding_of found.new.items ≡ map finding_of found.old.items ++ contents_findings (results_of (at_unit entries.now)) file.now (contents_model contents.now)) }
+    ensures { OnOk result (map finding_of found.new.items ≡ map finding_of found.old.items ++ contents_findings (results_of (now_at entries.now)) file.now (contents_model contents.now)) }
 {
     match contents {
         Contents::Headed(header) => {
@@ -86,12 +86,12 @@ fn add_contents(
 fn add_file(
     alloc: Global,
     sources: &Sources,
-    entries: &UnitMap<Entry>,
+    entries: &KeptEntries,
     file: &[u8],
     faults: &[Diagnostic],
     found: &mut Vec<Diagnostic>,
 ) -> Result<(), NoMemory>
-    ensures { OnOk result (map finding_of found.new.items ≡ map finding_of found.old.items ++ told_of sources.now (results_of (at_unit entries.now)) file.now (map finding_of faults.now)) }
+    ensures { OnOk result (map finding_of found.new.items ≡ map finding_of found.old.items ++ told_of sources.now (results_of (now_at entries.now)) file.now (map finding_of faults.now)) }
 {
     if !faults.is_empty() {
         return add_all(alloc, faults, found);
@@ -107,11 +107,11 @@ fn add_file(
 pub fn findings_of(
     alloc: Global,
     sources: &Sources,
-    entries: &UnitMap<Entry>,
+    entries: &KeptEntries,
     faults: &[FileFaults],
 ) -> Result<Vec<Diagnostic>, NoMemory>
     requires { map file_faults_model faults.now ≡ map (λ file. (file, file_faults sources.now file)) (keys_of sources.now) }
-    ensures { IfOk result (λ found. map finding_of found.items ≡ findings_of sources.now (results_of (at_unit entries.now))) }
+    ensures { IfOk result (λ found. map finding_of found.items ≡ findings_of sources.now (results_of (now_at entries.now))) }
 {
     let mut found = Vec::new(alloc);
     for file in faults {

@@ -1,1 +1,1 @@
-pub mod KeepLemmas
+pub mod QuietLemmas

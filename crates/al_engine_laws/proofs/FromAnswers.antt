@@ -5,7 +5,7 @@ use Rattle.al_base.specs.declared.unit_key.UnitKey.{UnitKey}
 use Rattle.al_unit_graph.specs.Headers.{Header, Library}
 use Rattle.al_query.specs.declared.answer.AnswerKind.{AnswerKind}
 use Rattle.al_query.specs.declared.query.Query.{Query}
-use Rattle.al_unit_map.specs.Units.{at_unit}
+use Rattle.al_query_store.specs.Keyed.{settled_at}
 use Rattle.al_query_outcome.specs.Results.{Outcome}
 use Rattle.al_engine_refresh.specs.Builds.{results_of}
 use Rattle.al_entries.specs.EntryLaw.{TextMeaning}
@@ -14,8 +14,6 @@ use Rattle.al_engine_batch.specs.Batches.{IsBatch}
 use Rattle.al_engine_batch_laws.specs.Replies.{ReplyIsOne, reply_of}
 use Rattle.al_engine_rebuild.specs.Rebuilds.{IsRebuilt}
 use Rattle.al_engine_rebuild.specs.declared.rebuilding.Rebuilt.{Rebuilt}
-use Rattle.al_engine.specs.Builds.{IsBuild}
-use Rattle.al_engine.specs.States.{Held}
 use Rattle.al_engine_laws.specs.Builds.{BuildsTellOneThing, told}
 
 module _ (reply_is_one : ReplyIsOne) (meaning : TextMeaning) (header : List ℕ → Header) (predefined : Query → AnswerKind) (lib : Library) (main : List ℕ) where
@@ -31,7 +29,7 @@ module _ (reply_is_one : ReplyIsOne) (meaning : TextMeaning) (header : List ℕ 
 pub one_thing : ReplyIsOne → (C P : Type 0) (meaning : TextMeaning) (header : List ℕ → Header) (count : C → ℕ) (predefined : Query → AnswerKind) (library : Texts → Library) → BuildsTellOneThing C P meaning header count predefined library
 one_thing reply_is_one C P meaning header count predefined library main old new other built x y now =
     let lib = library old.files in
-    let moved = subst (λ (l : Library). IsRebuilt meaning header predefined l main (at_unit other.cache.entries) (at_unit built.cache.entries) y.last.gave) (ap library (sym now)) y.rebuilt in
+    let moved = subst (λ (l : Library). IsRebuilt meaning header predefined l main (settled_at other.cache.store) (settled_at built.cache.store) y.last.gave) (ap library (sym now)) y.rebuilt in
     ap told x.is_last
-    ∙ ap Some (one_reply reply_is_one meaning header predefined lib main (at_unit old.cache.entries) (at_unit new.cache.entries) (at_unit other.cache.entries) (at_unit built.cache.entries) x.last.gave y.last.gave x.rebuilt moved)
+    ∙ ap Some (one_reply reply_is_one meaning header predefined lib main (settled_at old.cache.store) (settled_at new.cache.store) (settled_at other.cache.store) (settled_at built.cache.store) x.last.gave y.last.gave x.rebuilt moved)
     ∙ sym (ap told y.is_last)

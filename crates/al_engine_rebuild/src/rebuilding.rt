@@ -1,38 +1,38 @@
 // A build of a library's units over what is kept of them.
-ghost use Rattle.std.specs.Prelude.{ℕ, ◌≡◌, true, List, Option, IfOk, IfSome, IsTrue, MatchOption, None, OnErr, OnOk, length, map};
+ghost use Rattle.std.specs.Prelude.{ℕ, ◌≡◌, true, List, IfOk, IfSome, IsTrue, MatchOption, None, OnErr, OnOk, length, map};
 ghost use Rattle.al_base.specs.Batch.{key_of};
 ghost use Rattle.al_base.specs.declared.unit_key.UnitKey.{UnitKey};
 ghost use Rattle.al_bind.specs.Binding.{IsElaboration};
 ghost use Rattle.al_unit_graph.specs.Headers.{Header, Library};
-ghost use Rattle.al_unit_map.specs.Units.{at_unit};
 ghost use Rattle.al_unit_order.specs.Read.{AreHeaded, NameParentBodies};
 ghost use Rattle.al_query.specs.declared.answer.AnswerKind.{AnswerKind};
 ghost use Rattle.al_query.specs.declared.query.Query.{Query};
 ghost use Rattle.al_query_outcome.specs.Equations.{is_sound};
 ghost use Rattle.al_entries.specs.EntryLaw.{AllKeepLaw, TextMeaning};
-ghost use Rattle.al_entries.specs.Stored.{Stored};
+ghost use Rattle.al_query_store.specs.Keyed.{now_at, settled_at};
+ghost use Rattle.al_engine_keep.specs.Moves.{Entries, IsLeft};
 ghost use Rattle.al_engine_graph.specs.Kept.{IsGraphOf};
 ghost use Rattle.al_engine_setting.specs.Settings.{ArePredefined};
 ghost use Rattle.al_engine_refresh.specs.Builds.{raised, results_of};
 ghost use Rattle.al_engine_batch.specs.Patches.{IsPatched, linked_in};
 ghost use Rattle.al_engine_batch.specs.Plans.{IsClosedPlan};
+ghost use Rattle.al_engine_recheck.specs.Rechecks.{AreAllReached, AreReady, will_be};
 ghost use Rattle.al_engine_recheck.specs.Renewals.{IsRenewable};
 ghost use Rattle.al_engine_rebuild.specs.Prepared.{IsPrepared};
-ghost use Rattle.al_engine_rebuild.specs.Rebuilds.{IsRebuilt};
+ghost use Rattle.al_engine_rebuild.specs.Rebuilds.{IsKept, IsRebuilt};
 ghost use Rattle.al_engine_rebuild.specs.Renewed.{IsCleanBut};
 
 use al_base::{NoMemory, UnitKey};
 use al_engine_batch::{Compiled, Planned, link, plan};
-use al_engine_check::{CheckedLibrary, check_library};
+use al_engine_check::check_library;
 use al_engine_closed::laws::partitions_are_closed;
 use al_engine_graph::UnitGraph;
-use al_engine_recheck::UnitCache;
+use al_engine_keep::KeptEntries;
+use al_engine_recheck::{Rechecked, UnitCache};
 use al_engine_refresh::has_sound;
-use al_entries::Entry;
 use al_query::Answers;
 use al_query_check::UnitCheck;
 use al_unit_graph::Sources;
-use al_unit_map::UnitMap;
 use al_view::Seq;
 use std::alloc::Global;
 
@@ -42,6 +42,8 @@ pub struct Rebuilt {
     pub compiled: Compiled,
     /// The units that were checked, by unit and kind.
     pub checked: Seq<UnitKey>,
+    /// How many stored answers were compared with those of now, to 2^64-1.
+    pub compared: usize,
     /// Of how many units code was written into the image of the build before.
     pub patched: usize,
 }
@@ -51,6 +53,7 @@ impl Drop for Rebuilt {
         let Rebuilt {
             compiled: _,
             checked: _,
+            compared: _,
             patched: _,
         } = self;
     }
@@ -64,32 +67,33 @@ impl Rebuilt {
         Rebuilt {
             compiled: Compiled::Faulty(Vec::new(alloc)),
             checked: Seq::empty(alloc),
+            compared: 0,
             patched: 0,
         }
     }
 }
 
-/// A build that is done but for the image: what is to be linked, the entries that there will be, and the units that were checked, by
-/// unit and kind.
+/// A build that is done but for the image: what is to be linked, the units that were checked, by unit and kind, and how many stored answers
+/// were compared.
 pub struct PreparedBuild {
     pub planned: Planned,
-    pub entries: UnitMap<Entry>,
     pub checked: Vec<UnitKey>,
+    pub compared: usize,
 }
 
 impl Drop for PreparedBuild {
     fn drop(self) {
         let PreparedBuild {
             planned: _,
-            entries: _,
             checked: _,
+            compared: _,
         } = self;
     }
 }
 
 /// Whether one unit alone was edited, and has an entry without faults now.
-fn is_clean(entries: &UnitMap<Entry>, edited: &Option<UnitKey>) -> bool
-    ensures { IsTrue result → MatchOption edited.now ⊥ (λ unit. is_sound (results_of (at_unit entries.now) unit) ≡ true) }
+fn is_clean(entries: &KeptEntries, edited: &Option<UnitKey>) -> bool
+    ensures { IsTrue result → MatchOption edited.now ⊥ (λ unit. is_sound (results_of (now_at entries.now) unit) ≡ true) }
 {
     match edited {
         Some(unit) => has_sound(entries, unit),
@@ -100,14 +104,15 @@ fn is_clean(entries: &UnitMap<Entry>, edited: &Option<UnitKey>) -> bool
 /// Does all of a build of a main unit but for its image: each unit is checked that is reached and has no entry for its text, or one with
 /// an answer that differs now, and what all units give then is compiled. The library's graph is given, and the order of elaboration
 /// where it is known; and the unit that alone was edited since a build that found nothing wrong, where no other one depends on it by itself.
-/// What is kept of the units stays as it is.
+/// What the last build settled stays as it is.
 /// - `prepared`: which units were checked, what compiling gives up to the image, which entries there will be. Where there is something to
 ///   link, its units define the main subprogram's code and all that they use.
 /// - `counted`: so many checks were made.
 ///
 /// # Errors
 ///
-/// `NoMemory` where memory was wanted and not given. Only the count of checks may have risen.
+/// `NoMemory` where memory was wanted and not given. The count of checks may have risen, and entries may have been made that are let go by
+/// `cancel`.
 pub fn prepare<C: UnitCheck, P: Answers>(
     alloc: Global,
     cache: &mut UnitCache<C>,
@@ -123,57 +128,61 @@ pub fn prepare<C: UnitCheck, P: Answers>(
     requires predefined { ArePredefined (P.table predefined.now) }
     requires graph { IsGraphOf sources.now graph.now }
     requires known { IfSome known (λ order. IsElaboration sources.now main.now (map key_of order.now)) }
-    requires edited { IfSome edited.now (λ unit. IsRenewable C.meaning C.Text.header (P.table predefined.now) sources.now (at_unit cache.old.entries) unit) }
-    requires clean { IfSome edited.now (IsCleanBut sources.now (at_unit cache.old.entries)) }
-    ensures prepared { IfOk result (λ p. IsPrepared C.meaning C.Text.header (P.table predefined.now) sources.now main.now (at_unit cache.old.entries) p.planned (at_unit p.entries) p.checked.items) }
+    requires ready { AreReady (P.table predefined.now) cache.old.store }
+    requires edited { IfSome edited.now (λ unit. AreAllReached cache.old.store × IsRenewable C.meaning C.Text.header (P.table predefined.now) sources.now (settled_at cache.old.store) unit) }
+    requires clean { IfSome edited.now (IsCleanBut sources.now (settled_at cache.old.store)) }
+    ensures prepared { IfOk result (λ p. IsPrepared C.meaning C.Text.header (P.table predefined.now) sources.now main.now cache.old.store p.planned cache.new.store p.checked.items p.compared) }
     ensures counted { IfOk result (λ p. C.count cache.new.checker ≡ raised (C.count cache.old.checker) (length p.checked.items)) }
-    ensures entries { cache.new.entries ≡ cache.old.entries }
+    ensures left { IsLeft cache.old.store cache.new.store }
 {
     partitions_are_closed();
     let given = check_library(cache, predefined, sources, graph, edited)?;
-    let CheckedLibrary { entries, checked } = given;
+    let Rechecked { checked, compared } = given;
     let faults = graph.faults.as_slice();
-    let clean = is_clean(&entries, edited);
-    let planned = plan(alloc, sources, &entries, faults, main, known, clean)?;
-    let entries = cache.staying(sources, entries, edited)?;
+    let entries = cache.entries();
+    let clean = is_clean(entries, edited);
+    let planned = plan(alloc, sources, entries, faults, main, known, clean)?;
     Ok(PreparedBuild {
         planned,
-        entries,
         checked,
+        compared,
     })
 }
 
 impl PreparedBuild {
     /// Ends a build. The image comes last of all that takes memory: it is linked in the place of the last build's, where that gave one.
-    /// Then the entries are taken over, whether something is wrong with the files or not.
-    /// - `rebuilt`: which units were checked, what compiling gives, which entries there are then.
+    /// Then the entries that were made are settled, whether something is wrong with the files or not.
+    /// - `rebuilt`: which units were checked, what compiling gives, which entries there are then; what is kept of the units then, and how
+    ///   many stored answers were compared.
     /// - `patched`: of how many units code was written into the image.
     ///
     /// # Errors
     ///
-    /// `NoMemory` where memory was wanted and not given. What the last build gave and the entries are as before.
+    /// `NoMemory` where memory was wanted and not given. What the last build gave is as before, and so is what is kept, once the build
+    /// is cancelled.
     pub fn finish<C: UnitCheck>(
         self,
         alloc: Global,
         cache: &mut UnitCache<C>,
         gave: &mut Rebuilt,
     ) -> Result<(), NoMemory>
-        requires law { AllKeepLaw C.meaning C.Text.header (at_unit self.entries) }
+        requires law { AllKeepLaw C.meaning C.Text.header (will_be cache.old.store) }
         requires closed { IsClosedPlan self.planned }
-        ensures rebuilt { OnOk result ((header : List ℕ → Header) (predefined : Query → AnswerKind) (lib : Library) (main : List ℕ) (old : UnitKey → Option Stored) → IsPrepared C.meaning header predefined lib main old self.planned (at_unit self.entries) self.checked.items → IsRebuilt C.meaning header predefined lib main old (at_unit cache.new.entries) gave.new) }
+        ensures rebuilt { OnOk result ((header : List ℕ → Header) (predefined : Query → AnswerKind) (lib : Library) (main : List ℕ) (old : Entries) → IsLeft old cache.old.store → IsPrepared C.meaning header predefined lib main old self.planned cache.old.store self.checked.items self.compared → (is : IsRebuilt C.meaning header predefined lib main (settled_at old) (settled_at cache.new.store) gave.new) × IsKept predefined lib old cache.new.store is.made gave.new) }
         ensures patched { OnOk result (IsPatched (linked_in gave.old.compiled) (linked_in gave.new.compiled) gave.new.patched) }
         ensures checked { OnOk result (gave.new.checked ≡ self.checked.items) }
         ensures checker { cache.new.checker ≡ cache.old.checker }
-        ensures err { OnErr result ((cache.new.entries ≡ cache.old.entries) × (gave.new ≡ gave.old)) }
+        ensures err { OnErr result ((cache.new.store ≡ cache.old.store) × (gave.new ≡ gave.old)) }
     {
         let PreparedBuild {
             planned,
-            entries,
             checked,
+            compared,
         } = self;
         gave.patched = link(alloc, planned, &mut gave.compiled)?;
         gave.checked = Seq::new(checked);
-        cache.take_over(entries);
+        gave.compared = compared;
+        cache.settle();
         Ok(())
     }
 }

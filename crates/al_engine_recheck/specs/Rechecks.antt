@@ -1,5 +1,5 @@
 -- What a build makes of what is kept of a library's units.
-use Rattle.std.specs.Prelude.{ℕ, ◌≡◌, ◌↔◌, true, false, List, map, Option, None, if◌then◌else◌}
+use Rattle.std.specs.Prelude.{ℕ, ◌≡◌, ◌↔◌, true, false, List, map, Option, None, is_some, if◌then◌else◌}
 use Rattle.std.specs.List.{Contains}
 use Rattle.std.specs.List.Sorted.{IsStrictlySortedBy}
 use Rattle.al_base.specs.Batch.{key_of}
@@ -12,9 +12,13 @@ use Rattle.al_query.specs.declared.query.Query.{Query}
 use Rattle.al_query_outcome.specs.Equations.{IsSetting, Setting, Solves, is_reached, table}
 use Rattle.al_query_outcome.specs.Results.{Outcome}
 use Rattle.al_entries.specs.EntryLaw.{AllKeepLaw, HasCurrent, TextMeaning}
-use Rattle.al_entries.specs.Stored.{Stored}
+use Rattle.al_entries.specs.Stored.{Stored, log_of}
 use Rattle.al_engine_refresh.specs.Builds.{IsOrder, NeedsCheck, results_of, setting, text_of, with_texts}
+use Rattle.al_query_store.specs.Changes.{AreMarked}
+use Rattle.al_query_store.specs.Keyed.{before_at, entry_of, kept_state, now_at, settled_at, settled_state, state}
+use Rattle.al_engine_keep.specs.Moves.{AreQuiet, Entries}
 use Rattle.al_engine_keep.specs.Staying.{is_there, staying}
+use Rattle.al_engine_refresh.specs.Moving.{AreLeaving, AreMade, IsCompared, MarksFollow, last_table}
 
 -- a library with its headers, its units that break no rule of the graph, and the answers of the predefined units
 abbrev pub setting_of : (List ℕ → Header) → (Query → AnswerKind) → Library → Setting
@@ -51,3 +55,39 @@ abbrev pub StayingAreSettled : Type 0
 StayingAreSettled =
     (meaning : TextMeaning) (header : List ℕ → Header) (s : Setting) (old made : UnitKey → Option Stored) (checked : List UnitKey)
     → IsRechecked meaning header s old made checked → AreSettled s (results_of made) old (staying s.files old made)
+
+-- the entry of a unit once a build that made these is settled
+abbrev pub will_be : Entries → UnitKey → Option Stored
+will_be store u = entry_of (settled_state (state store u)).settled
+
+-- What a build makes of the entries of a library's units, before it is settled or cancelled. The last build left what it left.
+pub record IsUpdated (meaning : TextMeaning) (header : List ℕ → Header) (predefined : Query → AnswerKind) (lib : Library) (old new : Entries) (checked : List UnitKey) (count : ℕ) : Type 0 where
+  -- which units were checked, and the entries of those that are reached
+  pub rechecked : IsRechecked meaning header (setting_of header predefined lib) (settled_at old) (now_at new) checked
+  -- which entries there will be
+  pub staying : (u : UnitKey) → will_be new u ≡ staying lib (settled_at old) (now_at new) u
+  -- the marks of now say which stored answers differ from those of now
+  pub marks : MarksFollow predefined new
+  -- so many stored answers were compared: those to questions of units that moved
+  pub compared : IsCompared new count
+  -- an entry was made of each unit that was checked, and of no other
+  pub made : (u : UnitKey) → Contains checked u ↔ (is_some (state new u).made ≡ true)
+  pub are_made : AreMade new
+  -- who leaves isn't in the library
+  pub leaving : AreLeaving lib new
+
+-- nothing was made since the last build, and the marks say which stored answers differ from those that it reached
+pub record AreReady (predefined : Query → AnswerKind) (store : Entries) : Type 0 where
+  pub quiet : AreQuiet store
+  pub marks : AreMarked log_of (last_table predefined store) store
+
+-- the last build reached each unit that has an entry
+abbrev pub AreAllReached : Entries → Type 0
+AreAllReached store = (u : UnitKey) → before_at store u ≡ settled_at store u
+
+-- a build that is settled is ready for the next one, and reached what was reached
+abbrev pub UpdatesAreReady : Type 0
+UpdatesAreReady =
+    (meaning : TextMeaning) (header : List ℕ → Header) (predefined : Query → AnswerKind) (lib : Library) (old mid new : Entries) (checked : List UnitKey) (compared : ℕ)
+    → IsUpdated meaning header predefined lib old mid checked compared → ((u : UnitKey) → state new u ≡ kept_state (settled_state (state mid u)))
+    → AreReady predefined new × ((u : UnitKey) → before_at new u ≡ now_at mid u)

@@ -1,33 +1,39 @@
 // What is kept from build to build.
-ghost use Rattle.std.specs.Prelude.{◌≡◌, [], Some, IfOk, IfSome, IsTrue, length};
+ghost use Rattle.std.specs.Prelude.{◌≡◌, [], Some, IfOk, IfSome, IsTrue, OnErr, OnOk, length};
 ghost use Rattle.al_base.specs.declared.unit_key.UnitKey.{UnitKey};
-ghost use Rattle.al_unit_map.specs.Units.{at_unit};
+ghost use Rattle.al_query_store.specs.Keyed.{kept_state, now_at, settled_at, settled_state, state};
 ghost use Rattle.al_entries.specs.EntryLaw.{AllKeepLaw};
-ghost use Rattle.al_engine_refresh.specs.Builds.{raised, text_of};
 ghost use Rattle.al_entries.specs.Stored.{Stored};
-ghost use Rattle.al_engine_keep.specs.Staying.{staying};
-ghost use Rattle.al_engine_recheck.specs.Rechecks.{HasOrder, IsRechecked, setting_of};
+ghost use Rattle.al_engine_keep.specs.Moves.{IsLeft, left_by_last};
+ghost use Rattle.al_engine_refresh.specs.Builds.{raised, text_of};
+ghost use Rattle.al_engine_recheck.specs.Rechecks.{AreAllReached, AreReady, HasOrder, IsUpdated, will_be};
 ghost use Rattle.al_engine_recheck.specs.Renewals.{IsRenewable, IsRenewal};
 
 use crate::rechecking::Rechecked;
 use crate::renewing::{has_text, update};
 use al_base::{NoMemory, UnitKey};
-use al_engine_keep::keep;
-use al_engine_keep::laws::staying_keep_the_law;
-use al_entries::Entry;
+use al_engine_keep::KeptEntries;
 use al_query::Answers;
 use al_query_check::UnitCheck;
 use al_unit_graph::Sources;
-use al_unit_map::UnitMap;
 use std::alloc::Global;
 use std::marker::Model;
 
 /// A checker, and an entry of each unit that it checked and that is still there. Every entry keeps the reads law, whatever happened.
-#[derive(Drop)]
 pub struct UnitCache<C: UnitCheck> {
     alloc: Global,
     checker: C,
-    entries: UnitMap<Entry>,
+    entries: KeptEntries,
+}
+
+impl<C: UnitCheck + Drop> Drop for UnitCache<C> {
+    fn drop(self) {
+        let UnitCache {
+            alloc: _,
+            checker: _,
+            entries: _,
+        } = self;
+    }
 }
 
 impl<C: UnitCheck> Model for UnitCache<C> {
@@ -35,34 +41,34 @@ impl<C: UnitCheck> Model for UnitCache<C> {
     ghost use Rattle.al_view_typed.specs.contracts.expression.Typed as expression;
     ghost use Rattle.al_view_typed.specs.contracts.statement.TypedStatement as statement;
     ghost use Rattle.al_engine_recheck.specs.UnitCache.{Kept};
-    ghost use Rattle.al_unit_map.specs.Units.{at_unit};
+    ghost use Rattle.al_query_store.specs.Keyed.{settled_at};
     ghost use Rattle.al_entries.specs.EntryLaw.{AllKeepLaw};
 
     ghost Value = { Kept C };
 
     ghost coded = { Prim.hlevel (codes, expression.the_row.coded, statement.the_row.coded) };
 
-    ghost view = { λ k. record { checker = k.checker; entries = k.entries } };
+    ghost view = { λ k. record { checker = k.checker; store = k.entries } };
 
-    ghost invariant = { λ k. AllKeepLaw C.meaning C.Text.header (at_unit k.entries) };
+    ghost invariant = { λ k. AllKeepLaw C.meaning C.Text.header (settled_at k.entries) };
 }
 
 impl<C: UnitCheck> UnitCache<C> {
     /// No entry. It takes no memory.
     pub fn new(alloc: Global, checker: C) -> Self
         ensures checker { result.checker ≡ checker }
-        ensures entries { result.entries ≡ [] }
+        ensures store { result.store ≡ [] }
     {
         UnitCache {
             alloc,
             checker,
-            entries: UnitMap::new(alloc),
+            entries: KeptEntries::new(alloc),
         }
     }
 
     /// Every entry keeps the reads law. It does nothing.
     pub fn keep_the_law(&self)
-        ensures { AllKeepLaw C.meaning C.Text.header (at_unit self.now.entries) }
+        ensures { AllKeepLaw C.meaning C.Text.header (settled_at self.now.store) }
     {
         let _entries = &self.entries;
     }
@@ -76,20 +82,28 @@ impl<C: UnitCheck> UnitCache<C> {
 
     /// Whether a unit has an entry for another text than its file has.
     pub fn is_edited(&self, sources: &Sources, unit: &UnitKey) -> bool
-        ensures { IsTrue result → (e : Stored) × (at_unit self.now.entries unit.now ≡ Some e) × (e.text ≡ text_of sources.now unit.now → ⊥) }
+        ensures { IsTrue result → (e : Stored) × (settled_at self.now.store unit.now ≡ Some e) × (e.text ≡ text_of sources.now unit.now → ⊥) }
     {
-        match self.entries.get(unit) {
-            Some(entry) => !has_text(sources, unit, entry.text()),
+        match self.entries.settled(unit) {
+            Some(held) => !has_text(sources, unit, held.entry.text()),
             None => false,
         }
     }
 
-    /// What a build of a library makes, in an order of dependence of its units. Where one unit is given, it alone was edited, and no other
-    /// unit is looked at. What is kept stays as it is until [`Self::take_over`].
+    /// The entries, with those that were made since the last build.
+    pub fn entries(&self) -> &KeptEntries
+        ensures { result.now ≡ self.now.store }
+    {
+        &self.entries
+    }
+
+    /// Brings the units of a library up to date, in an order of dependence. Where one unit is given, it alone was edited, and no other
+    /// unit is looked at. What the last build settled stays as it is, until [`Self::settle`] or [`Self::cancel`].
     ///
     /// # Errors
     ///
-    /// `NoMemory` where memory was wanted and not given. Only the count of checks may have risen.
+    /// `NoMemory` where memory was wanted and not given. The count of checks may have risen, and entries may have been made that
+    /// [`Self::cancel`] lets go.
     pub fn recheck<P: Answers>(
         &mut self,
         predefined: &P,
@@ -97,72 +111,40 @@ impl<C: UnitCheck> UnitCache<C> {
         order: &[UnitKey],
         edited: &Option<UnitKey>,
     ) -> Result<Rechecked, NoMemory>
+        requires ready { AreReady (P.table predefined.now) self.old.store }
         requires order { HasOrder C.Text.header (P.table predefined.now) sources.now order.now }
-        requires edited { IfSome edited.now (λ unit. IsRenewable C.meaning C.Text.header (P.table predefined.now) sources.now (at_unit self.old.entries) unit) }
-        ensures rechecked { IfOk result (λ r. IsRechecked C.meaning C.Text.header (setting_of C.Text.header (P.table predefined.now) sources.now) (at_unit self.old.entries) (at_unit r.entries) r.checked.items) }
-        ensures renewed { IfSome edited.now (λ unit. IfOk result (λ r. IsRenewal (at_unit self.old.entries) unit (at_unit r.entries))) }
+        requires edited { IfSome edited.now (λ unit. AreAllReached self.old.store × IsRenewable C.meaning C.Text.header (P.table predefined.now) sources.now (settled_at self.old.store) unit) }
+        ensures updated { IfOk result (λ r. IsUpdated C.meaning C.Text.header (P.table predefined.now) sources.now self.old.store self.new.store r.checked.items r.compared) }
+        ensures renewed { IfSome edited.now (λ unit. OnOk result (IsRenewal (settled_at self.old.store) unit (now_at self.new.store))) }
+        ensures law { OnOk result (AllKeepLaw C.meaning C.Text.header (will_be self.new.store)) }
         ensures counted { IfOk result (λ r. C.count self.new.checker ≡ raised (C.count self.old.checker) (length r.checked.items)) }
-        ensures entries { self.new.entries ≡ self.old.entries }
+        ensures left { IsLeft self.old.store self.new.store }
     {
         update(
             self.alloc,
             &mut self.checker,
             predefined,
             sources,
-            &self.entries,
             order,
             edited,
+            &mut self.entries,
         )
     }
 
-    /// These entries with those of before that stay.
-    fn with_staying(
-        &self,
-        sources: &Sources,
-        made: UnitMap<Entry>,
-    ) -> Result<UnitMap<Entry>, NoMemory>
-        requires { AllKeepLaw C.meaning C.Text.header (at_unit made) }
-        ensures law { IfOk result (λ entries. AllKeepLaw C.meaning C.Text.header (at_unit entries)) }
-        ensures entries { IfOk result (λ entries. (u : UnitKey) → at_unit entries u ≡ staying sources.now (at_unit self.now.entries) (at_unit made) u) }
-    {
-        staying_keep_the_law();
-        let mut entries = made;
-        keep(self.alloc, sources, &self.entries, &mut entries)?;
-        Ok(entries)
-    }
-
-    /// The entries of a library's units after a build that made these: with those of before that stay. Where one unit is given, it alone
-    /// has another entry than before, and none is looked for.
-    ///
-    /// # Errors
-    ///
-    /// `NoMemory` where memory was wanted and not given.
-    pub fn staying(
-        &self,
-        sources: &Sources,
-        made: UnitMap<Entry>,
-        edited: &Option<UnitKey>,
-    ) -> Result<UnitMap<Entry>, NoMemory>
-        requires law { AllKeepLaw C.meaning C.Text.header (at_unit made) }
-        requires renewed { IfSome edited.now (λ unit. IsRenewal (at_unit self.now.entries) unit (at_unit made)) }
-        ensures law { IfOk result (λ entries. AllKeepLaw C.meaning C.Text.header (at_unit entries)) }
-        ensures entries { IfOk result (λ entries. (u : UnitKey) → at_unit entries u ≡ staying sources.now (at_unit self.now.entries) (at_unit made) u) }
-    {
-        match edited {
-            Some(unit) => {
-                let _unit = unit;
-                Ok(made)
-            }
-            None => self.with_staying(sources, made),
-        }
-    }
-
-    /// Has these entries from here on, in the place of those of before. It takes no memory.
-    pub fn take_over(&mut self, entries: UnitMap<Entry>)
-        requires { AllKeepLaw C.meaning C.Text.header (at_unit entries) }
+    /// A build has answered: what it made is settled, and what it reached is what the last build reached from here on. It takes no memory.
+    pub fn settle(&mut self)
+        requires { AllKeepLaw C.meaning C.Text.header (will_be self.old.store) }
         ensures checker { self.new.checker ≡ self.old.checker }
-        ensures entries { self.new.entries ≡ entries }
+        ensures settled { (u : UnitKey) → state self.new.store u ≡ kept_state (settled_state (state self.old.store u)) }
     {
-        self.entries = entries;
+        self.entries.settle();
+    }
+
+    /// A build found no memory: what it made is let go, and all is as the last build left it. It takes no memory.
+    pub fn cancel(&mut self)
+        ensures checker { self.new.checker ≡ self.old.checker }
+        ensures cancelled { (u : UnitKey) → state self.new.store u ≡ left_by_last (state self.old.store u) }
+    {
+        self.entries.cancel();
     }
 }

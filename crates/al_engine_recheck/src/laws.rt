@@ -1,5 +1,5 @@
 //! Laws of what is kept after a build. The functions do nothing: their contracts are the laws.
-ghost use Rattle.al_engine_recheck.specs.Rechecks.{StayingAreSettled};
+ghost use Rattle.al_engine_recheck.specs.Rechecks.{StayingAreSettled, UpdatesAreReady};
 ghost use Rattle.al_engine_recheck.specs.Renewals.{RenewalsAreRechecked};
 
 /// A unit that a build reached has an entry for its text with the answers of now, and its outcome. A unit of the library that it didn't
@@ -12,4 +12,10 @@ pub fn staying_are_settled()
 /// itself, all that a build makes is a new entry of that unit, under the answers that there are.
 pub fn renewals_are_rechecked()
     ensures { RenewalsAreRechecked }
+{}
+
+/// Once what a build made is settled, nothing is made since, the marks say which stored answers differ from those of the units that it
+/// reached, and these are those that are said to be reached.
+pub fn updates_are_ready()
+    ensures { UpdatesAreReady }
 {}

@@ -1,45 +1,47 @@
 // Which units a build checks again.
 ghost use Rattle.std.specs.Prelude.{◌≡◌, IfOk, length};
-ghost use Rattle.al_unit_map.specs.Units.{at_unit};
+ghost use Rattle.al_query_store.specs.Keyed.{settled_at};
 ghost use Rattle.al_entries.specs.EntryLaw.{AllKeepLaw};
+ghost use Rattle.al_engine_keep.specs.Moves.{IsLeft};
 ghost use Rattle.al_engine_refresh.specs.Builds.{raised};
-ghost use Rattle.al_engine_recheck.specs.Rechecks.{HasOrder, IsRechecked, setting_of};
+ghost use Rattle.al_engine_recheck.specs.Rechecks.{AreReady, HasOrder, IsUpdated};
 
 use crate::sorted::in_key_order;
 use al_base::{NoMemory, UnitKey};
-use al_engine_refresh::{Refreshed, refresh};
-use al_entries::Entry;
+use al_engine_keep::KeptEntries;
+use al_engine_refresh::{Done, refresh};
 use al_query::Answers;
 use al_query_check::UnitCheck;
 use al_unit_graph::Sources;
-use al_unit_map::UnitMap;
 use std::alloc::Global;
 
-/// What a build makes of what is kept.
+/// What a build did to what is kept.
 #[derive(Drop)]
 pub struct Rechecked {
-    /// An entry of each unit that is reached.
-    pub entries: UnitMap<Entry>,
     /// The units that were checked, by unit and kind.
     pub checked: Vec<UnitKey>,
+    /// How many stored answers were compared, to 2^64-1.
+    pub compared: usize,
 }
 
-/// Brings the units of a library up to date, in an order of dependence. The old entries are only read.
+/// Brings the units of a library up to date, in an order of dependence. What the last build settled stays as it is.
 pub fn recheck<C: UnitCheck, P: Answers>(
     alloc: Global,
     checker: &mut C,
     predefined: &P,
     sources: &Sources,
-    old: &UnitMap<Entry>,
     order: &[UnitKey],
+    entries: &mut KeptEntries,
 ) -> Result<Rechecked, NoMemory>
-    requires law { AllKeepLaw C.meaning C.Text.header (at_unit old.now) }
+    requires law { AllKeepLaw C.meaning C.Text.header (settled_at entries.old) }
+    requires ready { AreReady (P.table predefined.now) entries.old }
     requires order { HasOrder C.Text.header (P.table predefined.now) sources.now order.now }
-    ensures rechecked { IfOk result (λ r. IsRechecked C.meaning C.Text.header (setting_of C.Text.header (P.table predefined.now) sources.now) (at_unit old.now) (at_unit r.entries) r.checked.items) }
+    ensures updated { IfOk result (λ r. IsUpdated C.meaning C.Text.header (P.table predefined.now) sources.now entries.old entries.new r.checked.items r.compared) }
     ensures counted { IfOk result (λ r. C.count checker.new ≡ raised (C.count checker.old) (length r.checked.items)) }
+    ensures left { IsLeft entries.old entries.new }
 {
-    let refreshed = refresh(alloc, checker, predefined, sources, old, order)?;
-    let Refreshed { entries, checked } = refreshed;
+    let done = refresh(alloc, checker, predefined, sources, order, entries)?;
+    let Done { checked, compared } = done;
     let checked = in_key_order(alloc, checked.as_slice())?;
-    Ok(Rechecked { entries, checked })
+    Ok(Rechecked { checked, compared })
 }

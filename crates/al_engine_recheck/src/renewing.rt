@@ -1,24 +1,21 @@
 // A build in which one unit alone was edited.
-ghost use Rattle.std.specs.Prelude.{◌≡◌, ◌∷◌, [], None, IfOk, IfSome, IsTrue, OnOk, length};
+ghost use Rattle.std.specs.Prelude.{◌≡◌, ◌∷◌, [], IfOk, IfSome, IsTrue, OnOk, length};
 ghost use Rattle.al_base.specs.declared.unit_key.UnitKey.{UnitKey};
-ghost use Rattle.al_base_shortage.specs.Counts.{one_more};
-ghost use Rattle.al_unit_map.specs.Units.{at_unit};
-ghost use Rattle.al_entries.specs.EntryLaw.{AllKeepLaw, IsCurrent, KeepsLaw};
-ghost use Rattle.al_engine_keep.specs.Staying.{staying};
-ghost use Rattle.al_engine_refresh.specs.Builds.{present, raised, results_of, text_of};
-ghost use Rattle.al_engine_recheck.specs.Rechecks.{HasOrder, IsRechecked, setting_of};
-ghost use Rattle.al_engine_recheck.specs.Renewals.{IsRenewable, IsRenewal, with_entry};
+ghost use Rattle.al_query_store.specs.Keyed.{now_at, settled_at};
+ghost use Rattle.al_entries.specs.EntryLaw.{AllKeepLaw};
+ghost use Rattle.al_engine_keep.specs.Moves.{IsLeft};
+ghost use Rattle.al_engine_refresh.specs.Builds.{raised, text_of};
+ghost use Rattle.al_engine_recheck.specs.Rechecks.{AreAllReached, AreReady, HasOrder, IsUpdated};
+ghost use Rattle.al_engine_recheck.specs.Renewals.{IsRenewable, IsRenewal};
 
 use crate::laws::renewals_are_rechecked;
 use crate::rechecking::{Rechecked, recheck};
 use al_base::{NoMemory, UnitKey};
-use al_engine_keep::keep;
-use al_engine_refresh::{Present, check_unit, text_of};
-use al_entries::Entry;
+use al_engine_keep::KeptEntries;
+use al_engine_refresh::{begun, check_anew, text_of};
 use al_query::Answers;
 use al_query_check::UnitCheck;
 use al_unit_graph::Sources;
-use al_unit_map::UnitMap;
 use al_view::copied_unit;
 use std::alloc::Global;
 
@@ -35,57 +32,6 @@ pub(crate) fn has_text(sources: &Sources, unit: &UnitKey, text: &[u8]) -> bool
     }
 }
 
-/// A new entry of a unit, under the answers that there are.
-fn renewed<C: UnitCheck, P: Answers>(
-    alloc: Global,
-    checker: &mut C,
-    predefined: &P,
-    sources: &Sources,
-    entries: &UnitMap<Entry>,
-    unit: &UnitKey,
-) -> Result<Entry, NoMemory>
-    ensures keeps { IfOk result (λ entry. KeepsLaw C.meaning C.Text.header unit.now entry) }
-    ensures current { IfOk result (λ entry. IsCurrent entry (text_of sources.now unit.now) (present (P.table predefined.now) (results_of (at_unit entries.now)))) }
-    ensures counted { OnOk result (C.count checker.new ≡ one_more (C.count checker.old)) }
-{
-    let text = text_of(alloc, sources, unit)?;
-    let asked = Present {
-        alloc,
-        predefined,
-        entries,
-    };
-    check_unit(alloc, checker, unit, text, asked)
-}
-
-/// Sets the entry of a unit.
-fn put(
-    alloc: Global,
-    unit: &UnitKey,
-    entry: Entry,
-    entries: &mut UnitMap<Entry>,
-) -> Result<(), NoMemory>
-    ensures { OnOk result ((w : UnitKey) → at_unit entries.new w ≡ with_entry (at_unit entries.old) unit.now entry w) }
-{
-    entries.insert(copied_unit(alloc, unit)?, entry)?;
-    Ok(())
-}
-
-/// The entries of units that are in the library, with this one of a unit.
-fn with_entry(
-    alloc: Global,
-    sources: &Sources,
-    old: &UnitMap<Entry>,
-    unit: &UnitKey,
-    entry: Entry,
-) -> Result<UnitMap<Entry>, NoMemory>
-    ensures { IfOk result (λ new. (w : UnitKey) → at_unit new w ≡ staying sources.now (at_unit old.now) (with_entry (λ v. None) unit.now entry) w) }
-{
-    let mut entries = UnitMap::new(alloc);
-    put(alloc, unit, entry, &mut entries)?;
-    keep(alloc, sources, old, &mut entries)?;
-    Ok(entries)
-}
-
 /// This unit alone.
 fn alone(alloc: Global, unit: &UnitKey) -> Result<Vec<UnitKey>, NoMemory>
     ensures { IfOk result (λ units. units.items ≡ unit.now ∷ []) }
@@ -95,52 +41,61 @@ fn alone(alloc: Global, unit: &UnitKey) -> Result<Vec<UnitKey>, NoMemory>
     Ok(units)
 }
 
-/// Brings the units of a library up to date where this one alone was edited, on which no other one depends by itself. The old entries are
-/// only read.
+/// Brings the units of a library up to date where this one alone was edited, on which no other one depends by itself: it is checked under
+/// the answers that there are, and no other unit is looked at. What the last build settled stays as it is.
 fn renew<C: UnitCheck, P: Answers>(
     alloc: Global,
     checker: &mut C,
     predefined: &P,
     sources: &Sources,
-    old: &UnitMap<Entry>,
     order: &[UnitKey],
     unit: &UnitKey,
+    entries: &mut KeptEntries,
 ) -> Result<Rechecked, NoMemory>
+    requires ready { AreReady (P.table predefined.now) entries.old }
+    requires reached { AreAllReached entries.old }
     requires order { HasOrder C.Text.header (P.table predefined.now) sources.now order.now }
-    requires renewable { IsRenewable C.meaning C.Text.header (P.table predefined.now) sources.now (at_unit old.now) unit.now }
-    ensures rechecked { IfOk result (λ r. IsRechecked C.meaning C.Text.header (setting_of C.Text.header (P.table predefined.now) sources.now) (at_unit old.now) (at_unit r.entries) r.checked.items) }
-    ensures renewed { IfOk result (λ r. IsRenewal (at_unit old.now) unit.now (at_unit r.entries)) }
+    requires renewable { IsRenewable C.meaning C.Text.header (P.table predefined.now) sources.now (settled_at entries.old) unit.now }
+    ensures updated { IfOk result (λ r. IsUpdated C.meaning C.Text.header (P.table predefined.now) sources.now entries.old entries.new r.checked.items r.compared) }
+    ensures renewed { OnOk result (IsRenewal (settled_at entries.old) unit.now (now_at entries.new)) }
     ensures counted { IfOk result (λ r. C.count checker.new ≡ raised (C.count checker.old) (length r.checked.items)) }
+    ensures left { IsLeft entries.old entries.new }
 {
     renewals_are_rechecked();
     let _order = order;
     let _before = checker.checks();
-    let entry = renewed(alloc, checker, predefined, sources, old, unit)?;
-    let entries = with_entry(alloc, sources, old, unit, entry)?;
+    let text = text_of(alloc, sources, unit)?;
+    let mut done = begun(alloc);
+    check_anew(alloc, checker, predefined, unit, text, entries, &mut done)?;
     let checked = alone(alloc, unit)?;
-    Ok(Rechecked { entries, checked })
+    Ok(Rechecked {
+        checked,
+        compared: done.compared,
+    })
 }
 
-/// Brings the units of a library up to date, in an order of dependence; where one unit is given, it alone was edited. The old entries are
-/// only read.
+/// Brings the units of a library up to date, in an order of dependence; where one unit is given, it alone was edited. What the last build
+/// settled stays as it is.
 pub(crate) fn update<C: UnitCheck, P: Answers>(
     alloc: Global,
     checker: &mut C,
     predefined: &P,
     sources: &Sources,
-    old: &UnitMap<Entry>,
     order: &[UnitKey],
     edited: &Option<UnitKey>,
+    entries: &mut KeptEntries,
 ) -> Result<Rechecked, NoMemory>
-    requires law { AllKeepLaw C.meaning C.Text.header (at_unit old.now) }
+    requires law { AllKeepLaw C.meaning C.Text.header (settled_at entries.old) }
+    requires ready { AreReady (P.table predefined.now) entries.old }
     requires order { HasOrder C.Text.header (P.table predefined.now) sources.now order.now }
-    requires edited { IfSome edited.now (λ unit. IsRenewable C.meaning C.Text.header (P.table predefined.now) sources.now (at_unit old.now) unit) }
-    ensures rechecked { IfOk result (λ r. IsRechecked C.meaning C.Text.header (setting_of C.Text.header (P.table predefined.now) sources.now) (at_unit old.now) (at_unit r.entries) r.checked.items) }
-    ensures renewed { IfSome edited.now (λ unit. IfOk result (λ r. IsRenewal (at_unit old.now) unit (at_unit r.entries))) }
+    requires edited { IfSome edited.now (λ unit. AreAllReached entries.old × IsRenewable C.meaning C.Text.header (P.table predefined.now) sources.now (settled_at entries.old) unit) }
+    ensures updated { IfOk result (λ r. IsUpdated C.meaning C.Text.header (P.table predefined.now) sources.now entries.old entries.new r.checked.items r.compared) }
+    ensures renewed { IfSome edited.now (λ unit. OnOk result (IsRenewal (settled_at entries.old) unit (now_at entries.new))) }
     ensures counted { IfOk result (λ r. C.count checker.new ≡ raised (C.count checker.old) (length r.checked.items)) }
+    ensures left { IsLeft entries.old entries.new }
 {
     match edited {
-        Some(unit) => renew(alloc, checker, predefined, sources, old, order, unit),
-        None => recheck(alloc, checker, predefined, sources, old, order),
+        Some(unit) => renew(alloc, checker, predefined, sources, order, unit, entries),
+        None => recheck(alloc, checker, predefined, sources, order, entries),
     }
 }

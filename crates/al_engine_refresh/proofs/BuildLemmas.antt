@@ -1,23 +1,22 @@
 -- A build in progress: what holds of the units that are done, under every map that has their outcomes.
-use Rattle.std.proofs.Common.{◌≡◌, ◌⊎◌, inl, inr, ℕ, zero, suc, ◌<◌, Bool, true, false, ◌&&◌, ◌||◌, List, [], ◌∷◌, ◌++◌, Option, Some, None, refl, sym, ◌∙◌, ap, subst, if◌then◌else◌, cond, arith}
+use Rattle.std.proofs.Common.{◌≡◌, ◌⊎◌, inl, inr, ℕ, zero, suc, ◌<◌, Bool, true, false, ◌||◌, List, [], ◌∷◌, ◌++◌, Option, Some, None, refl, sym, ◌∙◌, ap, subst, arith}
 use Rattle.std.specs.Option.{option_map}
 use Rattle.al_base.specs.declared.unit_key.UnitKey.{UnitKey}
 use Rattle.al_view.specs.Symbols.{same_unit}
 use Rattle.al_view.proofs.SymbolLemmas.{both, same_unit-one, same_unit-self}
 use Rattle.al_query.specs.Known.{has_unit}
 use Rattle.al_query.proofs.KnownLemmas.{has_unit-cases, has_unit-first, has_unit-left, has_unit-right}
-use Rattle.al_query.specs.Reads.{Agrees}
 use Rattle.al_query.specs.declared.answer.AnswerKind.{AnswerKind}
 use Rattle.al_query.specs.declared.query.Query.{Query}
 use Rattle.al_unit_graph.specs.Headers.{Header, Library}
-use Rattle.al_query_outcome.specs.Equations.{IsSetting, Meaning, Setting, Solves, is_reached, outcome, table}
+use Rattle.al_query_outcome.specs.Equations.{IsSetting, Setting, Solves, is_reached, outcome, table}
 use Rattle.al_query_outcome.specs.Results.{Outcome}
 use Rattle.al_query_outcome.proofs.Names.{tested}
 use Rattle.al_entries.specs.EntryLaw.{AllKeepLaw, HasCurrent, IsCurrent, KeepsLaw, TextMeaning}
 use Rattle.al_entries.specs.Stored.{Stored, outcome_of}
 use Rattle.al_engine_refresh.specs.Builds.{IsBuilt, IsOrder, NeedsCheck, Picked, no_units, taken, left, StandsAfter, has_sound_dependences, results_of, setting, text_of, with_texts}
-use Rattle.al_engine_refresh.specs.Handling.{Becomes, Handled, passed, used, rechecked, SoFar}
-use Rattle.al_engine_refresh.proofs.Moves.{S, SameBelow, Valid, ValidBelow, entry-moves, reached-alike}
+use Rattle.al_engine_refresh.specs.Handling.{Becomes, Handled, passed, used, rechecked}
+use Rattle.al_engine_refresh.proofs.Moves.{SameBelow, Valid, ValidBelow, entry-moves, reached-alike}
 
 -- one unit more at the end
 picked-taken : (P : UnitKey → Type 0) (us vs : List UnitKey) (u : UnitKey) → Picked P us vs → P u → Picked P (us ++ u ∷ []) (vs ++ u ∷ [])
@@ -43,7 +42,7 @@ module _ (meaning : TextMeaning) (header : List ℕ → Header) (lib : Library) 
   s = setting header lib fl pre
 
   -- a map that has the outcomes of the units that are done, and none of those that break a rule
-  abbrev Fits : (UnitKey → Option Stored) → List UnitKey → (UnitKey → Option Outcome) → Type 0
+  abbrev pub Fits : (UnitKey → Option Stored) → List UnitKey → (UnitKey → Option Outcome) → Type 0
   Fits at done g = (d : UnitKey) → (has_unit done d ≡ true) ⊎ (fl d ≡ false) → g d ≡ results_of at d
 
   pub record Progress (at : UnitKey → Option Stored) (done rest checked : List UnitKey) : Type 0 where
@@ -199,6 +198,34 @@ module _ (meaning : TextMeaning) (header : List ℕ → Header) (lib : Library) 
 
         reached : (g : UnitKey → Option Outcome) → Fits at done g → is_reached s g u ≡ true
         reached g fits = sym (alike (others-become e b) g fits) ∙ now g fits
+
+    -- the same under the table of another map that has the outcomes of the units that are done
+    module _ (g : UnitKey → Option Outcome) (fits : Fits at done g) where
+      sound-same : ((v : UnitKey) → same_unit u v ≡ false → new v ≡ at v) → has_sound_dependences lib f u ≡ has_sound_dependences lib g u
+      sound-same others = sym (reached-is others g fits) ∙ alike others g fits ∙ rw p.ordered.1 refl
+
+      reached-by : ((v : UnitKey) → same_unit u v ≡ false → new v ≡ at v) → has_sound_dependences lib g u ≡ true → is_reached s g u ≡ true
+      reached-by others r = sym (alike others g fits) ∙ reached-is others g fits ∙ sound-same others ∙ r
+
+      current-back : ((v : UnitKey) → same_unit u v ≡ false → new v ≡ at v) → (e : Stored) → KeepsLaw meaning header u e → has_sound_dependences lib g u ≡ true → IsCurrent e (text_of lib u) (table s g) → IsCurrent e (text_of lib u) (table s f)
+      current-back others e k r c = back others g fits (Some e) (λ x is_. let one : e ≡ x = cc in subst (λ (y : Stored). KeepsLaw meaning header u y) one k) (reached-by others r) c
+
+      current-forth : ((v : UnitKey) → same_unit u v ≡ false → new v ≡ at v) → (o : Option Stored) → ((e : Stored) → o ≡ Some e → KeepsLaw meaning header u e) → has_sound_dependences lib g u ≡ true → HasCurrent o (text_of lib u) (table s f) → HasCurrent o (text_of lib u) (table s g)
+      current-forth others None k r c = c
+      current-forth others (Some e) k r c = forth others g fits e (k e refl) (alike others g fits ∙ reached-by others r) c
+
+      moved-handled : (count after : ℕ) → Handled meaning header u (text_of lib u) (has_sound_dependences lib g u) (table s g) (old u) (record { at = at; checked = checked; count = count }) (record { at = new; checked = more; count = after }) → Handled meaning header u (text_of lib u) (has_sound_dependences lib f u) (table s f) (old u) (record { at = at; checked = checked; count = count }) (record { at = new; checked = more; count = after })
+      moved-handled count after (passed r same c n) = passed (sound-same (λ v k. same v) ∙ r) same c n
+      moved-handled count after (used r e o cur b c n) =
+          let others = others-become e b in
+          used (sound-same others ∙ r) e o (current-back others e (laws u e o) r cur) b c n
+      moved-handled count after (rechecked r no_ e k cur b c n) =
+          let others = others-become e b in
+          rechecked (sound-same others ∙ r) (λ w. no_ (current-forth others (old u) (laws u) r w)) e k (current-back others e k r cur) b c n
+
+      pub next-by : (count after : ℕ) → Handled meaning header u (text_of lib u) (has_sound_dependences lib g u) (table s g) (old u) (record { at = at; checked = checked; count = count }) (record { at = new; checked = more; count = after }) → Progress new (done ++ u ∷ []) rest more
+      unfolding f
+      next-by count after h = next count after (moved-handled count after h)
 
   -- where all units are done the build is what it should be
   module _ (new : UnitKey → Option Stored) (order checked : List UnitKey) (o : IsOrder s is.rank order) (p : Progress new order [] checked) where

@@ -1,10 +1,9 @@
 -- Whether a table agrees with a log can be decided.
-use Rattle.std.proofs.Common.{◌≡◌, ◌⊎◌, inl, inr, ℕ, Bool, true, false, ◌&&◌, ◌==◌, List, [], ◌∷◌, Option, Some, None, refl, sym, ◌∙◌, ap, subst}
+use Rattle.std.proofs.Common.{◌≡◌, ◌⊎◌, inl, inr, [], ◌∷◌, refl, ◌∙◌, ap}
 use Rattle.std.proofs.lemmas.Bool.Decides.{eqb_tells}
 use base.Stored.{Gv, gnil, gnum, gcons, num}
 use Rattle.al_query.specs.contracts.answer.AnswerKind as answer
 use Rattle.al_query.specs.declared.answer.AnswerKind.{AnswerKind}
-use Rattle.al_query.specs.declared.query.Query.{Query}
 use Rattle.al_query.specs.Reads.{Agrees, Log, Table}
 
 abbrev pub Decided : {X : Type 0} → X → X → Type 0

@@ -1,20 +1,19 @@
 -- What entries keep, as a checker that keeps the reads law whatever the table: where a table agrees with a unit's log, the outcome
 -- is the entry's; where it doesn't, there is no outcome to speak of.
-use Rattle.std.proofs.Common.{◌≡◌, ◌⊎◌, inl, inr, ℕ, Bool, true, false, ◌&&◌, List, [], ◌∷◌, ◌++◌, Option, Some, None, refl, sym, ◌∙◌, ap, subst}
-use Rattle.std.specs.List.{list_all, flat_map}
+use Rattle.std.proofs.Common.{◌≡◌, ◌⊎◌, inl, inr, ℕ, Bool, true, false, List, [], ◌∷◌, ◌++◌, Option, Some, None, refl, sym, ◌∙◌, ap, subst}
+use Rattle.std.specs.List.{list_all}
 use Rattle.std.specs.Str.{bytes_eq}
 use Rattle.std.proofs.lemmas.Slice.Eq.{bytes_eq-Decides}
 use Rattle.al_base.specs.declared.unit_key.UnitKey.{UnitKey}
 use Rattle.al_view.proofs.SymbolLemmas.{both, and_both}
-use Rattle.al_query.specs.Known.{Grounded, has_unit, known_after, learned}
-use Rattle.al_query.specs.Queries.{unit_of}
+use Rattle.al_query.specs.Known.{Grounded, known_after, learned}
 use Rattle.al_query.specs.Reads.{Agrees, Log, Table}
 use Rattle.al_query.specs.declared.answer.AnswerKind.{AnswerKind}
 use Rattle.al_query.specs.declared.query.Query.{Query}
 use Rattle.al_unit_graph.specs.Headers.{Header}
-use Rattle.al_query_outcome.specs.Equations.{Check, KeepsReads, Meaning}
+use Rattle.al_query_outcome.specs.Equations.{KeepsReads, Meaning}
 use Rattle.al_query_outcome.specs.ReadsLaw.{AsksOthers, NamesOnly, is_of_another, named_by, outcome_units}
-use Rattle.al_query_outcome.specs.Results.{Outcome, Faulty, Sound}
+use Rattle.al_query_outcome.specs.Results.{Outcome, Faulty}
 use Rattle.al_entries.specs.EntryLaw.{AllKeepLaw, IsCurrent, KeepsLaw, TextMeaning}
 use Rattle.al_entries.specs.Stored.{Stored, outcome_of}
 use Rattle.al_engine_refresh.proofs.Decided.{Decided, agreeing, answers_decided}

@@ -1,6 +1,14 @@
 pub mod BuildLemmas
+pub mod Comparing
 pub mod Decided
+pub mod Following
 pub mod HandleLemmas
+pub mod HandleTurned
 pub mod Kept
+pub mod LeftLemmas
 pub mod LoopLemmas
 pub mod Moves
+pub mod OrderSteps
+pub mod RefreshLemmas
+pub mod SteadyLemmas
+pub mod Turning

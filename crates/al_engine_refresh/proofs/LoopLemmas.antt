@@ -1,5 +1,5 @@
 -- One unit more in a loop over an order, and one check more.
-use Rattle.std.proofs.Common.{◌≡◌, ℕ, zero, suc, ◌+◌, ◌<◌, ◌≤◌, ◌^◌, Bool, ◌&&◌, List, [], ◌∷◌, ◌++◌, Option, Some, None, length, length-append, refl, sym, ◌∙◌, ap, subst, take, drop, get_or, add-one, map, nat_le, arith}
+use Rattle.std.proofs.Common.{◌≡◌, ℕ, ◌+◌, ◌<◌, ◌≤◌, ◌^◌, Bool, List, [], ◌∷◌, ◌++◌, Option, length, length-append, sym, ◌∙◌, ap, subst, take, drop, get_or, add-one, arith}
 use Rattle.std.proofs.lemmas.Bool.Decides.{nat_tests}
 use Rattle.al_base.specs.declared.unit_key.UnitKey.{UnitKey}
 use Rattle.al_query.specs.declared.answer.AnswerKind.{AnswerKind}
@@ -12,11 +12,9 @@ use Rattle.std.proofs.Math.ListN.{drop_of_length-le}
 use Rattle.std.proofs.lemmas.List.{take_all, take_more}
 use Rattle.std.proofs.Math.Seq.{drop-cons}
 use Rattle.al_unit_graph.specs.Headers.{Library}
-use Rattle.al_query_outcome.specs.Equations.{IsSetting, table}
-use Rattle.al_entries.specs.EntryLaw.{AllKeepLaw}
-use Rattle.al_engine_refresh.specs.Builds.{IsBuilt, IsOrder, has_sound_dependences, raised, results_of, setting, text_of}
-use Rattle.al_engine_refresh.proofs.BuildLemmas.{Progress, finish, next, start}
-use Rattle.al_unit_map.specs.Units.{at_unit}
+use Rattle.al_query_outcome.specs.Equations.{IsSetting}
+use Rattle.al_engine_refresh.specs.Builds.{IsBuilt, IsOrder, raised, setting}
+use Rattle.al_engine_refresh.proofs.BuildLemmas.{Progress, finish}
 use Rattle.al_engine_refresh.specs.Handling.{Handled, passed, used, rechecked, SoFar}
 
 one_more-raised : (n k : ℕ) → one_more (raised n k) ≡ raised n (k + 1)
@@ -31,16 +29,6 @@ counts meaning header u text b t o before after first (used r e i k m c n) h = n
 counts meaning header u text b t o before after first (rechecked r m e k i w c n) h =
     let len : length after.checked ≡ length before.checked + 1 = ap length c ∙ length-append before.checked (u ∷ []) in
     n ∙ ap one_more h ∙ one_more-raised first (length before.checked) ∙ ap (raised first) (sym len)
-
-module _ (meaning : TextMeaning) (header : List ℕ → Header) (lib : Library) (fl : UnitKey → Bool) (pre : Query → AnswerKind) (is : IsSetting (setting header lib fl pre)) (old at new : UnitKey → Option Stored) (order checked more : List UnitKey) where
-  -- an order from the place of a unit on
-  pub loop-step : (i : ℕ) (unit : UnitKey) (count after : ℕ) → drop i order ≡ unit ∷ drop (i + 1) order → take (i + 1) order ≡ take i order ++ unit ∷ [] → AllKeepLaw meaning header old → Progress meaning header lib fl pre is old at (take i order) (drop i order) checked
-      → Handled meaning header unit (text_of lib unit) (has_sound_dependences lib (results_of at) unit) (table (setting header lib fl pre) (results_of at)) (old unit) (record { at = at; checked = checked; count = count }) (record { at = new; checked = more; count = after })
-      → Progress meaning header lib fl pre is old new (take (i + 1) order) (drop (i + 1) order) more
-  loop-step i unit count after rest done laws p h =
-      let now : Progress meaning header lib fl pre is old at (take i order) (unit ∷ drop (i + 1) order) checked = subst (λ (l : List UnitKey). Progress meaning header lib fl pre is old at (take i order) l checked) rest p in
-      let then_ = next meaning header lib fl pre is old at new (take i order) (drop (i + 1) order) checked more unit now laws count after h in
-      subst (λ (l : List UnitKey). Progress meaning header lib fl pre is old new l (drop (i + 1) order) more) (sym done) then_
 
 -- the unit at a place of an order
 pub rest-at : (order : List UnitKey) (i : ℕ) (unit : UnitKey) → i < length order → unit ≡ get_or order i unit → drop i order ≡ unit ∷ drop (i + 1) order
@@ -57,12 +45,6 @@ loop-end meaning header lib fl pre is old at order checked i h o p =
     finish meaning header lib fl pre is old at order checked o
     (subst (λ (l : List UnitKey). Progress meaning header lib fl pre is old at order l checked) (drop_of_length-le order h)
     (subst (λ (l : List UnitKey). Progress meaning header lib fl pre is old at l (drop i order) checked) (take_all i order h) p))
-
--- before the first unit
-pub loop-start : (meaning : TextMeaning) (header : List ℕ → Header) (lib : Library) (fl : UnitKey → Bool) (pre : Query → AnswerKind) (is : IsSetting (setting header lib fl pre)) (old : UnitKey → Option Stored) (order checked : List UnitKey) (entries : List (UnitKey × Stored)) → entries ≡ [] → checked ≡ [] → IsOrder (setting header lib fl pre) is.rank order → Progress meaning header lib fl pre is old (at_unit entries) [] order checked
-loop-start meaning header lib fl pre is old order checked entries e c o =
-    subst (λ (l : List (UnitKey × Stored)). Progress meaning header lib fl pre is old (at_unit l) [] order checked) (sym e)
-    (subst (λ (l : List UnitKey). Progress meaning header lib fl pre is old (λ u. None) [] order l) (sym c) (start meaning header lib fl pre is old order o))
 
 pub count-start : (n b : ℕ) (checked : List UnitKey) → b ≡ n → b < 2 ^ 64 → checked ≡ [] → n ≡ raised n (length checked)
 count-start n b checked e h c = raised-none n (subst (λ (x : ℕ). x < 2 ^ 64) e h) ∙ ap (λ (l : List UnitKey). raised n (length l)) (sym c)

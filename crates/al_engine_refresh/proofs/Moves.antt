@@ -1,6 +1,5 @@
 -- Two maps from units to outcomes that are the same of all lower units agree alike with the log of a unit's entry.
-use Rattle.std.proofs.Common.{◌≡◌, ◌⊎◌, inl, inr, ℕ, ◌<◌, Bool, true, false, ◌&&◌, List, [], ◌∷◌, Option, Some, None, refl, sym, ◌∙◌, ap, subst, if◌then◌else◌}
-use Rattle.std.specs.List.{Contains, list_all}
+use Rattle.std.proofs.Common.{◌≡◌, ◌⊎◌, inl, inr, ℕ, ◌<◌, Bool, true, false, ◌&&◌, List, Option, Some, None, refl, sym, ◌∙◌, ap, subst, if◌then◌else◌}
 use Rattle.std.specs.Option.{option_map}
 use Rattle.al_base.specs.Batch.{Key, key_of}
 use Rattle.al_base.specs.declared.unit_key.UnitKey.{UnitKey}
@@ -11,13 +10,13 @@ use Rattle.al_query.specs.declared.answer.AnswerKind.{AnswerKind}
 use Rattle.al_query.specs.declared.query.Query.{Query}
 use Rattle.al_unit_graph.specs.Dependence.{direct}
 use Rattle.al_unit_graph.specs.Headers.{Header, Library}
-use Rattle.al_query_outcome.specs.Equations.{IsSetting, Meaning, Setting, Solves, KeepsReads, entry, is_reached, is_sound, outcome, table, unit_named}
+use Rattle.al_query_outcome.specs.Equations.{IsSetting, Meaning, Setting, KeepsReads, entry, is_reached, is_sound, outcome, table, unit_named}
 use Rattle.al_query_outcome.specs.ReadsLaw.{is_of_another, named_by}
 use Rattle.al_query_outcome.specs.Results.{Outcome}
 use Rattle.al_query_outcome.proofs.Members.{all-same}
 use Rattle.al_query_outcome.proofs.Names.{tested}
 use Rattle.al_query_outcome.proofs.Near.{Fine, itself, depended, missing, Near, log-moves}
-use Rattle.al_query_outcome.proofs.Only.{closed-below, knows, learns, near-depended, others-not, outcome-none, faultless-of}
+use Rattle.al_query_outcome.proofs.Only.{closed-below, knows, learns, near-depended, others-not, outcome-none}
 use Rattle.al_entries.specs.EntryLaw.{AllKeepLaw, IsCurrent, KeepsLaw, TextMeaning}
 use Rattle.al_entries.specs.Stored.{Stored, outcome_of}
 use Rattle.al_engine_refresh.specs.Builds.{results_of, setting, text_of}

@@ -1,5 +1,5 @@
 -- What a build of a library's units makes of the entries before it.
-use Rattle.std.specs.Prelude.{◌≡◌, ◌⊎◌, ℕ, ◌+◌, ◌-◌, ◌<◌, ◌^◌, Bool, true, false, List, [], ◌∷◌, ◌++◌, ⊤, Option, Some, None, length, nat_le, if◌then◌else◌}
+use Rattle.std.specs.Prelude.{◌≡◌, ℕ, ◌+◌, ◌-◌, ◌<◌, ◌^◌, Bool, true, false, List, [], ◌∷◌, ◌++◌, ⊤, Option, None, nat_le, if◌then◌else◌}
 use Rattle.std.specs.List.{list_all}
 use Rattle.std.specs.Option.{option_map, option_map_or}
 use Rattle.al_base.specs.Batch.{key_of}
@@ -12,7 +12,7 @@ use Rattle.al_query.specs.declared.query.Query.{Query}
 use Rattle.al_unit_graph.specs.Dependence.{direct}
 use Rattle.al_unit_graph.specs.Headers.{Header, Library}
 use Rattle.al_unit_graph.specs.Library.{source_at}
-use Rattle.al_query_outcome.specs.Equations.{IsSetting, Meaning, Setting, Solves, entry, is_reached, is_sound, rounds, table, unit_named}
+use Rattle.al_query_outcome.specs.Equations.{Meaning, Setting, Solves, entry, is_reached, is_sound, table, unit_named}
 use Rattle.al_query_outcome.specs.Results.{Outcome}
 use Rattle.al_entries.specs.EntryLaw.{AllKeepLaw, HasCurrent, TextMeaning}
 use Rattle.al_entries.specs.Stored.{Stored, outcome_of}

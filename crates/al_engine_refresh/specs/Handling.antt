@@ -1,6 +1,7 @@
 -- What becomes of one unit in a build.
-use Rattle.std.specs.Prelude.{◌≡◌, ℕ, Bool, true, false, List, [], ◌∷◌, ◌++◌, Option, Some, if◌then◌else◌}
+use Rattle.std.specs.Prelude.{◌≡◌, ℕ, Bool, true, false, List, [], ◌∷◌, ◌++◌, Option, Some, None, if◌then◌else◌}
 use Rattle.al_base.specs.declared.unit_key.UnitKey.{UnitKey}
+use Rattle.al_query.specs.Known.{has_unit}
 use Rattle.al_query.specs.declared.answer.AnswerKind.{AnswerKind}
 use Rattle.al_query.specs.declared.query.Query.{Query}
 use Rattle.al_unit_graph.specs.Headers.{Header}
@@ -12,6 +13,10 @@ use Rattle.al_entries.specs.Stored.{Stored}
 -- the entries with that of one unit
 abbrev pub Becomes : (UnitKey → Option Stored) → UnitKey → Stored → (UnitKey → Option Stored) → Type 0
 Becomes before unit e after = (u : UnitKey) → after u ≡ (if same_unit unit u then Some e else before u)
+
+-- the entries of these units alone
+abbrev pub within : List UnitKey → (UnitKey → Option Stored) → UnitKey → Option Stored
+within units at u = if has_unit units u then at u else None
 
 -- the entries of a build so far, the units that it checked, and how many checks were made ever
 pub record SoFar : Type 0 where

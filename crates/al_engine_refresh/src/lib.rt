@@ -1,10 +1,13 @@
 //! Checks the units of a library again that an edit reaches, and uses what was kept of the others.
 #![tactic(auto)]
 
+mod leaving;
+mod moving;
 mod present;
 mod refreshed;
 mod unit;
 
+pub use leaving::leave_out;
 pub use present::{Present, has_sound, text_of};
-pub use refreshed::{Refreshed, refresh};
-pub use unit::check_unit;
+pub use refreshed::{begun, refresh};
+pub use unit::{Done, check_anew};

@@ -5,30 +5,30 @@ ghost use Rattle.std.specs.Option.{option_copied, option_map};
 ghost use Rattle.al_base.specs.Batch.{key_of};
 ghost use Rattle.al_query.specs.Known.{has_unit, predefined_units};
 ghost use Rattle.al_unit_graph.specs.Library.{source_at};
-ghost use Rattle.al_unit_map.specs.Units.{at_unit};
+ghost use Rattle.al_query_store.specs.Keyed.{now_at};
 ghost use Rattle.al_query_outcome.specs.Equations.{entry, is_sound};
 ghost use Rattle.al_entries.specs.Stored.{outcome_of};
 ghost use Rattle.al_engine_refresh.specs.Builds.{has_sound_dependences, present, results_of, text_of};
 
 use al_base::{NoMemory, UnitKey};
+use al_engine_keep::KeptEntries;
 use al_entries::Entry;
 use al_query::{Answer, Answers, Query};
 use al_query_outcome::{Checked, no_answer};
 use al_unit_graph::Sources;
-use al_unit_map::UnitMap;
 use std::alloc::Global;
 use std::rc::Rc;
 
-/// What the predefined units and the entries of a build answer.
+/// What the predefined units and the units that are reached now answer.
 #[derive(Drop)]
 pub struct Present<'a, P: Answers> {
     pub alloc: Global,
     pub predefined: &'a P,
-    pub entries: &'a UnitMap<Entry>,
+    pub entries: &'a KeptEntries,
 }
 
 impl<P: Answers> Answers for Present<'_, P> {
-    ghost table = { λ p. present (P.table p.predefined.now) (results_of (at_unit p.entries.now)) };
+    ghost table = { λ p. present (P.table p.predefined.now) (results_of (now_at p.entries.now)) };
 
     fn ask(&self, query: &Query) -> Result<Answer, NoMemory> {
         if is_predefined(query.unit()) {
@@ -42,7 +42,7 @@ impl<P: Answers> Answers for Present<'_, P> {
 }
 
 /// Whether a unit is predefined (ARM A.2).
-fn is_predefined(unit: &UnitKey) -> bool
+pub(crate) fn is_predefined(unit: &UnitKey) -> bool
     ensures { result ≡ has_unit predefined_units unit.now }
 {
     let is_declaration = unit.kind == al_base::UnitKind::Decl;
@@ -68,15 +68,15 @@ fn is_sound(held: Option<&Entry>) -> bool
 }
 
 /// Whether a unit has an entry without faults.
-pub fn has_sound(entries: &UnitMap<Entry>, unit: &UnitKey) -> bool
-    ensures { result ≡ is_sound (results_of (at_unit entries.now) unit.now) }
+pub fn has_sound(entries: &KeptEntries, unit: &UnitKey) -> bool
+    ensures { result ≡ is_sound (results_of (now_at entries.now) unit.now) }
 {
     is_sound(entries.get(unit))
 }
 
 /// Whether each of these units has an entry without faults.
-fn all_sound(entries: &UnitMap<Entry>, units: &[UnitKey]) -> bool
-    ensures { result ≡ list_all (λ u. is_sound (results_of (at_unit entries.now) u)) units.now }
+fn all_sound(entries: &KeptEntries, units: &[UnitKey]) -> bool
+    ensures { result ≡ list_all (λ u. is_sound (results_of (now_at entries.now) u)) units.now }
 {
     units.iter().all(|unit| has_sound(entries, unit))
 }
@@ -84,10 +84,10 @@ fn all_sound(entries: &UnitMap<Entry>, units: &[UnitKey]) -> bool
 /// Whether all on which a unit depends by itself has an entry without faults.
 pub(crate) fn rests_on_sound(
     sources: &Sources,
-    entries: &UnitMap<Entry>,
+    entries: &KeptEntries,
     unit: &UnitKey,
 ) -> Result<bool, NoMemory>
-    ensures { IfOk result (λ rests. rests ≡ has_sound_dependences sources.now (results_of (at_unit entries.now)) unit.now) }
+    ensures { IfOk result (λ rests. rests ≡ has_sound_dependences sources.now (results_of (now_at entries.now)) unit.now) }
 {
     let units = sources.direct(unit)?;
     Ok(all_sound(entries, units.as_slice()))

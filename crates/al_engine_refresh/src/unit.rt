@@ -1,39 +1,54 @@
 // One unit of a build.
-ghost use Rattle.std.specs.Prelude.{◌≡◌, ◌∷◌, ◌++◌, [], IfOk, OnOk, MatchOption, Some};
-ghost use Rattle.al_query.specs.Reads.{Agrees};
-ghost use Rattle.al_unit_map.specs.Units.{at_unit};
+ghost use Rattle.std.specs.Prelude.{◌≡◌, ◌∷◌, ◌++◌, ◌↔◌, [], true, false, IfOk, IsTrue, OnOk, List, is_some};
+ghost use Rattle.al_base.specs.declared.unit_key.UnitKey.{UnitKey};
+ghost use Rattle.al_query.specs.Known.{has_unit};
+ghost use Rattle.al_query.specs.declared.answer.AnswerKind.{AnswerKind};
+ghost use Rattle.al_query.specs.declared.query.Query.{Query};
 ghost use Rattle.al_base_shortage.specs.Counts.{one_more};
+ghost use Rattle.al_view.specs.Symbols.{same_unit};
+ghost use Rattle.al_query_slots.specs.Marking.{MarksTell};
+ghost use Rattle.al_query_store.specs.Changes.{AreMarkedNow, with_made};
+ghost use Rattle.al_query_store.specs.Keyed.{base_state, now_at, settled_at, state};
 ghost use Rattle.al_entries.specs.EntryLaw.{HasCurrent, IsCurrent, KeepsLaw};
-ghost use Rattle.al_engine_refresh.specs.Builds.{has_sound_dependences, present, results_of, text_of};
-ghost use Rattle.al_engine_refresh.specs.Handling.{Becomes, Handled};
+ghost use Rattle.al_entries.specs.Stored.{Stored, log_of};
+ghost use Rattle.al_engine_keep.specs.Moves.{IsLeft, has_moved};
+ghost use Rattle.al_engine_refresh.specs.Builds.{has_sound_dependences, results_of, text_of};
+ghost use Rattle.al_engine_refresh.specs.Handling.{Handled, within};
+ghost use Rattle.al_engine_refresh.specs.Moving.{IsCompared, IsSteady, MarksFollow, Turned, now_table};
 
+use crate::moving::{add_made, turn};
 use crate::present::{Present, rests_on_sound, text_of};
 use al_base::{NoMemory, UnitKey};
+use al_engine_keep::KeptEntries;
 use al_entries::Entry;
 use al_query::{Answers, Recorder};
 use al_query_check::{ReadText, UnitCheck};
+use al_query_slots::Held;
+use al_query_slots::laws::marks_are_tests;
 use al_unit_graph::Sources;
-use al_unit_map::UnitMap;
 use al_view::{Seq, copied_unit};
 use std::alloc::Global;
 use std::rc::Rc;
 
-/// The entry of a unit, where it may be used again.
-fn current_entry<A: Answers>(
-    old: &UnitMap<Entry>,
-    unit: &UnitKey,
-    text: &Rc<Vec<u8>>,
-    asked: &A,
-) -> Result<Option<Entry>, NoMemory>
-    ensures { IfOk result (λ found. MatchOption found (HasCurrent (at_unit old.now unit.now) text.now.value.items (A.table asked.now) → ⊥) (λ e. (at_unit old.now unit.now ≡ Some e) × IsCurrent e text.now.value.items (A.table asked.now))) }
+/// Whether an entry may be used again: it is for this text, and none of its marks of now is set. No question is asked.
+fn may_be_used(held: &Held<Entry>, text: &[u8]) -> bool
+    ensures { (t : Query → AnswerKind) → MarksTell t (log_of held.now.entry) held.now.marks.now → IsTrue result ↔ IsCurrent held.now.entry text.now t }
 {
-    let Some(entry) = old.get(unit) else {
-        return Ok(None);
-    };
-    if entry.is_current(text.as_slice(), asked)? {
-        Ok(Some(entry.share()?))
-    } else {
-        Ok(None)
+    marks_are_tests();
+    if held.entry.text() != text {
+        return false;
+    }
+    !held.marks.any()
+}
+
+/// Whether the settled entry of a unit may be used again: it is for this text, and none of its answers differs now.
+fn has_current(entries: &KeptEntries, unit: &UnitKey, text: &[u8]) -> bool
+    ensures current { (t : Query → AnswerKind) → AreMarkedNow log_of t entries.now → IsTrue result ↔ HasCurrent (settled_at entries.now unit.now) text.now t }
+    ensures there { IsTrue result → is_some (state entries.now unit.now).settled ≡ true }
+{
+    match entries.settled(unit) {
+        Some(held) => may_be_used(held, text),
+        None => false,
     }
 }
 
@@ -62,7 +77,7 @@ fn check_read<C: UnitCheck, A: Answers + Drop>(
 /// # Errors
 ///
 /// `NoMemory` where memory was wanted and not given.
-pub fn check_unit<C: UnitCheck, A: Answers + Drop>(
+fn check_unit<C: UnitCheck, A: Answers + Drop>(
     alloc: Global,
     checker: &mut C,
     unit: &UnitKey,
@@ -77,55 +92,85 @@ pub fn check_unit<C: UnitCheck, A: Answers + Drop>(
     check_read(alloc, checker, unit, text, &read, asked)
 }
 
-/// The entries of a build so far, and the units that it checked, in its order.
+/// A new entry of a unit with this text, under what the units answer that are reached now.
+fn check_now<C: UnitCheck, P: Answers>(
+    alloc: Global,
+    checker: &mut C,
+    predefined: &P,
+    unit: &UnitKey,
+    text: Rc<Vec<u8>>,
+    entries: &KeptEntries,
+) -> Result<Entry, NoMemory>
+    ensures keeps { IfOk result (λ entry. KeepsLaw C.meaning C.Text.header unit.now entry) }
+    ensures current { IfOk result (λ entry. IsCurrent entry text.value.items (now_table (P.table predefined.now) entries.now)) }
+    ensures counted { OnOk result (C.count checker.new ≡ one_more (C.count checker.old)) }
+{
+    let asked = Present {
+        alloc,
+        predefined,
+        entries,
+    };
+    check_unit(alloc, checker, unit, text, asked)
+}
+
+/// The units that a build checked, in its order, and how many stored answers it compared.
 #[derive(Drop)]
-pub(crate) struct Done {
-    pub entries: UnitMap<Entry>,
+pub struct Done {
     pub checked: Seq<UnitKey>,
+    pub compared: usize,
 }
 
-/// Adds the entry of a unit.
-fn add_entry(alloc: Global, unit: &UnitKey, entry: Entry, done: &mut Done) -> Result<(), NoMemory>
-    ensures entries { OnOk result (Becomes (at_unit done.old.entries) unit.now entry (at_unit done.new.entries)) }
-    ensures checked { done.new.checked ≡ done.old.checked }
+/// Checks a unit anew, where all on which it depends is sound, and holds the entry that is made of it.
+pub fn check_anew<C: UnitCheck, P: Answers>(
+    alloc: Global,
+    checker: &mut C,
+    predefined: &P,
+    unit: &UnitKey,
+    text: Rc<Vec<u8>>,
+    entries: &mut KeptEntries,
+    done: &mut Done,
+) -> Result<(), NoMemory>
+    requires { has_moved entries.old unit.now ≡ false }
+    ensures made { OnOk result ((e : Stored) × KeepsLaw C.meaning C.Text.header unit.now e × IsCurrent e text.value.items (now_table (P.table predefined.now) entries.old) × Turned (P.table predefined.now) (with_made log_of e) unit.now entries.old entries.new) }
+    ensures checked { OnOk result (done.new.checked ≡ done.old.checked ++ unit.now ∷ []) }
+    ensures counted { OnOk result (C.count checker.new ≡ one_more (C.count checker.old)) }
+    ensures compared { IsCompared entries.old done.old.compared → OnOk result (IsCompared entries.new done.new.compared) }
+    ensures left { IsLeft entries.old entries.new }
 {
-    done.entries.insert(copied_unit(alloc, unit)?, entry)?;
-    Ok(())
-}
-
-/// Adds the entry of a unit that was checked.
-fn add_checked(alloc: Global, unit: &UnitKey, entry: Entry, done: &mut Done) -> Result<(), NoMemory>
-    ensures { OnOk result (Becomes (at_unit done.old.entries) unit.now entry (at_unit done.new.entries) × (done.new.checked ≡ done.old.checked ++ unit.now ∷ [])) }
-{
-    add_entry(alloc, unit, entry, done)?;
     done.checked.push(copied_unit(alloc, unit)?)?;
-    Ok(())
+    let entry = check_now(alloc, checker, predefined, unit, text, entries)?;
+    add_made(alloc, predefined, entries, unit, entry, &mut done.compared)
 }
 
-/// Brings one unit up to date, where all on which it depends is sound.
+/// Brings one unit up to date: it isn't reached, or its entry is used again, or it is checked. Where it moved by that, the stored answers to its
+/// questions are compared.
+/// - `handled`: what becomes of it, among units that are done.
+/// - `marks`: the marks of now follow.
+/// - `steady`: an entry was made of it just where it was checked.
+/// - `compared`: so many stored answers were compared.
 pub(crate) fn refresh_unit<C: UnitCheck, P: Answers>(
     alloc: Global,
     checker: &mut C,
     predefined: &P,
     sources: &Sources,
-    old: &UnitMap<Entry>,
     unit: &UnitKey,
+    entries: &mut KeptEntries,
     done: &mut Done,
 ) -> Result<(), NoMemory>
-    ensures { let t = present (P.table predefined.now) (results_of (at_unit done.old.entries)) in OnOk result (Handled C.meaning C.Text.header unit.now (text_of sources.now unit.now) (has_sound_dependences sources.now (results_of (at_unit done.old.entries)) unit.now) t (at_unit old.now unit.now) (record { at = at_unit done.old.entries; checked = done.old.checked; count = C.count checker.old }) (record { at = at_unit done.new.entries; checked = done.new.checked; count = C.count checker.new })) }
+    requires { has_moved entries.old unit.now ≡ false }
+    ensures handled { (before : List UnitKey) → has_unit before unit.now ≡ false → MarksFollow (P.table predefined.now) entries.old → OnOk result (Handled C.meaning C.Text.header unit.now (text_of sources.now unit.now) (has_sound_dependences sources.now (results_of (now_at entries.old)) unit.now) (now_table (P.table predefined.now) entries.old) (settled_at entries.old unit.now) (record { at = within before (now_at entries.old); checked = done.old.checked; count = C.count checker.old }) (record { at = within (before ++ unit.now ∷ []) (now_at entries.new); checked = done.new.checked; count = C.count checker.new })) }
+    ensures marks { MarksFollow (P.table predefined.now) entries.old → OnOk result (MarksFollow (P.table predefined.now) entries.new) }
+    ensures others { OnOk result ((u : UnitKey) → same_unit unit.now u ≡ false → base_state (state entries.new u) ≡ base_state (state entries.old u)) }
+    ensures steady { IsSteady sources.now done.old.checked entries.old → OnOk result (IsSteady sources.now done.new.checked entries.new) }
+    ensures compared { IsCompared entries.old done.old.compared → OnOk result (IsCompared entries.new done.new.compared) }
+    ensures left { IsLeft entries.old entries.new }
 {
-    if !rests_on_sound(sources, &done.entries, unit)? {
-        return Ok(());
+    if !rests_on_sound(sources, entries, unit)? {
+        return turn(alloc, predefined, entries, unit, false, &mut done.compared);
     }
     let text = text_of(alloc, sources, unit)?;
-    let present = Present {
-        alloc,
-        predefined,
-        entries: &done.entries,
-    };
-    if let Some(entry) = current_entry(old, unit, &text, &present)? {
-        return add_entry(alloc, unit, entry, done);
+    if has_current(entries, unit, text.as_slice()) {
+        return turn(alloc, predefined, entries, unit, true, &mut done.compared);
     }
-    let entry = check_unit(alloc, checker, unit, text, present)?;
-    add_checked(alloc, unit, entry, done)
+    check_anew(alloc, checker, predefined, unit, text, entries, done)
 }

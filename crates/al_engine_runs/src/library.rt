@@ -2,7 +2,7 @@
 ghost use Rattle.std.specs.Prelude.{◌≡◌};
 
 use crate::files::ToyFiles;
-use crate::printed::{push_gave, push_keys, push_number, push_ran};
+use crate::printed::{push_counts, push_gave, push_keys, push_ran};
 use al_base::{NoMemory, Refusal, UnitKey};
 use al_engine::Engine;
 use al_engine_toy::{Packages, Toy};
@@ -103,7 +103,7 @@ impl Library {
         Ok(text)
     }
 
-    /// What the last build gave, the units that it checked, and by how much the count of checks rose.
+    /// What the last build gave, the units that it checked, by how much the count of checks rose, and how many stored answers it compared.
     fn print_build(&self, more: u64) -> Result<String, NoMemory> {
         let mut text = Vec::new(self.alloc);
         if let Some((main, compiled)) = self.engine.last() {
@@ -111,9 +111,7 @@ impl Library {
         }
         text.extend_from_slice(b"checked")?;
         push_keys(&mut text, self.engine.last_checked())?;
-        text.extend_from_slice(b", ")?;
-        push_number(self.alloc, &mut text, more)?;
-        text.extend_from_slice(b" more checks\n")?;
+        push_counts(self.alloc, &mut text, more, self.engine.compared())?;
         self.text(text.as_slice())
     }
 

@@ -1,6 +1,6 @@
-//! Builds libraries of the toy language, edit by edit, and tells what each build gives, which units it checked and how often it asked
-//! for a check. A line is a command: `put FILE TEXT`, `delete FILE`, `rename OLD NEW`, `build MAIN`, `run EVENTS`, `obsolete`. A command
-//! that finds no memory is tried once more.
+//! Builds libraries of the toy language, edit by edit, and tells what each build gives, which units it checked, how often it asked
+//! for a check, and how many stored answers it compared. A line is a command: `put FILE TEXT`, `delete FILE`, `rename OLD NEW`,
+//! `build MAIN`, `run EVENTS`, `obsolete`. A command that finds no memory is tried once more.
 #![tactic(auto)]
 
 ghost use Rattle.std.specs.Prelude.{◌≡◌};

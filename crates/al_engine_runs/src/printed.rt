@@ -6,7 +6,7 @@ use al_machine::Exception;
 use al_tasks_run::{RunEnd, RunReport};
 use std::alloc::Global;
 
-pub(crate) fn push_number(alloc: Global, text: &mut Vec<u8>, number: u64) -> Result<(), NoMemory> {
+fn push_number(alloc: Global, text: &mut Vec<u8>, number: u64) -> Result<(), NoMemory> {
     let digits = format!(in alloc; "{number}")?;
     text.extend_from_slice(digits.as_bytes())?;
     Ok(())
@@ -65,6 +65,21 @@ fn push_lack(text: &mut Vec<u8>, main: &[u8], lack: &MissingItem) -> Result<(), 
             text.extend_from_slice(name.as_slice())?;
         }
     }
+    Ok(())
+}
+
+/// How many more checks were made, and how many stored answers a build compared.
+pub(crate) fn push_counts(
+    alloc: Global,
+    text: &mut Vec<u8>,
+    more: u64,
+    compared: usize,
+) -> Result<(), NoMemory> {
+    text.extend_from_slice(b", ")?;
+    push_number(alloc, text, more)?;
+    text.extend_from_slice(b" more checks, ")?;
+    push_number(alloc, text, compared as u64)?;
+    text.extend_from_slice(b" compared\n")?;
     Ok(())
 }
 

@@ -13,3 +13,6 @@ pub record Stored : Type 0 where
 
 abbrev pub outcome_of : Stored → Outcome
 outcome_of e = checked_model e.checked
+
+abbrev pub log_of : Stored → List (Query × AnswerKind)
+log_of e = e.log

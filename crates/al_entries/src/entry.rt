@@ -1,14 +1,12 @@
 // What is kept of a unit.
-ghost use Rattle.std.specs.Prelude.{◌≡◌, ◌↔◌, IfOk, IsTrue};
-ghost use Rattle.al_query.specs.Reads.{Agrees};
+ghost use Rattle.std.specs.Prelude.{◌≡◌, IfOk};
 ghost use Rattle.al_query_outcome.specs.Results.{table_entry};
-ghost use Rattle.al_entries.specs.EntryLaw.{IsCurrent};
 ghost use Rattle.al_entries.specs.Stored.{outcome_of};
 
 use al_base::NoMemory;
-use al_query::{Answer, Answers, Query, ReadLog};
+use al_query::{Answer, Query, ReadLog};
 use al_query_outcome::Checked;
-use al_view::Same;
+use al_query_slots::Logged;
 use std::alloc::Global;
 use std::marker::Model;
 use std::rc::Rc;
@@ -55,6 +53,14 @@ impl Model for Entry {
     ghost coded = { Prim.hlevel (codes, expression.the_row.coded, statement.the_row.coded) };
 
     ghost view = { λ e. record { text = e.kept.value.text.value.items; log = e.kept.value.log; checked = e.kept.value.checked } };
+}
+
+impl Logged for Entry {
+    ghost log = { λ e. e.log };
+
+    fn log(&self) -> &ReadLog {
+        &self.kept.log
+    }
 }
 
 impl Entry {
@@ -106,30 +112,4 @@ impl Entry {
     {
         self.checked().answer(alloc, query)
     }
-
-    /// Whether the entry may be used again: it is for this text, and each question that its check asked has the answer that it had.
-    /// The answers are compared only where the text is the same.
-    pub fn is_current<A: Answers>(&self, text: &[u8], asked: &A) -> Result<bool, NoMemory>
-        ensures { IfOk result (λ is. IsTrue is ↔ IsCurrent self.now text.now (A.table asked.now)) }
-    {
-        if self.text() != text {
-            return Ok(false);
-        }
-        log_agrees(self.log(), asked)
-    }
-}
-
-/// Whether each recorded question has its recorded answer now.
-fn log_agrees<A: Answers>(log: &ReadLog, asked: &A) -> Result<bool, NoMemory>
-    ensures { IfOk result (λ agrees. IsTrue agrees ↔ Agrees (A.table asked.now) log.now) }
-{
-    for i in 0..log.len() {
-        if let Some((query, answer)) = log.at(i) {
-            let now = asked.ask(query)?;
-            if !now.is_same(answer) {
-                return Ok(false);
-            }
-        }
-    }
-    Ok(true)
 }

@@ -2,7 +2,7 @@
 use Rattle.std.proofs.Common.{◌≡◌, ℕ, List, Option, Some, refl, sym, ap, subst, ◌∙◌}
 use Rattle.al_base.specs.Files.{Texts}
 use Rattle.al_base.specs.declared.unit_key.UnitKey.{UnitKey}
-use Rattle.al_unit_map.specs.Units.{at_unit}
+use Rattle.al_query_store.specs.Keyed.{settled_at}
 use Rattle.al_unit_graph.specs.Headers.{Header, Library}
 use Rattle.al_query.specs.declared.answer.AnswerKind.{AnswerKind}
 use Rattle.al_query.specs.declared.query.Query.{Query}
@@ -24,7 +24,7 @@ module _ (meaning : TextMeaning) (header : List ℕ → Header) (predefined : Qu
   module _ {C P : Type 0} (count : C → ℕ) (table : Query → AnswerKind) (same : table ≡ predefined) (main : List ℕ) (old new : Held C P) (build : IsBuild meaning header count table library main old new) where
     -- what the build gave is what compiling the files as they were gives
     build_compiles : CompilesTo meaning header predefined library old.files main build.last.gave.compiled
-    build_compiles = compiled_to old.files main (at_unit old.cache.entries) (at_unit new.cache.entries) build.last.gave (subst (λ (t : Query → AnswerKind). IsRebuilt meaning header t (library old.files) main (at_unit old.cache.entries) (at_unit new.cache.entries) build.last.gave) same build.rebuilt)
+    build_compiles = compiled_to old.files main (settled_at old.cache.store) (settled_at new.cache.store) build.last.gave (subst (λ (t : Query → AnswerKind). IsRebuilt meaning header t (library old.files) main (settled_at old.cache.store) (settled_at new.cache.store) build.last.gave) same build.rebuilt)
 
     -- so what is left is what compiling its files gives
     pub last_only : IsLastOnly meaning header predefined library new.built

@@ -17,6 +17,13 @@ static NO_UNITS: &[u8] = b"units 0\n";
 
 static HELLO_REPLIES: &[u8] = b"ok\nbuilt 1 115\noutput 3\nhi\n\nend finished\n";
 
+/// A client of two packages of which one declares the name that it uses.
+static CLIENT: &[u8] =
+    b"put p.ads 37\npackage P is X : Integer := 1; end P;\nput q.ads 19\npackage Q is end Q;\nput client.adb 66\nwith P, Q; use P, Q; procedure Client is begin X := 2; end Client;\nbuild client\n";
+
+/// The other package declares a name that the client doesn't use.
+static ANOTHER_NAME: &[u8] = b"put q.ads 32\npackage Q is Y : Integer; end Q;\nbuild client\n";
+
 /// A library of Ada units with no file.
 fn new_library(alloc: Global) -> Result<Engine<AdaCheck>, NoMemory> {
     new_engine(alloc, ada_check())
@@ -147,5 +154,30 @@ fn the_library_is_asked_afterwards(rt: HostRuntime) -> Result<(), Fail> {
     assert_eq!(rt; again.as_slice(), b"built 1 115\n".as_slice());
     assert_eq!(rt; told_afterwards(&library), Ok(((0, 1), (0, 1, 115))));
     std::mem::forget(library);
+    Ok(())
+}
+
+/// How many units the last of these commands' builds checked, and whether it compared any stored answer.
+fn reached_by(
+    alloc: Global,
+    library: &mut Engine<AdaCheck>,
+    commands: &[u8],
+) -> Result<(usize, bool), Fail> {
+    serve_bytes(alloc, library, 100, commands)?;
+    let engine = library.engine();
+    Ok((engine.last_checked().len(), engine.compared() > 0))
+}
+
+/// A first build finds no stored answer, and one behind no edit compares none. Where the declaration of a package gets another name, it alone
+/// is checked; the client's stored answers to questions of it are compared, and are as they were.
+#[test]
+fn builds_compare_what_an_edit_reaches(rt: HostRuntime) -> Result<(), Fail> {
+    let alloc = rt.alloc();
+    let mut library = new_library(alloc)?;
+    let first = reached_by(alloc, &mut library, CLIENT)?;
+    let again = reached_by(alloc, &mut library, b"build client\n")?;
+    let edited = reached_by(alloc, &mut library, ANOTHER_NAME)?;
+    std::mem::forget(library);
+    assert_eq!(rt; (first, again, edited), ((3, false), (0, false), (1, true)));
     Ok(())
 }

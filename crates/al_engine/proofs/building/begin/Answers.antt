@@ -1,11 +1,12 @@
-use Rattle.std.proofs.Common.{ℕ, List, IfSome, map, sym, subst}
+use Rattle.std.proofs.Common.{IfSome, map, sym, subst}
 use Rattle.al_base.specs.Batch.{key_of}
 use Rattle.al_bind.specs.Binding.{IsElaboration}
 use Rattle.al_unit_graph.specs.Headers.{Library}
 use Rattle.al_unit_order.specs.Read.{AreHeaded, NameParentBodies}
-use Rattle.al_unit_map.specs.Units.{at_unit}
+use Rattle.al_query_store.specs.Keyed.{settled_at}
 use Rattle.al_engine_rebuild.specs.Prepared.{IsPrepared}
 use Rattle.al_engine_rebuild.specs.Renewed.{IsCleanBut}
+use Rattle.al_engine_recheck.specs.Rechecks.{AreAllReached}
 use Rattle.al_engine_recheck.specs.Renewals.{IsRenewable}
 use Rattle.al_engine_graph.specs.Graphs.{HaveSameHeaders}
 use Rattle.al_engine_graph.specs.Kept.{IsGraphOf}
@@ -41,7 +42,7 @@ edited_now-requires-clause-settled g c =
     let library = g.R.ReadFiles.library in
     let files = g.R.ReadFiles.files in
     of_last c.args.last.now (λ b. b.now)
-    (λ b. IsSettledBy g.C.UnitCheck.meaning g.C.Text.ReadText.header (g.P.Answers.table c.args.predefined.now) library (at_unit c.args.cache.now.entries) (record { files = files b.read; main = b.main; gave = c.args.gave.now }))
+    (λ b. IsSettledBy g.C.UnitCheck.meaning g.C.Text.ReadText.header (g.P.Answers.table c.args.predefined.now) library c.args.cache.now.store (record { files = files b.read; main = b.main; gave = c.args.gave.now }))
     (λ b. HaveSameHeaders (library (files b.now.read)) (library (files c.args.read.now))) c.alike-found.result.0 c.alike-found.ensures.found c.requires.settled
 
 pub edited_now-requires-clause-headers : goal.edited_now-requires-clause-headers
@@ -52,10 +53,10 @@ edited_now-requires-clause-headers g c =
 
 pub prepare-requires-clause-edited : goal.prepare-requires-clause-edited
 prepare-requires-clause-edited g c =
-    subst (λ (l : Library). IfSome c.in_ok-unit.unit (λ unit. IsRenewable g.C.UnitCheck.meaning g.C.Text.ReadText.header (g.P.Answers.table c.args.predefined.now) l (at_unit c.args.cache.now.entries) unit)) (sym c.sources-sources.ensures) c.in_ok-unit.ensures.renewable
+    subst (λ (l : Library). IfSome c.in_ok-unit.unit (λ unit. AreAllReached c.args.cache.now.store × IsRenewable g.C.UnitCheck.meaning g.C.Text.ReadText.header (g.P.Answers.table c.args.predefined.now) l (settled_at c.args.cache.now.store) unit)) (sym c.sources-sources.ensures) c.in_ok-unit.ensures.renewable
 
 pub prepare-requires-clause-clean : goal.prepare-requires-clause-clean
-prepare-requires-clause-clean g c = subst (λ (l : Library). IfSome c.in_ok-unit.unit (IsCleanBut l (at_unit c.args.cache.now.entries))) (sym c.sources-sources.ensures) c.in_ok-unit.ensures.clean
+prepare-requires-clause-clean g c = subst (λ (l : Library). IfSome c.in_ok-unit.unit (IsCleanBut l (settled_at c.args.cache.now.store))) (sym c.sources-sources.ensures) c.in_ok-unit.ensures.clean
 
 pub prepare-requires-clause-headed : goal.prepare-requires-clause-headed
 prepare-requires-clause-headed g c = subst (λ (l : Library). AreHeaded g.C.Text.ReadText.header l) (sym c.sources-sources.ensures) (c.requires.reading.headed (g.R.ReadFiles.files c.args.read.now))
@@ -75,5 +76,5 @@ prepare-requires-clause-known g c =
 pub returns-clause-prepared : goal.returns-clause-prepared
 returns-clause-prepared g c =
     let p = c.in_ok-prepared.prepared in
-    subst (λ (l : Library). IsPrepared g.C.UnitCheck.meaning g.C.Text.ReadText.header (g.P.Answers.table c.args.predefined.now) l c.args.main.now (at_unit c.args.cache.now.entries) p.planned (at_unit p.entries) p.checked.items)
+    subst (λ (l : Library). IsPrepared g.C.UnitCheck.meaning g.C.Text.ReadText.header (g.P.Answers.table c.args.predefined.now) l c.args.main.now c.args.cache.now.store p.planned c.prepare.new.cache.store p.checked.items p.compared)
     c.sources-sources.ensures c.in_ok-prepared.ensures.prepared

@@ -1,5 +1,5 @@
 use Rattle.std.proofs.Common.{ℕ, List, sym, subst}
-use Rattle.al_unit_map.specs.Units.{at_unit}
+use Rattle.al_query_store.specs.Keyed.{settled_at}
 use Rattle.al_engine_recheck.specs.Rechecks.{setting_of}
 use Rattle.al_engine_batch.specs.Batches.{IsCompiled}
 use Rattle.al_engine.proofs.building.build_read.Goals as goal
@@ -12,7 +12,7 @@ finish-requires-clause-closed g c = c.in_ok-begun.ensures.prepared.closed
 
 pub returns-clause-rebuilt : goal.returns-clause-rebuilt
 returns-clause-rebuilt g c =
-    c.in_ok-finish.ensures.rebuilt g.C.Text.ReadText.header (g.P.Answers.table c.args.predefined.now) (g.R.ReadFiles.library (g.R.ReadFiles.files c.args.read)) c.args.main.now (at_unit c.args.cache.now.entries) c.in_ok-begun.ensures.prepared
+    c.in_ok-finish.ensures.rebuilt g.C.Text.ReadText.header (g.P.Answers.table c.args.predefined.now) (g.R.ReadFiles.library (g.R.ReadFiles.files c.args.read)) c.args.main.now c.args.cache.now.store c.in_ok-begun.ensures.left c.in_ok-begun.ensures.prepared
 
 pub returns-clause-right : goal.returns-clause-right
 returns-clause-right g c =
@@ -20,7 +20,7 @@ returns-clause-right g c =
     let header = g.C.Text.ReadText.header in
     let table = g.P.Answers.table c.args.predefined.now in
     let lib = g.R.ReadFiles.library (g.R.ReadFiles.files c.args.read) in
-    let old = at_unit c.args.cache.now.entries in
-    let is = c.in_ok-finish.ensures.rebuilt header table lib c.args.main.now old c.in_ok-begun.ensures.prepared in
-    let compiled = c.rebuilds_are_compiled.ensures meaning header table lib c.args.main.now old (at_unit c.finish.new.cache.entries) c.finish.new.gave is in
+    let old = settled_at c.args.cache.now.store in
+    let is = (c.in_ok-finish.ensures.rebuilt header table lib c.args.main.now c.args.cache.now.store c.in_ok-begun.ensures.left c.in_ok-begun.ensures.prepared).0 in
+    let compiled = c.rebuilds_are_compiled.ensures meaning header table lib c.args.main.now old (settled_at c.finish.new.cache.store) c.finish.new.gave is in
     subst (λ (m : List ℕ). IsCompiled meaning (setting_of header table lib) m c.finish.new.gave.compiled) (sym c.in_ok-name.ensures) compiled

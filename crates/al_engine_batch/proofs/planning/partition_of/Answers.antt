@@ -2,7 +2,7 @@ use Rattle.std.proofs.Common.{List, map, ap, sym, subst, ◌∙◌}
 use Rattle.al_base.specs.Batch.{key_of}
 use Rattle.al_base.specs.declared.unit_key.UnitKey.{UnitKey}
 use Rattle.al_link_placed.specs.Placed.{ArePlaced}
-use Rattle.al_unit_map.specs.Units.{at_unit}
+use Rattle.al_query_store.specs.Keyed.{now_at}
 use Rattle.al_engine_refresh.specs.Builds.{results_of}
 use Rattle.al_engine_batch.specs.Objects.{objects_at}
 use Rattle.al_engine_batch.proofs.LinkLemmas.{named-keys}
@@ -11,7 +11,7 @@ use Rattle.al_engine_batch.proofs.planning.partition_of.Goals as goal
 pub returns : goal.returns
 returns c =
     let lib = c.args.sources.now in
-    let f = results_of (at_unit c.args.entries.now) in
+    let f = results_of (now_at c.args.entries.now) in
     let units = c.in_ok-units.units.items in
     record {
       ordered = c.requires.ordered;

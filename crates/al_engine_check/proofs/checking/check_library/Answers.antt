@@ -10,6 +10,3 @@ recheck-requires-clause-order g c =
     let order = c.as_slice.result.now in
     c.order_is_for_builds.ensures g.C.Text.ReadText.header lib (g.P.Answers.table c.args.predefined.now) order c.requires.headed c.requires.bodies c.requires.predefined
     (subst (λ (us : List UnitKey). IsDependenceOrder lib (map key_of us)) (sym c.as_slice.ensures.value) c.requires.graph.order)
-
-pub returns-clause-renewed : goal.returns-clause-renewed
-returns-clause-renewed g c = c.in_ok-rechecked.ensures.renewed

@@ -1,12 +1,11 @@
 use Rattle.std.proofs.Common.{ℕ, ◌<◌, ◌^◌, arith, subst}
-use Rattle.al_unit_map.specs.Units.{at_unit}
 use Rattle.al_engine.proofs.Again.{build-again, right-again}
 use Rattle.al_engine.proofs.engine.Engine.repeat.Goals as goal
 
 pub invariant_of-self : goal.invariant_of-self
 invariant_of-self g c =
     right-again g.C.UnitCheck.meaning g.C.Text.ReadText.header g.R.ReadFiles.library (λ b. (g.R.ReadFiles.files b.read, b.graph.value)) (λ b. g.R.ReadFiles.files b.read) (λ b. b.main) c.self.inside.gave
-    c.empty.result c.empty.ensures c.self.inside.files c.self.inside.is_edited c.self.inside.last (g.P.Answers.table c.self.inside.predefined) (at_unit c.self.inside.cache.entries) c.self.invariant
+    c.empty.result c.empty.ensures c.self.inside.files c.self.inside.is_edited c.self.inside.last (g.P.Answers.table c.self.inside.predefined) c.self.inside.cache.store c.self.invariant
 
 pub returns-clause-built : goal.returns-clause-built
 returns-clause-built g c = λ main.

@@ -1,15 +1,31 @@
 use Rattle.std.proofs.Common.{List, ap, sym, subst, ◌∙◌}
 use Rattle.al_base.specs.declared.unit_key.UnitKey.{UnitKey}
-use Rattle.al_unit_map.specs.Units.{at_unit}
+use Rattle.al_query_store.specs.Keyed.{State, entry_of, now_at, settled_at, settled_state, state}
+use Rattle.al_entries.specs.Stored.{Stored}
 use Rattle.al_engine_refresh.specs.Builds.{results_of}
 use Rattle.al_engine_recheck.specs.Rechecks.{IsRechecked, setting_of}
+use Rattle.al_engine_recheck.proofs.ReadyLemmas.{entry-kept, ready-now, reached-now}
+use Rattle.al_engine_rebuild.specs.Rebuilds.{IsWithin}
+use Rattle.al_engine_rebuild.proofs.WithinLemmas.{within}
 use Rattle.al_engine_rebuild.proofs.rebuilding.PreparedBuild.finish.Goals as goal
 
 pub returns-clause-rebuilt : goal.returns-clause-rebuilt
-returns-clause-rebuilt g c = λ header predefined lib main old is.
-    record {
-      made = is.made;
-      rechecked = subst (λ (us : List UnitKey). IsRechecked g.C.UnitCheck.meaning header (setting_of header predefined lib) old is.made us) (sym c.new.ensures) is.rechecked;
-      is_batch = c.in_ok-gave.ensures.batch lib (results_of is.made) main is.is_planned;
-      entries = λ u. ap (λ es. at_unit es u) c.take_over.ensures.entries ∙ is.entries u;
-    }
+returns-clause-rebuilt g c = λ header predefined lib main old left is.
+    let meaning = g.C.UnitCheck.meaning in
+    let mid = c.args.cache.now.store in
+    let new = c.settle.new.self.store in
+    let ended = c.settle.ensures.settled in
+    let units = c.args.self.checked.items in
+    let now = is.updated in (
+      record {
+        made = now_at mid;
+        rechecked = subst (λ (us : List UnitKey). IsRechecked meaning header (setting_of header predefined lib) (settled_at old) (now_at mid) us) (sym c.new.ensures) now.rechecked;
+        is_batch = c.in_ok-gave.ensures.batch lib (results_of (now_at mid)) main is.is_planned;
+        entries = λ u. ap (λ (s : State Stored). entry_of s.settled) (ended u) ∙ entry-kept (settled_state (state mid u)).settled ∙ now.staying u;
+      },
+      record {
+        reached = reached-now meaning header predefined lib old mid new units c.args.self.compared now ended;
+        ready = ready-now meaning header predefined lib old mid new units c.args.self.compared now ended;
+        compared = subst (λ (us : List UnitKey). IsWithin lib us old new c.args.self.compared) (sym c.new.ensures) (within lib units old mid new left ended now.leaving now.made c.args.self.compared now.compared);
+      },
+    )

@@ -1,0 +1,4 @@
+pub mod Marked
+pub mod Stored
+pub mod Counting
+pub mod Marking
