@@ -89,7 +89,7 @@ def puts(files):
 
 
 def by_gnatmake(files, edits):
-    """What gnatmake takes for the first build, then behind each edit, which is taken back; each file's time is ahead of all that was made before."""
+    """What gnatmake takes for the first build, then behind each edit, with which the one before it is taken back; each file's time is ahead of all that was made before."""
     with tempfile.TemporaryDirectory() as folder:
         when = 0
 
@@ -105,10 +105,10 @@ def by_gnatmake(files, edits):
         times = [made(files)]
         if not (pathlib.Path(folder) / "main").exists():
             sys.exit("gnatmake makes no program of this library")
+        back = {}
         for changed in edits.values():
-            times.append(made(changed))
-            if changed:
-                made({name: files[name] for name in changed})
+            times.append(made({**back, **changed}))
+            back = {name: files[name] for name in changed}
         return times
 
 

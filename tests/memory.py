@@ -1,31 +1,30 @@
 #!/usr/bin/env python3
-"""memory.py PROGRAM [NAME ..]: refuses growths of memory, one at a time, in the stored sessions, or each in those of these names.
+"""memory.py PROGRAM [NAME ..]: refuses each growth of memory in turn, in the stored sessions, or in those of these names.
 
-Of four sessions (`WHOLE`) each growth is refused in turn, and in those that are named; of each other one `FEW` of them, spread over all that it has. Such a
-session is run once for each, with that growth refused (by refuse.c, built by the kit's clang and loaded before
-the program). It must then write what it always writes; or `refused 10 no-memory` to one put, rename, build, run, report
+A session is run once, and at each growth the program forks: there the child is refused its growth, and goes on to its end (refuse_each.c, built by
+the kit's clang and loaded before the program). It must then write what it always writes; or `refused 10 no-memory` to one put, rename, build, run, report
 of units or report of obsolete units that is not refused otherwise, and to all else what the session without that command
 writes; or, where the growth is outside the session, nothing, with exit status 1. Those growths that come before the first
 command is read are the same in each session with the same words: they are refused in the session without a command alone. Prints
 a line for each session, and last `N passed, M failed`.
 """
 import concurrent.futures
+import contextlib
 import functools
 import os
 import pathlib
 import re
 import shutil
+import struct
 import subprocess
 import sys
 import tempfile
-import zlib
 
 from sessions import SESSIONS, TESTS, Count, input_of, words_of
 
 LONGEST = 4096
-# a name that use clauses show beside another one; a body that isn't elaborated; a subunit's slot; a task that waits for a moment
-WHOLE = {"use-visible-name-and-its-homograph", "body-not-yet-elaborated", "slot-of-a-subunit", "a-task-that-waits-for-a-moment"}
-FEW = 32
+# How long all growths of one session may take, in seconds.
+LIMIT = 1800
 REFUSED = b"refused 10 no-memory\n"
 OUTSIDE = "outside the session"
 UNSEEN = "with the plain replies"
@@ -42,26 +41,16 @@ def shim_of(source, folder):
 
 
 class Refuser:
-    """Runs the program with one growth refused, or with none."""
+    """Runs the program with one growth refused, or with none, or with each in turn."""
 
     def __init__(self, program, folder):
         self.program = program
-        self.shim = shim_of("refuse.c", folder)
-
-    def growths(self, session, words):
-        """How many growths there are in a session."""
-        few, many = 0, 1
-        while self.run(session, many, words)[1]:
-            few, many = many, 2 * many
-        while few + 1 < many:
-            middle = (few + many) // 2
-            few, many = (middle, many) if self.run(session, middle, words)[1] else (few, middle)
-        return few
+        self.one, self.each = shim_of("refuse.c", folder), shim_of("refuse_each.c", folder)
 
     def run(self, session, growth=0, words=()):
         """The exit status, output and error output; and whether a growth was refused."""
         with tempfile.TemporaryFile() as told:
-            env = {"LD_PRELOAD": self.shim, "REFUSE": str(growth), "TELL": str(told.fileno())}
+            env = {"LD_PRELOAD": self.one, "REFUSE": str(growth), "TELL": str(told.fileno())}
             done = subprocess.run(
                 [self.program, *words],
                 input=session,
@@ -72,6 +61,27 @@ class Refuser:
             )
             told.seek(0)
             return (done.returncode, done.stdout, done.stderr), told.read() != b""
+
+    def in_turn(self, session, first=1, words=()):
+        """The exit status, output and error output where no growth is refused; and where each is, from this one on, by its number."""
+        with contextlib.ExitStack() as files:
+            given, output, error, told = (files.enter_context(tempfile.TemporaryFile()) for _ in range(4))
+            given.write(session)
+            given.seek(0)
+            env = {"LD_PRELOAD": self.each, "FIRST": str(first), "TELL": str(told.fileno())}
+            how = {"stdin": given, "stdout": output, "stderr": error, "env": env, "pass_fds": [told.fileno()], "timeout": LIMIT}
+            status = subprocess.run([self.program, *words], **how).returncode
+            output.seek(0)
+            error.seek(0)
+            told.seek(0)
+            return (status, output.read(), error.read()), list(records(told))
+
+
+def records(told):
+    """What refuse_each.c told: of each child the growth that it was refused, and its exit status, output and error output."""
+    while head := told.read(32):
+        growth, status, output, error = struct.unpack("<4q", head)
+        yield growth, (os.waitstatus_to_exitcode(status), told.read(output), told.read(error))
 
 
 def commands_of(session):
@@ -133,29 +143,24 @@ class Allowed:
         return None
 
 
-def chosen(name, first, last, is_whole):
-    """The growths of a session that are refused: all, or some, which begin elsewhere in each session."""
-    if is_whole or last - first < FEW:
-        return range(first, last + 1)
-    step = (last - first) // FEW + 1
-    return range(first + zlib.crc32(name.encode()) % step, last + 1, step)
-
-
-def sweep(refuser, name, is_whole):
-    """What is told of a session with these growths refused in turn, and whether all was as it may be."""
+def sweep(refuser, name):
+    """What is told of a session with each growth refused in turn, and whether all was as it may be."""
     session, words = input_of(name), words_of(name)
     allowed = Allowed(refuser, words, session)
-    first = refuser.growths(b"", words) + 1 if session else 1
-    last = refuser.growths(session, words)
-    seen, lines = {}, []
-    for growth in chosen(name, first, last, is_whole):
-        got, refused = refuser.run(session, growth, words)
-        told = allowed.name(got) if refused else None
+    first = len(refuser.in_turn(b"", 1, words)[1]) + 1 if session else 1
+    plain, refused = refuser.in_turn(session, first, words)
+    named, seen, lines = {}, {}, []
+    for growth, got in refused:
+        if got not in named:
+            named[got] = allowed.name(got)
+        told = named[got]
         seen[told] = seen.get(told, 0) + 1
         if told is None:
             lines.append(f"  failed at growth {growth}: {got}")
+    if plain != allowed.plain:
+        lines.append(f"  failed where the process went on behind the growths: {plain}")
     outcome = ", ".join(f"{times} {what}" for what, times in seen.items() if what)
-    return [f"{name}: {sum(seen.values())} of {last - first + 1} growths refused: {outcome}", *lines], not lines and last > 0
+    return [f"{name}: {len(refused)} growths refused: {outcome}", *lines], not lines and first - 1 + len(refused) > 0
 
 
 def main():
@@ -164,7 +169,7 @@ def main():
     count = Count()
     with tempfile.TemporaryDirectory() as folder, concurrent.futures.ThreadPoolExecutor(os.cpu_count()) as pool:
         refuser = Refuser(program, folder)
-        for lines, passed in pool.map(lambda name: sweep(refuser, name, name in WHOLE or bool(sys.argv[2:])), names):
+        for lines, passed in pool.map(lambda name: sweep(refuser, name), names):
             print("\n".join(lines), flush=True)
             count.passed += passed
             count.failed += not passed
