@@ -2,9 +2,7 @@
 """sessions.py PROGRAM: runs the stored sessions and command lines against a built program.
 
 A session NAME is NAME.in, the bytes of its commands (or NAME.gen, which writes them), NAME.out, the bytes of its
-replies, NAME.exit, its exit status where that isn't 0, and NAME.args, the program's words, one a line. NAME.stack is
-how many MiB of stack the session is given where Rattle's own compiler made the program, whose frames are larger than
-LLVM's; every other run has the stack that the system gives. NAME.cuts is
+replies, NAME.exit, its exit status where that isn't 0, and NAME.args, the program's words, one a line. Each has a stack of 8 MB. NAME.cuts is
 what comes of the session NAME cut to its first n bytes, for each n. command-lines.json lists words of the program with
 the exit status and what it writes. Prints each failure, and last `N passed, M failed`.
 """
@@ -69,15 +67,9 @@ def words_of(name):
     return args.read_text().split("\n")[:-1] if args.exists() else []
 
 
-def stack_of(name, program):
-    """What gives the session its stack, or None where the system's is enough."""
-    size = SESSIONS / f"{name}.stack"
-    if not size.exists() or pathlib.Path(program).suffix != ".by-rattle":
-        return None
-    wanted = int(size.read_text()) << 20
-    hard = resource.getrlimit(resource.RLIMIT_STACK)[1]
-    soft = wanted if hard == resource.RLIM_INFINITY else min(wanted, hard)
-    return lambda: resource.setrlimit(resource.RLIMIT_STACK, (soft, hard))
+def give_stack():
+    """In the program's process, before the program: a stack of 8 MB."""
+    resource.setrlimit(resource.RLIMIT_STACK, (8 << 20, resource.getrlimit(resource.RLIMIT_STACK)[1]))
 
 
 def run_sessions(program, count):
@@ -85,7 +77,7 @@ def run_sessions(program, count):
         name = out.stem
         status = SESSIONS / f"{name}.exit"
         wanted = (int(status.read_text()) if status.exists() else 0, out.read_bytes(), b"")
-        count.check(name, run(program, words_of(name), input_of(name), before=stack_of(name, program)), wanted)
+        count.check(name, run(program, words_of(name), input_of(name), before=give_stack), wanted)
 
 
 def run_cuts(program, count):
