@@ -66,6 +66,16 @@ def content(top, names):
     return found
 
 
+def put(file, place):
+    """The same file in another place; what is written into it through the one would show in its hash in the other."""
+    place.parent.mkdir(parents=True, exist_ok=True)
+    place.unlink(missing_ok=True)
+    try:
+        os.link(file, place)
+    except OSError:
+        shutil.copy2(file, place)
+
+
 def made_by(crate, tests):
     """The names in the crate's out/ that `rt ci` makes of it, or of its tests."""
     if tests:
@@ -108,8 +118,7 @@ class Kept:
             for it in made_by(crate, tests):
                 shutil.rmtree(out / it, ignore_errors=True)
             for it in said["files"]:
-                (out / it).parent.mkdir(parents=True, exist_ok=True)
-                shutil.copy2(kept / "out" / it, out / it)
+                put(kept / "out" / it, out / it)
             os.utime(kept / "content.json")
         except (OSError, ValueError, KeyError):
             return None
@@ -124,8 +133,7 @@ class Kept:
         files = content(out, made_by(crate, tests))
         try:
             for it in files:
-                (room / "out" / it).parent.mkdir(parents=True, exist_ok=True)
-                shutil.copy2(out / it, room / "out" / it)
+                put(out / it, room / "out" / it)
             room.mkdir(parents=True, exist_ok=True)
             (room / "content.json").write_text(json.dumps({"crate": crate.name, "files": files, "said": said}))
             shutil.rmtree(self.place / name, ignore_errors=True)
