@@ -129,15 +129,24 @@ def minus_numbers(n):
     return procedure("X : Integer := 1;", "X := X" + " - 1" * n + ";")
 
 
-def operations(n):
-    """Operations of a protected object, each with its body."""
-    heads = lines(n, lambda i: f"procedure P{i};")
-    bodies = lines(n, lambda i: f"procedure P{i} is begin null; end P{i};")
+def protected_object(heads, bodies):
     return (
-        put("p.ads", f"package P is\nprotected O is\n{heads}\nend O;\nend P;\n")
+        put("p.ads", f"package P is\nprotected O is\n{heads}\nprivate\nC : Integer := 0;\nend O;\nend P;\n")
         + put("p.adb", f"package body P is\nprotected body O is\n{bodies}\nend O;\nend P;\n")
         + put("m.adb", "with P;\nprocedure M is begin P.O.P0; end M;\n")
     )
+
+
+def operations(n):
+    """Operations of a protected object, each with its body."""
+    return protected_object(lines(n, lambda i: f"procedure P{i};"), lines(n, lambda i: f"procedure P{i} is begin C := {i}; end P{i};"))
+
+
+def operations_by_turns(n):
+    """Procedures and functions by turns, so that each body has the components in another form than the one before."""
+    heads = lines(n // 2, lambda i: f"procedure P{i};\nfunction F{i} return Integer;")
+    bodies = lines(n // 2, lambda i: f"procedure P{i} is begin C := {i}; end P{i};\nfunction F{i} return Integer is begin return C; end F{i};")
+    return protected_object(heads, bodies)
 
 
 def calls_of_operations(n):
@@ -232,7 +241,8 @@ WAYS = [
     ("arguments that are too many", wrong_arguments, 2_000),
     ("components of an aggregate", components, 2_000),
     ("names of a with and a use clause", names_of_a_with_clause, 2_000),
-    ("operations of a protected object", operations, 125),
+    ("operations of a protected object", operations, 500),
+    ("functions and procedures by turns", operations_by_turns, 125),
     ("calls of these", calls_of_operations, 500),
     ("types of the components of a record", types_of_a_record, 250),
     ("types of the formals of a profile", types_of_a_profile, 250),

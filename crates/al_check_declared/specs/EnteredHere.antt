@@ -35,7 +35,7 @@ abbrev pub whole_body : Table → CheckState → AnalyzedHeading → CheckState
 whole_body t h read =
     if is_nowhere h then h else let inner = with_regions h (private_regions t h.unit.own h.env.scope.regions) in whole_entered inner (heading_seen t inner.env.scope read)
 
--- the body of an operation of a protected object, in that one's region, which is entered anew for it; or of what else stands inside the unit
+-- the body of an operation of a protected object, in that one's region in the form for it; or of what else stands inside the unit
 abbrev pub renewed_for : CheckState → AnalyzedHeading → CheckState
 renewed_for h read = if is_of_object read.role then renewed h read else h
 

@@ -119,7 +119,7 @@ fn enter_unit_body<A: Answers>(
     enter_whole(alloc, state, read)
 }
 
-/// The region of a protected object is entered anew before the body of an operation of it.
+/// The region of a protected object gets the form that the body of an operation of it sees.
 fn renew_for(alloc: Global, state: &mut CheckState, read: &AnalyzedHeading) -> Result<(), NoMemory>
     ensures { OnOk result (state.new ≡ renewed_for state.old read.now) }
 {
@@ -129,7 +129,7 @@ fn renew_for(alloc: Global, state: &mut CheckState, read: &AnalyzedHeading) -> R
     Ok(())
 }
 
-/// The body of an operation of a protected object, in that one's region, which is entered anew for it; or of what else stands inside the unit.
+/// The body of an operation of a protected object, in that one's region in the form for it; or of what else stands inside the unit.
 fn enter_nested_body(state: &mut CheckState, read: AnalyzedHeading) -> Result<(), NoMemory>
     ensures { OnOk result (state.new ≡ nested_body state.old read) }
 {

@@ -1,3 +1,4 @@
 pub mod ObjectRegions
 pub mod Barriers
 pub mod OpenObjects
+pub mod Laws

@@ -1,12 +1,16 @@
 -- The region of a protected body: its operations and components are visible in it (ARM 8.1, 9.4, 9.5.1).
-use Rattle.std.specs.Prelude.{ℕ, Bool, [], ◌∷◌, ◌++◌, None, fold}
+use mathlib.Core.Bool.{beq}
+use Rattle.std.specs.Prelude.{ℕ, Bool, false, not, List, [], ◌∷◌, ◌++◌, None, fold}
+use Rattle.al_check_here.specs.Stacks.{is_bare}
 use Rattle.al_decl_body.specs.Regions.{in_regions}
 use Rattle.al_decl_here.specs.Declaring.{with_declaration}
 use Rattle.al_decl_here.specs.declared.env.Environment.{Environment}
 use Rattle.al_decl_type.specs.TypeDeclarations.{declared_as}
 use Rattle.al_decl_type.specs.WordCounts.{place_after}
 use Rattle.al_overload_picks.specs.Types.{words_in}
-use Rattle.al_scope.specs.Places.{entered_construct}
+use Rattle.al_scope.specs.Places.{entered_construct, inner_declared}
+use Rattle.al_scope.specs.declared.region.Region.{Region}
+use Rattle.al_view.specs.Interfaces.{views_of}
 use Rattle.al_view.specs.declared.symbol.Symbol.{Symbol}
 use Rattle.al_view.specs.declared.types.Component.{Component}
 use Rattle.al_view.specs.declared.view.ObjectPlace.TheVariants.{Static}
@@ -46,3 +50,18 @@ entered_alone env symbol =
 
 abbrev pub region_entered : Environment → ProtectedView → Bool → Environment
 region_entered env object is_constant = with_components object is_constant (fold with_operation (entered_alone env object.symbol) object.operations)
+
+-- ---- the form of a region: in it the components are constants or variables
+
+abbrev pub is_object : Bool → ViewKind → Bool
+is_object is_constant (OfObject o) = beq o.is_constant is_constant
+is_object is_constant _ = false
+
+abbrev pub is_first_object : Bool → List ViewKind → Bool
+is_first_object is_constant [] = false
+is_first_object is_constant (v ∷ vs) = is_object is_constant v
+
+-- by the first component; without any both forms are the same
+abbrev pub has_form : Bool → List Component → List Region → Bool
+has_form is_constant [] regions = not (is_bare regions)
+has_form is_constant (c ∷ cs) regions = is_first_object is_constant (views_of (inner_declared regions) c.name)

@@ -1,5 +1,5 @@
--- Protected bodies are entered and left (ARM 9.4), and the region of their operations is entered anew for the body of each of them.
-use Rattle.std.specs.Prelude.{Bool, true, false, Option, Some, None}
+-- Protected bodies are entered and left (ARM 9.4), and the region of their operations has the form that the body of each of them sees.
+use Rattle.std.specs.Prelude.{Bool, true, false, Option, Some, None, if◌then◌else◌}
 use Rattle.al_base_fault.specs.declared.fault.Fault.{Fault}
 use Rattle.al_check_here.specs.RegionsHere.{left_to, region_left}
 use Rattle.al_check_here.specs.Standings.{with_here}
@@ -19,7 +19,7 @@ use Rattle.al_view.specs.declared.view.ProtectedView.{ProtectedView}
 use Rattle.al_view.specs.declared.view.ViewKind.{ViewKind}
 use Rattle.al_overload_readings.specs.Operations.{protected_of}
 use Rattle.al_check_objects.specs.Barriers.{barrier_fault, entry_of}
-use Rattle.al_check_objects.specs.ObjectRegions.{region_entered}
+use Rattle.al_check_objects.specs.ObjectRegions.{has_form, region_entered}
 
 -- ---- a protected body
 
@@ -61,9 +61,13 @@ is_of_object roles.Task = false
 is_of_object roles.Operation = true
 is_of_object roles.Entry = true
 
+abbrev pub entered_anew : Environment → ProtectedView → Bool → Environment
+entered_anew env v is_constant = region_entered (record env { scope = region_left env.scope }) v is_constant
+
+-- a region that has the form already is as it would be, were it entered anew
 abbrev pub renewed_by : Environment → Bool → Option ProtectedView → Environment
 renewed_by env is_constant None = env
-renewed_by env is_constant (Some v) = region_entered (record env { scope = region_left env.scope }) v is_constant
+renewed_by env is_constant (Some v) = if has_form is_constant v.components env.scope.regions then env else entered_anew env v is_constant
 
 abbrev pub renewed_in : CheckState → Bool → Option OpenObject → CheckState
 renewed_in h is_constant None = h

@@ -3,6 +3,7 @@
 
 mod barrier;
 mod entry;
+pub mod laws;
 mod object;
 mod region;
 

@@ -1,6 +1,6 @@
 // Protected bodies are entered and left.
 ghost use Rattle.std.specs.Prelude.{◌≡◌, Some, map, IfOk, OnOk};
-ghost use Rattle.al_check_objects.specs.OpenObjects.{barrier_fault_here, fault_by, in_object, inside, is_of_object, object_left, object_opened, opened_object, out_of_object, renewed, renewed_by, renewed_in};
+ghost use Rattle.al_check_objects.specs.OpenObjects.{barrier_fault_here, entered_anew, fault_by, in_object, inside, is_of_object, object_left, object_opened, opened_object, out_of_object, renewed, renewed_by, renewed_in};
 ghost use Rattle.al_decl_body.specs.Regions.{outside_of};
 ghost use Rattle.al_overload_readings.specs.Operations.{protected_of};
 ghost use Rattle.al_tree.specs.ExpressionViews.{expression_model};
@@ -8,7 +8,7 @@ ghost use Rattle.al_tree.specs.StatementViews.{operation_bodies_of, operation_bo
 
 use crate::barrier::barrier_fault;
 use crate::entry::entry_of;
-use crate::region::enter_region;
+use crate::region::{enter_region, has_form};
 use al_base::NoMemory;
 use al_base_fault::Fault;
 use al_check_here::{AnalyzedHeading, BodyRole, CheckState, OpenObject, leave_region, leave_to};
@@ -125,6 +125,35 @@ pub fn is_of_object(role: BodyRole) -> bool
     }
 }
 
+fn enter_anew(
+    alloc: Global,
+    standard: &StandardTypes,
+    env: &mut Environment,
+    object: &ProtectedView,
+    is_constant: bool,
+) -> Result<(), NoMemory>
+    ensures { OnOk result (env.new ≡ entered_anew env.old object.now is_constant) }
+{
+    leave_region(&mut env.scope);
+    enter_region(alloc, standard, env, object, is_constant)
+}
+
+/// The region has that form: where it has it already, nothing is entered.
+fn renew_object(
+    alloc: Global,
+    standard: &StandardTypes,
+    env: &mut Environment,
+    object: &ProtectedView,
+    is_constant: bool,
+) -> Result<(), NoMemory>
+    ensures { OnOk result (env.new ≡ renewed_by env.old is_constant (Some object.now)) }
+{
+    if has_form(&env.scope, object.components.as_slice(), is_constant) {
+        return Ok(());
+    }
+    enter_anew(alloc, standard, env, object, is_constant)
+}
+
 fn renew_by(
     alloc: Global,
     standard: &StandardTypes,
@@ -135,10 +164,7 @@ fn renew_by(
     ensures { OnOk result (env.new ≡ renewed_by env.old is_constant (protected_of view.now)) }
 {
     match protected_of(view) {
-        Some(object) => {
-            leave_region(&mut env.scope);
-            enter_region(alloc, standard, env, object, is_constant)
-        }
+        Some(object) => renew_object(alloc, standard, env, object, is_constant),
         None => Ok(()),
     }
 }
@@ -158,8 +184,8 @@ fn renew_in(alloc: Global, state: &mut CheckState, is_constant: bool) -> Result<
     }
 }
 
-/// The region of the object is entered anew before the body of an operation: in that of a function the components are constants
-/// (ARM 9.5.1(2)).
+/// Before the body of an operation the region of the object is entered anew where it hasn't the form that this body sees: in that of a function
+/// the components are constants (ARM 9.5.1(2)). Bodies of one kind that follow one another are all in one region.
 pub fn renew_region(
     alloc: Global,
     state: &mut CheckState,

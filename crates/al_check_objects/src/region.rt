@@ -1,6 +1,6 @@
 // The region of a protected body.
 ghost use Rattle.std.specs.Prelude.{◌≡◌, ◌<◌, fold, length, IfOk, OnOk};
-ghost use Rattle.al_check_objects.specs.ObjectRegions.{component_view, entered_alone, region_entered, with_component, with_operation, word_after};
+ghost use Rattle.al_check_objects.specs.ObjectRegions.{component_view, entered_alone, has_form, is_first_object, is_object, region_entered, with_component, with_operation, word_after};
 
 use al_base::{Name, NoMemory};
 use al_check_here::declare_alone;
@@ -8,6 +8,7 @@ use al_decl_here::Environment;
 use al_decl_type::Declaration;
 use al_overload_picks::words_in;
 use al_overload_readings::copied_subprogram;
+use al_scope::Scope;
 use al_view::{
     Component, Interface, ObjectPlace, ObjectView, Operation, ProtectedView, Seq, View, ViewKind,
 };
@@ -151,4 +152,41 @@ pub(crate) fn enter_region(
     declare_operations(alloc, env, object.operations.as_slice())?;
     let components = object.components.as_slice();
     declare_components(alloc, standard, env, object, components, is_constant)
+}
+
+/// Whether it is an object that is a constant, or that is a variable.
+fn is_object(view: &View, is_constant: bool) -> bool
+    ensures { result ≡ is_object is_constant view.now }
+{
+    match view.kind() {
+        ViewKind::OfObject(object) => object.is_constant == is_constant,
+        ViewKind::OfType(_) => false,
+        ViewKind::OfSubtype(_) => false,
+        ViewKind::OfComponent => false,
+        ViewKind::OfNumber(_) => false,
+        ViewKind::OfLiteral(_) => false,
+        ViewKind::OfSubprogram(_) => false,
+        ViewKind::OfTask(_) => false,
+        ViewKind::OfProtected(_) => false,
+        ViewKind::OfPackage(_) => false,
+    }
+}
+
+fn is_first_object(views: &[View], is_constant: bool) -> bool
+    ensures { result ≡ is_first_object is_constant views.now }
+{
+    match views {
+        [view, ..] => is_object(view, is_constant),
+        [] => false,
+    }
+}
+
+/// Whether the innermost region has these components in that form, as the first of them tells; without any both forms are the same.
+pub(crate) fn has_form(scope: &Scope, components: &[Component], is_constant: bool) -> bool
+    ensures { result ≡ has_form is_constant components.now scope.now.regions }
+{
+    match components {
+        [first, ..] => is_first_object(scope.declared_alone(first.name.as_slice()), is_constant),
+        [] => !scope.is_empty(),
+    }
 }
