@@ -1,6 +1,6 @@
 -- The region of an object in one of its forms: what stands round it, what is declared in it, and what it depends on.
 use mathlib.Core.Bool.{beq}
-use Rattle.std.proofs.Common.{◌≡◌, ◌-◌, ℕ, Bool, true, false, if◌then◌else◌, List, [], ◌∷◌, ◌++◌, Option, Some, None, length, take, refl, sym, ap, ◌∙◌, subst}
+use Rattle.std.proofs.Common.{◌≡◌, ℕ, Bool, true, false, if◌then◌else◌, List, [], ◌∷◌, ◌++◌, Some, refl, sym, ap, ◌∙◌, subst}
 use Rattle.std.specs.Map.{lookup}
 use Rattle.std.specs.Prelude.{fold, unwrap_or}
 use Rattle.std.specs.Str.{bytes_eq}
@@ -11,9 +11,7 @@ use Rattle.al_check_objects.specs.ObjectRegions.{component_view, entered_alone, 
 use Rattle.al_check_objects.specs.OpenObjects.{entered_anew, renewed_by}
 use Rattle.al_decl_here.specs.Declaring.{with_declaration}
 use Rattle.al_decl_here.specs.declared.env.Environment.{Environment}
-use Rattle.al_decl_judged.specs.declared.progress.Progress.{Progress}
 use Rattle.al_decl_type.specs.TypeDeclarations.{declared_as}
-use Rattle.al_query.specs.declared.answer.Completion.{Completion}
 use Rattle.al_scope.specs.Places.{Place, in_last, inner_declared, with_declared}
 use Rattle.al_scope.specs.declared.region.Region.{Region}
 use Rattle.al_view.specs.Interfaces.{views_of, with_view}
@@ -107,22 +105,23 @@ left-outer outer v form =
 
 -- ---- it goes by the regions round it alone
 
-operations-aside : (p : Progress) (u : List Completion) (env : Environment) (os : List Operation)
-    → fold with_operation (record env { progress = p; uncompleted = u }) os ≡ record (fold with_operation env os) { progress = p; uncompleted = u }
-operations-aside p u env [] = refl
-operations-aside p u env (o ∷ os) = operations-aside p u (with_operation env o) os
+operations-aside : (h env : Environment) (os : List Operation)
+    → fold with_operation (record env { progress = h.progress; uncompleted = h.uncompleted }) os ≡ record (fold with_operation env os) { progress = h.progress; uncompleted = h.uncompleted }
+operations-aside h env [] = refl
+operations-aside h env (o ∷ os) = operations-aside h (with_operation env o) os
 
-components-aside : (p : Progress) (u : List Completion) (v : ProtectedView) (form : Bool) (env : Environment) (word : ℕ) (cs : List Component)
-    → (fold (with_component v form) (record env { progress = p; uncompleted = u }, word) cs).0 ≡ record (fold (with_component v form) (env, word) cs).0 { progress = p; uncompleted = u }
-components-aside p u v form env word [] = refl
-components-aside p u v form env word (c ∷ cs) = let more = with_component v form (env, word) c in components-aside p u v form more.0 more.1 cs
+components-aside : (h : Environment) (v : ProtectedView) (form : Bool) (env : Environment) (word : ℕ) (cs : List Component)
+    → (fold (with_component v form) (record env { progress = h.progress; uncompleted = h.uncompleted }, word) cs).0
+    ≡ record (fold (with_component v form) (env, word) cs).0 { progress = h.progress; uncompleted = h.uncompleted }
+components-aside h v form env word [] = refl
+components-aside h v form env word (c ∷ cs) = let more = with_component v form (env, word) c in components-aside h v form more.0 more.1 cs
 
 entered-aside : (h outer : Environment) (v : ProtectedView) (form : Bool) (d : Declarations)
     → region_entered (record h { scope = outer.scope; declared = d }) v form ≡ standing_in h outer v form
 entered-aside h outer v form d =
     let alone = entered_alone outer v.symbol in
-    ap (λ (e : Environment). (fold (with_component v form) (e, 0) v.components).0) (operations-aside h.progress h.uncompleted alone v.operations)
-    ∙ components-aside h.progress h.uncompleted v form (fold with_operation alone v.operations) 0 v.components
+    ap (λ (e : Environment). (fold (with_component v form) (e, 0) v.components).0) (operations-aside h alone v.operations)
+    ∙ components-aside h v form (fold with_operation alone v.operations) 0 v.components
 
 -- ---- both forms
 
