@@ -241,7 +241,7 @@ WAYS = [
     ("arguments that are too many", wrong_arguments, 2_000),
     ("components of an aggregate", components, 2_000),
     ("names of a with and a use clause", names_of_a_with_clause, 2_000),
-    ("operations of a protected object", operations, 500),
+    ("operations of a protected object", operations, 2_000),
     ("functions and procedures by turns", operations_by_turns, 125),
     ("calls of these", calls_of_operations, 500),
     ("types of the components of a record", types_of_a_record, 250),
