@@ -2,6 +2,8 @@ mod Again
 mod Taken
 mod Clean
 mod Edited
+mod Keeping
+mod Readings
 mod Obsolete
 mod SameLemmas
 mod BuiltLemmas

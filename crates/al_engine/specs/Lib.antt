@@ -1,5 +1,6 @@
 pub mod Graphs
 pub mod Edits
+pub mod Readings
 pub mod States
 pub mod Builds
 pub mod Reports

@@ -36,36 +36,6 @@ use al_unit_obsolete::obsolete;
 use std::alloc::Global;
 use std::rc::Rc;
 
-/// The files as they are, with what they are read as: what the last build read of them can be shared.
-pub(crate) fn read_now<R: ReadFiles>(
-    alloc: Global,
-    now: &Files,
-    last: &Option<LastBuild<R>>,
-) -> Result<R, NoMemory>
-    ensures { IfOk result (λ read. R.files read ≡ now.now) }
-{
-    match last {
-        Some(last) => R::after(alloc, now, &last.read),
-        None => R::of(alloc, now),
-    }
-}
-
-/// The files as they are, with what they are read as; and of which of them the texts may be other ones than in the last build, where it is
-/// known that each has the header that it had.
-pub(crate) fn read_again<R: ReadFiles>(
-    alloc: Global,
-    now: &Files,
-    last: &Option<LastBuild<R>>,
-) -> Result<(R, Option<Edited>), NoMemory>
-    ensures files { IfOk result (λ r. R.files r.0 ≡ now.now) }
-    ensures edited { IfOk result (λ r. IfSome r.1 (λ e. IfSome last.now (λ b. HaveSameHeaders (R.library (R.files b.read)) (R.library (R.files r.0)) × HaveTextsBut (R.library (R.files b.read)) (R.library (R.files r.0)) e))) }
-{
-    match last {
-        Some(last) => R::again(alloc, now, &last.read),
-        None => Ok((R::of(alloc, now)?, None)),
-    }
-}
-
 /// A build that is done but for its image, with the graph of its units.
 #[derive(Drop)]
 struct Begun {
@@ -92,7 +62,7 @@ fn begin<R: ReadFiles, C: UnitCheck, P: Answers>(
     requires settled { IfSome last.now (λ b. IsSettledBy C.meaning C.Text.header (P.table predefined.now) R.library cache.old.store (record { files = R.files b.read; main = b.main; gave = gave.now })) }
     requires edited { IfSome edited (λ e. IfSome last.now (λ b. HaveSameHeaders (R.library (R.files b.read)) (R.library (R.files read.now)) × HaveTextsBut (R.library (R.files b.read)) (R.library (R.files read.now)) e)) }
     ensures graph { IfOk result (λ b. IsGraphOf (R.library (R.files read.now)) b.graph.value) }
-    ensures prepared { IfOk result (λ b. IsPrepared C.meaning C.Text.header (P.table predefined.now) (R.library (R.files read.now)) main.now cache.old.store b.prepared.planned cache.new.store b.prepared.checked.items b.prepared.compared) }
+    ensures prepared { IfOk result (λ b. IsPrepared C.meaning C.Text.header (P.table predefined.now) (R.library (R.files read.now)) main.now gave.now.compiled cache.old.store b.prepared.planned cache.new.store b.prepared.checked.items b.prepared.compared) }
     ensures counted { IfOk result (λ b. C.count cache.new.checker ≡ raised (C.count cache.old.checker) (length b.prepared.checked.items)) }
     ensures left { IsLeft cache.old.store cache.new.store }
 {
@@ -103,7 +73,15 @@ fn begin<R: ReadFiles, C: UnitCheck, P: Answers>(
     let unit = edited_now(alloc, cache, predefined, read, same, &edited, gave)?;
     let sources = read.sources();
     let prepared = prepare(
-        alloc, cache, predefined, sources, main, &graph, order, &unit,
+        alloc,
+        cache,
+        predefined,
+        sources,
+        main,
+        &graph,
+        order,
+        &unit,
+        &gave.compiled,
     )?;
     Ok(Begun { graph, prepared })
 }

@@ -11,13 +11,14 @@ ghost use Rattle.al_query_outcome.specs.Equations.{unit_named};
 ghost use Rattle.al_unit_map.specs.Units.{at_unit};
 ghost use Rattle.al_query_store.specs.Keyed.{settled_at};
 ghost use Rattle.al_entries.specs.Stored.{Stored};
-ghost use Rattle.al_engine_refresh.specs.Builds.{text_of};
+ghost use Rattle.al_engine_refresh.specs.Builds.{results_of, text_of};
 ghost use Rattle.al_engine_graph.specs.Graphs.{HaveSameHeaders};
 ghost use Rattle.al_engine_graph.specs.Kept.{IsGraphOf};
 ghost use Rattle.al_engine_graph.specs.Texts.{HaveTextsBut, may_differ};
 ghost use Rattle.al_engine_setting.specs.Settings.{ArePredefined};
 ghost use Rattle.al_engine_recheck.specs.Rechecks.{AreAllReached};
 ghost use Rattle.al_engine_recheck.specs.Renewals.{IsRenewable};
+ghost use Rattle.al_engine_batch.specs.Renewals.{KeepsPartition};
 ghost use Rattle.al_engine_rebuild.specs.Renewed.{IsCleanBut};
 ghost use Rattle.al_engine_reported.specs.Gave.{order_of};
 ghost use Rattle.al_engine.specs.Edits.{HoldsAlone};
@@ -114,6 +115,7 @@ pub(crate) fn edited_now<R: ReadFiles, C: UnitCheck, P: Answers>(
     requires texts { IfSome same (λ b. HaveTextsBut (R.library (R.files b.now.read)) (R.library (R.files read.now)) edited.now) }
     ensures renewable { IfOk result (λ found. IfSome found (λ unit. AreAllReached cache.now.store × IsRenewable C.meaning C.Text.header (P.table predefined.now) (R.library (R.files read.now)) (settled_at cache.now.store) unit)) }
     ensures clean { IfOk result (λ found. IfSome found (IsCleanBut (R.library (R.files read.now)) (settled_at cache.now.store))) }
+    ensures kept { IfOk result (λ found. IfSome found (λ _. IfSome same.entry (λ b. KeepsPartition (R.library (R.files read.now)) (results_of (settled_at cache.now.store)) b.now.main gave.now.compiled))) }
 {
     order_is_for_builds();
     graphs_go_by_headers();

@@ -13,9 +13,10 @@ ghost use Rattle.al_engine.specs.Builds.{IsBuild};
 ghost use Rattle.al_engine.specs.Reports.{found_last, gave_last, obsolete_refusal, obsolete_since, reported};
 ghost use Rattle.al_engine.specs.Runs.{AnswersRun};
 
-use crate::building::{build_or_cancel, obsolete_since, read_again, read_now};
+use crate::building::{build_or_cancel, obsolete_since};
 use crate::last_build::LastBuild;
 use crate::read_files::ReadFiles;
+use crate::reading::{alone_now, read, read_now, read_twice};
 use al_base::{Diagnostic, Files, Name, NoMemory, Refusal, UnitKey};
 use al_engine_batch::{Compiled, Program};
 use al_engine_rebuild::Rebuilt;
@@ -40,6 +41,10 @@ pub struct Engine<R: ReadFiles, C: UnitCheck, P: Answers> {
     gave: Rebuilt,
     /// Whether a file was edited since the last build.
     is_edited: bool,
+    /// The file that alone was edited since, where it is known.
+    alone: Option<Name>,
+    /// What the last build read of the files, once more.
+    spare: Option<R>,
 }
 
 impl<R: ReadFiles, C: UnitCheck + Drop, P: Answers + Drop> Drop for Engine<R, C, P> {
@@ -52,6 +57,8 @@ impl<R: ReadFiles, C: UnitCheck + Drop, P: Answers + Drop> Drop for Engine<R, C,
             last: _,
             gave: _,
             is_edited: _,
+            alone: _,
+            spare: _,
         } = self;
     }
 }
@@ -61,6 +68,7 @@ impl<R: ReadFiles, C: UnitCheck, P: Answers> Model for Engine<R, C, P> {
     ghost use Rattle.std.specs.Coded.{codes};
     ghost use Rattle.al_view_typed.specs.contracts.expression.Typed as expression;
     ghost use Rattle.al_view_typed.specs.contracts.statement.TypedStatement as statement;
+    ghost use Rattle.al_engine.specs.Readings.{IsReadTwice};
     ghost use Rattle.al_engine.specs.States.{Held, IsRight};
 
     ghost Value = { Held C P };
@@ -69,7 +77,7 @@ impl<R: ReadFiles, C: UnitCheck, P: Answers> Model for Engine<R, C, P> {
 
     ghost view = { λ e. record { cache = e.cache; predefined = e.predefined; files = e.files; built = option_map (λ b. record { files = R.files b.read; main = b.main; gave = e.gave }) e.last } };
 
-    ghost invariant = { λ e. IsRight C.meaning C.Text.header (P.table e.predefined) R.library e.files e.cache.store e.is_edited (option_map (λ b. (R.files b.read, b.graph.value)) e.last) (option_map (λ b. record { files = R.files b.read; main = b.main; gave = e.gave }) e.last) e.gave.compiled };
+    ghost invariant = { λ e. IsRight C.meaning C.Text.header (P.table e.predefined) R.library e.files e.cache.store e.is_edited (option_map (λ b. (R.files b.read, b.graph.value)) e.last) (option_map (λ b. record { files = R.files b.read; main = b.main; gave = e.gave }) e.last) e.gave.compiled × IsReadTwice e.files (option_map (λ b. R.files b.read) e.last) (option_map R.files e.spare) e.alone };
 }
 
 impl<R: ReadFiles, C: UnitCheck, P: Answers> Engine<R, C, P> {
@@ -88,6 +96,8 @@ impl<R: ReadFiles, C: UnitCheck, P: Answers> Engine<R, C, P> {
             last: None,
             gave: Rebuilt::nothing(alloc),
             is_edited: false,
+            alone: None,
+            spare: None,
         }
     }
 
@@ -114,9 +124,11 @@ impl<R: ReadFiles, C: UnitCheck, P: Answers> Engine<R, C, P> {
         ensures ok { OnOk result (self.new ≡ record self.old { files = with_file self.old.files name.now text.items }) }
         ensures err { OnErr result (self.new ≡ self.old) }
     {
+        let alone = alone_now(self.alloc, self.is_edited, &self.files, name);
         match self.files.put(name, text) {
             Ok(()) => {
                 self.is_edited = true;
+                self.alone = alone;
                 Ok(())
             }
             Err(refusal) => Err(refusal),
@@ -132,6 +144,7 @@ impl<R: ReadFiles, C: UnitCheck, P: Answers> Engine<R, C, P> {
         match self.files.delete(name) {
             Ok(()) => {
                 self.is_edited = true;
+                self.alone = None;
                 Ok(())
             }
             Err(refusal) => Err(refusal),
@@ -147,6 +160,7 @@ impl<R: ReadFiles, C: UnitCheck, P: Answers> Engine<R, C, P> {
         match self.files.rename(old, new) {
             Ok(()) => {
                 self.is_edited = true;
+                self.alone = None;
                 Ok(())
             }
             Err(refusal) => Err(refusal),
@@ -204,7 +218,8 @@ impl<R: ReadFiles, C: UnitCheck, P: Answers> Engine<R, C, P> {
             self.repeat();
             return Ok(self.answer());
         }
-        let again = read_again(self.alloc, &self.files, &self.last)?;
+        let spare = self.spare.take();
+        let again = read(self.alloc, &self.files, &self.last, spare, &self.alone)?;
         let (read, edited) = again;
         let last = build_or_cancel(
             self.alloc,
@@ -216,7 +231,10 @@ impl<R: ReadFiles, C: UnitCheck, P: Answers> Engine<R, C, P> {
             edited,
             main,
         )?;
+        let before = std::mem::replace(&mut self.last, None);
+        self.spare = read_twice(self.alloc, &self.files, before, &self.alone, &last.read);
         self.is_edited = false;
+        self.alone = None;
         self.last = Some(last);
         Ok(self.answer())
     }

@@ -1,5 +1,5 @@
 // What of the last build's graph a build can take over.
-ghost use Rattle.std.specs.Prelude.{◌≡◌, List, Some, IfOk, IfSome, map};
+ghost use Rattle.std.specs.Prelude.{◌≡◌, List, Some, IfOk, IfSome, MatchOption, map};
 ghost use Rattle.al_base.specs.Batch.{key_of};
 ghost use Rattle.al_bind.specs.Binding.{IsElaboration};
 ghost use Rattle.al_engine_graph.specs.Graphs.{HaveSameHeaders};
@@ -77,7 +77,8 @@ pub(crate) fn order_now<'a, R: ReadFiles>(
     gave: &'a Rebuilt,
 ) -> Option<&'a [UnitKey]>
     requires { IfSome alike (λ b. IsOrdered (R.library (R.files b.now.read)) b.now.main gave.now.compiled × HaveSameHeaders (R.library (R.files b.now.read)) (R.library (R.files read.now))) }
-    ensures { IfSome result (λ order. IsElaboration (R.library (R.files read.now)) main.now (map key_of order.now)) }
+    ensures order { IfSome result (λ order. IsElaboration (R.library (R.files read.now)) main.now (map key_of order.now)) }
+    ensures main { IfSome result (λ _. MatchOption alike.entry ⊥ (λ b. b.now.main ≡ main.now)) }
 {
     graphs_go_by_headers();
     let _read = read;

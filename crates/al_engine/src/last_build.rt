@@ -1,4 +1,6 @@
 // What a library keeps of its last build.
+ghost use Rattle.std.specs.Prelude.{◌≡◌};
+
 use al_base::Name;
 use al_engine_graph::UnitGraph;
 use std::rc::Rc;
@@ -17,5 +19,19 @@ impl<R: Drop> Drop for LastBuild<R> {
             graph: _,
             main: _,
         } = self;
+    }
+}
+
+impl<R: Drop> LastBuild<R> {
+    /// What was read of the files.
+    pub(crate) fn into_read(self) -> R
+        ensures { result ≡ self.read }
+    {
+        let LastBuild {
+            read,
+            graph: _,
+            main: _,
+        } = self;
+        read
     }
 }

@@ -8,6 +8,7 @@ mod engine;
 mod graphs;
 mod last_build;
 mod read_files;
+mod reading;
 
 pub use al_engine_reported::BuildAnswer;
 pub use engine::Engine;

@@ -2,6 +2,7 @@
 ghost use Rattle.std.specs.Prelude.{◌≡◌, IfOk, IfSome};
 ghost use Rattle.al_engine_graph.specs.Graphs.{HaveSameHeaders};
 ghost use Rattle.al_engine_graph.specs.Texts.{HaveTextsBut};
+ghost use Rattle.al_engine.specs.Readings.{IsEditedAt};
 
 use al_base::{Files, NoMemory};
 use al_engine_graph::Edited;
@@ -44,6 +45,24 @@ pub trait ReadFiles: Drop {
     fn again(alloc: Global, now: &Files, before: &Self) -> Result<(Self, Option<Edited>), NoMemory>
         ensures files { IfOk result (λ r. files r.0 ≡ now.now) }
         ensures edited { IfOk result (λ r. IfSome r.1 (λ edited. HaveSameHeaders (library (files before.now)) (library (files r.0)) × HaveTextsBut (library (files before.now)) (library (files r.0)) edited)) };
+
+    /// Reads one file again, which was there when these were read and alone was edited since. What is held of it can be shared with what was
+    /// read elsewhere, where it has the same text there. Where it has the header that it had, or the same fault, it can be told that no other
+    /// text may be another one.
+    ///
+    /// # Errors
+    ///
+    /// `NoMemory` where memory was wanted and not given.
+    fn renew(
+        self,
+        alloc: Global,
+        now: &Files,
+        name: &[u8],
+        other: &Self,
+    ) -> Result<(Self, Option<Edited>), NoMemory>
+        requires { IsEditedAt (files self) name.now now.now }
+        ensures files { IfOk result (λ r. files r.0 ≡ now.now) }
+        ensures edited { IfOk result (λ r. IfSome r.1 (λ edited. HaveSameHeaders (library (files self)) (library (files r.0)) × HaveTextsBut (library (files self)) (library (files r.0)) edited)) };
 
     /// The files as the graph of units has them.
     fn sources(&self) -> &Sources

@@ -24,14 +24,15 @@ use Rattle.al_query_outcome.specs.Results.{Outcome}
 use Rattle.al_engine_batch.specs.Objects.{IsLinkable, WithObject, is_unit_name, linked_units, objects_at}
 use Rattle.al_engine_found.specs.Found.{findings_of}
 use Rattle.al_engine_batch.specs.Batches.{IsBatch}
-use Rattle.al_engine_batch.specs.Links.{IsLinkedAs}
+use Rattle.al_engine_batch.specs.Links.{IsLinkedAs, IsLinkedOver}
 use Rattle.al_engine_batch.specs.ObjectsSeen.{left_model, object_model}
 use Rattle.al_engine_batch.specs.Partitions.{IsPartition}
 use Rattle.al_engine_batch.specs.Plans.{AreClosedObjects, IsClosedPlan, IsPlanned}
 use Rattle.al_engine_batch.specs.declared.compiled.Compiled.{Compiled}
 use Rattle.al_engine_batch.specs.declared.compiled.Compiled.TheVariants.{Faulty, Unbound, TooLarge, Made}
 use Rattle.al_engine_batch.specs.declared.planned.Partition.{Partition}
-use Rattle.al_engine_batch.specs.declared.planned.Planned.TheVariants.{Linkable}
+use Rattle.al_engine_batch.specs.declared.planned.Planned.TheVariants.{Linkable, Renewed}
+use Rattle.al_engine_batch.specs.declared.planned.Renewal.{Renewal}
 
 pub unit-name : (name : List ℕ) → is_unit_name name ≡ true → IsUnitName name
 unit-name name is =
@@ -82,17 +83,14 @@ named-keys [] = refl
 named-keys (u ∷ us) = ap (λ (l : List UnitKey). u ∷ l) (named-keys us)
 
 -- what linking a partition gives is what compiling gives
-module _ (lib : Library) (f : UnitKey → Option Outcome) (main : List ℕ) (p : Partition) (none : findings_of lib f ≡ []) (is : IsPartition lib f main (map key_of p.order.items) p.main (map object_model p.objects.items)) (closed : AreClosedObjects p.main (map object_model p.objects.items)) where
-  abbrev us : List WithObject
-  us = map object_model p.objects.items
-
-  ordered : (order : List UnitKey) → order ≡ p.order.items → IsElaboration lib main (map key_of order)
+module _ (lib : Library) (f : UnitKey → Option Outcome) (main : List ℕ) (units : List UnitKey) (symbol : LinkSymbol) (us : List WithObject) (none : findings_of lib f ≡ []) (is : IsPartition lib f main (map key_of units) symbol us) (closed : AreClosedObjects symbol us) where
+  ordered : (order : List UnitKey) → order ≡ units → IsElaboration lib main (map key_of order)
   ordered order same = subst (λ (l : List UnitKey). IsElaboration lib main (map key_of l)) (sym same) is.ordered
 
-  are_placed : (order : List UnitKey) → order ≡ p.order.items → ArePlaced lib (map key_of order) is.placed
+  are_placed : (order : List UnitKey) → order ≡ units → ArePlaced lib (map key_of order) is.placed
   are_placed order same = subst (λ (l : List UnitKey). ArePlaced lib (map key_of l) is.placed) (sym same) is.are_placed
 
-  linked-batch : (compiled : Compiled) → IsLinkedAs p.main us p.order.items compiled → IsBatch lib f main compiled
+  linked-batch : (compiled : Compiled) → IsLinkedAs symbol us units compiled → IsBatch lib f main compiled
   linked-batch (Faulty diagnostics) linked = absurd linked
   linked-batch (Unbound fault) linked = absurd linked
   linked-batch (TooLarge order) linked = (
@@ -106,20 +104,34 @@ module _ (lib : Library) (f : UnitKey → Option Outcome) (main : List ℕ) (p :
   )
   linked-batch (Made program) linked =
       let l : LinkedImage = program.linked in
-      let symbol : l.main ≡ main_symbol lib main = linked.1.1 ∙ is.symbol_is in
-      let units : l.units ≡ linked_units (objects_at f (map unit_named is.placed)) = linked.1.2 ∙ ap linked_units is.objects_are in (
+      let its : l.main ≡ main_symbol lib main = linked.1.1 ∙ is.symbol_is in
+      let kept : l.units ≡ linked_units (objects_at f (map unit_named is.placed)) = linked.1.2 ∙ ap linked_units is.objects_are in (
         none,
         record {
           ordered = ordered program.order.items linked.0;
           placed = is.placed;
           are_placed = are_placed program.order.items linked.0;
           linkable = subst IsLinkable is.objects_are linked.1.0;
-          closed = subst (λ (x : LinkSymbol). AreClosed x (linked_units (objects_at f (map unit_named is.placed)))) is.symbol_is (subst (λ (l : List WithObject). AreClosed p.main (linked_units l)) is.objects_are (closed linked.1.0.none_large));
-          image_is = ap (λ (x : LinkSymbol). image_of x l.units) symbol ∙ ap (image_of (main_symbol lib main)) units;
+          closed = subst (λ (x : LinkSymbol). AreClosed x (linked_units (objects_at f (map unit_named is.placed)))) is.symbol_is (subst (λ (l : List WithObject). AreClosed symbol (linked_units l)) is.objects_are (closed linked.1.0.none_large));
+          image_is = ap (λ (x : LinkSymbol). image_of x l.units) its ∙ ap (image_of (main_symbol lib main)) kept;
           bytes_are = refl;
+        },
+        record {
+          ordered = ordered program.order.items linked.0;
+          placed = is.placed;
+          are_placed = are_placed program.order.items linked.0;
+          symbol_is = refl;
+          objects_are = linked.2 ∙ is.objects_are;
         },
       )
 
-pub partition-batch : (lib : Library) (f : UnitKey → Option Outcome) (main : List ℕ) (p : Partition) (compiled : Compiled)
-    → IsClosedPlan (Linkable p) → IsPlanned lib f main (Linkable p) → IsLinkedAs p.main (map object_model p.objects.items) p.order.items compiled → IsBatch lib f main compiled
-partition-batch lib f main p compiled closed planned linked = linked-batch lib f main p planned.0 planned.1 closed compiled linked
+pub partition-batch : (lib : Library) (f : UnitKey → Option Outcome) (main : List ℕ) (before : Compiled) (p : Partition) (compiled : Compiled)
+    → IsClosedPlan (Linkable p) → IsPlanned lib f main before (Linkable p) → IsLinkedAs p.main (map object_model p.objects.items) p.order.items compiled → IsBatch lib f main compiled
+partition-batch lib f main before p compiled closed planned linked = linked-batch lib f main p.order.items p.main (map object_model p.objects.items) planned.0 planned.1 closed compiled linked
+
+pub renewal-batch : (lib : Library) (f : UnitKey → Option Outcome) (main : List ℕ) (before : Compiled) (r : Renewal) (compiled : Compiled)
+    → IsClosedPlan (Renewed r) → IsPlanned lib f main before (Renewed r) → IsLinkedOver r.main (map object_model r.objects.items) before compiled → IsBatch lib f main compiled
+renewal-batch lib f main (Faulty diagnostics) r compiled closed planned linked = absurd planned.1
+renewal-batch lib f main (Unbound fault) r compiled closed planned linked = absurd planned.1
+renewal-batch lib f main (TooLarge order) r compiled closed planned linked = absurd planned.1
+renewal-batch lib f main (Made program) r compiled closed planned linked = linked-batch lib f main program.order.items r.main (map object_model r.objects.items) planned.0 planned.1 closed compiled linked

@@ -12,16 +12,17 @@ use Rattle.al_engine_refresh.specs.Builds.{with_texts}
 use Rattle.al_engine_found.specs.Found.{findings_of}
 use Rattle.al_engine_batch.specs.Partitions.{IsProgram, IsTooLarge}
 use Rattle.al_engine_batch.specs.Programs.{bytes_in, image_in}
+use Rattle.al_engine_batch.specs.Renewals.{HoldsPartition}
 use Rattle.al_engine_batch.specs.declared.compiled.Compiled.{Compiled}
 use Rattle.al_engine_batch.specs.declared.compiled.Compiled.TheVariants.{Faulty, Unbound, TooLarge, Made}
 
 -- what is wrong with the files, by file, place and number; where nothing is, what the partition lacks or the cycle that shows that it
--- has no order of elaboration; or else the order, with the image, or without one where it would pass a limit
+-- has no order of elaboration; or else the order, with the objects and the image, or without them where this would pass a limit
 abbrev pub IsBatch : Library → (UnitKey → Option Outcome) → List ℕ → Compiled → Type 0
 IsBatch lib f main (Faulty diagnostics) = (map finding_of diagnostics.items ≡ findings_of lib f) × (0 < length diagnostics.items)
 IsBatch lib f main (Unbound fault) = (findings_of lib f ≡ []) × IsBindFault lib main fault
 IsBatch lib f main (TooLarge order) = (findings_of lib f ≡ []) × IsTooLarge lib f main (map key_of order.items)
-IsBatch lib f main (Made program) = (findings_of lib f ≡ []) × IsProgram lib f main (map key_of program.order.items) (image_in program) (bytes_in program)
+IsBatch lib f main (Made program) = (findings_of lib f ≡ []) × IsProgram lib f main (map key_of program.order.items) (image_in program) (bytes_in program) × HoldsPartition lib f main program
 
 -- Compiling from nothing: the outcomes are the one map that solves the equations of the library for a checker.
 pub record IsCompiled (meaning : TextMeaning) (s : Setting) (main : List ℕ) (compiled : Compiled) : Type 0 where

@@ -1,8 +1,9 @@
 pub mod Objects
 pub mod Programs
 pub mod Partitions
-pub mod Batches
 pub mod ObjectsSeen
+pub mod Renewals
+pub mod Batches
 pub mod Plans
 pub mod Patches
 pub mod Links

@@ -1,12 +1,13 @@
 -- What linking a partition gives.
-use Rattle.std.specs.Prelude.{◌≡◌, Bool, true, false, List, Option, Some, None}
+use Rattle.std.specs.Prelude.{◌≡◌, ⊤, Bool, true, false, List, map, Option, Some, None}
 use Rattle.al_base.specs.declared.unit_key.UnitKey.{UnitKey}
 use Rattle.al_view.specs.declared.link.LinkSymbol.{LinkSymbol}
 use Rattle.al_link.specs.Relinking.{LinkedImage}
 use Rattle.al_engine_batch.specs.Objects.{IsLinkable, WithObject, linked_units}
+use Rattle.al_engine_batch.specs.ObjectsSeen.{object_model}
 use Rattle.al_engine_batch.specs.Patches.{ArePatched}
 use Rattle.al_engine_batch.specs.declared.compiled.Compiled.{Compiled}
-use Rattle.al_engine_batch.specs.declared.compiled.Compiled.TheVariants.{TooLarge, Made}
+use Rattle.al_engine_batch.specs.declared.compiled.Compiled.TheVariants.{Faulty, Unbound, TooLarge, Made}
 
 -- the units can be linked, and this is their image
 abbrev pub AreLinked : LinkSymbol → List WithObject → LinkedImage → Type 0
@@ -22,8 +23,15 @@ abbrev pub IsLinkedAgain : LinkSymbol → List WithObject → LinkedImage → Li
 IsLinkedAgain symbol us old new false = IsLinkable us → ⊥
 IsLinkedAgain symbol us old new true = AreLinked symbol us new × ArePatched old new new.patched
 
--- the program of these units with this order, or the order alone
+-- the program of these units with this order and their objects, or the order alone
 abbrev pub IsLinkedAs : LinkSymbol → List WithObject → List UnitKey → Compiled → Type 0
 IsLinkedAs symbol us order (TooLarge kept) = (kept.items ≡ order) × (IsLinkable us → ⊥)
-IsLinkedAs symbol us order (Made program) = (program.order.items ≡ order) × AreLinked symbol us program.linked
+IsLinkedAs symbol us order (Made program) = (program.order.items ≡ order) × AreLinked symbol us program.linked × (map object_model program.objects.items ≡ us)
 IsLinkedAs symbol us order other = ⊥
+
+-- .. with the order of the program before, if there was one
+abbrev pub IsLinkedOver : LinkSymbol → List WithObject → Compiled → Compiled → Type 0
+IsLinkedOver symbol us (Faulty diagnostics) new = ⊤
+IsLinkedOver symbol us (Unbound fault) new = ⊤
+IsLinkedOver symbol us (TooLarge order) new = ⊤
+IsLinkedOver symbol us (Made program) new = IsLinkedAs symbol us program.order.items new

@@ -1,10 +1,11 @@
 -- A unit of the program with its object, as the definitions see it.
+use Rattle.std.specs.declared.rc.Rc.{Rc}
 use Rattle.al_link.specs.declared.linking.CompiledUnit.{CompiledUnit}
 use Rattle.al_engine_batch.specs.Objects.{WithObject}
 use Rattle.al_engine_batch.specs.declared.objects.UnitObject.{UnitObject}
 
-abbrev pub object_model : UnitObject → WithObject
-object_model u = (u.key, u.object)
+abbrev pub object_model : {W : Type 0} → Rc UnitObject W → WithObject
+object_model u = (u.value.key, u.value.object)
 
 -- what the linker takes
 abbrev pub left_model : CompiledUnit → WithObject

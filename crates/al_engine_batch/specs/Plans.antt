@@ -13,14 +13,26 @@ use Rattle.al_engine_found.specs.Found.{findings_of}
 use Rattle.al_engine_batch.specs.Objects.{WithObject, linked_units}
 use Rattle.al_engine_batch.specs.ObjectsSeen.{object_model}
 use Rattle.al_engine_batch.specs.Partitions.{IsPartition}
+use Rattle.al_engine_batch.specs.declared.compiled.Compiled.{Compiled}
+use Rattle.al_engine_batch.specs.declared.compiled.Compiled.TheVariants as compiled
 use Rattle.al_engine_batch.specs.declared.planned.Planned.{Planned}
-use Rattle.al_engine_batch.specs.declared.planned.Planned.TheVariants.{Faulty, Unbound, Linkable}
+use Rattle.al_engine_batch.specs.declared.planned.Planned.TheVariants.{Faulty, Unbound, Linkable, Renewed}
+use Rattle.al_engine_batch.specs.declared.planned.Renewal.{Renewal}
 
--- what is wrong with the files; where nothing is, why there is no order of elaboration; or else what is to be linked
-abbrev pub IsPlanned : Library → (UnitKey → Option Outcome) → List ℕ → Planned → Type 0
-IsPlanned lib f main (Faulty diagnostics) = (map finding_of diagnostics.items ≡ findings_of lib f) × (0 < length diagnostics.items)
-IsPlanned lib f main (Unbound fault) = (findings_of lib f ≡ []) × IsBindFault lib main fault
-IsPlanned lib f main (Linkable p) = (findings_of lib f ≡ []) × IsPartition lib f main (map key_of p.order.items) p.main (map object_model p.objects.items)
+-- what is to be linked with the order of the program before
+abbrev pub IsRenewal : Library → (UnitKey → Option Outcome) → List ℕ → Compiled → Renewal → Type 0
+IsRenewal lib f main (compiled.Faulty diagnostics) r = ⊥
+IsRenewal lib f main (compiled.Unbound fault) r = ⊥
+IsRenewal lib f main (compiled.TooLarge order) r = ⊥
+IsRenewal lib f main (compiled.Made program) r = IsPartition lib f main (map key_of program.order.items) r.main (map object_model r.objects.items)
+
+-- what is wrong with the files; where nothing is, why there is no order of elaboration; or else what is to be linked, with its order or
+-- with that of what compiling gave before
+abbrev pub IsPlanned : Library → (UnitKey → Option Outcome) → List ℕ → Compiled → Planned → Type 0
+IsPlanned lib f main before (Faulty diagnostics) = (map finding_of diagnostics.items ≡ findings_of lib f) × (0 < length diagnostics.items)
+IsPlanned lib f main before (Unbound fault) = (findings_of lib f ≡ []) × IsBindFault lib main fault
+IsPlanned lib f main before (Linkable p) = (findings_of lib f ≡ []) × IsPartition lib f main (map key_of p.order.items) p.main (map object_model p.objects.items)
+IsPlanned lib f main before (Renewed r) = (findings_of lib f ≡ []) × IsRenewal lib f main before r
 
 -- the main subprogram's code and all that the units' code uses are defined by these units, where each of them has an object
 abbrev pub AreClosedObjects : LinkSymbol → List WithObject → Type 0
@@ -31,3 +43,4 @@ abbrev pub IsClosedPlan : Planned → Type 0
 IsClosedPlan (Faulty diagnostics) = ⊤
 IsClosedPlan (Unbound fault) = ⊤
 IsClosedPlan (Linkable p) = AreClosedObjects p.main (map object_model p.objects.items)
+IsClosedPlan (Renewed r) = AreClosedObjects r.main (map object_model r.objects.items)

@@ -2,14 +2,18 @@
 ghost use Rattle.std.specs.Prelude.{◌≡◌};
 ghost use Rattle.al_engine_batch.specs.Programs.{bytes_in, image_in};
 
+use crate::objects::UnitObject;
 use al_base::{Diagnostic, UnitKey};
 use al_bind::BindFault;
 use al_link::Linked;
 use al_link_image::Image;
+use std::rc::Rc;
 
-/// The order in which the items of a partition are elaborated, and its image, which a later build links again in its place.
+/// The order in which the items of a partition are elaborated, its units with their objects, of which a later build uses again what is as
+/// it was, and its image, which a later build links again in its place.
 pub struct Program {
     pub order: Vec<UnitKey>,
+    pub(crate) objects: Vec<Rc<UnitObject>>,
     pub linked: Linked,
 }
 
@@ -17,6 +21,7 @@ impl Drop for Program {
     fn drop(self) {
         let Program {
             order: _,
+            objects: _,
             linked: _,
         } = self;
     }

@@ -9,8 +9,10 @@ mod names;
 mod objects;
 mod planned;
 mod planning;
+mod renewing;
 
 pub use compiled::{Compiled, Program};
 pub use linking::link;
-pub use planned::{Partition, Planned};
+pub use planned::{Partition, Planned, Renewal};
 pub use planning::plan;
+pub use renewing::renewed;

@@ -1,5 +1,5 @@
 // The image of a partition.
-ghost use Rattle.std.specs.Prelude.{◌≡◌, ℕ, List, Option, None, true, map, IfOk, OnErr, OnOk};
+ghost use Rattle.std.specs.Prelude.{◌≡◌, ℕ, List, Option, None, true, map, IfOk, IsTrue, OnErr, OnOk};
 ghost use Rattle.std.specs.List.{list_all};
 ghost use Rattle.al_base.specs.declared.unit_key.UnitKey.{UnitKey};
 ghost use Rattle.al_unit_graph.specs.Headers.{Library};
@@ -9,20 +9,21 @@ ghost use Rattle.al_engine_batch.specs.Objects.{is_unit_name};
 ghost use Rattle.al_engine_batch.specs.ObjectsSeen.{left_model, object_model};
 ghost use Rattle.al_engine_batch.specs.Patches.{IsPatched, linked_in};
 ghost use Rattle.al_engine_batch.specs.Plans.{AreClosedObjects, IsClosedPlan, IsPlanned};
-ghost use Rattle.al_engine_batch.specs.Links.{IsLinkedAgain, IsLinkedAnew, IsLinkedAs};
+ghost use Rattle.al_engine_batch.specs.Links.{IsLinkedAgain, IsLinkedAnew, IsLinkedAs, IsLinkedOver};
 
 use crate::compiled::{Compiled, Program};
 use crate::names::is_unit_name;
 use crate::objects::UnitObject;
-use crate::planned::{Partition, Planned};
+use crate::planned::{Partition, Planned, Renewal};
 use al_base::{NoMemory, UnitKey};
 use al_link::{CompiledUnit, Linked};
 use al_link_image::LinkFault;
 use al_view::LinkSymbol;
 use std::alloc::Global;
+use std::rc::Rc;
 
 /// Whether an image can name the units.
-fn are_named(objects: &[UnitObject]) -> bool
+fn are_named(objects: &[Rc<UnitObject>]) -> bool
     ensures { result ≡ list_all (λ u. is_unit_name u.0.name) (map object_model objects.now) }
 {
     for unit in objects {
@@ -34,7 +35,7 @@ fn are_named(objects: &[UnitObject]) -> bool
 }
 
 /// The units with their objects, as the linker takes them.
-fn left<'a>(alloc: Global, objects: &'a [UnitObject]) -> Result<Vec<CompiledUnit<'a>>, NoMemory>
+fn left<'a>(alloc: Global, objects: &'a [Rc<UnitObject>]) -> Result<Vec<CompiledUnit<'a>>, NoMemory>
     ensures { IfOk result (λ left. map left_model left.items ≡ map object_model objects.now) }
 {
     let mut left = Vec::new(alloc);
@@ -51,7 +52,7 @@ fn left<'a>(alloc: Global, objects: &'a [UnitObject]) -> Result<Vec<CompiledUnit
 fn linked_anew(
     alloc: Global,
     main: &LinkSymbol,
-    objects: &[UnitObject],
+    objects: &[Rc<UnitObject>],
 ) -> Result<Option<Linked>, NoMemory>
     requires named { list_all (λ u. is_unit_name u.0.name) (map object_model objects.now) ≡ true }
     requires closed { AreClosedObjects main.now (map object_model objects.now) }
@@ -72,7 +73,7 @@ fn linked_again(
     alloc: Global,
     linked: &mut Linked,
     main: &LinkSymbol,
-    objects: &[UnitObject],
+    objects: &[Rc<UnitObject>],
 ) -> Result<bool, NoMemory>
     requires named { list_all (λ u. is_unit_name u.0.name) (map object_model objects.now) ≡ true }
     requires closed { AreClosedObjects main.now (map object_model objects.now) }
@@ -102,9 +103,15 @@ fn program_anew(
     ensures err { OnErr result (compiled.new ≡ compiled.old) }
 {
     let linked = linked_anew(alloc, &partition.main, partition.objects.as_slice())?;
-    let order = partition.into_order();
+    let (order, objects) = partition.into_parts();
     match linked {
-        Some(linked) => *compiled = Compiled::Made(Program { order, linked }),
+        Some(linked) => {
+            *compiled = Compiled::Made(Program {
+                order,
+                objects,
+                linked,
+            })
+        }
         None => *compiled = Compiled::TooLarge(order),
     }
     Ok(0)
@@ -127,9 +134,10 @@ fn program_of(
     };
     let objects = partition.objects.as_slice();
     let fits = linked_again(alloc, &mut program.linked, &partition.main, objects)?;
-    let order = partition.into_order();
+    let (order, objects) = partition.into_parts();
     if fits {
         program.order = order;
+        program.objects = objects;
         return Ok(program.linked.patched());
     }
     *compiled = Compiled::TooLarge(order);
@@ -155,6 +163,47 @@ fn link_partition(
     Ok(0)
 }
 
+/// Links units in the place of others, and keeps their objects: whether an image can name them, and that passes no limit.
+fn renewed_again(alloc: Global, program: &mut Program, renewal: Renewal) -> Result<bool, NoMemory>
+    requires { AreClosedObjects renewal.main (map object_model renewal.objects.items) }
+    ensures again { IfOk result (IsLinkedAgain renewal.main (map object_model renewal.objects.items) program.old.linked program.new.linked) }
+    ensures order { program.new.order ≡ program.old.order }
+    ensures objects { IfOk result (λ fits. IsTrue fits → program.new.objects ≡ renewal.objects) }
+    ensures err { OnErr result (program.new ≡ program.old) }
+{
+    let objects = renewal.objects.as_slice();
+    if !are_named(objects) {
+        return Ok(false);
+    }
+    let fits = linked_again(alloc, &mut program.linked, &renewal.main, objects)?;
+    if !fits {
+        return Ok(false);
+    }
+    program.objects = renewal.into_objects();
+    Ok(true)
+}
+
+/// The program of a partition in the place of that of before, which has the same order; or the order alone where its image would pass a
+/// limit. Nothing is done where compiling gave no program before.
+fn link_renewed(alloc: Global, renewal: Renewal, compiled: &mut Compiled) -> Result<usize, NoMemory>
+    requires { AreClosedObjects renewal.main (map object_model renewal.objects.items) }
+    ensures linked { OnOk result (IsLinkedOver renewal.main (map object_model renewal.objects.items) compiled.old compiled.new) }
+    ensures patched { IfOk result (IsPatched (linked_in compiled.old) (linked_in compiled.new)) }
+    ensures err { OnErr result (compiled.new ≡ compiled.old) }
+{
+    let Compiled::Made(program) = compiled else {
+        return Ok(0);
+    };
+    let fits = renewed_again(alloc, program, renewal)?;
+    if fits {
+        let patched = program.linked.patched();
+        return Ok(patched);
+    }
+    let order = std::mem::replace(&mut program.order, Vec::new(alloc));
+    *compiled = Compiled::TooLarge(order);
+    Ok(0)
+}
+
 /// Makes of what compiling gave before what it gives now. Where it gave an image and gives one, the image is linked again in its place:
 /// where the units and their lengths, counts, symbols and lines are as before, only what differs is written. Of how many units
 /// code was written: so many as differ where all is as before but for bytes, else all; 0 where there was no image or is none. What is
@@ -165,7 +214,7 @@ fn link_partition(
 /// `NoMemory` where memory was wanted and not given: all is as before.
 pub fn link(alloc: Global, planned: Planned, compiled: &mut Compiled) -> Result<usize, NoMemory>
     requires closed { IsClosedPlan planned }
-    ensures batch { OnOk result ((lib : Library) (f : UnitKey → Option Outcome) (main : List ℕ) → IsPlanned lib f main planned → IsBatch lib f main compiled.new) }
+    ensures batch { OnOk result ((lib : Library) (f : UnitKey → Option Outcome) (main : List ℕ) → IsPlanned lib f main compiled.old planned → IsBatch lib f main compiled.new) }
     ensures patched { IfOk result (IsPatched (linked_in compiled.old) (linked_in compiled.new)) }
     ensures err { OnErr result (compiled.new ≡ compiled.old) }
 {
@@ -179,5 +228,6 @@ pub fn link(alloc: Global, planned: Planned, compiled: &mut Compiled) -> Result<
             Ok(0)
         }
         Planned::Linkable(partition) => link_partition(alloc, partition, compiled),
+        Planned::Renewed(renewal) => link_renewed(alloc, renewal, compiled),
     }
 }

@@ -1,5 +1,5 @@
 // The objects of units whose checks found no fault.
-ghost use Rattle.std.specs.Prelude.{◌≡◌, ◌++◌, map, Some, IfOk, OnOk};
+ghost use Rattle.std.specs.Prelude.{◌≡◌, ◌++◌, ◌∷◌, [], map, Some, IfOk, MatchOption, OnOk};
 ghost use Rattle.al_query_store.specs.Keyed.{now_at};
 ghost use Rattle.al_query_outcome.specs.ReadsLaw.{HasCode};
 ghost use Rattle.al_query_outcome.specs.Results.{checked_model};
@@ -14,6 +14,7 @@ use al_engine_keep::KeptEntries;
 use al_query_outcome::Checked;
 use al_view::copied_unit;
 use std::alloc::Global;
+use std::rc::Rc;
 
 /// A unit with its object.
 pub(crate) struct UnitObject {
@@ -27,24 +28,37 @@ impl Drop for UnitObject {
     }
 }
 
-/// Adds the object of a unit, where its check found no fault.
-fn add_checked(
+/// A unit with the object that is made of its labelled tree, if its check found no fault. It can be shared.
+fn object_in(
     alloc: Global,
     key: &UnitKey,
     checked: &Checked,
-    objects: &mut Vec<UnitObject>,
-) -> Result<(), NoMemory>
+) -> Result<Option<Rc<UnitObject>>, NoMemory>
     requires { HasCode key.now (checked_model checked.now) }
-    ensures { OnOk result (map object_model objects.new.items ≡ map object_model objects.old.items ++ objects_of key.now (Some (checked_model checked.now))) }
+    ensures { IfOk result (λ found. MatchOption found (objects_of key.now (Some (checked_model checked.now)) ≡ []) (λ unit. objects_of key.now (Some (checked_model checked.now)) ≡ object_model unit ∷ [])) }
 {
     match checked {
-        Checked::Faulty(_) => Ok(()),
+        Checked::Faulty(_) => Ok(None),
         Checked::Sound(_, tree) => {
             let object = emit(alloc, tree)?;
             let key = copied_unit(alloc, key)?;
-            objects.push(UnitObject { key, object })?;
-            Ok(())
+            Ok(Some(Rc::new(alloc, UnitObject { key, object })?))
         }
+    }
+}
+
+/// A unit with its object, if it has an entry of which code can be made.
+pub(crate) fn object_at(
+    alloc: Global,
+    entries: &KeptEntries,
+    key: &UnitKey,
+) -> Result<Option<Rc<UnitObject>>, NoMemory>
+    requires { AreCoded (now_at entries.now) }
+    ensures { IfOk result (λ found. MatchOption found (objects_of key.now (results_of (now_at entries.now) key.now) ≡ []) (λ unit. objects_of key.now (results_of (now_at entries.now) key.now) ≡ object_model unit ∷ [])) }
+{
+    match entries.get(key) {
+        Some(entry) => object_in(alloc, key, entry.checked()),
+        None => Ok(None),
     }
 }
 
@@ -53,13 +67,16 @@ fn add_object(
     alloc: Global,
     entries: &KeptEntries,
     key: &UnitKey,
-    objects: &mut Vec<UnitObject>,
+    objects: &mut Vec<Rc<UnitObject>>,
 ) -> Result<(), NoMemory>
     requires { AreCoded (now_at entries.now) }
     ensures { OnOk result (map object_model objects.new.items ≡ map object_model objects.old.items ++ objects_of key.now (results_of (now_at entries.now) key.now)) }
 {
-    match entries.get(key) {
-        Some(entry) => add_checked(alloc, key, entry.checked(), objects),
+    match object_at(alloc, entries, key)? {
+        Some(object) => {
+            objects.push(object)?;
+            Ok(())
+        }
         None => Ok(()),
     }
 }
@@ -69,7 +86,7 @@ pub(crate) fn objects_at(
     alloc: Global,
     entries: &KeptEntries,
     units: &[UnitKey],
-) -> Result<Vec<UnitObject>, NoMemory>
+) -> Result<Vec<Rc<UnitObject>>, NoMemory>
     requires { AreCoded (now_at entries.now) }
     ensures { IfOk result (λ objects. map object_model objects.items ≡ objects_at (results_of (now_at entries.now)) units.now) }
 {

@@ -5,13 +5,14 @@ use crate::objects::UnitObject;
 use al_base::{Diagnostic, UnitKey};
 use al_bind::BindFault;
 use al_view::LinkSymbol;
+use std::rc::Rc;
 
 /// A partition that is to be linked: the order of its items, the symbol of its main subprogram's code, and its units with their
 /// objects in the order in which they stand in an image.
 pub struct Partition {
     pub(crate) order: Vec<UnitKey>,
     pub(crate) main: LinkSymbol,
-    pub(crate) objects: Vec<UnitObject>,
+    pub(crate) objects: Vec<Rc<UnitObject>>,
 }
 
 impl Drop for Partition {
@@ -36,6 +37,43 @@ impl Partition {
         } = self;
         order
     }
+
+    /// The order, and the units with their objects.
+    pub(crate) fn into_parts(self) -> (Vec<UnitKey>, Vec<Rc<UnitObject>>)
+        ensures { result ≡ (self.order, self.objects) }
+    {
+        let Partition {
+            order,
+            main: _,
+            objects,
+        } = self;
+        (order, objects)
+    }
+}
+
+/// A partition with the order of items of the one before: its units with their objects, of which most are shared with that one.
+pub struct Renewal {
+    pub(crate) main: LinkSymbol,
+    pub(crate) objects: Vec<Rc<UnitObject>>,
+}
+
+impl Drop for Renewal {
+    fn drop(self) {
+        let Renewal {
+            main: _,
+            objects: _,
+        } = self;
+    }
+}
+
+impl Renewal {
+    /// The units with their objects.
+    pub(crate) fn into_objects(self) -> Vec<Rc<UnitObject>>
+        ensures { result ≡ self.objects }
+    {
+        let Renewal { main: _, objects } = self;
+        objects
+    }
 }
 
 /// What compiling gives before anything is linked.
@@ -47,4 +85,6 @@ pub enum Planned {
     Unbound(BindFault),
     /// The image of this partition is what is left to do.
     Linkable(Partition),
+    /// The same, and the order of its items is that of the partition before.
+    Renewed(Renewal),
 }

@@ -12,6 +12,7 @@ ghost use Rattle.al_engine_batch.specs.Objects.{AreCoded};
 ghost use Rattle.al_engine_batch.specs.ObjectsSeen.{object_model};
 ghost use Rattle.al_engine_batch.specs.Partitions.{IsPartition};
 ghost use Rattle.al_engine_batch.specs.Plans.{IsPlanned};
+ghost use Rattle.al_engine_batch.specs.declared.compiled.Compiled.{Compiled};
 
 use crate::names::main_symbol;
 use crate::objects::objects_at;
@@ -112,7 +113,7 @@ pub fn plan(
     requires coded { AreCoded (now_at entries.now) }
     requires known { IfSome known (λ order. IsElaboration sources.now main.now (map key_of order.now)) }
     requires clean { IsTrue is_clean → findings_of sources.now (results_of (now_at entries.now)) ≡ [] }
-    ensures { IfOk result (IsPlanned sources.now (results_of (now_at entries.now)) main.now) }
+    ensures { IfOk result (λ planned. (before : Compiled) → IsPlanned sources.now (results_of (now_at entries.now)) main.now before planned) }
 {
     let found = found_in(alloc, sources, entries, faults, is_clean)?;
     if !found.is_empty() {

@@ -28,8 +28,10 @@ use Rattle.al_engine_found.specs.Found.{findings_of}
 use Rattle.al_engine_batch.specs.Objects.{WithObject, linked_units, objects_at, objects_of}
 use Rattle.al_engine_batch.specs.ObjectsSeen.{object_model}
 use Rattle.al_engine_batch.specs.Partitions.{IsPartition}
-use Rattle.al_engine_batch.specs.Plans.{AreClosedObjects, IsClosedPlan, IsPlanned}
-use Rattle.al_engine_batch.specs.declared.planned.Partition.{Partition}
+use Rattle.al_engine_batch.specs.Plans.{AreClosedObjects, IsClosedPlan, IsPlanned, IsRenewal}
+use Rattle.al_engine_batch.specs.declared.compiled.Compiled.{Compiled as Built}
+use Rattle.al_engine_batch.specs.declared.compiled.Compiled.TheVariants as built
+use Rattle.al_engine_batch.specs.declared.planned.Renewal.{Renewal}
 use Rattle.al_engine_batch.specs.declared.planned.Planned.{Planned}
 use Rattle.al_engine_batch.specs.declared.planned.Planned.TheVariants as planned
 
@@ -105,8 +107,16 @@ closed_partition s main f closed coded placing whole there order symbol us p sma
     (subst (λ (l : List WithObject). AreClosed (main_symbol s.files main) (linked_units l)) (sym p.objects_are) (closed_units s main f closed coded p.placed stand.stand stand.needed there few))
 
 -- of a plan
-pub closed_plan : (lib : Library) (f : UnitKey → Option Outcome) (main : List ℕ) (plan : Planned) → IsPlanned lib f main plan
+module _ (lib : Library) (f : UnitKey → Option Outcome) (main : List ℕ) (each : (order : List Key) (symbol : LinkSymbol) (us : List WithObject) → IsPartition lib f main order symbol us → AreClosedObjects symbol us) where
+  closed_renewal : (before : Built) (r : Renewal) → IsRenewal lib f main before r → AreClosedObjects r.main (map object_model r.objects.items)
+  closed_renewal (built.Faulty diagnostics) r is = absurd is
+  closed_renewal (built.Unbound fault) r is = absurd is
+  closed_renewal (built.TooLarge order) r is = absurd is
+  closed_renewal (built.Made program) r is = each (map key_of program.order.items) r.main (map object_model r.objects.items) is
+
+pub closed_plan : (lib : Library) (f : UnitKey → Option Outcome) (main : List ℕ) (before : Built) (plan : Planned) → IsPlanned lib f main before plan
     → (findings_of lib f ≡ [] → (order : List Key) (symbol : LinkSymbol) (us : List WithObject) → IsPartition lib f main order symbol us → AreClosedObjects symbol us) → IsClosedPlan plan
-closed_plan lib f main (planned.Faulty diagnostics) is each = tt
-closed_plan lib f main (planned.Unbound fault) is each = tt
-closed_plan lib f main (planned.Linkable p) is each = each is.0 (map key_of p.order.items) p.main (map object_model p.objects.items) is.1
+closed_plan lib f main before (planned.Faulty diagnostics) is each = tt
+closed_plan lib f main before (planned.Unbound fault) is each = tt
+closed_plan lib f main before (planned.Linkable p) is each = each is.0 (map key_of p.order.items) p.main (map object_model p.objects.items) is.1
+closed_plan lib f main before (planned.Renewed r) is each = closed_renewal lib f main (each is.0) before r is.1

@@ -13,6 +13,7 @@ use Rattle.al_engine_refresh.specs.Builds.{results_of}
 use Rattle.al_engine_setting.specs.Settings.{ArePredefined}
 use Rattle.al_engine_recheck.specs.Rechecks.{IsRechecked, setting_of}
 use Rattle.al_engine_batch.specs.Plans.{IsClosedPlan, IsPlanned}
+use Rattle.al_engine_batch.specs.declared.compiled.Compiled.{Compiled}
 use Rattle.al_engine_batch.specs.declared.planned.Planned.{Planned}
 
 -- of a library whose files have the headers that are read in their texts, with an order of dependence of its units, and entries that a build made for these files: what is planned by their outcomes is closed
@@ -21,4 +22,4 @@ PartitionsAreClosed =
     (meaning : TextMeaning) (header : List ℕ → Header) (predefined : Query → AnswerKind) (lib : Library) (order : List UnitKey)
     → AreHeaded header lib → NameParentBodies lib → ArePredefined predefined → IsDependenceOrder lib (map key_of order)
     → (old made : UnitKey → Option Stored) (checked : List UnitKey) → IsRechecked meaning header (setting_of header predefined lib) old made checked
-    → (main : List ℕ) (planned : Planned) → IsPlanned lib (results_of made) main planned → IsClosedPlan planned
+    → (main : List ℕ) (before : Compiled) (planned : Planned) → IsPlanned lib (results_of made) main before planned → IsClosedPlan planned

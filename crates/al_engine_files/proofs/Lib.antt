@@ -1,1 +1,2 @@
 mod OfTexts
+mod EditedFile

@@ -2,6 +2,7 @@
 ghost use Rattle.al_unit.specs.Libraries.{library_of};
 ghost use Rattle.al_engine_files.specs.AdaFiles.{FilesAreRead};
 
+use crate::renewing::sources_renewed;
 use crate::sources::{sources_after, sources_again};
 use al_base::{Files, NoMemory};
 use al_engine::ReadFiles;
@@ -68,6 +69,19 @@ impl ReadFiles for AdaFiles {
     ) -> Result<(Self, Option<Edited>), NoMemory> {
         let again = sources_again(alloc, now, &before.sources)?;
         let (sources, edited) = again;
+        Ok((AdaFiles { sources }, edited))
+    }
+
+    fn renew(
+        self,
+        alloc: Global,
+        now: &Files,
+        name: &[u8],
+        other: &Self,
+    ) -> Result<(Self, Option<Edited>), NoMemory> {
+        let AdaFiles { sources } = self;
+        let renewed = sources_renewed(alloc, now, name, &other.sources, sources)?;
+        let (sources, edited) = renewed;
         Ok((AdaFiles { sources }, edited))
     }
 

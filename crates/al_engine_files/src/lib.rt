@@ -3,6 +3,7 @@
 #![tactic(auto)]
 
 mod files;
+mod renewing;
 mod sources;
 
 pub use files::AdaFiles;

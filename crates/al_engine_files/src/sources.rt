@@ -105,7 +105,7 @@ fn held_as<'a>(before: &'a Sources, file: &[u8], text: &Rc<Vec<u8>>) -> Option<&
 
 /// The file of a text: shared where the file had this text before, and else read. Where it is read as it was, whether it has the text that
 /// it had.
-fn held_after(
+pub(crate) fn held_after(
     alloc: Global,
     before: &Sources,
     file: &[u8],

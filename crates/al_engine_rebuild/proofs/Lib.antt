@@ -1,2 +1,3 @@
 mod Clean
+mod Left
 pub mod WithinLemmas

@@ -1,8 +1,12 @@
 // A build of a library's units over what is kept of them.
-ghost use Rattle.std.specs.Prelude.{ℕ, ◌≡◌, true, List, IfOk, IfSome, IsTrue, MatchOption, None, OnErr, OnOk, length, map};
+ghost use Rattle.std.specs.Prelude.{ℕ, ◌≡◌, [], true, false, List, IfOk, IfSome, IsTrue, MatchOption, None, OnErr, OnOk, length, map};
+ghost use Rattle.std.specs.Map.{keys_of};
 ghost use Rattle.al_base.specs.Batch.{key_of};
 ghost use Rattle.al_base.specs.declared.unit_key.UnitKey.{UnitKey};
 ghost use Rattle.al_bind.specs.Binding.{IsElaboration};
+ghost use Rattle.al_unit_faults.specs.FilesSeen.{file_faults_model};
+ghost use Rattle.al_unit_faults.specs.GraphFaults.{file_faults};
+ghost use Rattle.al_view.specs.Symbols.{same_unit};
 ghost use Rattle.al_unit_graph.specs.Headers.{Header, Library};
 ghost use Rattle.al_unit_order.specs.Read.{AreHeaded, NameParentBodies};
 ghost use Rattle.al_query.specs.declared.answer.AnswerKind.{AnswerKind};
@@ -14,8 +18,11 @@ ghost use Rattle.al_engine_keep.specs.Moves.{Entries, IsLeft};
 ghost use Rattle.al_engine_graph.specs.Kept.{IsGraphOf};
 ghost use Rattle.al_engine_setting.specs.Settings.{ArePredefined};
 ghost use Rattle.al_engine_refresh.specs.Builds.{raised, results_of};
+ghost use Rattle.al_engine_found.specs.Found.{findings_of};
+ghost use Rattle.al_engine_batch.specs.Objects.{AreCoded};
 ghost use Rattle.al_engine_batch.specs.Patches.{IsPatched, linked_in};
-ghost use Rattle.al_engine_batch.specs.Plans.{IsClosedPlan};
+ghost use Rattle.al_engine_batch.specs.Plans.{IsClosedPlan, IsPlanned};
+ghost use Rattle.al_engine_batch.specs.Renewals.{KeepsPartition};
 ghost use Rattle.al_engine_recheck.specs.Rechecks.{AreAllReached, AreReady, will_be};
 ghost use Rattle.al_engine_recheck.specs.Renewals.{IsRenewable};
 ghost use Rattle.al_engine_rebuild.specs.Prepared.{IsPrepared};
@@ -23,7 +30,7 @@ ghost use Rattle.al_engine_rebuild.specs.Rebuilds.{IsKept, IsRebuilt};
 ghost use Rattle.al_engine_rebuild.specs.Renewed.{IsCleanBut};
 
 use al_base::{NoMemory, UnitKey};
-use al_engine_batch::{Compiled, Planned, link, plan};
+use al_engine_batch::{Compiled, Planned, link, plan, renewed};
 use al_engine_check::check_library;
 use al_engine_closed::laws::partitions_are_closed;
 use al_engine_graph::UnitGraph;
@@ -32,6 +39,7 @@ use al_engine_recheck::{Rechecked, UnitCache};
 use al_engine_refresh::has_sound;
 use al_query::Answers;
 use al_query_check::UnitCheck;
+use al_unit_faults::FileFaults;
 use al_unit_graph::Sources;
 use al_view::Seq;
 use std::alloc::Global;
@@ -101,10 +109,67 @@ fn is_clean(entries: &KeptEntries, edited: &Option<UnitKey>) -> bool
     }
 }
 
+/// What is to be linked where one unit alone was edited and has no faults now, and the order of elaboration is known: all but the object of
+/// that unit is as in the last build. None where it isn't so.
+fn renewed_plan(
+    alloc: Global,
+    sources: &Sources,
+    entries: &KeptEntries,
+    main: &[u8],
+    known: Option<&[UnitKey]>,
+    edited: &Option<UnitKey>,
+    before: &Compiled,
+) -> Result<Option<Planned>, NoMemory>
+    requires coded { AreCoded (now_at entries.now) }
+    requires clean { findings_of sources.now (results_of (now_at entries.now)) ≡ [] }
+    requires others { IfSome edited.now (λ unit. (w : UnitKey) → same_unit unit w ≡ false → now_at entries.now w ≡ settled_at entries.now w) }
+    requires kept { IfSome known (λ _. IfSome edited.now (λ _. KeepsPartition sources.now (results_of (settled_at entries.now)) main.now before.now)) }
+    ensures { IfOk result (λ found. IfSome found (IsPlanned sources.now (results_of (now_at entries.now)) main.now before.now)) }
+{
+    let Some(_order) = known else {
+        return Ok(None);
+    };
+    match edited {
+        Some(unit) => renewed(alloc, sources, entries, main, before, unit),
+        None => Ok(None),
+    }
+}
+
+/// What compiling the files gives for a main unit, up to the image, as `plan` gives it. Where one unit alone was edited and has no faults
+/// now, what the last build gave is used again.
+fn plan_now(
+    alloc: Global,
+    sources: &Sources,
+    entries: &KeptEntries,
+    faults: &[FileFaults],
+    main: &[u8],
+    known: Option<&[UnitKey]>,
+    edited: &Option<UnitKey>,
+    before: &Compiled,
+) -> Result<Planned, NoMemory>
+    requires faults { map file_faults_model faults.now ≡ map (λ file. (file, file_faults sources.now file)) (keys_of sources.now) }
+    requires coded { AreCoded (now_at entries.now) }
+    requires known { IfSome known (λ order. IsElaboration sources.now main.now (map key_of order.now)) }
+    requires clean { MatchOption edited.now ⊥ (λ unit. is_sound (results_of (now_at entries.now) unit) ≡ true) → findings_of sources.now (results_of (now_at entries.now)) ≡ [] }
+    requires others { IfSome edited.now (λ unit. (w : UnitKey) → same_unit unit w ≡ false → now_at entries.now w ≡ settled_at entries.now w) }
+    requires kept { IfSome known (λ _. IfSome edited.now (λ _. KeepsPartition sources.now (results_of (settled_at entries.now)) main.now before.now)) }
+    ensures { IfOk result (IsPlanned sources.now (results_of (now_at entries.now)) main.now before.now) }
+{
+    let clean = is_clean(entries, edited);
+    if clean {
+        let found = renewed_plan(alloc, sources, entries, main, known, edited, before)?;
+        if let Some(planned) = found {
+            return Ok(planned);
+        }
+    }
+    let planned = plan(alloc, sources, entries, faults, main, known, clean)?;
+    Ok(planned)
+}
+
 /// Does all of a build of a main unit but for its image: each unit is checked that is reached and has no entry for its text, or one with
 /// an answer that differs now, and what all units give then is compiled. The library's graph is given, and the order of elaboration
-/// where it is known; and the unit that alone was edited since a build that found nothing wrong, where no other one depends on it by itself.
-/// What the last build settled stays as it is.
+/// where it is known; and the unit that alone was edited since a build that found nothing wrong, where no other one depends on it by itself;
+/// and what compiling gave in that build. What the last build settled stays as it is.
 /// - `prepared`: which units were checked, what compiling gives up to the image, which entries there will be. Where there is something to
 ///   link, its units define the main subprogram's code and all that they use.
 /// - `counted`: so many checks were made.
@@ -122,6 +187,7 @@ pub fn prepare<C: UnitCheck, P: Answers>(
     graph: &UnitGraph,
     known: Option<&[UnitKey]>,
     edited: &Option<UnitKey>,
+    before: &Compiled,
 ) -> Result<PreparedBuild, NoMemory>
     requires headed { AreHeaded C.Text.header sources.now }
     requires bodies { NameParentBodies sources.now }
@@ -131,7 +197,8 @@ pub fn prepare<C: UnitCheck, P: Answers>(
     requires ready { AreReady (P.table predefined.now) cache.old.store }
     requires edited { IfSome edited.now (λ unit. AreAllReached cache.old.store × IsRenewable C.meaning C.Text.header (P.table predefined.now) sources.now (settled_at cache.old.store) unit) }
     requires clean { IfSome edited.now (IsCleanBut sources.now (settled_at cache.old.store)) }
-    ensures prepared { IfOk result (λ p. IsPrepared C.meaning C.Text.header (P.table predefined.now) sources.now main.now cache.old.store p.planned cache.new.store p.checked.items p.compared) }
+    requires kept { IfSome known (λ _. IfSome edited.now (λ _. KeepsPartition sources.now (results_of (settled_at cache.old.store)) main.now before.now)) }
+    ensures prepared { IfOk result (λ p. IsPrepared C.meaning C.Text.header (P.table predefined.now) sources.now main.now before.now cache.old.store p.planned cache.new.store p.checked.items p.compared) }
     ensures counted { IfOk result (λ p. C.count cache.new.checker ≡ raised (C.count cache.old.checker) (length p.checked.items)) }
     ensures left { IsLeft cache.old.store cache.new.store }
 {
@@ -140,8 +207,7 @@ pub fn prepare<C: UnitCheck, P: Answers>(
     let Rechecked { checked, compared } = given;
     let faults = graph.faults.as_slice();
     let entries = cache.entries();
-    let clean = is_clean(entries, edited);
-    let planned = plan(alloc, sources, entries, faults, main, known, clean)?;
+    let planned = plan_now(alloc, sources, entries, faults, main, known, edited, before)?;
     Ok(PreparedBuild {
         planned,
         checked,
@@ -168,7 +234,7 @@ impl PreparedBuild {
     ) -> Result<(), NoMemory>
         requires law { AllKeepLaw C.meaning C.Text.header (will_be cache.old.store) }
         requires closed { IsClosedPlan self.planned }
-        ensures rebuilt { OnOk result ((header : List ℕ → Header) (predefined : Query → AnswerKind) (lib : Library) (main : List ℕ) (old : Entries) → IsLeft old cache.old.store → IsPrepared C.meaning header predefined lib main old self.planned cache.old.store self.checked.items self.compared → (is : IsRebuilt C.meaning header predefined lib main (settled_at old) (settled_at cache.new.store) gave.new) × IsKept predefined lib old cache.new.store is.made gave.new) }
+        ensures rebuilt { OnOk result ((header : List ℕ → Header) (predefined : Query → AnswerKind) (lib : Library) (main : List ℕ) (old : Entries) → IsLeft old cache.old.store → IsPrepared C.meaning header predefined lib main gave.old.compiled old self.planned cache.old.store self.checked.items self.compared → (is : IsRebuilt C.meaning header predefined lib main (settled_at old) (settled_at cache.new.store) gave.new) × IsKept predefined lib old cache.new.store is.made gave.new) }
         ensures patched { OnOk result (IsPatched (linked_in gave.old.compiled) (linked_in gave.new.compiled) gave.new.patched) }
         ensures checked { OnOk result (gave.new.checked ≡ self.checked.items) }
         ensures checker { cache.new.checker ≡ cache.old.checker }

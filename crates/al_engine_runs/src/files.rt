@@ -61,6 +61,20 @@ impl ReadFiles for ToyFiles {
         Ok((ToyFiles { sources }, edited))
     }
 
+    fn renew(
+        self,
+        alloc: Global,
+        now: &Files,
+        name: &[u8],
+        other: &Self,
+    ) -> Result<(Self, Option<Edited>), NoMemory> {
+        let _name = name;
+        let _other = other;
+        let sources = sources_after(alloc, now, &self.sources)?;
+        let edited = edited_between(alloc, &self.sources, &sources)?;
+        Ok((ToyFiles { sources }, edited))
+    }
+
     fn sources(&self) -> &Sources {
         &self.sources
     }

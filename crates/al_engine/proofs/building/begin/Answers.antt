@@ -1,9 +1,11 @@
-use Rattle.std.proofs.Common.{IfSome, map, sym, subst}
+use Rattle.std.proofs.Common.{ℕ, List, IfSome, map, sym, subst}
 use Rattle.al_base.specs.Batch.{key_of}
 use Rattle.al_bind.specs.Binding.{IsElaboration}
 use Rattle.al_unit_graph.specs.Headers.{Library}
 use Rattle.al_unit_order.specs.Read.{AreHeaded, NameParentBodies}
 use Rattle.al_query_store.specs.Keyed.{settled_at}
+use Rattle.al_engine_refresh.specs.Builds.{results_of}
+use Rattle.al_engine_batch.specs.Renewals.{KeepsPartition}
 use Rattle.al_engine_rebuild.specs.Prepared.{IsPrepared}
 use Rattle.al_engine_rebuild.specs.Renewed.{IsCleanBut}
 use Rattle.al_engine_recheck.specs.Rechecks.{AreAllReached}
@@ -13,6 +15,7 @@ use Rattle.al_engine_graph.specs.Kept.{IsGraphOf}
 use Rattle.al_engine_graph.specs.declared.graph.UnitGraph.{UnitGraph}
 use Rattle.al_engine.specs.Graphs.{IsOrdered}
 use Rattle.al_engine.specs.States.{IsSettledBy}
+use Rattle.al_engine.proofs.Keeping.{kept-for}
 use Rattle.al_engine.proofs.Taken.{besides, first_of, graphs_of, of_last, second_of}
 use Rattle.al_engine.proofs.building.begin.Goals as goal
 
@@ -71,10 +74,16 @@ prepare-requires-clause-graph g c =
 
 pub prepare-requires-clause-known : goal.prepare-requires-clause-known
 prepare-requires-clause-known g c =
-    subst (λ (l : Library). IfSome c.order_now-order.result (λ order. IsElaboration l c.args.main.now (map key_of order.now))) (sym c.sources-sources.ensures) c.order_now-order.ensures
+    subst (λ (l : Library). IfSome c.order_now-order.result (λ order. IsElaboration l c.args.main.now (map key_of order.now))) (sym c.sources-sources.ensures) c.order_now-order.ensures.order
+
+pub prepare-requires-clause-kept : goal.prepare-requires-clause-kept
+prepare-requires-clause-kept g c =
+    let K : (Library → List ℕ → Type 0) = λ l m. KeepsPartition l (results_of (settled_at c.args.cache.now.store)) m c.args.gave.now.compiled in
+    subst (λ (l : Library). IfSome c.order_now-order.result (λ _. IfSome c.in_ok-unit.unit (λ _. K l c.args.main.now))) (sym c.sources-sources.ensures)
+    (kept-for c.order_now-order.result c.in_ok-unit.unit c.alike-found.result.0 (λ b. b.now.main) c.args.main.now (K (g.R.ReadFiles.library (g.R.ReadFiles.files c.args.read.now))) c.order_now-order.ensures.main c.in_ok-unit.ensures.kept)
 
 pub returns-clause-prepared : goal.returns-clause-prepared
 returns-clause-prepared g c =
     let p = c.in_ok-prepared.prepared in
-    subst (λ (l : Library). IsPrepared g.C.UnitCheck.meaning g.C.Text.ReadText.header (g.P.Answers.table c.args.predefined.now) l c.args.main.now c.args.cache.now.store p.planned c.prepare.new.cache.store p.checked.items p.compared)
+    subst (λ (l : Library). IsPrepared g.C.UnitCheck.meaning g.C.Text.ReadText.header (g.P.Answers.table c.args.predefined.now) l c.args.main.now c.args.gave.now.compiled c.args.cache.now.store p.planned c.prepare.new.cache.store p.checked.items p.compared)
     c.sources-sources.ensures c.in_ok-prepared.ensures.prepared

@@ -11,6 +11,7 @@ use Rattle.al_engine_recheck.specs.Renewals.{IsRenewable}
 use Rattle.al_engine.specs.States.{IsSettledBy}
 use Rattle.al_engine_rebuild.specs.Renewed.{IsCleanBut}
 use Rattle.al_engine.proofs.Edited.{all-made, clean-but, edited-alone, made-entries}
+use Rattle.al_engine.proofs.Keeping.{entries-keep}
 use Rattle.al_engine.proofs.Taken.{some_has}
 use Rattle.al_engine.proofs.edits.edited_now.Goals as goal
 
@@ -64,3 +65,18 @@ returns-then-is_alone-clause-clean g c =
     subst (λ (l : Library). HaveSameHeaders old l) (sym c.sources-sources.ensures) (some_has c.args.same build (λ b. HaveSameHeaders (library (files b.now.read)) (library (files c.args.read.now))) c.in-Some.is c.requires.headers) in
     subst (λ (l : Library). IsCleanBut l entries unit) c.sources-sources.ensures
     (clean-but meaning header pre old build.now.main settled.before entries c.args.gave.now settled.rebuilt (c.is_ordered.ensures c.if-not-is_ordered.false) new headers (c.graphs_go_by_headers.ensures old new headers) unit)
+
+pub returns-then-is_alone-clause-kept : goal.returns-then-is_alone-clause-kept
+returns-then-is_alone-clause-kept g c =
+    let meaning = g.C.UnitCheck.meaning in
+    let header = g.C.Text.ReadText.header in
+    let pre = g.P.Answers.table c.args.predefined.now in
+    let library = g.R.ReadFiles.library in
+    let files = g.R.ReadFiles.files in
+    let store = c.args.cache.now.store in
+    let build = c.in-Some.build in
+    let old = library (files build.now.read) in
+    let new = library (files c.args.read.now) in
+    let settled = some_has c.args.same build (λ b. IsSettledBy meaning header pre library store (record { files = files b.now.read; main = b.now.main; gave = c.args.gave.now })) c.in-Some.is c.requires.settled in
+    let headers : HaveSameHeaders old new = some_has c.args.same build (λ b. HaveSameHeaders (library (files b.now.read)) (library (files c.args.read.now))) c.in-Some.is c.requires.headers in
+    rw c.in-Some.is (entries-keep meaning header pre old build.now.main settled.before (settled_at store) c.args.gave.now settled.rebuilt (c.is_ordered.ensures c.if-not-is_ordered.false) new (c.graphs_go_by_headers.ensures old new headers))

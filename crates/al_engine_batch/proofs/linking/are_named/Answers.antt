@@ -3,15 +3,14 @@ use Rattle.std.proofs.lemmas.Grind.{common_steps}
 use Rattle.std.proofs.lemmas.List.Folds.{list_all-map, list_all_at}
 use Rattle.al_engine_batch.specs.Objects.{WithObject, is_unit_name}
 use Rattle.al_engine_batch.specs.ObjectsSeen.{object_model}
-use Rattle.al_engine_batch.specs.declared.objects.UnitObject.{UnitObject}
 use Rattle.al_engine_batch.proofs.linking.are_named.Goals as goal
 
 pub returns-then-not-is_unit_name : goal.returns-then-not-is_unit_name
 returns-then-not-is_unit_name c =
     let objects = c.args.objects.now in
     let item = c.unit-item.result in
-    let bad : is_unit_name item.key.name ≡ false = grind (arith, common_steps, c.is_unit_name.ensures, c.as_slice.ensures, c.if-not-is_unit_name.true) in
+    let bad : is_unit_name item.value.key.name ≡ false = grind (arith, common_steps, c.is_unit_name.ensures, c.as_slice.ensures, c.deref.ensures, c.if-not-is_unit_name.true) in
     sym (
     list_all-map (λ (u : WithObject). is_unit_name u.0.name) object_model objects
-    ∙ list_all_at (λ (u : UnitObject). is_unit_name u.key.name) objects c.loop-unit.unit-index item c.loop-unit-test.true (ap (λ (u : UnitObject). is_unit_name u.key.name) (sym c.unit-item.is) ∙ bad)
+    ∙ list_all_at (λ u. is_unit_name u.value.key.name) objects c.loop-unit.unit-index item c.loop-unit-test.true (ap (λ u. is_unit_name u.value.key.name) (sym c.unit-item.is) ∙ bad)
     )

@@ -8,11 +8,11 @@ use Rattle.al_engine_closed.proofs.Sound.{all_sound, no_rule_broken, sound_unit}
 use Rattle.al_engine_closed.proofs.laws.partitions_are_closed.Goals as goal
 
 pub returns : goal.returns
-returns c = λ meaning header predefined lib order headed named answers ordered old made checked r main planned is.
+returns c = λ meaning header predefined lib order headed named answers ordered old made checked r main before planned is.
     let s = setting_of header predefined lib in
     let f = results_of made in
     let setting = (c.order_is_for_builds.ensures header lib predefined order headed named answers ordered).0 in
-    closed_plan lib f main planned is (λ none items symbol us partition.
+    closed_plan lib f main before planned is (λ none items symbol us partition.
     let fits = fit meaning header predefined lib old made checked r in
     let sound = all_sound lib f fits none in
     let closed = c.all_is_defined.ensures (M meaning header predefined lib old made checked r) s setting (keeps meaning header predefined lib old made checked r) main f (solves meaning header predefined lib old made checked r) (symbols meaning header predefined lib old made checked r) sound (parts meaning header predefined lib old made checked r) answers.uncoded partition.ordered.complete in

@@ -4,4 +4,4 @@ pub returns-clause-law : goal.returns-clause-law
 returns-clause-law g c = rw (← c.self.view_is) c.keep_the_law.ensures
 
 pub returns-clause-built : goal.returns-clause-built
-returns-clause-built g c = rw (← c.self.view_is) c.self.invariant.built_right
+returns-clause-built g c = rw (← c.self.view_is) c.self.invariant.0.built_right

@@ -1,0 +1,88 @@
+-- The partition that a build can use again.
+use Rattle.std.proofs.Common.{◌≡◌, ℕ, true, List, [], ◌∷◌, ◌++◌, map, Option, Some, None, IfSome, is_some, refl, sym, subst, ◌∙◌, if◌then◌else◌}
+use Rattle.std.specs.Prelude.{MatchOption}
+use Rattle.std.specs.List.{Contains, flat_map}
+use Rattle.al_base.specs.Batch.{Key, key_of}
+use Rattle.al_base.specs.declared.unit_key.UnitKey.{UnitKey}
+use Rattle.al_base.specs.declared.unit_key.UnitKind.TheVariants.{Sub}
+use Rattle.al_unit_graph.specs.Headers.{Header, Library}
+use Rattle.al_unit_graph.specs.Library.{unit_at}
+use Rattle.al_unit_graph.specs.Needed.{subunits_of}
+use Rattle.al_bind.specs.Elaboration.{IsPartOf, itself, subunit}
+use Rattle.al_link_placed.specs.Placed.{ArePlaced, AreSubunits, item, nothing}
+use Rattle.al_query.specs.declared.answer.AnswerKind.{AnswerKind}
+use Rattle.al_query.specs.declared.query.Query.{Query}
+use Rattle.al_query_outcome.specs.Results.{Outcome}
+use Rattle.al_entries.specs.EntryLaw.{TextMeaning}
+use Rattle.al_entries.specs.Stored.{Stored}
+use Rattle.al_engine_refresh.specs.Builds.{results_of}
+use Rattle.al_engine_graph.specs.Graphs.{HaveOneGraph}
+use Rattle.al_engine_batch.specs.Batches.{IsBatch}
+use Rattle.al_engine_batch.specs.Renewals.{HoldsPartition, KeepsPartition}
+use Rattle.al_engine_batch.specs.declared.compiled.Compiled.{Compiled}
+use Rattle.al_engine_batch.specs.declared.compiled.Compiled.TheVariants.{Faulty, Unbound, TooLarge, Made}
+use Rattle.al_engine_batch.specs.declared.compiled.Program.{Program}
+use Rattle.al_engine_rebuild.specs.Rebuilds.{IsRebuilt}
+use Rattle.al_engine_rebuild.specs.declared.rebuilding.Rebuilt.{Rebuilt}
+use Rattle.al_engine_reported.specs.Gave.{order_of}
+use Rattle.al_engine.proofs.Edited.{all-made}
+
+-- the parts of an item go by what the units are
+module _ (old new : Library) (units : (key : Key) → unit_at old key ≡ unit_at new key) where
+  the_subunits : (name : List ℕ) (h : Header) → subunits_of old name h ≡ subunits_of new name h
+  the_subunits name h = λ i. flat_map (λ stub. if is_some (units (name ++ 46 ∷ stub, Sub) i) then (name ++ 46 ∷ stub, Sub) ∷ [] else []) h.stubs
+
+  part : {x p : Key} → IsPartOf old x p → IsPartOf new x p
+  part itself = itself
+  part (subunit {p = p} {q = q} {h = h} is at c) =
+      subunit (part is) (sym (units p) ∙ at) (subst (λ (ks : List Key). Contains ks q) (the_subunits p.0 h) c)
+
+module _ (old new : Library) (one : HaveOneGraph old new) where
+  subunits-stay : (x : Key) (subunits : List Key) → AreSubunits old x subunits → AreSubunits new x subunits
+  subunits-stay x subunits are = record {
+    ascend = are.ascend;
+    all = λ p. (
+      (λ c. let is = (are.all p).0 c in (part old new one.units is.0, is.1)),
+      (λ is. (are.all p).1 (part new old (λ key. sym (one.units key)) is.0, is.1)),
+    );
+  }
+
+  placed-stay : (items placed : List Key) → ArePlaced old items placed → ArePlaced new items placed
+  placed-stay _ _ nothing = nothing
+  placed-stay _ _ (item {x = x} {items = items} {subunits = subunits} {placed = placed} are more) = item (subunits-stay x subunits are) (placed-stay items placed more)
+
+  partition-stays : (f : UnitKey → Option Outcome) (main : List ℕ) (program : Program) → HoldsPartition old f main program → HoldsPartition new f main program
+  partition-stays f main program is = record {
+    ordered = one.elaboration main (map key_of program.order.items) is.ordered;
+    placed = is.placed;
+    are_placed = placed-stay (map key_of program.order.items) is.placed is.are_placed;
+    symbol_is = refl;
+    objects_are = is.objects_are;
+  }
+
+  -- what compiling gave holds the partition of a library with the same headers, by the same outcomes
+  batch-keeps : (f : UnitKey → Option Outcome) (main : List ℕ) (compiled : Compiled) → IsBatch old f main compiled → KeepsPartition new f main compiled
+  batch-keeps f main (Faulty diagnostics) is = tt
+  batch-keeps f main (Unbound fault) is = tt
+  batch-keeps f main (TooLarge order) is = tt
+  batch-keeps f main (Made program) is = partition-stays f main program is.2
+
+-- .. where it gave an order, by the outcomes of the entries that are there
+pub entries-keep : (meaning : TextMeaning) (header : List ℕ → Header) (pre : Query → AnswerKind) (lib : Library) (main : List ℕ) (before entries : UnitKey → Option Stored) (gave : Rebuilt) → IsRebuilt meaning header pre lib main before entries gave → is_some (order_of gave.compiled) ≡ true
+    → (new : Library) → HaveOneGraph lib new → KeepsPartition new (results_of entries) main gave.compiled
+entries-keep meaning header pre lib main before entries gave is ordered new one =
+    subst (λ (at : UnitKey → Option Stored). KeepsPartition new (results_of at) main gave.compiled) (λ i w. sym (all-made meaning header pre lib main before entries gave is ordered w) i)
+    (batch-keeps lib new one (results_of is.made) main gave.compiled is.is_batch)
+
+-- what is so where there is something
+pub some-is : {X : Type 0} (o : Option X) (P : Type 0) → P → IfSome o (λ _. P)
+some-is None P p = tt
+some-is (Some x) P p = p
+
+-- the partition is that of this main unit, where the order of before is known for it
+pub kept-for : {X Y U : Type 0} (known : Option Y) (unit : Option U) (same : Option X) (main_of : X → List ℕ) (main : List ℕ) (K : List ℕ → Type 0)
+    → IfSome known (λ _. MatchOption same ⊥ (λ b. main_of b ≡ main)) → IfSome unit (λ _. IfSome same (λ b. K (main_of b))) → IfSome known (λ _. IfSome unit (λ _. K main))
+kept-for None unit same main_of main K is has = tt
+kept-for (Some k) None same main_of main K is has = tt
+kept-for (Some k) (Some u) None main_of main K is has = absurd is
+kept-for (Some k) (Some u) (Some b) main_of main K is has = subst K is has

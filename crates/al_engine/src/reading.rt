@@ -1,0 +1,141 @@
+// What a build reads of the files.
+ghost use Rattle.std.specs.Prelude.{◌≡◌, true, false, IfOk, IfSome, is_some};
+ghost use Rattle.al_base.specs.Files.{text_of};
+ghost use Rattle.al_engine_graph.specs.Graphs.{HaveSameHeaders};
+ghost use Rattle.al_engine_graph.specs.Texts.{HaveTextsBut};
+ghost use Rattle.al_engine.specs.Readings.{IsEditedAt};
+
+use crate::last_build::LastBuild;
+use crate::read_files::ReadFiles;
+use al_base::{Files, Name, NoMemory};
+use al_engine_graph::Edited;
+use std::alloc::Global;
+
+/// The files as they are, with what they are read as: what the last build read of them can be shared.
+pub(crate) fn read_now<R: ReadFiles>(
+    alloc: Global,
+    now: &Files,
+    last: &Option<LastBuild<R>>,
+) -> Result<R, NoMemory>
+    ensures { IfOk result (λ read. R.files read ≡ now.now) }
+{
+    match last {
+        Some(last) => R::after(alloc, now, &last.read),
+        None => R::of(alloc, now),
+    }
+}
+
+/// The files as they are, with what they are read as; and of which of them the texts may be other ones than in the last build, where it is
+/// known that each has the header that it had.
+fn read_again<R: ReadFiles>(
+    alloc: Global,
+    now: &Files,
+    last: &Option<LastBuild<R>>,
+) -> Result<(R, Option<Edited>), NoMemory>
+    ensures files { IfOk result (λ r. R.files r.0 ≡ now.now) }
+    ensures edited { IfOk result (λ r. IfSome r.1 (λ e. IfSome last.now (λ b. HaveSameHeaders (R.library (R.files b.read)) (R.library (R.files r.0)) × HaveTextsBut (R.library (R.files b.read)) (R.library (R.files r.0)) e))) }
+{
+    match last {
+        Some(last) => R::again(alloc, now, &last.read),
+        None => Ok((R::of(alloc, now)?, None)),
+    }
+}
+
+/// The same where it is known which file alone was edited since the last build, and what that build read is there once more: no other file
+/// is looked at.
+fn read_edited<R: ReadFiles>(
+    alloc: Global,
+    now: &Files,
+    last: &Option<LastBuild<R>>,
+    spare: R,
+    alone: &Name,
+) -> Result<(R, Option<Edited>), NoMemory>
+    requires spare { IfSome last.now (λ b. R.files spare ≡ R.files b.read) }
+    requires alone { IfSome last.now (λ b. IsEditedAt (R.files b.read) alone.now now.now) }
+    ensures files { IfOk result (λ r. R.files r.0 ≡ now.now) }
+    ensures edited { IfOk result (λ r. IfSome r.1 (λ e. IfSome last.now (λ b. HaveSameHeaders (R.library (R.files b.read)) (R.library (R.files r.0)) × HaveTextsBut (R.library (R.files b.read)) (R.library (R.files r.0)) e))) }
+{
+    match last {
+        Some(last) => spare.renew(alloc, now, alone.as_slice(), &last.read),
+        None => Ok((R::of(alloc, now)?, None)),
+    }
+}
+
+/// The files as they are, with what they are read as; and of which of them the texts may be other ones than in the last build, where it is
+/// known that each has the header that it had.
+pub(crate) fn read<R: ReadFiles>(
+    alloc: Global,
+    now: &Files,
+    last: &Option<LastBuild<R>>,
+    spare: Option<R>,
+    alone: &Option<Name>,
+) -> Result<(R, Option<Edited>), NoMemory>
+    requires spare { IfSome spare (λ s. IfSome last.now (λ b. R.files s ≡ R.files b.read)) }
+    requires alone { IfSome alone.now (λ name. IfSome last.now (λ b. IsEditedAt (R.files b.read) name now.now)) }
+    ensures files { IfOk result (λ r. R.files r.0 ≡ now.now) }
+    ensures edited { IfOk result (λ r. IfSome r.1 (λ e. IfSome last.now (λ b. HaveSameHeaders (R.library (R.files b.read)) (R.library (R.files r.0)) × HaveTextsBut (R.library (R.files b.read)) (R.library (R.files r.0)) e))) }
+{
+    let Some(name) = alone else {
+        return read_again(alloc, now, last);
+    };
+    match spare {
+        Some(spare) => read_edited(alloc, now, last, spare, name),
+        None => read_again(alloc, now, last),
+    }
+}
+
+/// Of what was read, the file read again that alone was edited since; none where memory is wanting.
+fn renewed<R: ReadFiles>(
+    alloc: Global,
+    now: &Files,
+    before: LastBuild<R>,
+    alone: &Name,
+    read: &R,
+) -> Option<R>
+    requires { IsEditedAt (R.files before.read) alone.now now.now }
+    ensures { IfSome result (λ spare. R.files spare ≡ now.now) }
+{
+    let spare = before.into_read();
+    match spare.renew(alloc, now, alone.as_slice(), read) {
+        Ok((spare, _)) => Some(spare),
+        Err(NoMemory) => None,
+    }
+}
+
+/// What a build read once more, for the next one: made of what the build before read, where one file alone was edited since. None where
+/// memory is wanting, or more was edited.
+pub(crate) fn read_twice<R: ReadFiles>(
+    alloc: Global,
+    now: &Files,
+    before: Option<LastBuild<R>>,
+    alone: &Option<Name>,
+    read: &R,
+) -> Option<R>
+    requires { IfSome alone.now (λ name. IfSome before (λ b. IsEditedAt (R.files b.read) name now.now)) }
+    ensures { IfSome result (λ spare. R.files spare ≡ now.now) }
+{
+    let Some(before) = before else {
+        return match R::after(alloc, now, read) {
+            Ok(spare) => Some(spare),
+            Err(NoMemory) => None,
+        };
+    };
+    match alone {
+        Some(name) => renewed(alloc, now, before, name, read),
+        None => None,
+    }
+}
+
+/// The name of the file that alone is edited where its text is set now: where it is there, and no other one was edited. None where memory is
+/// wanting.
+pub(crate) fn alone_now(alloc: Global, is_edited: bool, files: &Files, name: &[u8]) -> Option<Name>
+    ensures { IfSome result (λ file. (file ≡ name.now) × (is_edited ≡ false) × (is_some (text_of files.now name.now) ≡ true)) }
+{
+    if is_edited || files.get(name).is_none() {
+        return None;
+    }
+    match Name::from_slice(alloc, name) {
+        Ok(name) => Some(name),
+        Err(_) => None,
+    }
+}

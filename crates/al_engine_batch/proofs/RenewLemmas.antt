@@ -1,0 +1,71 @@
+-- What is to be linked where one unit alone has another outcome than before.
+use Rattle.std.proofs.Common.{◌≡◌, inl, inr, ℕ, true, false, Bool, List, [], ◌∷◌, ◌++◌, map, Option, Some, None, refl, sym, ap, subst, ◌∙◌, if◌then◌else◌}
+use Rattle.std.proofs.lemmas.List.{map-append}
+use Rattle.al_base.specs.declared.unit_key.UnitKey.{UnitKey}
+use Rattle.al_unit_graph.specs.Headers.{Library}
+use Rattle.al_view.specs.Symbols.{same_unit}
+use Rattle.al_view.proofs.SymbolLemmas.{same_unit-one, same_unit-self}
+use Rattle.al_query_outcome.specs.Defines.{main_symbol}
+use Rattle.al_query_outcome.specs.Equations.{is_sound, unit_named}
+use Rattle.al_query_outcome.specs.Results.{Faulty, Outcome, Sound}
+use Rattle.al_query_outcome.proofs.Names.{tested}
+use Rattle.al_code.specs.ObjectOf.{object_of}
+use Rattle.al_engine_found.specs.Found.{findings_of}
+use Rattle.al_engine_batch.specs.Objects.{WithObject, objects_at, objects_of}
+use Rattle.al_engine_batch.specs.ObjectsSeen.{object_model}
+use Rattle.al_engine_batch.specs.Plans.{IsPlanned}
+use Rattle.al_engine_batch.specs.Renewals.{KeepsPartition, renewed, renewed_one}
+use Rattle.al_engine_batch.specs.declared.compiled.Compiled.{Compiled}
+use Rattle.al_engine_batch.specs.declared.compiled.Compiled.TheVariants as compiled
+use Rattle.al_engine_batch.specs.declared.compiled.Program.{Program}
+use Rattle.al_engine_batch.specs.declared.planned.Planned.TheVariants.{Renewed}
+use Rattle.al_engine_batch.specs.declared.planned.Renewal.{Renewal}
+
+-- one unit has this object now, and had another one; the others have the outcomes that they had
+module _ (f g : UnitKey → Option Outcome) (u : UnitKey) (x : WithObject) (others : (w : UnitKey) → same_unit u w ≡ false → f w ≡ g w) (sound : is_sound (g u) ≡ true) (now : objects_of u (f u) ≡ x ∷ []) where
+  of-unit : (o : Option Outcome) → objects_of u o ≡ x ∷ [] → x.0 ≡ u
+  of-unit None is = absurd (cc)
+  of-unit (Some (Faulty faults)) is = absurd (cc)
+  of-unit (Some (Sound interface tree)) is = let one : x ≡ (u, object_of tree) = cc in ap (λ (y : WithObject). y.0) one
+
+  own : (o : Option Outcome) → is_sound o ≡ true → x ∷ [] ≡ renewed x (objects_of u o)
+  own None is = absurd (cc)
+  own (Some (Faulty faults)) is = absurd (cc)
+  own (Some (Sound interface tree)) is =
+      let same : same_unit x.0 u ≡ true = subst (λ (k : UnitKey). same_unit k u ≡ true) (sym (of-unit (f u) now)) (same_unit-self u) in
+      sym (ap (λ (b : Bool). (if b then x else (u, object_of tree)) ∷ []) same)
+
+  other : (w : UnitKey) → same_unit u w ≡ false → (o : Option Outcome) → objects_of w o ≡ renewed x (objects_of w o)
+  other w apart None = refl
+  other w apart (Some (Faulty faults)) = refl
+  other w apart (Some (Sound interface tree)) =
+      let no : same_unit x.0 w ≡ false = ap (λ (k : UnitKey). same_unit k w) (of-unit (f u) now) ∙ apart in
+      sym (ap (λ (b : Bool). (if b then x else (w, object_of tree)) ∷ []) no)
+
+  each : (w : UnitKey) → objects_of w (f w) ≡ renewed x (objects_of w (g w))
+  each w = elim (tested (same_unit u w)) as (λ _. objects_of w (f w) ≡ renewed x (objects_of w (g w))) [
+    | inl k ↦ subst (λ (v : UnitKey). objects_of v (f v) ≡ renewed x (objects_of v (g v))) (same_unit-one u w k) (now ∙ own (g u) sound)
+    | inr k ↦ ap (objects_of w) (others w k) ∙ other w k (g w)
+  ]
+
+  pub objects-renewed : (ks : List UnitKey) → objects_at f ks ≡ renewed x (objects_at g ks)
+  objects-renewed [] = refl
+  objects-renewed (k ∷ ks) =
+      ap (λ (l : List WithObject). l ++ objects_at f ks) (each k)
+      ∙ ap (λ (l : List WithObject). renewed x (objects_of k (g k)) ++ l) (objects-renewed ks)
+      ∙ sym (map-append (renewed_one x) (objects_of k (g k)) (objects_at g ks))
+
+  pub renewed-plan : (lib : Library) (main : List ℕ) (before : Compiled) (program : Program) (r : Renewal) → before ≡ compiled.Made program → findings_of lib f ≡ [] → KeepsPartition lib g main before
+      → r.main ≡ main_symbol lib main → map object_model r.objects.items ≡ renewed x (map object_model program.objects.items) → IsPlanned lib f main before (Renewed r)
+  renewed-plan lib main before program r made none kept symbol objects =
+      let is = subst (λ (c : Compiled). KeepsPartition lib g main c) made kept in
+      subst (λ (c : Compiled). IsPlanned lib f main c (Renewed r)) (sym made) (
+        none,
+        record {
+          ordered = is.ordered;
+          placed = is.placed;
+          are_placed = is.are_placed;
+          symbol_is = symbol;
+          objects_are = objects ∙ ap (renewed x) is.objects_are ∙ sym (objects-renewed (map unit_named is.placed));
+        },
+      )

@@ -1,0 +1,114 @@
+// One file that is read again among others that stay as they are.
+ghost use Rattle.std.specs.Prelude.{◌≡◌, ◌≤◌, IfOk, IfSome, OnOk, Some, length};
+ghost use Rattle.std.specs.BTreeMap.{insert_entry};
+ghost use Rattle.al_base.specs.FileLaws.{Ascend};
+ghost use Rattle.al_base.specs.Files.{AreFiles, name_cmp};
+ghost use Rattle.al_unit_graph.specs.Views.{source_model};
+ghost use Rattle.al_unit.specs.Libraries.{library_of, texts_of};
+ghost use Rattle.al_engine.specs.Readings.{IsEditedAt};
+ghost use Rattle.al_engine_graph.specs.Graphs.{HaveSameHeaders, contents_at};
+ghost use Rattle.al_engine_graph.specs.Texts.{HaveTextsBut};
+ghost use Rattle.al_engine_graph.specs.declared.alike.Edited.TheVariants.{One};
+ghost use Rattle.al_engine_files.specs.AdaFiles.{AreOfTexts};
+
+use crate::sources::held_after;
+use al_base::{Files, Name, NoMemory};
+use al_engine_graph::{Edited, is_read_as};
+use al_unit_graph::{Source, Sources};
+use std::alloc::Global;
+use std::rc::Rc;
+
+/// The text of a file in a list, where it is this one.
+fn listed<'a>(
+    list: &[(&'a [u8], &'a Rc<Vec<u8>>)],
+    name: &[u8],
+    text: &[u8],
+) -> Option<&'a Rc<Vec<u8>>>
+    ensures { IfSome result (λ found. found.now.value.items ≡ text.now) }
+{
+    for (file, held) in list {
+        if *file == name && held.as_slice() == text {
+            return Some(*held);
+        }
+    }
+    None
+}
+
+/// This text of a file, which is shared with the files.
+fn shared_text(
+    alloc: Global,
+    files: &Files,
+    name: &[u8],
+    text: &[u8],
+) -> Result<Rc<Vec<u8>>, NoMemory>
+    ensures text { IfOk result (λ found. found.value.items ≡ text.now) }
+    ensures ascend { OnOk result (Ascend files.now) }
+    ensures files { OnOk result (AreFiles files.now) }
+{
+    let list = files.shared()?;
+    match listed(list.as_slice(), name, text) {
+        Some(held) => Ok(held.clone()?),
+        None => Ok(Rc::new(alloc, Vec::from_slice(alloc, text)?)?),
+    }
+}
+
+/// That one file has another text, where it is read as before; else nothing is told.
+fn edited_at(
+    alloc: Global,
+    before: &Sources,
+    name: &[u8],
+    source: &Source,
+) -> Result<Option<Edited>, NoMemory>
+    ensures { IfOk result (λ edited. IfSome edited (λ e. (e ≡ One name.now) × (contents_at before.now name.now ≡ Some (source_model source.now).contents))) }
+{
+    if is_read_as(before, name, &source.contents) {
+        Ok(Some(Edited::One(Name::from_slice(alloc, name)?)))
+    } else {
+        Ok(None)
+    }
+}
+
+/// Sets what a file of this name holds.
+fn put_in(
+    alloc: Global,
+    name: &[u8],
+    source: Rc<Source>,
+    sources: &mut Sources,
+) -> Result<(), NoMemory>
+    requires { length name.now ≤ 255 }
+    ensures { OnOk result (sources.new ≡ insert_entry name_cmp sources.old name.now (source_model source.value)) }
+{
+    let file = Name::from_slice(alloc, name)?;
+    sources.insert(file, source)
+}
+
+/// The files of these texts, of which one alone is another one than in those that were read. What was read elsewhere of the file with the
+/// same text is shared. Where it is read as before, that it alone may have another text.
+///
+/// # Errors
+///
+/// `NoMemory` where memory was wanted and not given. What is wrong with the file is no error.
+pub(crate) fn sources_renewed(
+    alloc: Global,
+    files: &Files,
+    name: &[u8],
+    other: &Sources,
+    before: Sources,
+) -> Result<(Sources, Option<Edited>), NoMemory>
+    requires other { AreOfTexts other.now }
+    requires before { AreOfTexts before }
+    requires edited { IsEditedAt (texts_of before) name.now files.now }
+    ensures sources { IfOk result (λ r. r.0 ≡ library_of files.now) }
+    ensures edited { IfOk result (λ r. IfSome r.1 (λ edited. HaveSameHeaders before r.0 × HaveTextsBut before r.0 edited)) }
+{
+    let Some(text) = files.get(name) else {
+        unreachable!();
+    };
+    let text = shared_text(alloc, files, name, text)?;
+    let held = held_after(alloc, other, name, &text)?;
+    let (source, _kept) = held;
+    let edited = edited_at(alloc, &before, name, &source)?;
+    let mut sources = before;
+    put_in(alloc, name, source, &mut sources)?;
+    Ok((sources, edited))
+}
