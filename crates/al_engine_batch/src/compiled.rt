@@ -44,7 +44,6 @@ impl Program {
 }
 
 /// What compiling gives.
-#[derive(Drop)]
 pub enum Compiled {
     /// What is wrong with the files, by file, place and number: one thing at least.
     Faulty(Vec<Diagnostic>),
@@ -53,4 +52,15 @@ pub enum Compiled {
     /// The order of elaboration. The image would pass a limit of images.
     TooLarge(Vec<UnitKey>),
     Made(Program),
+}
+
+impl Drop for Compiled {
+    fn drop(self) {
+        match self {
+            Compiled::Faulty(_) => {}
+            Compiled::Unbound(_) => {}
+            Compiled::TooLarge(_) => {}
+            Compiled::Made(_) => {}
+        }
+    }
 }

@@ -16,12 +16,20 @@ use al_unit_graph::Sources;
 use std::alloc::Global;
 
 /// What a build did to what is kept.
-#[derive(Drop)]
 pub struct Rechecked {
     /// The units that were checked, by unit and kind.
     pub checked: Vec<UnitKey>,
     /// How many stored answers were compared, to 2^64-1.
     pub compared: usize,
+}
+
+impl Drop for Rechecked {
+    fn drop(self) {
+        let Rechecked {
+            checked: _,
+            compared: _,
+        } = self;
+    }
 }
 
 /// Brings the units of a library up to date, in an order of dependence. What the last build settled stays as it is.

@@ -20,11 +20,20 @@ use std::alloc::Global;
 use std::rc::Rc;
 
 /// What the predefined units and the units that are reached now answer.
-#[derive(Drop)]
 pub struct Present<'a, P: Answers> {
     pub alloc: Global,
     pub predefined: &'a P,
     pub entries: &'a KeptEntries,
+}
+
+impl<'a, P: Answers> Drop for Present<'a, P> {
+    fn drop(self) {
+        let Present {
+            alloc: _,
+            predefined: _,
+            entries: _,
+        } = self;
+    }
 }
 
 impl<P: Answers> Answers for Present<'_, P> {

@@ -114,10 +114,18 @@ fn check_now<C: UnitCheck, P: Answers>(
 }
 
 /// The units that a build checked, in its order, and how many stored answers it compared.
-#[derive(Drop)]
 pub struct Done {
     pub checked: Seq<UnitKey>,
     pub compared: usize,
+}
+
+impl Drop for Done {
+    fn drop(self) {
+        let Done {
+            checked: _,
+            compared: _,
+        } = self;
+    }
 }
 
 /// Checks a unit anew, where all on which it depends is sound, and holds the entry that is made of it.

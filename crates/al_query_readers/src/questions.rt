@@ -15,9 +15,14 @@ use std::collections::BTreeSet;
 use std::marker::Model;
 
 /// Questions, each with the places of its answers.
-#[derive(Drop)]
 pub struct Questions {
     by_query: IndexMap<Query, BTreeSet<Place>>,
+}
+
+impl Drop for Questions {
+    fn drop(self) {
+        let Questions { by_query: _ } = self;
+    }
 }
 
 impl Model for Questions {

@@ -18,10 +18,15 @@ use std::collections::{BTreeMap, BTreeSet};
 use std::marker::Model;
 
 /// An index from each question to the places where an answer to it is stored. It is ordered by the units that are asked.
-#[derive(Drop)]
 pub struct Readers {
     alloc: Global,
     units: BTreeMap<UnitKey, Questions>,
+}
+
+impl Drop for Readers {
+    fn drop(self) {
+        let Readers { alloc: _, units: _ } = self;
+    }
 }
 
 impl Model for Readers {

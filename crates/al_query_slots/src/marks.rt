@@ -8,10 +8,15 @@ use std::alloc::Global;
 use std::marker::Model;
 
 /// Whether each answer of a log differs: from the answers of the last build, and from those of now.
-#[derive(Drop)]
 pub struct Marks {
     last: Vec<bool>,
     now: Vec<bool>,
+}
+
+impl Drop for Marks {
+    fn drop(self) {
+        let Marks { last: _, now: _ } = self;
+    }
 }
 
 impl Model for Marks {

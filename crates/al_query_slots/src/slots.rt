@@ -20,21 +20,40 @@ use std::alloc::Global;
 use std::marker::Model;
 
 /// An entry with its marks. One that isn't settled was made by a build that hasn't ended.
-#[derive(Drop)]
 pub struct Held<E> {
     pub entry: E,
     pub marks: Marks,
     pub is_settled: bool,
 }
 
+impl<E: Drop> Drop for Held<E> {
+    fn drop(self) {
+        let Held {
+            entry: _,
+            marks: _,
+            is_settled: _,
+        } = self;
+    }
+}
+
 /// Entries by key, with an index from each question to the places of its answers: of all entries' answers, and of no others.
-#[derive(Drop)]
 pub struct Slots<E: Logged> {
     alloc: Global,
     entries: Slab<Held<E>>,
     readers: Readers,
     /// Keys of what may have other marks of now than the last build's.
     touched: Vec<usize>,
+}
+
+impl<E: Logged + Drop> Drop for Slots<E> {
+    fn drop(self) {
+        let Slots {
+            alloc: _,
+            entries: _,
+            readers: _,
+            touched: _,
+        } = self;
+    }
 }
 
 impl<E: Logged> Model for Slots<E> {

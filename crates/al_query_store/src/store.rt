@@ -18,11 +18,20 @@ use std::collections::BTreeMap;
 use std::marker::Model;
 
 /// Entries of units, each with marks for its answers: as the last build settled them, and as a build made them since.
-#[derive(Drop)]
 pub struct Store<E: Logged> {
     alloc: Global,
     pub(crate) cells: BTreeMap<UnitKey, Cell>,
     pub(crate) slots: Slots<E>,
+}
+
+impl<E: Logged + Drop> Drop for Store<E> {
+    fn drop(self) {
+        let Store {
+            alloc: _,
+            cells: _,
+            slots: _,
+        } = self;
+    }
 }
 
 impl<E: Logged> Model for Store<E> {

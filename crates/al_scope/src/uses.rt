@@ -20,12 +20,20 @@ use std::marker::Model;
 use std::rc::Rc;
 
 /// What use clauses say of a package.
-#[derive(Drop)]
 pub struct PackageUse {
     /// Whether one names it (ARM 8.4(3)).
     pub is_named: bool,
     /// The types of it that use type clauses name (ARM 8.4(4)).
     pub types: Seq<Symbol>,
+}
+
+impl Drop for PackageUse {
+    fn drop(self) {
+        let PackageUse {
+            is_named: _,
+            types: _,
+        } = self;
+    }
 }
 
 /// The same symbols once more. Of none it takes no memory.
