@@ -46,6 +46,7 @@ pub struct Region {
 }
 
 /// The code of a unit and what the linker must know of it.
+#[derive(Drop)]
 pub struct Compiled {
     code: Vec<u8>,
     uses: Vec<Relocation>,
@@ -54,20 +55,6 @@ pub struct Compiled {
     tasks: u32,
     protected: Vec<Region>,
     lines: Vec<LineEntry>,
-}
-
-impl Drop for Compiled {
-    fn drop(self) {
-        let Compiled {
-            code: _,
-            uses: _,
-            defines: _,
-            data_words: _,
-            tasks: _,
-            protected: _,
-            lines: _,
-        } = self;
-    }
 }
 
 /// What a unit leaves for the linker.

@@ -24,6 +24,7 @@ use std::alloc::Global;
 use std::marker::Model;
 
 /// An image with all that was linked, which is linked again in its place.
+#[derive(Drop)]
 pub struct Linked {
     alloc: Global,
     main: LinkSymbol,
@@ -33,21 +34,6 @@ pub struct Linked {
     image: Image,
     bytes: Vec<u8>,
     count: usize,
-}
-
-impl Drop for Linked {
-    fn drop(self) {
-        let Linked {
-            alloc: _,
-            main: _,
-            kept: _,
-            places: _,
-            start: _,
-            image: _,
-            bytes: _,
-            count: _,
-        } = self;
-    }
 }
 
 impl Model for Linked {
