@@ -6,6 +6,7 @@ pub mod laws;
 mod rechecking;
 mod renewing;
 mod sorted;
+mod walking;
 
 pub use kept_units::UnitCache;
 pub use rechecking::{Rechecked, recheck};
