@@ -5,7 +5,6 @@ use Rattle.std.specs.Option.{option_map}
 use Rattle.std.proofs.lemmas.Bool.{true≢false}
 use Rattle.al_base.specs.Batch.{Key, key_of}
 use Rattle.al_base.specs.declared.unit_key.UnitKey.{UnitKey}
-use Rattle.al_unit_graph.specs.Dependence.{direct}
 use Rattle.al_unit_graph.specs.Headers.{Header, Library}
 use Rattle.al_unit_order.specs.Reached.{is_faultless}
 use Rattle.al_view.specs.Symbols.{same_unit}
@@ -17,7 +16,7 @@ use Rattle.al_query.proofs.KnownLemmas.{has_unit-first, has_unit-left}
 use Rattle.al_query_outcome.specs.Equations.{IsSetting, Setting, is_reached, is_sound, table, unit_named}
 use Rattle.al_query_outcome.specs.Results.{Outcome}
 use Rattle.al_query_outcome.proofs.Names.{tested}
-use Rattle.al_entries.specs.EntryLaw.{AllKeepLaw, HasCurrent, IsCurrent, KeepsLaw, TextMeaning}
+use Rattle.al_entries.specs.EntryLaw.{HasCurrent, TextMeaning}
 use Rattle.al_entries.specs.Stored.{Stored, outcome_of}
 use Rattle.al_engine_keep.specs.Staying.{is_there}
 use Rattle.al_engine_refresh.specs.Builds.{NeedsCheck, Picked, StandsAfter, has_sound_dependences, left, no_units, results_of, text_of}

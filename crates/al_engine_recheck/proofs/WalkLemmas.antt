@@ -1,9 +1,9 @@
 -- A build in which the unit that alone was edited was checked, and nothing else, over a store.
-use Rattle.std.proofs.Common.{◌≡◌, ◌&&◌, ◌++◌, ◌∙◌, ℕ, Bool, true, false, not, List, [], ◌∷◌, Option, Some, None, append_assoc, append-nil, map, length, refl, sym, ap, subst, is_some, if◌then◌else◌}
+use Rattle.std.proofs.Common.{◌≡◌, ◌&&◌, ◌++◌, ◌∙◌, ℕ, Bool, true, false, not, List, [], ◌∷◌, Option, Some, None, append_assoc, map, length, refl, sym, ap, subst, is_some}
 use Rattle.std.specs.List.{IsDistinct}
 use Rattle.std.specs.Option.{option_map}
 use Rattle.std.proofs.lemmas.Bool.{true≢false}
-use Rattle.al_base.specs.Batch.{Key, key_of}
+use Rattle.al_base.specs.Batch.{key_of}
 use Rattle.al_base.specs.declared.unit_key.UnitKey.{UnitKey}
 use Rattle.al_base_shortage.specs.Counts.{one_more}
 use Rattle.al_unit_graph.specs.Headers.{Header, Library}

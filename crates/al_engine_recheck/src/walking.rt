@@ -51,7 +51,7 @@ pub(crate) fn walk_behind<C: UnitCheck, P: Answers>(
     entries: &mut KeptEntries,
     done: Done,
 ) -> Result<Rechecked, NoMemory>
-    requires checked { (before : Entries) × IsEditedChecked C.meaning C.Text.header (P.table predefined.now) sources.now order.now unit.now before entries.old done.checked }
+    requires { (before : Entries) × IsEditedChecked C.meaning C.Text.header (P.table predefined.now) sources.now order.now unit.now before entries.old done.checked }
     ensures updated { (before : Entries) → IsEditedChecked C.meaning C.Text.header (P.table predefined.now) sources.now order.now unit.now before entries.old done.checked → IsCompared entries.old done.compared → IfOk result (λ r. IsUpdated C.meaning C.Text.header (P.table predefined.now) sources.now before entries.new r.checked.items r.compared) }
     ensures counted { (before : Entries) → IsEditedChecked C.meaning C.Text.header (P.table predefined.now) sources.now order.now unit.now before entries.old done.checked → (n : ℕ) → C.count checker.old ≡ raised n (length done.checked) → IfOk result (λ r. C.count checker.new ≡ raised n (length r.checked.items)) }
     ensures left { IsLeft entries.old entries.new }

@@ -1,5 +1,5 @@
 -- One unit more in a loop over an order, and one check more.
-use Rattle.std.proofs.Common.{◌≡◌, ℕ, ◌+◌, ◌<◌, ◌≤◌, ◌^◌, Bool, List, [], ◌∷◌, ◌++◌, Option, length, length-append, sym, ◌∙◌, ap, subst, take, drop, get_or, add-one, arith}
+use Rattle.std.proofs.Common.{◌≡◌, ℕ, ◌+◌, ◌<◌, ◌^◌, Bool, List, [], ◌∷◌, ◌++◌, Option, length, length-append, sym, ◌∙◌, ap, subst, take, drop, get_or, add-one, arith}
 use Rattle.std.proofs.lemmas.Bool.Decides.{nat_tests}
 use Rattle.al_base.specs.declared.unit_key.UnitKey.{UnitKey}
 use Rattle.al_query.specs.declared.answer.AnswerKind.{AnswerKind}

@@ -78,7 +78,7 @@ module _ (meaning : TextMeaning) (header : List ℕ → Header) (lib : Library) 
   pub next-rest : (store new : Entries) (before order checked more : List UnitKey) (i : ℕ) (u : UnitKey) → i < length order → u ≡ get_or order i u → ((v : UnitKey) → has_unit (before ++ order) v ≡ false → now_at store v ≡ None) → AllKeepLaw meaning header old
       → Progress meaning header lib fl pre is old (within (before ++ take i order) (now_at store)) (before ++ take i order) (drop i order) checked → (count after : ℕ)
       → (has_unit (before ++ take i order) u ≡ false
-          → Handled meaning header u (text_of lib u) (has_sound_dependences lib (results_of (now_at store)) u) (now_table pre store) (old u) (record { at = within (before ++ take i order) (now_at store); checked = checked; count = count }) (record { at = within ((before ++ take i order) ++ u ∷ []) (now_at new); checked = more; count = after }))
+      → Handled meaning header u (text_of lib u) (has_sound_dependences lib (results_of (now_at store)) u) (now_table pre store) (old u) (record { at = within (before ++ take i order) (now_at store); checked = checked; count = count }) (record { at = within ((before ++ take i order) ++ u ∷ []) (now_at new); checked = more; count = after }))
       → Progress meaning header lib fl pre is old (within (before ++ take (i + 1) order) (now_at new)) (before ++ take (i + 1) order) (drop (i + 1) order) more
   next-rest store new before order checked more i u less at out laws p count after handled =
       let done = before ++ take i order in

@@ -66,9 +66,7 @@ pub fn refresh_rest<C: UnitCheck, P: Answers>(
     ensures left { IsLeft entries.old entries.new }
 {
     for unit in rest {
-        refresh_unit(
-            alloc, checker, predefined, sources, unit, entries, done,
-        )?;
+        refresh_unit(alloc, checker, predefined, sources, unit, entries, done)?;
     }
     Ok(())
 }
