@@ -1,4 +1,4 @@
-use Rattle.std.proofs.Common.{◌≡◌, ◌∙◌, ℕ, List, [], Option, None, sym, subst, ap, arith}
+use Rattle.std.proofs.Common.{◌∙◌, ℕ, List, [], Option, None, sym, subst, ap, arith}
 use Rattle.al_base.specs.declared.unit_key.UnitKey.{UnitKey}
 use Rattle.al_query_store.specs.Keyed.{now_at, settled_at}
 use Rattle.al_entries.specs.EntryLaw.{AllKeepLaw}
