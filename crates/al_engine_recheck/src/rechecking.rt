@@ -1,5 +1,5 @@
 // Which units a build checks again.
-ghost use Rattle.std.specs.Prelude.{◌≡◌, IfOk, length};
+ghost use Rattle.std.specs.Prelude.{◌≡◌, false, IfOk, length};
 ghost use Rattle.al_query_store.specs.Keyed.{settled_at};
 ghost use Rattle.al_entries.specs.EntryLaw.{AllKeepLaw};
 ghost use Rattle.al_engine_keep.specs.Moves.{IsLeft};
@@ -21,6 +21,8 @@ pub struct Rechecked {
     pub checked: Vec<UnitKey>,
     /// How many stored answers were compared, to 2^64-1.
     pub compared: usize,
+    /// Whether it is known that one unit alone has another entry than before.
+    pub is_renewal: bool,
 }
 
 impl Drop for Rechecked {
@@ -28,6 +30,7 @@ impl Drop for Rechecked {
         let Rechecked {
             checked: _,
             compared: _,
+            is_renewal: _,
         } = self;
     }
 }
@@ -45,11 +48,16 @@ pub fn recheck<C: UnitCheck, P: Answers>(
     requires ready { AreReady (P.table predefined.now) entries.old }
     requires order { HasOrder C.Text.header (P.table predefined.now) sources.now order.now }
     ensures updated { IfOk result (λ r. IsUpdated C.meaning C.Text.header (P.table predefined.now) sources.now entries.old entries.new r.checked.items r.compared) }
+    ensures whole { IfOk result (λ r. r.is_renewal ≡ false) }
     ensures counted { IfOk result (λ r. C.count checker.new ≡ raised (C.count checker.old) (length r.checked.items)) }
     ensures left { IsLeft entries.old entries.new }
 {
     let done = refresh(alloc, checker, predefined, sources, order, entries)?;
     let Done { checked, compared } = done;
     let checked = in_key_order(alloc, checked.as_slice())?;
-    Ok(Rechecked { checked, compared })
+    Ok(Rechecked {
+        checked,
+        compared,
+        is_renewal: false,
+    })
 }
