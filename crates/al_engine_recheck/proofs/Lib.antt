@@ -7,3 +7,5 @@ pub mod KeptLemmas
 pub mod OrderLemmas
 pub mod RenewLemmas
 pub mod SameLemmas
+mod WalkFrom
+mod WalkLemmas

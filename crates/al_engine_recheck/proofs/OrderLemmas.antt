@@ -46,7 +46,7 @@ distinct-after s rank before (v ∷ rest) after = (apart-after s rank (before ++
     last : (us : List UnitKey) (v : UnitKey) → has_unit (us ++ v ∷ []) v ≡ true
     last us v = list_any-append (same_unit v) us (v ∷ []) ∙ ap (λ (b : Bool). list_any (same_unit v) us || (b || false)) (same_unit-self v) ∙ or_true (list_any (same_unit v) us)
 
-faultless-after : (s : Setting) (rank : UnitKey → ℕ) (before rest : List UnitKey) → StandsAfter s rank before rest → (u : UnitKey) → has_unit rest u ≡ true → s.is_faultless u ≡ true
+pub faultless-after : (s : Setting) (rank : UnitKey → ℕ) (before rest : List UnitKey) → StandsAfter s rank before rest → (u : UnitKey) → has_unit rest u ≡ true → s.is_faultless u ≡ true
 faultless-after s rank before [] after u h = absurd (true≢false (sym h))
 faultless-after s rank before (v ∷ rest) after u h = by (same_unit u v) refl h (faultless-after s rank (before ++ v ∷ []) rest after.3 u)
   where

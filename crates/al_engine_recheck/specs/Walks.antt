@@ -1,9 +1,9 @@
--- A build in which one unit alone was edited, once that unit was checked.
+-- Builds in which the text of one unit was edited, and no header, whether another unit depends on it or not.
 use Rattle.std.specs.Prelude.{◌≡◌, ℕ, List, [], ◌∷◌}
 use Rattle.al_base.specs.declared.unit_key.UnitKey.{UnitKey}
+use Rattle.al_unit_graph.specs.Headers.{Header, Library}
 use Rattle.al_query.specs.declared.answer.AnswerKind.{AnswerKind}
 use Rattle.al_query.specs.declared.query.Query.{Query}
-use Rattle.al_unit_graph.specs.Headers.{Header, Library}
 use Rattle.al_query_store.specs.Changes.{with_made}
 use Rattle.al_query_store.specs.Keyed.{settled_at}
 use Rattle.al_entries.specs.EntryLaw.{IsCurrent, KeepsLaw, TextMeaning}
@@ -14,7 +14,7 @@ use Rattle.al_engine_refresh.specs.Moving.{Turned, now_table}
 use Rattle.al_engine_recheck.specs.Rechecks.{AreAllReached, AreReady, HasOrder}
 use Rattle.al_engine_recheck.specs.Renewals.{IsRenewable}
 
--- the unit that alone was edited was checked under the answers that there were; nothing else was done since the last build
+-- the unit that alone was edited was checked under the answers that there were, and nothing else was done since the last build
 pub record IsEditedChecked (meaning : TextMeaning) (header : List ℕ → Header) (predefined : Query → AnswerKind) (lib : Library) (order : List UnitKey) (unit : UnitKey) (old new : Entries) (checked : List UnitKey) : Type 0 where
   pub ready : AreReady predefined old
   pub reached : AreAllReached old

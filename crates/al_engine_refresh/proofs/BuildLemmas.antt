@@ -14,8 +14,9 @@ use Rattle.al_query_outcome.specs.Results.{Outcome}
 use Rattle.al_query_outcome.proofs.Names.{tested}
 use Rattle.al_entries.specs.EntryLaw.{AllKeepLaw, HasCurrent, IsCurrent, KeepsLaw, TextMeaning}
 use Rattle.al_entries.specs.Stored.{Stored, outcome_of}
-use Rattle.al_engine_refresh.specs.Builds.{IsBuilt, IsOrder, NeedsCheck, Picked, no_units, taken, left, StandsAfter, has_sound_dependences, results_of, setting, text_of, with_texts}
+use Rattle.al_engine_refresh.specs.Builds.{IsBuilt, IsOrder, NeedsCheck, Picked, no_units, taken, left, has_sound_dependences, results_of, setting, text_of, with_texts}
 use Rattle.al_engine_refresh.specs.Handling.{Becomes, Handled, passed, used, rechecked}
+pub use Rattle.al_engine_refresh.specs.Progress.{Fits, Progress}
 use Rattle.al_engine_refresh.proofs.Moves.{SameBelow, Valid, ValidBelow, entry-moves, reached-alike}
 
 -- one unit more at the end
@@ -41,19 +42,13 @@ module _ (meaning : TextMeaning) (header : List ℕ → Header) (lib : Library) 
   abbrev s : Setting
   s = setting header lib fl pre
 
-  -- a map that has the outcomes of the units that are done, and none of those that break a rule
-  abbrev pub Fits : (UnitKey → Option Stored) → List UnitKey → (UnitKey → Option Outcome) → Type 0
-  Fits at done g = (d : UnitKey) → (has_unit done d ≡ true) ⊎ (fl d ≡ false) → g d ≡ results_of at d
+  abbrev Fitting : (UnitKey → Option Stored) → List UnitKey → (UnitKey → Option Outcome) → Type 0
+  Fitting = Fits meaning header lib fl pre is old
 
-  pub record Progress (at : UnitKey → Option Stored) (done rest checked : List UnitKey) : Type 0 where
-    pub law : AllKeepLaw meaning header at
-    pub ordered : StandsAfter s is.rank done rest
-    pub there : (u : UnitKey) → has_unit done u ≡ true → fl u ≡ true
-    pub undone : (u : UnitKey) → has_unit done u ≡ false → at u ≡ None
-    pub valid : (g : UnitKey → Option Outcome) → Fits at done g → (u : UnitKey) → has_unit done u ≡ true → Valid meaning header lib fl pre is at g u
-    pub picked : (g : UnitKey → Option Outcome) → Fits at done g → Picked (NeedsCheck s old (text_of lib) g) done checked
+  abbrev Going : (UnitKey → Option Stored) → List UnitKey → List UnitKey → List UnitKey → Type 0
+  Going = Progress meaning header lib fl pre is old
 
-  pub start : (order : List UnitKey) → IsOrder s is.rank order → Progress (λ u. None) [] order []
+  pub start : (order : List UnitKey) → IsOrder s is.rank order → Going (λ u. None) [] order []
   start order o = record {
     law = λ u e k. absurd (cc);
     ordered = o.after;
@@ -63,7 +58,7 @@ module _ (meaning : TextMeaning) (header : List ℕ → Header) (lib : Library) 
     picked = λ g fits. no_units;
   }
 
-  module _ (at : UnitKey → Option Stored) (done rest checked : List UnitKey) (p : Progress at done rest checked) where
+  module _ (at : UnitKey → Option Stored) (done rest checked : List UnitKey) (p : Going at done rest checked) where
     none-there : (d : UnitKey) → fl d ≡ false → at d ≡ None
     none-there d k =
         elim (tested (has_unit done d)) as (λ _. at d ≡ None) [
@@ -72,20 +67,20 @@ module _ (meaning : TextMeaning) (header : List ℕ → Header) (lib : Library) 
         ]
 
     -- below a unit before which all lower ones are done
-    valid-below : (n : ℕ) → ((d : UnitKey) → fl d ≡ true → is.rank d < n → has_unit done d ≡ true) → (g : UnitKey → Option Outcome) → Fits at done g → ValidBelow meaning header lib fl pre is at n g
+    valid-below : (n : ℕ) → ((d : UnitKey) → fl d ≡ true → is.rank d < n → has_unit done d ≡ true) → (g : UnitKey → Option Outcome) → Fitting at done g → ValidBelow meaning header lib fl pre is at n g
     valid-below n lower g fits = record {
       valid = λ d t less. (p.valid g fits d (lower d t less), fits d (inl (lower d t less)));
       none = λ d t. fits d (inr t) ∙ ap (option_map outcome_of) (none-there d t);
     }
 
-    same-below : (n : ℕ) → ((d : UnitKey) → fl d ≡ true → is.rank d < n → has_unit done d ≡ true) → (f g : UnitKey → Option Outcome) → Fits at done f → Fits at done g → (d : UnitKey) → (fl d ≡ true → is.rank d < n) → f d ≡ g d
+    same-below : (n : ℕ) → ((d : UnitKey) → fl d ≡ true → is.rank d < n → has_unit done d ≡ true) → (f g : UnitKey → Option Outcome) → Fitting at done f → Fitting at done g → (d : UnitKey) → (fl d ≡ true → is.rank d < n) → f d ≡ g d
     same-below n lower f g fits gits d low =
         elim (tested (fl d)) as (λ _. f d ≡ g d) [
           | inl t ↦ fits d (inl (lower d t (low t))) ∙ sym (gits d (inl (lower d t (low t))))
           | inr t ↦ fits d (inr t) ∙ sym (gits d (inr t))
         ]
 
-  module _ (at new : UnitKey → Option Stored) (done rest checked more : List UnitKey) (u : UnitKey) (p : Progress at done (u ∷ rest) checked) (laws : AllKeepLaw meaning header old) where
+  module _ (at new : UnitKey → Option Stored) (done rest checked more : List UnitKey) (u : UnitKey) (p : Going at done (u ∷ rest) checked) (laws : AllKeepLaw meaning header old) where
     f : UnitKey → Option Outcome
     f = results_of at
 
@@ -96,16 +91,16 @@ module _ (meaning : TextMeaning) (header : List ℕ → Header) (lib : Library) 
     apart-faulty : (v : UnitKey) → fl v ≡ false → same_unit u v ≡ false
     apart-faulty v m = elim (tested (same_unit u v)) as (λ _. same_unit u v ≡ false) [ inl k ↦ let n : fl v ≡ true = subst (λ (x : UnitKey). fl x ≡ true) (same_unit-one u v k) p.ordered.1 in absurd (cc) | inr k ↦ k ]
 
-    fits-f : Fits at done f
+    fits-f : Fitting at done f
     unfolding f
     fits-f d m = refl
 
     module _ (others : (v : UnitKey) → same_unit u v ≡ false → new v ≡ at v) where
-      fits-old : (g : UnitKey → Option Outcome) → Fits new (done ++ u ∷ []) g → Fits at done g
+      fits-old : (g : UnitKey → Option Outcome) → Fitting new (done ++ u ∷ []) g → Fitting at done g
       fits-old g fits d (inl m) = fits d (inl (has_unit-left done (u ∷ []) d m)) ∙ ap (option_map outcome_of) (others d (apart-done d m))
       fits-old g fits d (inr m) = fits d (inr m) ∙ ap (option_map outcome_of) (others d (apart-faulty d m))
 
-      module _ (g : UnitKey → Option Outcome) (fits : Fits at done g) where
+      module _ (g : UnitKey → Option Outcome) (fits : Fitting at done g) where
         alike : is_reached s f u ≡ is_reached s g u
         alike = reached-alike meaning header lib fl pre is u f g (same-below at done (u ∷ rest) checked p (is.rank u) p.ordered.2 f g fits-f fits)
 
@@ -127,7 +122,7 @@ module _ (meaning : TextMeaning) (header : List ℕ → Header) (lib : Library) 
         valid-same v same (inr w) = inr (w.0, w.1, same ∙ w.2, w.3)
 
       -- the unit becomes valid, and is picked rightly
-      progress : (Valid_here : (g : UnitKey → Option Outcome) → Fits at done g → Valid meaning header lib fl pre is new g u) → AllKeepLaw meaning header new → ((g : UnitKey → Option Outcome) → Fits at done g → Picked (NeedsCheck s old (text_of lib) g) (done ++ u ∷ []) more) → Progress new (done ++ u ∷ []) rest more
+      progress : (Valid_here : (g : UnitKey → Option Outcome) → Fitting at done g → Valid meaning header lib fl pre is new g u) → AllKeepLaw meaning header new → ((g : UnitKey → Option Outcome) → Fitting at done g → Picked (NeedsCheck s old (text_of lib) g) (done ++ u ∷ []) more) → Going new (done ++ u ∷ []) rest more
       progress here law picks = record {
         law = law;
         ordered = p.ordered.3;
@@ -169,38 +164,38 @@ module _ (meaning : TextMeaning) (header : List ℕ → Header) (lib : Library) 
     abbrev Here : (UnitKey → Option Outcome) → Type 0
     Here g = Valid meaning header lib fl pre is new g u
 
-    pub next : (count after : ℕ) → Handled meaning header u (text_of lib u) (has_sound_dependences lib (results_of at) u) (table s (results_of at)) (old u) (record { at = at; checked = checked; count = count }) (record { at = new; checked = more; count = after }) → Progress new (done ++ u ∷ []) rest more
+    pub next : (count after : ℕ) → Handled meaning header u (text_of lib u) (has_sound_dependences lib (results_of at) u) (table s (results_of at)) (old u) (record { at = at; checked = checked; count = count }) (record { at = new; checked = more; count = after }) → Going new (done ++ u ∷ []) rest more
     unfolding f
     next count after (passed r same c n) =
         progress (λ v k. same v) (λ g fits. inl (unreached g fits, same u ∙ p.undone u p.ordered.0)) (law-same same)
         (λ g fits. subst (λ (l : List UnitKey). Picked (NeedsCheck s old (text_of lib) g) (done ++ u ∷ []) l) (sym c) (picked-left (NeedsCheck s old (text_of lib) g) done checked u (p.picked g fits) (λ w. let t = unreached g fits in let h = w.0 in absurd (cc))))
       where
-        unreached : (g : UnitKey → Option Outcome) → Fits at done g → is_reached s g u ≡ false
+        unreached : (g : UnitKey → Option Outcome) → Fitting at done g → is_reached s g u ≡ false
         unreached g fits = sym (alike (λ v k. same v) g fits) ∙ reached-is (λ v k. same v) g fits ∙ r
     next count after (used r e o cur b c n) =
         progress (others-become e b) (λ g fits. inr (e, reached g fits, here-becomes e b, moved g fits)) (law-becomes e (laws u e o) b)
         (λ g fits. subst (λ (l : List UnitKey). Picked (NeedsCheck s old (text_of lib) g) (done ++ u ∷ []) l) (sym c) (picked-left (NeedsCheck s old (text_of lib) g) done checked u (p.picked g fits) (λ w. w.1 (subst (λ (x : Option Stored). HasCurrent x (text_of lib u) (table s g)) (sym o) (moved g fits)))))
       where
-        now : (g : UnitKey → Option Outcome) → Fits at done g → is_reached s f u ≡ true
+        now : (g : UnitKey → Option Outcome) → Fitting at done g → is_reached s f u ≡ true
         now g fits = reached-is (others-become e b) g fits ∙ r
 
-        reached : (g : UnitKey → Option Outcome) → Fits at done g → is_reached s g u ≡ true
+        reached : (g : UnitKey → Option Outcome) → Fitting at done g → is_reached s g u ≡ true
         reached g fits = sym (alike (others-become e b) g fits) ∙ now g fits
 
-        moved : (g : UnitKey → Option Outcome) → Fits at done g → IsCurrent e (text_of lib u) (table s g)
+        moved : (g : UnitKey → Option Outcome) → Fitting at done g → IsCurrent e (text_of lib u) (table s g)
         moved g fits = forth (others-become e b) g fits e (laws u e o) (now g fits) cur
     next count after (rechecked r no_ e k cur b c n) =
         progress (others-become e b) (λ g fits. inr (e, reached g fits, here-becomes e b, forth (others-become e b) g fits e k (now g fits) cur)) (law-becomes e k b)
         (λ g fits. subst (λ (l : List UnitKey). Picked (NeedsCheck s old (text_of lib) g) (done ++ u ∷ []) l) (sym c) (picked-taken (NeedsCheck s old (text_of lib) g) done checked u (p.picked g fits) (reached g fits, λ w. no_ (back (others-become e b) g fits (old u) (laws u) (reached g fits) w))))
       where
-        now : (g : UnitKey → Option Outcome) → Fits at done g → is_reached s f u ≡ true
+        now : (g : UnitKey → Option Outcome) → Fitting at done g → is_reached s f u ≡ true
         now g fits = reached-is (others-become e b) g fits ∙ r
 
-        reached : (g : UnitKey → Option Outcome) → Fits at done g → is_reached s g u ≡ true
+        reached : (g : UnitKey → Option Outcome) → Fitting at done g → is_reached s g u ≡ true
         reached g fits = sym (alike (others-become e b) g fits) ∙ now g fits
 
     -- the same under the table of another map that has the outcomes of the units that are done
-    module _ (g : UnitKey → Option Outcome) (fits : Fits at done g) where
+    module _ (g : UnitKey → Option Outcome) (fits : Fitting at done g) where
       sound-same : ((v : UnitKey) → same_unit u v ≡ false → new v ≡ at v) → has_sound_dependences lib f u ≡ has_sound_dependences lib g u
       sound-same others = sym (reached-is others g fits) ∙ alike others g fits ∙ rw p.ordered.1 refl
 
@@ -223,12 +218,12 @@ module _ (meaning : TextMeaning) (header : List ℕ → Header) (lib : Library) 
           let others = others-become e b in
           rechecked (sound-same others ∙ r) (λ w. no_ (current-forth others (old u) (laws u) r w)) e k (current-back others e k r cur) b c n
 
-      pub next-by : (count after : ℕ) → Handled meaning header u (text_of lib u) (has_sound_dependences lib g u) (table s g) (old u) (record { at = at; checked = checked; count = count }) (record { at = new; checked = more; count = after }) → Progress new (done ++ u ∷ []) rest more
+      pub next-by : (count after : ℕ) → Handled meaning header u (text_of lib u) (has_sound_dependences lib g u) (table s g) (old u) (record { at = at; checked = checked; count = count }) (record { at = new; checked = more; count = after }) → Going new (done ++ u ∷ []) rest more
       unfolding f
       next-by count after h = next count after (moved-handled count after h)
 
   -- where all units are done the build is what it should be
-  module _ (new : UnitKey → Option Stored) (order checked : List UnitKey) (o : IsOrder s is.rank order) (p : Progress new order [] checked) where
+  module _ (new : UnitKey → Option Stored) (order checked : List UnitKey) (o : IsOrder s is.rank order) (p : Going new order [] checked) where
     abbrev end : UnitKey → Option Outcome
     end = results_of new
 

@@ -1,5 +1,5 @@
 -- One unit more in a loop over an order, and one check more.
-use Rattle.std.proofs.Common.{◌≡◌, ℕ, ◌+◌, ◌<◌, ◌≤◌, ◌^◌, Bool, List, [], ◌∷◌, ◌++◌, Option, length, length-append, sym, ◌∙◌, ap, subst, take, drop, get_or, add-one, arith}
+use Rattle.std.proofs.Common.{◌≡◌, ℕ, ◌+◌, ◌<◌, ◌^◌, Bool, List, [], ◌∷◌, ◌++◌, Option, length, length-append, sym, ◌∙◌, ap, subst, take, drop, get_or, add-one, arith}
 use Rattle.std.proofs.lemmas.Bool.Decides.{nat_tests}
 use Rattle.al_base.specs.declared.unit_key.UnitKey.{UnitKey}
 use Rattle.al_query.specs.declared.answer.AnswerKind.{AnswerKind}
@@ -8,13 +8,9 @@ use Rattle.al_unit_graph.specs.Headers.{Header}
 use Rattle.al_base_shortage.specs.Counts.{one_more}
 use Rattle.al_entries.specs.EntryLaw.{TextMeaning}
 use Rattle.al_entries.specs.Stored.{Stored}
-use Rattle.std.proofs.Math.ListN.{drop_of_length-le}
-use Rattle.std.proofs.lemmas.List.{take_all, take_more}
+use Rattle.std.proofs.lemmas.List.{take_more}
 use Rattle.std.proofs.Math.Seq.{drop-cons}
-use Rattle.al_unit_graph.specs.Headers.{Library}
-use Rattle.al_query_outcome.specs.Equations.{IsSetting}
-use Rattle.al_engine_refresh.specs.Builds.{IsBuilt, IsOrder, raised, setting}
-use Rattle.al_engine_refresh.proofs.BuildLemmas.{Progress, finish}
+use Rattle.al_engine_refresh.specs.Builds.{raised}
 use Rattle.al_engine_refresh.specs.Handling.{Handled, passed, used, rechecked, SoFar}
 
 one_more-raised : (n k : ℕ) → one_more (raised n k) ≡ raised n (k + 1)
@@ -39,12 +35,6 @@ rest-at order i unit h is =
 pub done-at : (order : List UnitKey) (i : ℕ) (unit : UnitKey) → i < length order → unit ≡ get_or order i unit → take (i + 1) order ≡ take i order ++ unit ∷ []
 done-at order i unit h is = take_more order i unit h ∙ ap (λ (x : UnitKey). take i order ++ x ∷ []) (sym is)
 
--- an order that is done
-pub loop-end : (meaning : TextMeaning) (header : List ℕ → Header) (lib : Library) (fl : UnitKey → Bool) (pre : Query → AnswerKind) (is : IsSetting (setting header lib fl pre)) (old at : UnitKey → Option Stored) (order checked : List UnitKey) (i : ℕ) → length order ≤ i → IsOrder (setting header lib fl pre) is.rank order → Progress meaning header lib fl pre is old at (take i order) (drop i order) checked → IsBuilt meaning header (setting header lib fl pre) old at order checked
-loop-end meaning header lib fl pre is old at order checked i h o p =
-    finish meaning header lib fl pre is old at order checked o
-    (subst (λ (l : List UnitKey). Progress meaning header lib fl pre is old at order l checked) (drop_of_length-le order h)
-    (subst (λ (l : List UnitKey). Progress meaning header lib fl pre is old at l (drop i order) checked) (take_all i order h) p))
-
+-- before the first check
 pub count-start : (n b : ℕ) (checked : List UnitKey) → b ≡ n → b < 2 ^ 64 → checked ≡ [] → n ≡ raised n (length checked)
 count-start n b checked e h c = raised-none n (subst (λ (x : ℕ). x < 2 ^ 64) e h) ∙ ap (λ (l : List UnitKey). raised n (length l)) (sym c)

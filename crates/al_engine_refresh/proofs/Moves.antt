@@ -17,9 +17,10 @@ use Rattle.al_query_outcome.proofs.Members.{all-same}
 use Rattle.al_query_outcome.proofs.Names.{tested}
 use Rattle.al_query_outcome.proofs.Near.{Fine, itself, depended, missing, Near, log-moves}
 use Rattle.al_query_outcome.proofs.Only.{closed-below, knows, learns, near-depended, others-not, outcome-none}
-use Rattle.al_entries.specs.EntryLaw.{AllKeepLaw, IsCurrent, KeepsLaw, TextMeaning}
+use Rattle.al_entries.specs.EntryLaw.{AllKeepLaw, KeepsLaw, TextMeaning}
 use Rattle.al_entries.specs.Stored.{Stored, outcome_of}
 use Rattle.al_engine_refresh.specs.Builds.{results_of, setting, text_of}
+pub use Rattle.al_engine_refresh.specs.Progress.{Valid}
 use Rattle.al_engine_refresh.proofs.Kept.{current-kept, kept, kept-keeps}
 
 module _ (meaning : TextMeaning) (header : List ℕ → Header) (lib : Library) (fl : UnitKey → Bool) (pre : Query → AnswerKind) (is : IsSetting (setting header lib fl pre)) where
@@ -33,13 +34,12 @@ module _ (meaning : TextMeaning) (header : List ℕ → Header) (lib : Library) 
   abbrev pub SameBelow : ℕ → (UnitKey → Option Outcome) → (UnitKey → Option Outcome) → Type 0
   SameBelow n f g = (d : UnitKey) → Lower n d → f d ≡ g d
 
-  -- a unit's entry under a map: none where it isn't reached, and one that may be used where it is
-  abbrev pub Valid : (UnitKey → Option Stored) → (UnitKey → Option Outcome) → UnitKey → Type 0
-  Valid at f u = ((is_reached S f u ≡ false) × (at u ≡ None)) ⊎ ((e : Stored) × (is_reached S f u ≡ true) × (at u ≡ Some e) × IsCurrent e (text_of lib u) (table S f))
+  abbrev IsValid : (UnitKey → Option Stored) → (UnitKey → Option Outcome) → UnitKey → Type 0
+  IsValid = Valid meaning header lib fl pre is
 
   -- a map that gives the outcomes of entries that are valid under it, below a rank
   pub record ValidBelow (at : UnitKey → Option Stored) (n : ℕ) (f : UnitKey → Option Outcome) : Type 0 where
-    pub valid : (d : UnitKey) → fl d ≡ true → is.rank d < n → Valid at f d × (f d ≡ results_of at d)
+    pub valid : (d : UnitKey) → fl d ≡ true → is.rank d < n → IsValid at f d × (f d ≡ results_of at d)
     pub none : (d : UnitKey) → fl d ≡ false → f d ≡ None
 
   -- where all on which a unit depends is the same, it is reached alike
@@ -58,7 +58,7 @@ module _ (meaning : TextMeaning) (header : List ℕ → Header) (lib : Library) 
     keeps : KeepsReads M S.header_of
     keeps = kept-keeps meaning header at (text_of lib) law
 
-    valid-outcome : (f : UnitKey → Option Outcome) (u : UnitKey) → Valid at f u → results_of at u ≡ outcome M S f u
+    valid-outcome : (f : UnitKey → Option Outcome) (u : UnitKey) → IsValid at f u → results_of at u ≡ outcome M S f u
     valid-outcome f u (inl v) = ap (option_map outcome_of) v.1 ∙ sym (rw v.0 refl)
     valid-outcome f u (inr v) =
         let one : outcome M S f u ≡ Some (M u (table S f)) = rw v.1 refl in

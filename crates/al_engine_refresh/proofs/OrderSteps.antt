@@ -7,11 +7,10 @@ use Rattle.al_base.specs.declared.unit_key.UnitKey.{UnitKey}
 use Rattle.al_view.specs.Symbols.{same_unit}
 use Rattle.al_view.proofs.SymbolLemmas.{same_unit-one}
 use Rattle.al_query.specs.Known.{has_unit}
-use Rattle.al_query_store.specs.Keyed.{State, base_state, state}
-use Rattle.al_entries.specs.Stored.{Stored}
+use Rattle.al_query_store.specs.Keyed.{base_state, now_at, state}
 use Rattle.al_engine_keep.specs.Moves.{Entries, has_moved}
 use Rattle.al_engine_refresh.proofs.Comparing.{moved-same}
-use Rattle.al_engine_refresh.proofs.Following.{turned-unit}
+use Rattle.al_engine_refresh.proofs.Following.{now-same, turned-unit}
 
 -- a unit of the rest is another one
 pub rest-apart : (unit : UnitKey) (rest : List UnitKey) → IsDistinct same_unit (unit ∷ rest) → (u : UnitKey) → has_unit rest u ≡ true → same_unit unit u ≡ false
@@ -31,9 +30,9 @@ module _ (unit : UnitKey) (old new : Entries) (others : (u : UnitKey) → same_u
   pub moved-left : (u : UnitKey) → same_unit unit u ≡ false → has_moved new u ≡ has_moved old u
   moved-left u e = moved-same (state new u) (state old u) (others u e)
 
-  -- who is out of the order isn't reached still
-  pub out-left : (u : UnitKey) → same_unit unit u ≡ false → (state old u).is_reached ≡ false → (state new u).is_reached ≡ false
-  out-left u e f = ap (λ (s : State Stored). s.is_reached) (others u e) ∙ f
+  -- and has the entries of now that it had
+  pub now-left : (u : UnitKey) → same_unit unit u ≡ false → now_at new u ≡ now_at old u
+  now-left u e = now-same (state new u) (state old u) (others u e)
 
 -- a list with each unit once, from one of them on
 pub distinct-from : (before : List UnitKey) (unit : UnitKey) (rest : List UnitKey) → IsDistinct same_unit (before ++ unit ∷ rest) → (has_unit before unit ≡ false) × IsDistinct same_unit (unit ∷ rest)
@@ -50,6 +49,15 @@ distinct-from (v ∷ before) unit rest once =
 -- whether a list has a unit, by two parts of it
 pub in-parts : (order before after : List UnitKey) → order ≡ before ++ after → (u : UnitKey) → has_unit order u ≡ (has_unit before u || has_unit after u)
 in-parts order before after is u = ap (λ (us : List UnitKey). has_unit us u) is ∙ list_any-append (same_unit u) before after
+
+-- what isn't in a list isn't in its end
+pub not-after : (before after : List UnitKey) (u : UnitKey) → has_unit (before ++ after) u ≡ false → has_unit after u ≡ false
+not-after [] after u h = h
+not-after (v ∷ before) after u h = by (same_unit u v) h (not-after before after u)
+  where
+    by : (b : Bool) → (b || has_unit (before ++ after) u) ≡ false → (has_unit (before ++ after) u ≡ false → has_unit after u ≡ false) → has_unit after u ≡ false
+    by true k later = absurd (true≢false k)
+    by false k later = later k
 
 -- who isn't in an order is none of its units
 pub not-unit : (before rest : List UnitKey) (unit u : UnitKey) → (has_unit before u || has_unit (unit ∷ rest) u) ≡ false → same_unit unit u ≡ false

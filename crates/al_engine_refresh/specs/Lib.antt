@@ -1,3 +1,4 @@
 pub mod Builds
 pub mod Handling
 pub mod Moving
+pub mod Progress

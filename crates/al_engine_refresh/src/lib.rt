@@ -9,5 +9,5 @@ mod unit;
 
 pub use leaving::leave_out;
 pub use present::{Present, has_sound, text_of};
-pub use refreshed::{begun, refresh};
+pub use refreshed::{begun, refresh, refresh_rest};
 pub use unit::{Done, check_anew};

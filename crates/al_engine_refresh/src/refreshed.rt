@@ -1,5 +1,5 @@
 // The units of a build in the order of dependence.
-ghost use Rattle.std.specs.Prelude.{◌≡◌, [], Bool, true, IfOk, OnOk, length};
+ghost use Rattle.std.specs.Prelude.{◌≡◌, ◌++◌, [], ℕ, Bool, true, false, IfOk, List, None, OnOk, length};
 ghost use Rattle.std.specs.List.{IsDistinct};
 ghost use Rattle.al_base.specs.declared.unit_key.UnitKey.{UnitKey};
 ghost use Rattle.al_view.specs.Symbols.{same_unit};
@@ -7,10 +7,12 @@ ghost use Rattle.al_query.specs.Known.{has_unit};
 ghost use Rattle.al_query_outcome.specs.Equations.{IsSetting};
 ghost use Rattle.al_query_store.specs.Keyed.{now_at, settled_at};
 ghost use Rattle.al_entries.specs.EntryLaw.{AllKeepLaw};
-ghost use Rattle.al_engine_keep.specs.Moves.{AreQuiet, IsLeft};
+ghost use Rattle.al_engine_keep.specs.Moves.{AreQuiet, IsLeft, has_moved};
 ghost use Rattle.al_engine_keep.specs.Staying.{is_there};
 ghost use Rattle.al_engine_refresh.specs.Builds.{IsBuilt, IsOrder, raised, setting};
+ghost use Rattle.al_engine_refresh.specs.Handling.{within};
 ghost use Rattle.al_engine_refresh.specs.Moving.{IsCompared, IsSteady, MarksFollow};
+ghost use Rattle.al_engine_refresh.specs.Progress.{Progress};
 
 use crate::leaving::leave_out;
 use crate::unit::{Done, refresh_unit};
@@ -30,6 +32,43 @@ pub fn begun(alloc: Global) -> Done
         checked: Seq::empty(alloc),
         compared: 0,
     }
+}
+
+/// Brings those units of a library up to date that stand behind others in an order of dependence, where these are done. Of a unit that is
+/// reached, the settled entry is used again where its text and all answers are as they were; else the unit is checked, and an entry is made
+/// of it. What is settled stays as it is.
+/// - `built`: where the units that are done are as a build of the whole order leaves them, all are so.
+/// - `counted`: so many checks were made, if so many were before.
+/// - `marks`: the marks of now say which stored answers differ from those of now.
+/// - `compared`: so many stored answers were compared: those to questions of units that moved.
+/// - `steady`: an entry was made of each unit that was checked, and of no other; who isn't in the library leaves.
+///
+/// # Errors
+///
+/// `NoMemory` where memory was wanted and not given. Some of the units may be up to date then.
+pub fn refresh_rest<C: UnitCheck, P: Answers>(
+    alloc: Global,
+    checker: &mut C,
+    predefined: &P,
+    sources: &Sources,
+    rest: &[UnitKey],
+    entries: &mut KeptEntries,
+    done: &mut Done,
+) -> Result<(), NoMemory>
+    requires marks { MarksFollow (P.table predefined.now) entries.old }
+    requires once { IsDistinct same_unit rest.now }
+    requires unmoved { (u : UnitKey) → has_unit rest.now u ≡ true → has_moved entries.old u ≡ false }
+    ensures built { (before : List UnitKey) (is_faultless : UnitKey → Bool) → let s = setting C.Text.header sources.now is_faultless (P.table predefined.now) in (is : IsSetting s) → IsOrder s is.rank (before ++ rest.now) → AllKeepLaw C.meaning C.Text.header (settled_at entries.old) → Progress C.meaning C.Text.header sources.now is_faultless (P.table predefined.now) is (settled_at entries.old) (within before (now_at entries.old)) before rest.now done.old.checked → ((u : UnitKey) → has_unit (before ++ rest.now) u ≡ false → now_at entries.old u ≡ None) → OnOk result (IsBuilt C.meaning C.Text.header s (settled_at entries.old) (now_at entries.new) (before ++ rest.now) done.new.checked) }
+    ensures counted { (n : ℕ) → C.count checker.old ≡ raised n (length done.old.checked) → OnOk result (C.count checker.new ≡ raised n (length done.new.checked)) }
+    ensures marks { OnOk result (MarksFollow (P.table predefined.now) entries.new) }
+    ensures compared { IsCompared entries.old done.old.compared → OnOk result (IsCompared entries.new done.new.compared) }
+    ensures steady { IsSteady sources.now done.old.checked entries.old → OnOk result (IsSteady sources.now done.new.checked entries.new) }
+    ensures left { IsLeft entries.old entries.new }
+{
+    for unit in rest {
+        refresh_unit(alloc, checker, predefined, sources, unit, entries, done)?;
+    }
+    Ok(())
 }
 
 /// Brings the units of a library up to date, in an order of dependence. Of a unit that is reached, the settled entry is used again where
@@ -69,10 +108,8 @@ pub fn refresh<C: UnitCheck, P: Answers>(
         entries,
         &mut done.compared,
     )?;
-    for unit in order {
-        refresh_unit(
-            alloc, checker, predefined, sources, unit, entries, &mut done,
-        )?;
-    }
+    refresh_rest(
+        alloc, checker, predefined, sources, order, entries, &mut done,
+    )?;
     Ok(done)
 }
