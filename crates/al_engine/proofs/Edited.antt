@@ -136,7 +136,7 @@ there-of : (lib : Library) (key : Key) → is_faultless lib key ≡ true → is_
 unfolding is_faultless
 there-of lib key is = (both (is_unit lib key) _ is).0
 
-module _ (old new : Library) (graph : UnitGraph) (entries : UnitKey → Option Stored) (edited : Edited) (u : UnitKey) (one : HaveOneGraph old new) (of_old : IsGraphOf old graph) (texts : HaveTextsBut old new edited) (holds : (w : UnitKey) → is_unit new (key_of w) ≡ true → may_differ edited (file_name_of (key_of w)) → u ≡ w) (other : (e : Stored) × (entries u ≡ Some e) × (e.text ≡ text_of new u → ⊥)) where
+module _ (old new : Library) (entries : UnitKey → Option Stored) (edited : Edited) (u : UnitKey) (one : HaveOneGraph old new) (texts : HaveTextsBut old new edited) (holds : (w : UnitKey) → is_unit new (key_of w) ≡ true → may_differ edited (file_name_of (key_of w)) → u ≡ w) (other : (e : Stored) × (entries u ≡ Some e) × (e.text ≡ text_of new u → ⊥)) where
   pub edited-alone : IsEditedAlone old new entries u
   edited-alone = record {
     units = one.units;
@@ -153,3 +153,12 @@ base-of-none old new graph u one of_old base w t c =
     let has : is_some (at_unit graph.bases u) ≡ true = of_old.bases (key_of w) (key_of u) (one.faultless (key_of w) ∙ t) (subst (λ (ks : List Key). Contains ks (key_of u)) (sym (one.dependences (key_of w))) c) in
     let none : is_some (at_unit graph.bases u) ≡ false = ap is_some base in
     absurd (cc)
+
+-- what follows for each holds of the one that there is
+pub for-any : {X : Type 0} (o : Option X) (Q : X → Type 0) → ((x : X) → Q x) → IfSome o Q
+for-any None Q f = tt
+for-any (Some x) Q f = f x
+
+pub for-one : {X : Type 0} (o : Option X) (A B C Q : X → Type 0) → IfSome o A → IfSome o B → IfSome o C → ((x : X) → A x → B x → C x → Q x) → IfSome o Q
+for-one None A B C Q a b c f = tt
+for-one (Some x) A B C Q a b c f = f x a b c

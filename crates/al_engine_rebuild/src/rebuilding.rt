@@ -12,7 +12,7 @@ ghost use Rattle.al_unit_order.specs.Read.{AreHeaded, NameParentBodies};
 ghost use Rattle.al_query.specs.declared.answer.AnswerKind.{AnswerKind};
 ghost use Rattle.al_query.specs.declared.query.Query.{Query};
 ghost use Rattle.al_query_outcome.specs.Equations.{is_sound};
-ghost use Rattle.al_entries.specs.EntryLaw.{AllKeepLaw, TextMeaning};
+ghost use Rattle.al_entries.specs.EntryLaw.{AllKeepLaw};
 ghost use Rattle.al_query_store.specs.Keyed.{now_at, settled_at};
 ghost use Rattle.al_engine_keep.specs.Moves.{Entries, IsLeft};
 ghost use Rattle.al_engine_graph.specs.Kept.{IsGraphOf};

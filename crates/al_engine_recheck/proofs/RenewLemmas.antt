@@ -27,6 +27,8 @@ use Rattle.al_engine_refresh.specs.Moving.{AreLeaving, AreMade, IsCompared, Turn
 use Rattle.al_engine_refresh.proofs.HandleTurned.{here-now, others-now}
 use Rattle.al_engine_recheck.specs.Rechecks.{AreAllReached, AreReady, HasOrder, IsRechecked, IsUpdated, setting_of}
 use Rattle.al_engine_recheck.specs.Renewals.{AgreeWith, IsBaseOfNone, IsRenewable, IsRenewal, with_entry}
+use Rattle.al_engine_recheck.specs.Walks.{IsEditedChecked}
+use Rattle.al_engine_recheck.specs.declared.edited.EditedUnit.{EditedUnit}
 use Rattle.al_engine_recheck.proofs.OrderLemmas.{marks-ready, reached-alike}
 use Rattle.al_engine_recheck.proofs.Renewals.{made-as, renewal-of, renewals_are_rechecked, unread_are_rechecked}
 use Rattle.al_engine_recheck.proofs.StayLemmas.{will-stay}
@@ -204,3 +206,21 @@ module _ (meaning : TextMeaning) (header : List ℕ → Header) (pre : Query →
     are_made = made;
     leaving = leaving;
   }
+
+-- over what is known once the edited unit was checked
+module _ (meaning : TextMeaning) (header : List ℕ → Header) (pre : Query → AnswerKind) (lib : Library) (order : List UnitKey) (edited : EditedUnit) (old new : Entries) (checked : List UnitKey) (k : IsEditedChecked meaning header pre lib order edited.unit old new checked) where
+  -- no other unit is reached by what it answers otherwise
+  abbrev Unread : Bool → Type 0
+  Unread was = (edited.is_base ≡ false) ⊎ ((is_sound (results_of (now_at new) edited.unit) ≡ was) × AreMarkedAsBefore new)
+
+  pub renewed-so : (was : Bool) → was ≡ is_sound (results_of (now_at old) edited.unit) → (edited.is_base ≡ false → IsBaseOfNone lib edited.unit) → Unread was → IsRechecked meaning header (setting_of header pre lib) (settled_at old) (now_at new) (edited.unit ∷ [])
+  renewed-so was is none (inl base) = renewed-alone meaning header pre lib order edited.unit old new k.made.0 k.ready k.reached k.ordered k.renewable k.made.1 k.made.2 k.made.3 k.left (none base)
+  renewed-so was is none (inr both) = renewed-unread meaning header pre lib order edited.unit old new k.made.0 k.ready k.reached k.ordered k.renewable k.made.1 k.made.2 k.made.3 k.left both.1 (both.0 ∙ is)
+
+  pub updated-so : (units : List UnitKey) → units ≡ edited.unit ∷ [] → IsRechecked meaning header (setting_of header pre lib) (settled_at old) (now_at new) (edited.unit ∷ []) → (compared : ℕ) → IsCompared new compared → IsUpdated meaning header pre lib old new units compared
+  updated-so units is rechecked compared counted =
+      subst (λ (us : List UnitKey). IsUpdated meaning header pre lib old new us compared) (sym is)
+      (renew-updated meaning header pre lib order edited.unit old new k.made.0 k.ready k.reached k.ordered k.renewable k.made.1 k.made.2 k.made.3 k.left rechecked compared counted)
+
+  pub renewal-so : IsRenewal (settled_at old) edited.unit (now_at new)
+  renewal-so = renewal meaning header pre lib order edited.unit old new k.made.0 k.ready k.reached k.ordered k.renewable k.made.1 k.made.2 k.made.3 k.left

@@ -1,5 +1,5 @@
 // What is kept from build to build.
-ghost use Rattle.std.specs.Prelude.{◌≡◌, [], Some, IfOk, IfSome, IsTrue, OnErr, OnOk, length};
+ghost use Rattle.std.specs.Prelude.{◌≡◌, [], Some, IfOk, IfSome, IsTrue, OnOk, length};
 ghost use Rattle.al_base.specs.declared.unit_key.UnitKey.{UnitKey};
 ghost use Rattle.al_query_store.specs.Keyed.{kept_state, now_at, settled_at, settled_state, state};
 ghost use Rattle.al_entries.specs.EntryLaw.{AllKeepLaw};

@@ -1,5 +1,5 @@
 // A build in which one unit alone was edited.
-ghost use Rattle.std.specs.Prelude.{◌≡◌, ◌⊎◌, ◌∷◌, [], false, IfOk, IfSome, IsTrue, OnOk, length};
+ghost use Rattle.std.specs.Prelude.{◌≡◌, ◌⊎◌, ◌∷◌, [], false, IfOk, IfSome, IsTrue, length};
 ghost use Rattle.al_base.specs.declared.unit_key.UnitKey.{UnitKey};
 ghost use Rattle.al_query_outcome.specs.Equations.{is_sound};
 ghost use Rattle.al_query_store.specs.Changes.{AreMarkedAsBefore};
