@@ -35,7 +35,7 @@ use al_engine_check::check_library;
 use al_engine_closed::laws::partitions_are_closed;
 use al_engine_graph::UnitGraph;
 use al_engine_keep::KeptEntries;
-use al_engine_recheck::{Rechecked, UnitCache};
+use al_engine_recheck::UnitCache;
 use al_engine_refresh::has_sound;
 use al_query::Answers;
 use al_query_check::UnitCheck;
@@ -204,7 +204,7 @@ pub fn prepare<C: UnitCheck, P: Answers>(
 {
     partitions_are_closed();
     let given = check_library(cache, predefined, sources, graph, edited)?;
-    let Rechecked { checked, compared } = given;
+    let (checked, compared) = given.into_parts();
     let faults = graph.faults.as_slice();
     let entries = cache.entries();
     let planned = plan_now(alloc, sources, entries, faults, main, known, edited, before)?;
