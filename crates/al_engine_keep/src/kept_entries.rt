@@ -1,5 +1,5 @@
 // Entries of units while a build goes on.
-ghost use Rattle.std.specs.Prelude.{◌≡◌, [], true, IfOk, OnErr, OnOk, None, is_some};
+ghost use Rattle.std.specs.Prelude.{◌≡◌, [], true, IfOk, IsTrue, OnErr, OnOk, None, is_some};
 ghost use Rattle.std.specs.Map.{keys_of};
 ghost use Rattle.std.specs.Option.{option_copied};
 ghost use Rattle.al_base.specs.declared.unit_key.UnitKey.{UnitKey};
@@ -7,7 +7,7 @@ ghost use Rattle.al_view.specs.Symbols.{same_unit};
 ghost use Rattle.al_unit_map.specs.Units.{at_unit};
 ghost use Rattle.al_entries.specs.Stored.{log_of};
 ghost use Rattle.al_engine_keep.specs.Moves.{has_moved};
-ghost use Rattle.al_query_store.specs.Changes.{ComparesUnit, HasAnswers, with_made};
+ghost use Rattle.al_query_store.specs.Changes.{AreMarkedAsBefore, ComparesUnit, HasAnswers, with_made};
 ghost use Rattle.al_query_store.specs.Keyed.{Changes, SameStates, base_state, cancelled_state, kept_state, leaving, now_at, settled_state, state, with_reached};
 
 use al_base::{NoMemory, UnitKey};
@@ -164,6 +164,13 @@ impl KeptEntries {
         ensures base { (u : UnitKey) → base_state (state self.new u) ≡ base_state (state self.old u) }
     {
         self.store.mark(unit, asked)
+    }
+
+    /// Whether it is known that no mark of now of a settled entry is another one than the last build's. It takes no memory.
+    pub fn is_untouched(&self) -> bool
+        ensures { IsTrue result → AreMarkedAsBefore self.now }
+    {
+        self.store.is_untouched()
     }
 
     /// A build has answered: what it made is settled, what it reached is what the last build reached, who leaves is gone, and its marks are

@@ -19,10 +19,9 @@ use Rattle.al_query_readers.proofs.ReadLemmas.{ByUnit}
 use Rattle.al_view.proofs.SymbolLemmas.{same_unit-one}
 use Rattle.al_query.specs.Queries.{same_query, unit_of}
 use Rattle.al_query.specs.QueryLaws.{same_query-self}
-use Rattle.al_query_slots.specs.Marked.{Marked}
-use Rattle.al_query_slots.specs.Stored.{AreSized, AreUntouched, IsIndexed, SameBase, base, in_log, is_stored}
+use Rattle.al_query_slots.specs.Stored.{AreSized, AreUntouched, IsIndexed, SameBase, base, in_log, is_stored, with_mark}
 use Rattle.al_query_slots.specs.declared.slots.Held.{Held}
-use Rattle.al_query_slots.specs.Marking.{IsMarked, IsSized, MarksAt, Tells, answer_at, answer_in, is_of, mark_at, mark_in}
+use Rattle.al_query_slots.specs.Marking.{Differs, IsMarked, IsSized, Tells, answer_at, answer_in, is_of, mark_at, mark_in}
 
 get_same : (xs : List Bool) (i : ℕ) (b : Bool) → i < length xs → slice_get (slice_set xs i b) i ≡ Some b
 get_same xs i b h =
@@ -77,56 +76,89 @@ settled_is : (u : UnitKey) (b : Bool) (o : Option (Query × AnswerKind)) → is_
 settled_is u true o h = h
 settled_is u false o h = absurd (true≢false (sym h))
 
+-- where there is an answer to a unit's question
+stored_at : (u : UnitKey) (o : Option (Query × AnswerKind)) → is_of u o ≡ true → (e : Query × AnswerKind) × (o ≡ Some e)
+stored_at u None h = absurd (true≢false (sym h))
+stored_at u (Some e) h = (e, refl)
+
 module _ {E : Type 0} (log : E → List (Query × AnswerKind)) (t : Query → AnswerKind) (u : UnitKey) where
-  module _ (s : Slab (Held E)) (h g : Held E) (r : Place) (did : Bool) (sized : IsSized log s) (there : get s r.entry ≡ Some h) (m : MarksAt t u (answer_in log (Some h) r.at) r.at h.marks.now g.marks.now did) where
+  module _ (s : Slab (Held E)) (r : Place) where
+    -- a place that isn't of the unit
+    pub other_marked : is_of u (answer_at log s r) ≡ false → IsMarked log t (λ p. is_of u (answer_at log s p) && same_place p r) s s
+    other_marked out = record {
+      told = λ p e test at. absurd (never p (and_parts (is_of u (answer_at log s p)) (same_place p r) test));
+      left = λ p test. refl;
+    }
+      where
+        never : (p : Place) → (is_of u (answer_at log s p) ≡ true) × (same_place p r ≡ true) → ⊥
+        never p parts =
+            let one : p ≡ r = place_one p r parts.1 in
+            true≢false (sym parts.0 ∙ ap (λ (x : Place). is_of u (answer_at log s x)) one ∙ out)
+
+    -- an answer that has its mark already
+    pub same_marked : (h : Held E) (d : Bool) → get s r.entry ≡ Some h → Differs t u (answer_in log (Some h) r.at) (Some d) → slice_get h.marks.now r.at ≡ Some d → IsMarked log t (λ p. is_of u (answer_at log s p) && same_place p r) s s
+    same_marked h d there is mark = record {
+      told = λ p e test at. tells p e (and_parts (is_of u (answer_at log s p)) (same_place p r) test) at;
+      left = λ p test. refl;
+    }
+      where
+        told : (e : Query × AnswerKind) → answer_at log s r ≡ Some e → (differs : Bool) × (mark_at s r ≡ Some differs) × Tells t e differs
+        told e at = (d, ap (λ (o : Option (Held E)). mark_in o r.at) there ∙ mark, is.1 e (sym (ap (λ (o : Option (Held E)). answer_in log o r.at) there) ∙ at))
+
+        tells : (p : Place) (e : Query × AnswerKind) → (is_of u (answer_at log s p) ≡ true) × (same_place p r ≡ true) → answer_at log s p ≡ Some e → (differs : Bool) × (mark_at s p ≡ Some differs) × Tells t e differs
+        tells p e parts at = subst (λ (x : Place). answer_at log s x ≡ Some e → (differs : Bool) × (mark_at s x ≡ Some differs) × Tells t e differs) (sym (place_one p r parts.1)) (told e) at
+
+  module _ (s : Slab (Held E)) (h : Held E) (r : Place) (d : Bool) (sized : IsSized log s) (there : get s r.entry ≡ Some h) (is : Differs t u (answer_in log (Some h) r.at) (Some d)) where
     abbrev new : Slab (Held E)
-    new = with_value s r.entry g
+    new = with_value s r.entry (with_mark h r.at d)
 
     answer : answer_at log s r ≡ answer_in log (Some h) r.at
     answer = ap (λ (o : Option (Held E)). answer_in log o r.at) there
 
-    told : (e : Query × AnswerKind) → is_of u (answer_at log s r) ≡ true → answer_at log s r ≡ Some e → (differs : Bool) × (mark_at new r ≡ Some differs) × Tells t e differs
-    told e is at =
-        let yes : did ≡ true = m.did_is ∙ ap (is_of u) (sym answer) ∙ is in
-        let this : answer_in log (Some h) r.at ≡ Some e = sym answer ∙ at in
-        let stored : slice_get (log h.entry) r.at ≡ Some e = in_settled h.is_settled (slice_get (log h.entry) r.at) e this in
-        let room : r.at < length h.marks.now = rw ((sized r.entry h there).now) (slice_get_within (log h.entry) r.at e stored) in
-        let marks : g.marks.now ≡ slice_set h.marks.now r.at m.differs = m.marks ∙ ap (λ (b : Bool). if b then slice_set h.marks.now r.at m.differs else h.marks.now) yes in
-        (m.differs, ap (λ (o : Option (Held E)). mark_in o r.at) (get-written s r.entry h g there) ∙ ap (λ (l : List Bool). slice_get l r.at) marks ∙ get_same h.marks.now r.at m.differs room, m.tells e this yes)
+    room : r.at < length h.marks.now
+    room =
+        let e = stored_at u (answer_in log (Some h) r.at) is.0 in
+        let stored : slice_get (log h.entry) r.at ≡ Some e.0 = in_settled h.is_settled (slice_get (log h.entry) r.at) e.0 e.1 in
+        rw ((sized r.entry h there).now) (slice_get_within (log h.entry) r.at e.0 stored)
+
+    -- there is such a mark
+    pub room_there : (g : Held E) → get s r.entry ≡ Some g → r.at < length g.marks.now
+    room_there g at =
+        let same : Some h ≡ Some g = sym there ∙ at in
+        let one : h ≡ g = cc in
+        subst (λ (x : Held E). r.at < length x.marks.now) one room
+
+    told : (e : Query × AnswerKind) → answer_at log s r ≡ Some e → (differs : Bool) × (mark_at new r ≡ Some differs) × Tells t e differs
+    told e at = (d, ap (λ (o : Option (Held E)). mark_in o r.at) (get-written s r.entry h (with_mark h r.at d) there) ∙ get_same h.marks.now r.at d room, is.1 e (sym answer ∙ at))
 
     left : (p : Place) → (is_of u (answer_at log s p) && same_place p r) ≡ false → mark_at new p ≡ mark_at s p
     left p out = by (nat_eq p.entry r.entry) refl
       where
-        here : (e : p.entry ≡ r.entry) → (b : Bool) → did ≡ b → slice_get g.marks.now p.at ≡ slice_get h.marks.now p.at
-        here e false d = ap (λ (l : List Bool). slice_get l p.at) (m.marks ∙ ap (λ (b : Bool). if b then slice_set h.marks.now r.at m.differs else h.marks.now) d)
-        here e true d = ap (λ (l : List Bool). slice_get l p.at) (m.marks ∙ ap (λ (b : Bool). if b then slice_set h.marks.now r.at m.differs else h.marks.now) d) ∙ get_other h.marks.now r.at p.at m.differs apart
-          where
-            apart : p.at ≡ r.at → ⊥
-            apart f =
-                let same : same_place p r ≡ true = ap (λ (b : Bool). b && nat_eq p.at r.at) (eq-eqb p.entry r.entry e) ∙ eq-eqb p.at r.at f in
-                let one : p ≡ r = place_one p r same in
-                let is : is_of u (answer_at log s p) ≡ true = subst (λ (x : Place). is_of u (answer_at log s x) ≡ true) (sym one) (ap (is_of u) answer ∙ sym m.did_is ∙ d) in
-                let yes : (is_of u (answer_at log s p) && same_place p r) ≡ true = ap (λ (b : Bool). b && same_place p r) is ∙ same in
-                true≢false (sym yes ∙ out)
+        apart : p.entry ≡ r.entry → p.at ≡ r.at → ⊥
+        apart e f =
+            let same : same_place p r ≡ true = ap (λ (b : Bool). b && nat_eq p.at r.at) (eq-eqb p.entry r.entry e) ∙ eq-eqb p.at r.at f in
+            let one : p ≡ r = place_one p r same in
+            let its : is_of u (answer_at log s p) ≡ true = subst (λ (x : Place). is_of u (answer_at log s x) ≡ true) (sym one) (ap (is_of u) answer ∙ is.0) in
+            let yes : (is_of u (answer_at log s p) && same_place p r) ≡ true = ap (λ (b : Bool). b && same_place p r) its ∙ same in
+            true≢false (sym yes ∙ out)
 
         by : (b : Bool) → nat_eq p.entry r.entry ≡ b → mark_at new p ≡ mark_at s p
         by true b =
             let e = eqb-true p.entry r.entry b in
-            ap (λ (x : ℕ). mark_in (get new x) p.at) e ∙ ap (λ (o : Option (Held E)). mark_in o p.at) (get-written s r.entry h g there)
-            ∙ here e did refl
+            ap (λ (x : ℕ). mark_in (get new x) p.at) e ∙ ap (λ (o : Option (Held E)). mark_in o p.at) (get-written s r.entry h (with_mark h r.at d) there)
+            ∙ get_other h.marks.now r.at p.at d (apart e)
             ∙ sym (ap (λ (x : ℕ). mark_in (get s x) p.at) e ∙ ap (λ (o : Option (Held E)). mark_in o p.at) there)
-        by false b = ap (λ (o : Option (Held E)). mark_in o p.at) (get-unwritten s r.entry p.entry g (eqb-false p.entry r.entry b))
+        by false b = ap (λ (o : Option (Held E)). mark_in o p.at) (get-unwritten s r.entry p.entry (with_mark h r.at d) (eqb-false p.entry r.entry b))
 
-    pub one_marked : IsMarked log t (λ p. is_of u (answer_at log s p) && same_place p r) s (with_value s r.entry g)
+    -- an answer whose mark is set
+    pub one_marked : IsMarked log t (λ p. is_of u (answer_at log s p) && same_place p r) s (with_value s r.entry (with_mark h r.at d))
     one_marked = record {
       told = λ p e test at. tells p e (and_parts (is_of u (answer_at log s p)) (same_place p r) test) at;
       left = left;
     }
       where
         tells : (p : Place) (e : Query × AnswerKind) → (is_of u (answer_at log s p) ≡ true) × (same_place p r ≡ true) → answer_at log s p ≡ Some e → (differs : Bool) × (mark_at new p ≡ Some differs) × Tells t e differs
-        tells p e parts at =
-            let one : r ≡ p = sym (place_one p r parts.1) in
-            subst (λ (x : Place). is_of u (answer_at log s x) ≡ true → answer_at log s x ≡ Some e → (differs : Bool) × (mark_at new x ≡ Some differs) × Tells t e differs) one (told e) parts.0 at
+        tells p e parts at = subst (λ (x : Place). answer_at log s x ≡ Some e → (differs : Bool) × (mark_at new x ≡ Some differs) × Tells t e differs) (sym (place_one p r parts.1)) (told e) at
 
   answers_same : (o k : Option (Held E)) (i : ℕ) → option_map base k ≡ option_map base o → answer_in log k i ≡ answer_in log o i
   answers_same None None i e = refl
@@ -259,36 +291,36 @@ or_no false true h = absurd (cc)
 or_no true b h = absurd (cc)
 
 -- one key more is noted, and nothing else changed
-pub noted_more : {E : Type 0} (s later : Slab (Held E)) (noted more : List ℕ) (k : ℕ) → more ≡ noted ++ k ∷ [] → ((x : ℕ) → (x ≡ k → ⊥) → get later x ≡ get s x) → AreUntouched s noted → AreUntouched later more
+noted_more : {E : Type 0} (s later : Slab (Held E)) (noted more : List ℕ) (k : ℕ) → more ≡ noted ++ k ∷ [] → ((x : ℕ) → (x ≡ k → ⊥) → get later x ≡ get s x) → AreUntouched s noted → AreUntouched later more
 noted_more s later noted more k is others before x h there out =
     let parts = or_no (list_any (nat_eq x) noted) (list_any (nat_eq x) (k ∷ [])) (sym (ap (λ (l : List ℕ). list_any (nat_eq x) l) is ∙ list_any-append (nat_eq x) noted (k ∷ [])) ∙ out) in
     let apart = eqb-false x k (or_no (nat_eq x k) false parts.1).0 in
     before x h (sym (others x apart) ∙ there) parts.0
 
--- each answer has its marks still, where one entry's marks of now were written
-module _ {E : Type 0} (log : E → List (Query × AnswerKind)) (s : Slab (Held E)) (k : ℕ) (h g : Held E) (there : get s k ≡ Some h) (sized : IsSized log s) (same : base g ≡ base h) where
-  entry-same : log g.entry ≡ log h.entry
-  entry-same = ap (λ (x : Held E). log x.entry) same
-
-  last-same : length g.marks.last ≡ length (log g.entry)
-  last-same = ap (λ (x : Held E). length x.marks.last) same ∙ (sized k h there).last ∙ ap length (sym entry-same)
-
-  written : length g.marks.now ≡ length h.marks.now → IsSized log (with_value s k g)
-  written long x y at = by (nat_eq x k) refl
+-- where one mark of now was set
+module _ {E : Type 0} (s : Slab (Held E)) (k i : ℕ) (h : Held E) (d : Bool) (there : get s k ≡ Some h) where
+  -- each answer has its marks still
+  pub sized-marked : (log : E → List (Query × AnswerKind)) → IsSized log s → IsSized log (with_value s k (with_mark h i d))
+  sized-marked log sized x y at = by (nat_eq x k) refl
     where
       by : (b : Bool) → nat_eq x k ≡ b → AreSized (log y.entry) y.marks
       by true e =
-          let held : Some g ≡ Some y = sym (get-written s k h g there) ∙ ap (λ (z : ℕ). get (with_value s k g) z) (sym (eqb-true x k e)) ∙ at in
-          let one : g ≡ y = cc in
-          subst (λ (z : Held E). AreSized (log z.entry) z.marks) one (record { last = last-same; now = long ∙ (sized k h there).now ∙ ap length (sym entry-same) })
-      by false e = sized x y (sym (get-unwritten s k x g (eqb-false x k e)) ∙ at)
+          let held : Some (with_mark h i d) ≡ Some y = sym (get-written s k h (with_mark h i d) there) ∙ ap (λ (z : ℕ). get (with_value s k (with_mark h i d)) z) (sym (eqb-true x k e)) ∙ at in
+          let one : with_mark h i d ≡ y = cc in
+          subst (λ (z : Held E). AreSized (log z.entry) z.marks) one (record { last = (sized k h there).last; now = length-set h.marks.now i d ∙ (sized k h there).now })
+      by false e = sized x y (sym (get-unwritten s k x (with_mark h i d) (eqb-false x k e)) ∙ at)
 
-  pub sized-left : g.marks ≡ h.marks → IsSized log (with_value s k g)
-  sized-left marks = written (ap (λ (m : Marked). length m.now) marks)
-
-  pub sized-marked : (t : Query → AnswerKind) (u : UnitKey) (o : Option (Query × AnswerKind)) (at : ℕ) (did : Bool) → MarksAt t u o at h.marks.now g.marks.now did → IsSized log (with_value s k g)
-  sized-marked t u o at did m = written (ap length m.marks ∙ by did)
+  -- all else is the same
+  pub base-marked : SameBase s (with_value s k (with_mark h i d))
+  base-marked x = by (nat_eq x k) refl
     where
-      by : (b : Bool) → length (if b then slice_set h.marks.now at m.differs else h.marks.now) ≡ length h.marks.now
-      by true = length-set h.marks.now at m.differs
-      by false = refl
+      by : (b : Bool) → nat_eq x k ≡ b → option_map base (get (with_value s k (with_mark h i d)) x) ≡ option_map base (get s x)
+      by true e =
+          let same = eqb-true x k e in
+          ap (λ (z : ℕ). option_map base (get (with_value s k (with_mark h i d)) z)) same ∙ ap (option_map base) (get-written s k h (with_mark h i d) there)
+          ∙ sym (ap (λ (z : ℕ). option_map base (get s z)) same ∙ ap (option_map base) there)
+      by false e = ap (option_map base) (get-unwritten s k x (with_mark h i d) (eqb-false x k e))
+
+  -- once its key is noted, the others have the marks of the last build
+  pub noted-marked : (noted more : List ℕ) → more ≡ noted ++ k ∷ [] → AreUntouched s noted → AreUntouched (with_value s k (with_mark h i d)) more
+  noted-marked noted more is before = noted_more s (with_value s k (with_mark h i d)) noted more k is (λ x apart. get-unwritten s k x (with_mark h i d) apart) before

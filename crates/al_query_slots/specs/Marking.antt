@@ -1,5 +1,5 @@
 -- Which stored answers are compared with those of now, and what their marks say then.
-use Rattle.std.specs.Prelude.{◌≡◌, ◌↔◌, ℕ, Bool, true, false, ⊤, List, [], ◌∷◌, Option, Some, None, slice_get, slice_set, if◌then◌else◌}
+use Rattle.std.specs.Prelude.{◌≡◌, ◌↔◌, ℕ, Bool, true, false, ⊤, List, [], ◌∷◌, Option, Some, None, slice_get, if◌then◌else◌}
 use Rattle.std.specs.List.{list_any}
 use Rattle.std.specs.Option.{option_map_or}
 use Rattle.slab.specs.Slab.{Slab, get}
@@ -21,12 +21,10 @@ is_of u o = option_map_or (λ e. same_unit (unit_of e.0) u) o false
 abbrev pub Tells : (Query → AnswerKind) → Query × AnswerKind → Bool → Type 0
 Tells t e differs = (differs ≡ false) ↔ (t e.0 ≡ e.1)
 
--- what becomes of the marks of a log where the answer at a place was compared, if it is to a question of the unit
-pub record MarksAt (t : Query → AnswerKind) (u : UnitKey) (o : Option (Query × AnswerKind)) (at : ℕ) (old new : List Bool) (did : Bool) : Type 0 where
-  pub did_is : did ≡ is_of u o
-  pub differs : Bool
-  pub tells : (e : Query × AnswerKind) → o ≡ Some e → did ≡ true → Tells t e differs
-  pub marks : new ≡ (if did then slice_set old at differs else old)
+-- whether an answer differs from a table's, if it is to a question of the unit
+abbrev pub Differs : (Query → AnswerKind) → UnitKey → Option (Query × AnswerKind) → Option Bool → Type 0
+Differs t u o None = is_of u o ≡ false
+Differs t u o (Some differs) = (is_of u o ≡ true) × ((e : Query × AnswerKind) → o ≡ Some e → Tells t e differs)
 
 module _ {E : Type 0} (log : E → List (Query × AnswerKind)) where
   -- the answer that is stored at a place of the log of a settled entry

@@ -1,5 +1,5 @@
 -- Entries under keys, and the index of their answers.
-use Rattle.std.specs.Prelude.{◌≡◌, ℕ, Bool, true, false, List, Some, length, nat_eq, slice_get}
+use Rattle.std.specs.Prelude.{◌≡◌, ℕ, Bool, true, false, List, Some, length, nat_eq, slice_get, slice_set}
 use Rattle.std.specs.BTreeSet.{BTreeSet}
 use Rattle.std.specs.List.{list_any}
 use Rattle.std.specs.Option.{option_map, option_map_or}
@@ -33,6 +33,10 @@ module _ {E : Type 0} where
   abbrev pub settled : Held E → Held E
   settled h = record { entry = h.entry; marks = put_back h.marks; is_settled = true }
 
+  -- what is held with another mark of now of one answer
+  abbrev pub with_mark : Held E → ℕ → Bool → Held E
+  with_mark h i differs = record { entry = h.entry; marks = record { last = h.marks.last; now = slice_set h.marks.now i differs }; is_settled = h.is_settled }
+
   -- all is the same but for the marks of now
   abbrev pub SameBase : Slab (Held E) → Slab (Held E) → Type 0
   SameBase old new = (k : ℕ) → option_map base (get new k) ≡ option_map base (get old k)
@@ -40,6 +44,10 @@ module _ {E : Type 0} where
   -- but for what is noted, the marks of now are those of the last build
   abbrev pub AreUntouched : Slab (Held E) → List ℕ → Type 0
   AreUntouched slots noted = (k : ℕ) (h : Held E) → get slots k ≡ Some h → list_any (nat_eq k) noted ≡ false → h.marks.now ≡ h.marks.last
+
+  -- the marks of now are those of the last build
+  abbrev pub HaveLastMarks : Slab (Held E) → Type 0
+  HaveLastMarks slots = (k : ℕ) (h : Held E) → get slots k ≡ Some h → h.marks.now ≡ h.marks.last
 
 module _ {E : Type 0} (log : E → List (Query × AnswerKind)) where
   -- an entry with no mark set, which isn't settled

@@ -1,9 +1,11 @@
 // The marks of the answers to a unit's questions.
-ghost use Rattle.std.specs.Prelude.{◌≡◌, ◌&&◌, IfOk, OnOk, OnErr, Some, filter, length};
+ghost use Rattle.std.specs.Prelude.{◌≡◌, ◌<◌, ◌&&◌, IfOk, OnOk, Some, filter, length};
 ghost use Rattle.std.specs.List.{list_any};
+ghost use Rattle.slab.specs.Slab.{get, with_value};
 ghost use Rattle.al_query_readers.specs.Reads.{same_place};
-ghost use Rattle.al_query_slots.specs.Marking.{IsMarked, IsSized, MarksAt, answer_at, answer_in, is_of};
-ghost use Rattle.al_query_slots.specs.Stored.{AreUntouched, SameBase, base};
+ghost use Rattle.al_query_slots.specs.Marking.{Differs, IsMarked, IsSized, answer_at, answer_in, is_of};
+ghost use Rattle.al_query_slots.specs.Stored.{AreUntouched, SameBase, with_mark};
+ghost use Rattle.al_query_slots.specs.declared.slots.Held.{Held};
 
 use crate::logged::Logged;
 use crate::slots::Held;
@@ -13,34 +15,39 @@ use al_query_readers::Place;
 use al_view::{Same, is_unit};
 use slab::Slab;
 
-/// Compares a stored answer of a settled entry with the one of now, if it is to a question of the unit, and marks it.
+/// Whether a stored answer of a settled entry differs from the one of now, if it is to a question of the unit.
 fn compare<E: Logged, A: Answers>(
-    held: &mut Held<E>,
+    held: &Held<E>,
     unit: &UnitKey,
     at: usize,
     asked: &A,
-) -> Result<bool, NoMemory>
-    requires { length held.old.marks.now ≡ length (E.log held.old.entry) }
-    ensures base { base held.new ≡ base held.old }
-    ensures ok { IfOk result (λ did. MarksAt (A.table asked.now) unit.now (answer_in E.log (Some held.old) at) at held.old.marks.now held.new.marks.now did) }
-    ensures err { OnErr result (held.new.marks ≡ held.old.marks) }
+) -> Result<Option<bool>, NoMemory>
+    ensures { IfOk result (Differs (A.table asked.now) unit.now (answer_in E.log (Some held.now) at)) }
 {
     if !held.is_settled {
-        return Ok(false);
+        return Ok(None);
     }
     let Some((query, answer)) = held.entry.log().at(at) else {
-        return Ok(false);
+        return Ok(None);
     };
     if !is_unit(query.unit(), unit) {
-        return Ok(false);
+        return Ok(None);
     }
     let now = asked.ask(query)?;
-    let differs = !now.is_same(answer);
-    held.marks.set(at, differs);
-    Ok(true)
+    Ok(Some(!now.is_same(answer)))
 }
 
-/// The same for what is stored at a place. Its key is noted first.
+/// Sets the mark of now of the answer at a place.
+fn set_mark<E>(entries: &mut Slab<Held<E>>, place: &Place, differs: bool)
+    requires { (h : Held E) → get entries.old place.now.entry ≡ Some h → place.now.at < length h.marks.now }
+    ensures { (h : Held E) → get entries.old place.now.entry ≡ Some h → entries.new ≡ with_value entries.old place.now.entry (with_mark h place.now.at differs) }
+{
+    if let Some(held) = entries.get_mut(place.entry) {
+        held.marks.set(place.at, differs);
+    }
+}
+
+/// Compares what is stored at a place so, and marks it by whether it differs. Its key is noted where the mark wasn't that.
 fn mark_place<E: Logged, A: Answers>(
     entries: &mut Slab<Held<E>>,
     touched: &mut Vec<usize>,
@@ -56,12 +63,18 @@ fn mark_place<E: Logged, A: Answers>(
     ensures did { IfOk result (λ did. did ≡ is_of unit.now (answer_at E.log entries.old place.now)) }
     ensures marked { OnOk result (IsMarked E.log (A.table asked.now) (λ p. is_of unit.now (answer_at E.log entries.old p) && same_place p place.now) entries.old entries.new) }
 {
-    touched.push(place.entry)?;
-    let Some(held) = entries.get_mut(place.entry) else {
+    let Some(held) = entries.get(place.entry) else {
         return Ok(false);
     };
-    let did = compare(held, unit, place.at, asked)?;
-    Ok(did)
+    let Some(differs) = compare(held, unit, place.at, asked)? else {
+        return Ok(false);
+    };
+    if held.marks.is_now(place.at, differs) {
+        return Ok(true);
+    }
+    touched.push(place.entry)?;
+    set_mark(entries, place, differs);
+    Ok(true)
 }
 
 /// The same for what is stored at each of these places; how many answers were compared.

@@ -1,5 +1,5 @@
 // Two marks for each answer of a log.
-ghost use Rattle.std.specs.Prelude.{◌≡◌, ◌<◌, false, IfOk, length, replicate, slice_set};
+ghost use Rattle.std.specs.Prelude.{◌≡◌, ◌<◌, ◌↔◌, false, IfOk, IsTrue, Some, length, replicate, slice_get, slice_set};
 ghost use Rattle.std.specs.List.{list_any};
 ghost use Rattle.al_query_slots.specs.Marked.{unmarked};
 
@@ -55,6 +55,16 @@ impl Marks {
         ensures { self.new ≡ record self.old { now = slice_set self.old.now at differs } }
     {
         self.now[at] = differs;
+    }
+
+    /// Whether the mark of now of an answer is this one. It takes no memory.
+    pub fn is_now(&self, at: usize, differs: bool) -> bool
+        ensures { IsTrue result ↔ slice_get self.entry.now.now at ≡ Some differs }
+    {
+        match self.now.as_slice().get(at) {
+            Some(mark) => *mark == differs,
+            None => false,
+        }
     }
 
     /// Whether an answer differs now. It takes no memory.

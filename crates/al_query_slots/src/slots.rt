@@ -1,11 +1,11 @@
 // Entries in a slab.
-ghost use Rattle.std.specs.Prelude.{◌≡◌, ℕ, [], IfOk, OnOk, OnErr, None, Some, nat_eq, if◌then◌else◌};
+ghost use Rattle.std.specs.Prelude.{◌≡◌, ℕ, [], IfOk, IsTrue, OnOk, OnErr, None, Some, nat_eq, if◌then◌else◌};
 ghost use Rattle.std.specs.Option.{option_copied, option_map};
 ghost use Rattle.slab.specs.Slab.{get, SameValues, Updates};
 ghost use Rattle.al_query_readers.specs.Reads.{same_place};
 ghost use Rattle.al_query_slots.specs.Counting.{IsCount};
 ghost use Rattle.al_query_slots.specs.Marking.{IsMarked, IsSized, answer_at, is_of};
-ghost use Rattle.al_query_slots.specs.Stored.{SameBase, base, fresh, kept, settled};
+ghost use Rattle.al_query_slots.specs.Stored.{HaveLastMarks, SameBase, base, fresh, kept, settled};
 
 use crate::keeping::{keep_all, put_back_all, settle_one};
 use crate::logged::Logged;
@@ -41,7 +41,7 @@ pub struct Slots<E: Logged> {
     alloc: Global,
     entries: Slab<Held<E>>,
     readers: Readers,
-    /// Keys of what may have other marks of now than the last build's.
+    /// Keys of what may have other marks of now than the last build's: a key is noted where a mark of now becomes another one.
     touched: Vec<usize>,
 }
 
@@ -144,6 +144,13 @@ impl<E: Logged> Slots<E> {
             asked,
         )?;
         Ok(compared)
+    }
+
+    /// Whether it is known that no mark of now is another one than the last build's. It takes no memory.
+    pub fn is_untouched(&self) -> bool
+        ensures { IsTrue result → HaveLastMarks self.now }
+    {
+        self.touched.is_empty()
     }
 
     /// The marks of now are those of the last build from here on. It takes no memory.

@@ -14,10 +14,10 @@ use Rattle.al_query.specs.declared.answer.AnswerKind.{AnswerKind}
 use Rattle.al_query.specs.declared.query.Query.{Query}
 use Rattle.al_query_readers.specs.declared.place.Place.{Place}
 use Rattle.al_query_slots.specs.Marking.{IsMarked, IsSized, Tells, answer_at, answer_in, is_of, mark_at, mark_in}
-use Rattle.al_query_slots.specs.Stored.{SameBase, base, kept}
+use Rattle.al_query_slots.specs.Stored.{HaveLastMarks, SameBase, base, kept}
 use Rattle.al_query_slots.specs.declared.slots.Held.{Held}
 use Rattle.al_query_store.specs.declared.cell.Cell.{Cell}
-use Rattle.al_query_store.specs.Changes.{AreCompared}
+use Rattle.al_query_store.specs.Changes.{AreCompared, AreMarkedAsBefore}
 use Rattle.al_query_store.specs.Keyed.{AreCells, IsKeyed, SameStates, State, base_state, cell_at, if_made, if_settled, kept_state, made_key, nothing, seen, settled_key, settled_so, settled_state, state, under, with_slots}
 use Rattle.al_query_store.proofs.KeyLemmas.{keyed-same}
 use Rattle.al_query_store.proofs.StateLemmas.{Cells, state-seen}
@@ -223,3 +223,11 @@ one_unit moved i unit is h = item_added moved i unit h ∙ ap (λ (x : UnitKey).
 pub on_err : {T F P : Type 0} (r : Result T F) → P → OnErr r P
 on_err (Ok x) p = tt
 on_err (Err e) p = p
+
+-- by unit the marks of now are those of the last build too
+pub marked-before : {E : Type 0} (cells : Cells) (s : Slab (Held E)) → HaveLastMarks s → AreMarkedAsBefore (with_slots cells s)
+marked-before {E = E} cells s is u h at = by (cell_at cells u).settled (sym (ap (λ (x : State E). x.settled) (state-seen cells s u)) ∙ at)
+  where
+    by : (key : Option ℕ) → under s key ≡ Some h → h.marks.now ≡ h.marks.last
+    by None e = absurd (cc)
+    by (Some k) e = is k h e

@@ -31,6 +31,10 @@ pub record AreCompared (t : Query → AnswerKind) (unit : UnitKey) (log : List (
 abbrev pub asks : (UnitKey → Bool) → Option (Query × AnswerKind) → Bool
 asks asked o = option_map_or (λ e. asked (unit_of e.0)) o false
 
+-- the marks of now of settled entries are those of the last build
+abbrev pub AreMarkedAsBefore : {E : Type 0} → List (UnitKey × State E) → Type 0
+AreMarkedAsBefore {E} store = (u : UnitKey) (h : Held E) → (state store u).settled ≡ Some h → h.marks.now ≡ h.marks.last
+
 module _ {E : Type 0} (log : E → List (Query × AnswerKind)) where
   -- an entry was made of a unit, which is reached
   abbrev pub with_made : E → State E → State E

@@ -1,11 +1,11 @@
 // Entries by unit.
-ghost use Rattle.std.specs.Prelude.{◌≡◌, [], true, IfOk, OnOk, OnErr, None, is_some};
+ghost use Rattle.std.specs.Prelude.{◌≡◌, [], true, IfOk, IsTrue, OnOk, OnErr, None, is_some};
 ghost use Rattle.std.specs.Map.{keys_of};
 ghost use Rattle.std.specs.Option.{option_copied};
 ghost use Rattle.al_base.specs.declared.unit_key.UnitKey.{UnitKey};
 ghost use Rattle.al_view.specs.Symbols.{same_unit};
 ghost use Rattle.al_unit_map.specs.Units.{at_unit};
-ghost use Rattle.al_query_store.specs.Changes.{ComparesUnit, HasAnswers, with_made};
+ghost use Rattle.al_query_store.specs.Changes.{AreMarkedAsBefore, ComparesUnit, HasAnswers, with_made};
 ghost use Rattle.al_query_store.specs.Keyed.{Changes, SameStates, base_state, entry_of, is_moved, leaving, now_at, state, under, with_reached};
 
 use crate::cell::{Cell, add, cell_of, change, has_moved, now_key};
@@ -184,5 +184,12 @@ impl<E: Logged> Store<E> {
         ensures base { (u : UnitKey) → base_state (state self.new u) ≡ base_state (state self.old u) }
     {
         self.slots.mark(unit, asked)
+    }
+
+    /// Whether it is known that no mark of now of a settled entry is another one than the last build's. It takes no memory.
+    pub fn is_untouched(&self) -> bool
+        ensures { IsTrue result → AreMarkedAsBefore self.now }
+    {
+        self.slots.is_untouched()
     }
 }
