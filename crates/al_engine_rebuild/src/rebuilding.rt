@@ -35,7 +35,7 @@ use al_engine_check::check_library;
 use al_engine_closed::laws::partitions_are_closed;
 use al_engine_graph::UnitGraph;
 use al_engine_keep::KeptEntries;
-use al_engine_recheck::{EditedUnit, Rechecked, UnitCache};
+use al_engine_recheck::{EditedUnit, UnitCache};
 use al_engine_refresh::has_sound;
 use al_query::Answers;
 use al_query_check::UnitCheck;
@@ -214,12 +214,8 @@ pub fn prepare<C: UnitCheck, P: Answers>(
 {
     partitions_are_closed();
     let given = check_library(cache, predefined, sources, graph, edited)?;
-    let Rechecked {
-        checked,
-        compared,
-        is_renewal,
-    } = given;
-    let unit = renewed_unit(edited, is_renewal);
+    let unit = renewed_unit(edited, given.is_renewal);
+    let (checked, compared) = given.into_parts();
     let faults = graph.faults.as_slice();
     let entries = cache.entries();
     let planned = plan_now(alloc, sources, entries, faults, main, known, unit, before)?;

@@ -9,7 +9,7 @@ ghost use Rattle.al_engine_recheck.specs.Rechecks.{AreReady, HasOrder, IsUpdated
 use crate::sorted::in_key_order;
 use al_base::{NoMemory, UnitKey};
 use al_engine_keep::KeptEntries;
-use al_engine_refresh::{Done, refresh};
+use al_engine_refresh::refresh;
 use al_query::Answers;
 use al_query_check::UnitCheck;
 use al_unit_graph::Sources;
@@ -35,6 +35,20 @@ impl Drop for Rechecked {
     }
 }
 
+impl Rechecked {
+    /// The units that were checked, and how many stored answers were compared.
+    pub fn into_parts(self) -> (Vec<UnitKey>, usize)
+        ensures { result ≡ (self.checked, self.compared) }
+    {
+        let Rechecked {
+            checked,
+            compared,
+            is_renewal: _,
+        } = self;
+        (checked, compared)
+    }
+}
+
 /// Brings the units of a library up to date, in an order of dependence. What the last build settled stays as it is.
 pub fn recheck<C: UnitCheck, P: Answers>(
     alloc: Global,
@@ -53,7 +67,7 @@ pub fn recheck<C: UnitCheck, P: Answers>(
     ensures left { IsLeft entries.old entries.new }
 {
     let done = refresh(alloc, checker, predefined, sources, order, entries)?;
-    let Done { checked, compared } = done;
+    let (checked, compared) = done.into_parts();
     let checked = in_key_order(alloc, checked.as_slice())?;
     Ok(Rechecked {
         checked,

@@ -62,7 +62,7 @@ pub(crate) fn walk_behind<C: UnitCheck, P: Answers>(
     refresh_rest(
         alloc, checker, predefined, sources, rest, entries, &mut done,
     )?;
-    let Done { checked, compared } = done;
+    let (checked, compared) = done.into_parts();
     let checked = in_key_order(alloc, checked.as_slice())?;
     Ok(Rechecked {
         checked,
