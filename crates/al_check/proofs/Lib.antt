@@ -1,4 +1,4 @@
 pub mod Naming
-pub mod Told
+pub mod FaultLemmas
 pub mod UnitResult
 pub mod Verdicts

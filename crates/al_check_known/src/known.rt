@@ -32,6 +32,21 @@ fn joined(units: Vec<UnitKey>, more: Vec<UnitKey>) -> Result<Vec<UnitKey>, NoMem
     Ok(units)
 }
 
+/// These units, those that are mentioned, and the halves of either.
+fn all_joined(
+    units: Vec<UnitKey>,
+    mentioned: Vec<UnitKey>,
+    halves: Vec<UnitKey>,
+    more: Vec<UnitKey>,
+) -> Result<Vec<UnitKey>, NoMemory>
+    ensures { IfOk result (λ all. all.items ≡ units.items ++ (mentioned.items ++ (halves.items ++ more.items))) }
+{
+    let halves = joined(halves, more)?;
+    let mentioned = joined(mentioned, halves)?;
+    let all = joined(units, mentioned)?;
+    Ok(all)
+}
+
 /// The declaration of a library unit's parent.
 fn parent_unit(alloc: Global, name: &[u8]) -> Result<Option<UnitKey>, NoMemory>
     ensures { IfOk result (λ parent. parent ≡ option_map declaration (names.parent_of name.now)) }
@@ -149,9 +164,7 @@ fn with_mentions<A: Answers>(
     let first = own_mentions(alloc, header)?;
     let halves = halves_of(alloc, own, first.as_slice(), recorder)?;
     let more = halves_of(alloc, own, mentioned.as_slice(), recorder)?;
-    let halves = joined(halves, more)?;
-    let mentioned = joined(mentioned, halves)?;
-    let found = joined(units, mentioned)?;
+    let found = all_joined(units, mentioned, halves, more)?;
     Ok(found)
 }
 

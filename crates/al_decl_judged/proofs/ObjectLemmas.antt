@@ -18,12 +18,12 @@ same_presence : {A B : Type 0} (f : A → B) (x : Option A) → is_some (option_
 same_presence f None = refl
 same_presence f (Some a) = refl
 
-abbrev judged : ℕ → Progress → Bool → Result (List NewObject × Option Typed) Fault → Result (Progress × DeclaredTree) Fault
-judged line p constant checked =
+abbrev placed_by : ℕ → Progress → Bool → Result (List NewObject × Option Typed) Fault → Result (Progress × DeclaredTree) Fault
+placed_by line p constant checked =
     map_ok (λ (o : List NewObject × Option TypedTree). placed_objects p line constant o.0 o.1) (map_ok (λ (q : List NewObject × Option Typed). (q.0, option_map typed_model q.1)) checked)
 
-declared_judged : (p : Progress) (line : ℕ) (constant : Bool) (duplicate : Option Fault) (names : List DefiningName) (objects : Result (List NewObject) Fault) (value : Option (Result Typed Fault)) (checked : Result (Option Typed) Fault) (fault : Option Fault) (found : Result (List NewObject × Option Typed) Fault) → map_ok (option_map typed_model) checked ≡ optional (option_map (map_ok typed_model) value) → fault ≡ objects_fault constant (is_some value) duplicate names → unless fault (both objects checked) ≡ found → objects_declared p line constant duplicate names objects (option_map (map_ok typed_model) value) ≡ judged line p constant found
-declared_judged p line constant duplicate names objects value checked fault found seen wrong is_found =
+declared_checked : (p : Progress) (line : ℕ) (constant : Bool) (duplicate : Option Fault) (names : List DefiningName) (objects : Result (List NewObject) Fault) (value : Option (Result Typed Fault)) (checked : Result (Option Typed) Fault) (fault : Option Fault) (found : Result (List NewObject × Option Typed) Fault) → map_ok (option_map typed_model) checked ≡ optional (option_map (map_ok typed_model) value) → fault ≡ objects_fault constant (is_some value) duplicate names → unless fault (both objects checked) ≡ found → objects_declared p line constant duplicate names objects (option_map (map_ok typed_model) value) ≡ placed_by line p constant found
+declared_checked p line constant duplicate names objects value checked fault found seen wrong is_found =
     let made : List NewObject × Option TypedTree → Progress × DeclaredTree = λ o. placed_objects p line constant o.0 o.1 in
     let see : Option Typed → Option TypedTree = option_map typed_model in
     let given : Option (Result TypedTree Fault) = option_map (map_ok typed_model) value in
@@ -34,7 +34,7 @@ declared_judged p line constant duplicate names objects value checked fault foun
     ∙ ap (λ (r : Result (List NewObject × Option Typed) Fault). map_ok made (map_ok (λ (q : List NewObject × Option Typed). (q.0, see q.1)) r)) is_found
 
 pub declared_right : (p : Progress) (line : ℕ) (constant : Bool) (duplicate : Option Fault) (names : List DefiningName) (objects : Result (List NewObject) Fault) (value : Option (Result Typed Fault)) (checked : Result (Option Typed) Fault) (fault : Option Fault) (os : List NewObject) (v : Option Typed) → map_ok (option_map typed_model) checked ≡ optional (option_map (map_ok typed_model) value) → fault ≡ objects_fault constant (is_some value) duplicate names → unless fault (both objects checked) ≡ Ok (os, v) → objects_declared p line constant duplicate names objects (option_map (map_ok typed_model) value) ≡ Ok (placed_objects p line constant os (option_map typed_model v))
-declared_right p line constant duplicate names objects value checked fault os v seen wrong right = declared_judged p line constant duplicate names objects value checked fault (Ok (os, v)) seen wrong right
+declared_right p line constant duplicate names objects value checked fault os v seen wrong right = declared_checked p line constant duplicate names objects value checked fault (Ok (os, v)) seen wrong right
 
 pub declared_wrong : (p : Progress) (line : ℕ) (constant : Bool) (duplicate : Option Fault) (names : List DefiningName) (objects : Result (List NewObject) Fault) (value : Option (Result Typed Fault)) (checked : Result (Option Typed) Fault) (fault : Option Fault) (f : Fault) → map_ok (option_map typed_model) checked ≡ optional (option_map (map_ok typed_model) value) → fault ≡ objects_fault constant (is_some value) duplicate names → unless fault (both objects checked) ≡ Err f → objects_declared p line constant duplicate names objects (option_map (map_ok typed_model) value) ≡ Err f
-declared_wrong p line constant duplicate names objects value checked fault f seen wrong found = declared_judged p line constant duplicate names objects value checked fault (Err f) seen wrong found
+declared_wrong p line constant duplicate names objects value checked fault f seen wrong found = declared_checked p line constant duplicate names objects value checked fault (Err f) seen wrong found

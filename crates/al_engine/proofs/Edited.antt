@@ -32,7 +32,7 @@ use Rattle.al_engine_graph.specs.declared.alike.Edited.{Edited}
 use Rattle.al_engine_graph.specs.declared.graph.UnitGraph.{UnitGraph}
 use Rattle.al_engine_graph.proofs.Files.{file_there}
 use Rattle.al_engine_recheck.specs.Rechecks.{IsRechecked, setting_of}
-use Rattle.al_engine_recheck.specs.Renewals.{IsEditedAlone}
+use Rattle.al_engine_recheck.specs.Renewals.{IsBaseOfNone, IsEditedAlone}
 use Rattle.al_engine_batch.specs.Batches.{IsBatch}
 use Rattle.al_engine_batch.specs.declared.compiled.Compiled.{Compiled}
 use Rattle.al_engine_batch.specs.declared.compiled.Compiled.TheVariants.{Faulty, Unbound, TooLarge, Made}
@@ -136,17 +136,29 @@ there-of : (lib : Library) (key : Key) → is_faultless lib key ≡ true → is_
 unfolding is_faultless
 there-of lib key is = (both (is_unit lib key) _ is).0
 
-module _ (old new : Library) (graph : UnitGraph) (entries : UnitKey → Option Stored) (edited : Edited) (u : UnitKey) (one : HaveOneGraph old new) (of_old : IsGraphOf old graph) (texts : HaveTextsBut old new edited) (holds : (w : UnitKey) → is_unit new (key_of w) ≡ true → may_differ edited (file_name_of (key_of w)) → u ≡ w) (other : (e : Stored) × (entries u ≡ Some e) × (e.text ≡ text_of new u → ⊥)) (base : at_unit graph.bases u ≡ None) where
+module _ (old new : Library) (entries : UnitKey → Option Stored) (edited : Edited) (u : UnitKey) (one : HaveOneGraph old new) (texts : HaveTextsBut old new edited) (holds : (w : UnitKey) → is_unit new (key_of w) ≡ true → may_differ edited (file_name_of (key_of w)) → u ≡ w) (other : (e : Stored) × (entries u ≡ Some e) × (e.text ≡ text_of new u → ⊥)) where
   pub edited-alone : IsEditedAlone old new entries u
   edited-alone = record {
     units = one.units;
     dependences = one.dependences;
     faultless = one.faultless;
     texts = λ w t apart. texts (file_name_of (key_of w)) (λ may. let same : same_unit u w ≡ true = subst (λ (x : UnitKey). same_unit u x ≡ true) (holds w (there-of new (key_of w) t) may) (same_unit-self u) in absurd (cc));
-    alone = λ w t c.
-        let has : is_some (at_unit graph.bases u) ≡ true = of_old.bases (key_of w) (key_of u) (one.faultless (key_of w) ∙ t) (subst (λ (ks : List Key). Contains ks (key_of u)) (sym (one.dependences (key_of w))) c) in
-        let none : is_some (at_unit graph.bases u) ≡ false = ap is_some base in
-        absurd (cc);
     there = ap is_some other.1;
     edited = λ d is same. let k : Some other.0 ≡ Some d = sym other.1 ∙ is in let e : other.0 ≡ d = cc in other.2 (ap (λ (x : Stored). x.text) e ∙ same);
   }
+
+-- no unit depends by itself on one that isn't among the bases
+pub base-of-none : (old new : Library) (graph : UnitGraph) (u : UnitKey) → HaveOneGraph old new → IsGraphOf old graph → at_unit graph.bases u ≡ None → IsBaseOfNone new u
+base-of-none old new graph u one of_old base w t c =
+    let has : is_some (at_unit graph.bases u) ≡ true = of_old.bases (key_of w) (key_of u) (one.faultless (key_of w) ∙ t) (subst (λ (ks : List Key). Contains ks (key_of u)) (sym (one.dependences (key_of w))) c) in
+    let none : is_some (at_unit graph.bases u) ≡ false = ap is_some base in
+    absurd (cc)
+
+-- what follows for each holds of the one that there is
+pub for-any : {X : Type 0} (o : Option X) (Q : X → Type 0) → ((x : X) → Q x) → IfSome o Q
+for-any None Q f = tt
+for-any (Some x) Q f = f x
+
+pub for-one : {X : Type 0} (o : Option X) (A B C Q : X → Type 0) → IfSome o A → IfSome o B → IfSome o C → ((x : X) → A x → B x → C x → Q x) → IfSome o Q
+for-one None A B C Q a b c f = tt
+for-one (Some x) A B C Q a b c f = f x a b c

@@ -1,5 +1,5 @@
 // Which unit alone was edited since the last build.
-ghost use Rattle.std.specs.Prelude.{◌≡◌, true, None, IfOk, IfSome, IsTrue};
+ghost use Rattle.std.specs.Prelude.{◌≡◌, false, true, None, IfOk, IfSome, IsTrue};
 ghost use Rattle.std.specs.Option.{is_some};
 ghost use Rattle.al_base.specs.Batch.{key_of};
 ghost use Rattle.al_base.specs.FileNames.{file_name_of};
@@ -16,8 +16,7 @@ ghost use Rattle.al_engine_graph.specs.Graphs.{HaveSameHeaders};
 ghost use Rattle.al_engine_graph.specs.Kept.{IsGraphOf};
 ghost use Rattle.al_engine_graph.specs.Texts.{HaveTextsBut, may_differ};
 ghost use Rattle.al_engine_setting.specs.Settings.{ArePredefined};
-ghost use Rattle.al_engine_recheck.specs.Rechecks.{AreAllReached};
-ghost use Rattle.al_engine_recheck.specs.Renewals.{IsRenewable};
+ghost use Rattle.al_engine_recheck.specs.Renewals.{IsOneEdit};
 ghost use Rattle.al_engine_batch.specs.Renewals.{KeepsPartition};
 ghost use Rattle.al_engine_rebuild.specs.Renewed.{IsCleanBut};
 ghost use Rattle.al_engine_reported.specs.Gave.{order_of};
@@ -31,7 +30,7 @@ use al_engine_graph::laws::graphs_go_by_headers;
 use al_engine_graph::{Edited, UnitGraph};
 use al_engine_order::laws::order_is_for_builds;
 use al_engine_rebuild::Rebuilt;
-use al_engine_recheck::UnitCache;
+use al_engine_recheck::{EditedUnit, UnitCache};
 use al_engine_reported::order_of;
 use al_query::Answers;
 use al_query_check::UnitCheck;
@@ -83,21 +82,26 @@ fn is_ordered(gave: &Rebuilt) -> bool
     }
 }
 
-/// Whether a unit has an entry for another text than it has now, and no other unit depends on it by itself.
-fn is_alone<C: UnitCheck>(
+/// The unit, and whether another one depends on it by itself, where it has an entry for another text than it has now.
+fn edited_unit<C: UnitCheck>(
     cache: &UnitCache<C>,
     sources: &Sources,
     graph: &UnitGraph,
-    unit: &UnitKey,
-) -> bool
-    ensures edited { IsTrue result → (e : Stored) × (settled_at cache.now.store unit.now ≡ Some e) × (e.text ≡ text_of sources.now unit.now → ⊥) }
-    ensures alone { IsTrue result → at_unit graph.now.bases unit.now ≡ None }
+    unit: UnitKey,
+) -> Option<EditedUnit>
+    ensures edited { IfSome result (λ e. (d : Stored) × (settled_at cache.now.store e.unit ≡ Some d) × (d.text ≡ text_of sources.now e.unit → ⊥)) }
+    ensures unit { IfSome result (λ e. e.unit ≡ unit) }
+    ensures base { IfSome result (λ e. e.is_base ≡ false → at_unit graph.now.bases e.unit ≡ None) }
 {
-    graph.bases.get(unit).is_none() && cache.is_edited(sources, unit)
+    if !cache.is_edited(sources, &unit) {
+        return None;
+    }
+    let is_base = graph.bases.get(&unit).is_some();
+    Some(EditedUnit { unit, is_base })
 }
 
-/// The unit that alone was edited since the last build, on which no other one depends by itself; none where more was edited, or where that
-/// build found something wrong.
+/// The unit that alone was edited since the last build, and whether another one depends on it by itself; none where more was edited, or where
+/// that build found something wrong.
 pub(crate) fn edited_now<R: ReadFiles, C: UnitCheck, P: Answers>(
     alloc: Global,
     cache: &UnitCache<C>,
@@ -106,15 +110,15 @@ pub(crate) fn edited_now<R: ReadFiles, C: UnitCheck, P: Answers>(
     same: Option<&LastBuild<R>>,
     edited: &Edited,
     gave: &Rebuilt,
-) -> Result<Option<UnitKey>, NoMemory>
+) -> Result<Option<EditedUnit>, NoMemory>
     requires reading { AreReadFor C.Text.header R.library }
     requires predefined { ArePredefined (P.table predefined.now) }
     requires graph { IfSome same (λ b. IsGraphOf (R.library (R.files b.now.read)) b.now.graph.value) }
     requires settled { IfSome same (λ b. IsSettledBy C.meaning C.Text.header (P.table predefined.now) R.library cache.now.store (record { files = R.files b.now.read; main = b.now.main; gave = gave.now })) }
     requires headers { IfSome same (λ b. HaveSameHeaders (R.library (R.files b.now.read)) (R.library (R.files read.now))) }
     requires texts { IfSome same (λ b. HaveTextsBut (R.library (R.files b.now.read)) (R.library (R.files read.now)) edited.now) }
-    ensures renewable { IfOk result (λ found. IfSome found (λ unit. AreAllReached cache.now.store × IsRenewable C.meaning C.Text.header (P.table predefined.now) (R.library (R.files read.now)) (settled_at cache.now.store) unit)) }
-    ensures clean { IfOk result (λ found. IfSome found (IsCleanBut (R.library (R.files read.now)) (settled_at cache.now.store))) }
+    ensures renewable { IfOk result (λ found. IfSome found (IsOneEdit C.meaning C.Text.header (P.table predefined.now) (R.library (R.files read.now)) cache.now.store)) }
+    ensures clean { IfOk result (λ found. IfSome found (λ e. IsCleanBut (R.library (R.files read.now)) (settled_at cache.now.store) e.unit)) }
     ensures kept { IfOk result (λ found. IfSome found (λ _. IfSome same.entry (λ b. KeepsPartition (R.library (R.files read.now)) (results_of (settled_at cache.now.store)) b.now.main gave.now.compiled))) }
 {
     order_is_for_builds();
@@ -130,9 +134,5 @@ pub(crate) fn edited_now<R: ReadFiles, C: UnitCheck, P: Answers>(
     let Some(unit) = unit_edited(alloc, sources, edited)? else {
         return Ok(None);
     };
-    if is_alone(cache, sources, &build.graph, &unit) {
-        Ok(Some(unit))
-    } else {
-        Ok(None)
-    }
+    Ok(edited_unit(cache, sources, &build.graph, unit))
 }

@@ -77,6 +77,7 @@ impl Renewal {
 }
 
 /// What compiling gives before anything is linked.
+#[derive(Drop)]
 pub enum Planned {
     /// What is wrong with the files, by file, place and number: one thing at least.
     Faulty(Vec<Diagnostic>),
@@ -86,15 +87,4 @@ pub enum Planned {
     Linkable(Partition),
     /// The same, and the order of its items is that of the partition before.
     Renewed(Renewal),
-}
-
-impl Drop for Planned {
-    fn drop(self) {
-        match self {
-            Planned::Faulty(_) => {}
-            Planned::Unbound(_) => {}
-            Planned::Linkable(_) => {}
-            Planned::Renewed(_) => {}
-        }
-    }
 }

@@ -12,7 +12,7 @@ ghost use Rattle.al_unit_order.specs.Read.{AreHeaded, NameParentBodies};
 ghost use Rattle.al_query.specs.declared.answer.AnswerKind.{AnswerKind};
 ghost use Rattle.al_query.specs.declared.query.Query.{Query};
 ghost use Rattle.al_query_outcome.specs.Equations.{is_sound};
-ghost use Rattle.al_entries.specs.EntryLaw.{AllKeepLaw, TextMeaning};
+ghost use Rattle.al_entries.specs.EntryLaw.{AllKeepLaw};
 ghost use Rattle.al_query_store.specs.Keyed.{now_at, settled_at};
 ghost use Rattle.al_engine_keep.specs.Moves.{Entries, IsLeft};
 ghost use Rattle.al_engine_graph.specs.Kept.{IsGraphOf};
@@ -23,8 +23,8 @@ ghost use Rattle.al_engine_batch.specs.Objects.{AreCoded};
 ghost use Rattle.al_engine_batch.specs.Patches.{IsPatched, linked_in};
 ghost use Rattle.al_engine_batch.specs.Plans.{IsClosedPlan, IsPlanned};
 ghost use Rattle.al_engine_batch.specs.Renewals.{KeepsPartition};
-ghost use Rattle.al_engine_recheck.specs.Rechecks.{AreAllReached, AreReady, will_be};
-ghost use Rattle.al_engine_recheck.specs.Renewals.{IsRenewable};
+ghost use Rattle.al_engine_recheck.specs.Rechecks.{AreReady, will_be};
+ghost use Rattle.al_engine_recheck.specs.Renewals.{IsOneEdit};
 ghost use Rattle.al_engine_rebuild.specs.Prepared.{IsPrepared};
 ghost use Rattle.al_engine_rebuild.specs.Rebuilds.{IsKept, IsRebuilt};
 ghost use Rattle.al_engine_rebuild.specs.Renewed.{IsCleanBut};
@@ -35,7 +35,7 @@ use al_engine_check::check_library;
 use al_engine_closed::laws::partitions_are_closed;
 use al_engine_graph::UnitGraph;
 use al_engine_keep::KeptEntries;
-use al_engine_recheck::{Rechecked, UnitCache};
+use al_engine_recheck::{EditedUnit, UnitCache};
 use al_engine_refresh::has_sound;
 use al_query::Answers;
 use al_query_check::UnitCheck;
@@ -99,44 +99,54 @@ impl Drop for PreparedBuild {
     }
 }
 
-/// Whether one unit alone was edited, and has an entry without faults now.
-fn is_clean(entries: &KeptEntries, edited: &Option<UnitKey>) -> bool
-    ensures { IsTrue result → MatchOption edited.now ⊥ (λ unit. is_sound (results_of (now_at entries.now) unit) ≡ true) }
+/// The unit that alone was edited, where all others have the entries that they had.
+fn renewed_unit(edited: &Option<EditedUnit>, is_renewal: bool) -> Option<&UnitKey>
+    ensures { IfSome result (λ unit. IsTrue is_renewal × MatchOption edited.now ⊥ (λ e. e.unit ≡ unit.now)) }
 {
     match edited {
+        Some(edited) => if is_renewal { Some(&edited.unit) } else { None },
+        None => None,
+    }
+}
+
+/// Whether one unit alone has another entry than before, and this is without faults.
+fn is_clean(entries: &KeptEntries, renewed: Option<&UnitKey>) -> bool
+    ensures { IsTrue result → MatchOption renewed.entry ⊥ (λ unit. is_sound (results_of (now_at entries.now) unit.now) ≡ true) }
+{
+    match renewed {
         Some(unit) => has_sound(entries, unit),
         None => false,
     }
 }
 
-/// What is to be linked where one unit alone was edited and has no faults now, and the order of elaboration is known: all but the object of
-/// that unit is as in the last build. None where it isn't so.
+/// What is to be linked where one unit alone has another entry than before, without faults, and the order of elaboration is known: all but the
+/// object of that unit is as in the last build. None where it isn't so.
 fn renewed_plan(
     alloc: Global,
     sources: &Sources,
     entries: &KeptEntries,
     main: &[u8],
     known: Option<&[UnitKey]>,
-    edited: &Option<UnitKey>,
+    unit: Option<&UnitKey>,
     before: &Compiled,
 ) -> Result<Option<Planned>, NoMemory>
     requires coded { AreCoded (now_at entries.now) }
     requires clean { findings_of sources.now (results_of (now_at entries.now)) ≡ [] }
-    requires others { IfSome edited.now (λ unit. (w : UnitKey) → same_unit unit w ≡ false → now_at entries.now w ≡ settled_at entries.now w) }
-    requires kept { IfSome known (λ _. IfSome edited.now (λ _. KeepsPartition sources.now (results_of (settled_at entries.now)) main.now before.now)) }
+    requires others { IfSome unit (λ u. (w : UnitKey) → same_unit u.now w ≡ false → now_at entries.now w ≡ settled_at entries.now w) }
+    requires kept { IfSome known (λ _. IfSome unit (λ _. KeepsPartition sources.now (results_of (settled_at entries.now)) main.now before.now)) }
     ensures { IfOk result (λ found. IfSome found (IsPlanned sources.now (results_of (now_at entries.now)) main.now before.now)) }
 {
     let Some(_order) = known else {
         return Ok(None);
     };
-    match edited {
+    match unit {
         Some(unit) => renewed(alloc, sources, entries, main, before, unit),
         None => Ok(None),
     }
 }
 
-/// What compiling the files gives for a main unit, up to the image, as `plan` gives it. Where one unit alone was edited and has no faults
-/// now, what the last build gave is used again.
+/// What compiling the files gives for a main unit, up to the image, as `plan` gives it. Where one unit alone has another entry than
+/// before, without faults, what the last build gave is used again.
 fn plan_now(
     alloc: Global,
     sources: &Sources,
@@ -144,20 +154,20 @@ fn plan_now(
     faults: &[FileFaults],
     main: &[u8],
     known: Option<&[UnitKey]>,
-    edited: &Option<UnitKey>,
+    unit: Option<&UnitKey>,
     before: &Compiled,
 ) -> Result<Planned, NoMemory>
     requires faults { map file_faults_model faults.now ≡ map (λ file. (file, file_faults sources.now file)) (keys_of sources.now) }
     requires coded { AreCoded (now_at entries.now) }
     requires known { IfSome known (λ order. IsElaboration sources.now main.now (map key_of order.now)) }
-    requires clean { MatchOption edited.now ⊥ (λ unit. is_sound (results_of (now_at entries.now) unit) ≡ true) → findings_of sources.now (results_of (now_at entries.now)) ≡ [] }
-    requires others { IfSome edited.now (λ unit. (w : UnitKey) → same_unit unit w ≡ false → now_at entries.now w ≡ settled_at entries.now w) }
-    requires kept { IfSome known (λ _. IfSome edited.now (λ _. KeepsPartition sources.now (results_of (settled_at entries.now)) main.now before.now)) }
+    requires clean { MatchOption unit ⊥ (λ u. is_sound (results_of (now_at entries.now) u.now) ≡ true) → findings_of sources.now (results_of (now_at entries.now)) ≡ [] }
+    requires others { IfSome unit (λ u. (w : UnitKey) → same_unit u.now w ≡ false → now_at entries.now w ≡ settled_at entries.now w) }
+    requires kept { IfSome known (λ _. IfSome unit (λ _. KeepsPartition sources.now (results_of (settled_at entries.now)) main.now before.now)) }
     ensures { IfOk result (IsPlanned sources.now (results_of (now_at entries.now)) main.now before.now) }
 {
-    let clean = is_clean(entries, edited);
+    let clean = is_clean(entries, unit);
     if clean {
-        let found = renewed_plan(alloc, sources, entries, main, known, edited, before)?;
+        let found = renewed_plan(alloc, sources, entries, main, known, unit, before)?;
         if let Some(planned) = found {
             return Ok(planned);
         }
@@ -168,8 +178,8 @@ fn plan_now(
 
 /// Does all of a build of a main unit but for its image: each unit is checked that is reached and has no entry for its text, or one with
 /// an answer that differs now, and what all units give then is compiled. The library's graph is given, and the order of elaboration
-/// where it is known; and the unit that alone was edited since a build that found nothing wrong, where no other one depends on it by itself;
-/// and what compiling gave in that build. What the last build settled stays as it is.
+/// where it is known; and the unit that alone was edited since a build that found nothing wrong, and what compiling gave in that build. What the
+/// last build settled stays as it is.
 /// - `prepared`: which units were checked, what compiling gives up to the image, which entries there will be. Where there is something to
 ///   link, its units define the main subprogram's code and all that they use.
 /// - `counted`: so many checks were made.
@@ -186,7 +196,7 @@ pub fn prepare<C: UnitCheck, P: Answers>(
     main: &[u8],
     graph: &UnitGraph,
     known: Option<&[UnitKey]>,
-    edited: &Option<UnitKey>,
+    edited: &Option<EditedUnit>,
     before: &Compiled,
 ) -> Result<PreparedBuild, NoMemory>
     requires headed { AreHeaded C.Text.header sources.now }
@@ -195,8 +205,8 @@ pub fn prepare<C: UnitCheck, P: Answers>(
     requires graph { IsGraphOf sources.now graph.now }
     requires known { IfSome known (λ order. IsElaboration sources.now main.now (map key_of order.now)) }
     requires ready { AreReady (P.table predefined.now) cache.old.store }
-    requires edited { IfSome edited.now (λ unit. AreAllReached cache.old.store × IsRenewable C.meaning C.Text.header (P.table predefined.now) sources.now (settled_at cache.old.store) unit) }
-    requires clean { IfSome edited.now (IsCleanBut sources.now (settled_at cache.old.store)) }
+    requires edited { IfSome edited.now (IsOneEdit C.meaning C.Text.header (P.table predefined.now) sources.now cache.old.store) }
+    requires clean { IfSome edited.now (λ e. IsCleanBut sources.now (settled_at cache.old.store) e.unit) }
     requires kept { IfSome known (λ _. IfSome edited.now (λ _. KeepsPartition sources.now (results_of (settled_at cache.old.store)) main.now before.now)) }
     ensures prepared { IfOk result (λ p. IsPrepared C.meaning C.Text.header (P.table predefined.now) sources.now main.now before.now cache.old.store p.planned cache.new.store p.checked.items p.compared) }
     ensures counted { IfOk result (λ p. C.count cache.new.checker ≡ raised (C.count cache.old.checker) (length p.checked.items)) }
@@ -204,10 +214,11 @@ pub fn prepare<C: UnitCheck, P: Answers>(
 {
     partitions_are_closed();
     let given = check_library(cache, predefined, sources, graph, edited)?;
-    let Rechecked { checked, compared } = given;
+    let unit = renewed_unit(edited, given.is_renewal);
+    let (checked, compared) = given.into_parts();
     let faults = graph.faults.as_slice();
     let entries = cache.entries();
-    let planned = plan_now(alloc, sources, entries, faults, main, known, edited, before)?;
+    let planned = plan_now(alloc, sources, entries, faults, main, known, unit, before)?;
     Ok(PreparedBuild {
         planned,
         checked,

@@ -1,6 +1,6 @@
 -- A build in which one unit alone was edited, over a store.
 use Rattle.std.proofs.Common.{◌≡◌, ◌&&◌, ◌⊎◌, inl, inr, ℕ, Bool, true, false, not, List, [], ◌∷◌, Option, Some, None, refl, sym, ◌∙◌, ap, subst, is_some, if◌then◌else◌}
-use Rattle.std.specs.List.{Contains}
+use Rattle.std.specs.List.{Contains, list_any}
 use Rattle.std.specs.Option.{option_map}
 use Rattle.std.proofs.lemmas.Bool.{true≢false}
 use Rattle.al_base.specs.Batch.{key_of}
@@ -8,25 +8,29 @@ use Rattle.al_base.specs.declared.unit_key.UnitKey.{UnitKey}
 use Rattle.al_base_graph.proofs.Members.{first, first_or_later, nowhere}
 use Rattle.al_view.specs.Symbols.{same_unit}
 use Rattle.al_view.proofs.SymbolLemmas.{both, same_unit-one, same_unit-self}
+use Rattle.al_query.specs.Reads.{Agrees}
 use Rattle.al_query.specs.declared.answer.AnswerKind.{AnswerKind}
 use Rattle.al_query.specs.declared.query.Query.{Query}
-use Rattle.al_query_outcome.specs.Equations.{is_reached}
+use Rattle.al_query_outcome.specs.Equations.{is_reached, is_sound}
 use Rattle.al_query_slots.specs.Stored.{base, fresh}
 use Rattle.al_query_slots.specs.declared.slots.Held.{Held}
-use Rattle.al_query_store.specs.Changes.{with_made}
+use Rattle.al_query_slots.proofs.TestLemmas.{marks-test}
+use Rattle.al_query_store.specs.Changes.{AreMarkedAsBefore, with_made}
 use Rattle.al_query_store.specs.Keyed.{State, base_state, entry_of, now_at, settled_at, state}
 use Rattle.al_unit_graph.specs.Headers.{Header, Library}
-use Rattle.al_entries.specs.EntryLaw.{IsCurrent, KeepsLaw, TextMeaning}
-use Rattle.al_entries.specs.Stored.{Stored, log_of}
+use Rattle.al_entries.specs.EntryLaw.{HasCurrent, IsCurrent, KeepsLaw, TextMeaning}
+use Rattle.al_entries.specs.Stored.{Stored, log_of, outcome_of}
 use Rattle.al_engine_keep.specs.Moves.{Entries, IsLeft}
 use Rattle.al_engine_keep.specs.Staying.{is_there}
 use Rattle.al_engine_refresh.specs.Builds.{present, results_of, text_of}
-use Rattle.al_engine_refresh.specs.Moving.{AreLeaving, AreMade, IsCompared, Turned, now_table}
+use Rattle.al_engine_refresh.specs.Moving.{AreLeaving, AreMade, IsCompared, Turned, last_table, now_table}
 use Rattle.al_engine_refresh.proofs.HandleTurned.{here-now, others-now}
 use Rattle.al_engine_recheck.specs.Rechecks.{AreAllReached, AreReady, HasOrder, IsRechecked, IsUpdated, setting_of}
-use Rattle.al_engine_recheck.specs.Renewals.{IsRenewable, RenewalsAreRechecked, with_entry}
+use Rattle.al_engine_recheck.specs.Renewals.{AgreeWith, IsBaseOfNone, IsRenewable, IsRenewal, with_entry}
+use Rattle.al_engine_recheck.specs.Walks.{IsEditedChecked}
+use Rattle.al_engine_recheck.specs.declared.edited.EditedUnit.{EditedUnit}
 use Rattle.al_engine_recheck.proofs.OrderLemmas.{marks-ready, reached-alike}
-use Rattle.al_engine_recheck.proofs.Renewals.{made-as}
+use Rattle.al_engine_recheck.proofs.Renewals.{made-as, renewal-of, renewals_are_rechecked, unread_are_rechecked}
 use Rattle.al_engine_recheck.proofs.StayLemmas.{will-stay}
 
 module _ (meaning : TextMeaning) (header : List ℕ → Header) (pre : Query → AnswerKind) (lib : Library) (order : List UnitKey) (unit : UnitKey) (old new : Entries) (e : Stored)
@@ -46,10 +50,62 @@ module _ (meaning : TextMeaning) (header : List ℕ → Header) (pre : Query →
   current-settled : IsCurrent e (text_of lib unit) (present pre (results_of (settled_at old)))
   current-settled = subst (λ (at : UnitKey → Option Stored). IsCurrent e (text_of lib unit) (present pre (results_of at))) (λ i w. now-settled w i) current
 
-  renewed : RenewalsAreRechecked → IsRechecked meaning header (setting_of header pre lib) (settled_at old) (now_at new) (unit ∷ [])
-  renewed law =
-      made-as meaning header (setting_of header pre lib) (settled_at old) (with_entry (settled_at old) unit e) (now_at new) (unit ∷ []) (unit ∷ []) now-entry refl
-      (law meaning header pre lib (settled_at old) unit e order has renewable keeps current-settled)
+  made-so : IsRechecked meaning header (setting_of header pre lib) (settled_at old) (with_entry (settled_at old) unit e) (unit ∷ []) → IsRechecked meaning header (setting_of header pre lib) (settled_at old) (now_at new) (unit ∷ [])
+  made-so is = made-as meaning header (setting_of header pre lib) (settled_at old) (with_entry (settled_at old) unit e) (now_at new) (unit ∷ []) (unit ∷ []) now-entry refl is
+
+  -- no unit depends on it by itself
+  pub renewed-alone : IsBaseOfNone lib unit → IsRechecked meaning header (setting_of header pre lib) (settled_at old) (now_at new) (unit ∷ [])
+  renewed-alone none = made-so (renewals_are_rechecked meaning header pre lib (settled_at old) unit e order has renewable none keeps current-settled)
+
+  -- the settled entries have the answers of the last build
+  agrees-last : (w : UnitKey) (d : Stored) → settled_at old w ≡ Some d → Agrees (last_table pre old) d.log
+  agrees-last w d at = subst (λ (f : UnitKey → Option Stored). Agrees (present pre (results_of f)) d.log) (λ i v. sym (all v) i) (by (is_reached (setting_of header pre renewable.old) (results_of (settled_at old)) w) refl)
+    where
+      by : (b : Bool) → is_reached (setting_of header pre renewable.old) (results_of (settled_at old)) w ≡ b → Agrees (present pre (results_of (settled_at old))) d.log
+      by true r = (subst (λ (o : Option Stored). HasCurrent o (text_of renewable.old w) (present pre (results_of (settled_at old)))) at (renewable.rechecked.current w r)).1
+      by false r =
+          let none : None ≡ Some d = sym (renewable.rechecked.unreached w r) ∙ at in
+          absurd (cc)
+
+  module _ (as_before : AreMarkedAsBefore new) where
+    -- and where no mark is another one, those of now
+    agrees-held : (w : UnitKey) (h g : Held Stored) → (state old w).settled ≡ Some h → (state new w).settled ≡ Some g → base g ≡ base h → Agrees (now_table pre new) (log_of h.entry)
+    agrees-held w h g was is same =
+        let marks : g.marks.now ≡ h.marks.last = as_before w g is ∙ ap (λ (x : Held Stored). x.marks.last) same in
+        let last = (marks-test (last_table pre old) (log_of h.entry) h.marks.last (ready.marks w h was)).1 (agrees-last w h.entry (ap entry_of was)) in
+        let now = (marks-test (now_table pre new) (log_of g.entry) g.marks.now (turned.marks (marks-ready pre old ready) w g is)).0 (ap (λ (l : List Bool). list_any (λ d. d) l) marks ∙ last) in
+        subst (λ (x : Held Stored). Agrees (now_table pre new) (log_of x.entry)) same now
+
+    agrees-now : (w : UnitKey) (d : Stored) → settled_at old w ≡ Some d → Agrees (now_table pre new) d.log
+    agrees-now w d at = by (state old w).settled refl (state new w).settled refl (ap (λ (s : State Stored). s.settled) (left w)) at
+      where
+        by : (o : Option (Held Stored)) → (state old w).settled ≡ o → (n : Option (Held Stored)) → (state new w).settled ≡ n → option_map base (state new w).settled ≡ option_map base (state old w).settled → entry_of (state old w).settled ≡ Some d → Agrees (now_table pre new) d.log
+        by None was n is same k =
+            let none : None ≡ Some d = sym (ap entry_of was) ∙ k in
+            absurd (cc)
+        by (Some h) was None is same k =
+            let none : None ≡ Some (base h) = sym (ap (option_map base) is) ∙ same ∙ ap (option_map base) was in
+            absurd (cc)
+        by (Some h) was (Some g) is same k =
+            let held : Some (base g) ≡ Some (base h) = sym (ap (option_map base) is) ∙ same ∙ ap (option_map base) was in
+            let one : base g ≡ base h = cc in
+            let there : Some h.entry ≡ Some d = sym (ap entry_of was) ∙ k in
+            let entry : h.entry ≡ d = cc in
+            subst (λ (x : Stored). Agrees (now_table pre new) x.log) entry (agrees-held w h g was is one)
+
+    agree : AgreeWith pre (settled_at old) unit e
+    agree w d apart at = subst (λ (f : UnitKey → Option Stored). Agrees (present pre (results_of f)) d.log) (λ i v. now-entry v i) (agrees-now w d at)
+
+    -- or it is as sound as before, and no mark is another one
+    pub renewed-unread : is_sound (results_of (now_at new) unit) ≡ is_sound (results_of (now_at old) unit) → IsRechecked meaning header (setting_of header pre lib) (settled_at old) (now_at new) (unit ∷ [])
+    renewed-unread same =
+        let sound : is_sound (Some (outcome_of e)) ≡ is_sound (results_of (settled_at old) unit) =
+        ap (λ (o : Option Stored). is_sound (option_map outcome_of o)) (sym (here-now pre (with_made log_of e) unit old new turned)) ∙ same ∙ ap (λ (o : Option Stored). is_sound (option_map outcome_of o)) (now-settled unit) in
+        made-so (unread_are_rechecked meaning header pre lib (settled_at old) unit e order has renewable sound agree keeps current-settled)
+
+  -- all others have the entries that they had
+  pub renewal : IsRenewal (settled_at old) unit (now_at new)
+  renewal = renewal-of (settled_at old) (now_at new) unit e now-entry
 
   some-based : (a b : Option (Held Stored)) → option_map base a ≡ option_map base b → is_some a ≡ is_some b
   some-based None None k = refl
@@ -140,9 +196,9 @@ module _ (meaning : TextMeaning) (header : List ℕ → Header) (pre : Query →
       none u false k = ap (λ (b : Bool). b && not (is_there lib u)) k
       none u true k = ap (λ (b : Bool). b && not (is_there lib u)) k ∙ ap not (stays-there u (sym (some_settled u) ∙ k))
 
-  pub renew-updated : RenewalsAreRechecked → (compared : ℕ) → IsCompared new compared → IsUpdated meaning header pre lib old new (unit ∷ []) compared
-  renew-updated law compared counted = record {
-    rechecked = renewed law;
+  pub renew-updated : IsRechecked meaning header (setting_of header pre lib) (settled_at old) (now_at new) (unit ∷ []) → (compared : ℕ) → IsCompared new compared → IsUpdated meaning header pre lib old new (unit ∷ []) compared
+  renew-updated is compared counted = record {
+    rechecked = is;
     staying = will-stay lib old new left leaving made;
     marks = turned.marks (marks-ready pre old ready);
     compared = counted;
@@ -150,3 +206,21 @@ module _ (meaning : TextMeaning) (header : List ℕ → Header) (pre : Query →
     are_made = made;
     leaving = leaving;
   }
+
+-- over what is known once the edited unit was checked
+module _ (meaning : TextMeaning) (header : List ℕ → Header) (pre : Query → AnswerKind) (lib : Library) (order : List UnitKey) (edited : EditedUnit) (old new : Entries) (checked : List UnitKey) (k : IsEditedChecked meaning header pre lib order edited.unit old new checked) where
+  -- no other unit is reached by what it answers otherwise
+  abbrev Unread : Bool → Type 0
+  Unread was = (edited.is_base ≡ false) ⊎ ((is_sound (results_of (now_at new) edited.unit) ≡ was) × AreMarkedAsBefore new)
+
+  pub renewed-so : (was : Bool) → was ≡ is_sound (results_of (now_at old) edited.unit) → (edited.is_base ≡ false → IsBaseOfNone lib edited.unit) → Unread was → IsRechecked meaning header (setting_of header pre lib) (settled_at old) (now_at new) (edited.unit ∷ [])
+  renewed-so was is none (inl base) = renewed-alone meaning header pre lib order edited.unit old new k.made.0 k.ready k.reached k.ordered k.renewable k.made.1 k.made.2 k.made.3 k.left (none base)
+  renewed-so was is none (inr both) = renewed-unread meaning header pre lib order edited.unit old new k.made.0 k.ready k.reached k.ordered k.renewable k.made.1 k.made.2 k.made.3 k.left both.1 (both.0 ∙ is)
+
+  pub updated-so : (units : List UnitKey) → units ≡ edited.unit ∷ [] → IsRechecked meaning header (setting_of header pre lib) (settled_at old) (now_at new) (edited.unit ∷ []) → (compared : ℕ) → IsCompared new compared → IsUpdated meaning header pre lib old new units compared
+  updated-so units is rechecked compared counted =
+      subst (λ (us : List UnitKey). IsUpdated meaning header pre lib old new us compared) (sym is)
+      (renew-updated meaning header pre lib order edited.unit old new k.made.0 k.ready k.reached k.ordered k.renewable k.made.1 k.made.2 k.made.3 k.left rechecked compared counted)
+
+  pub renewal-so : IsRenewal (settled_at old) edited.unit (now_at new)
+  renewal-so = renewal meaning header pre lib order edited.unit old new k.made.0 k.ready k.reached k.ordered k.renewable k.made.1 k.made.2 k.made.3 k.left

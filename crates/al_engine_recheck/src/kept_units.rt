@@ -1,14 +1,15 @@
 // What is kept from build to build.
-ghost use Rattle.std.specs.Prelude.{◌≡◌, [], Some, IfOk, IfSome, IsTrue, OnErr, OnOk, length};
+ghost use Rattle.std.specs.Prelude.{◌≡◌, [], Some, IfOk, IfSome, IsTrue, OnOk, length};
 ghost use Rattle.al_base.specs.declared.unit_key.UnitKey.{UnitKey};
 ghost use Rattle.al_query_store.specs.Keyed.{kept_state, now_at, settled_at, settled_state, state};
 ghost use Rattle.al_entries.specs.EntryLaw.{AllKeepLaw};
 ghost use Rattle.al_entries.specs.Stored.{Stored};
 ghost use Rattle.al_engine_keep.specs.Moves.{IsLeft, left_by_last};
 ghost use Rattle.al_engine_refresh.specs.Builds.{raised, text_of};
-ghost use Rattle.al_engine_recheck.specs.Rechecks.{AreAllReached, AreReady, HasOrder, IsUpdated, will_be};
-ghost use Rattle.al_engine_recheck.specs.Renewals.{IsRenewable, IsRenewal};
+ghost use Rattle.al_engine_recheck.specs.Rechecks.{AreReady, HasOrder, IsUpdated, will_be};
+ghost use Rattle.al_engine_recheck.specs.Renewals.{IsOneEdit, IsRenewalOf};
 
+use crate::edited::EditedUnit;
 use crate::rechecking::Rechecked;
 use crate::renewing::{has_text, update};
 use al_base::{NoMemory, UnitKey};
@@ -98,7 +99,10 @@ impl<C: UnitCheck> UnitCache<C> {
     }
 
     /// Brings the units of a library up to date, in an order of dependence. Where one unit is given, it alone was edited, and no other
-    /// unit is looked at. What the last build settled stays as it is, until [`Self::settle`] or [`Self::cancel`].
+    /// unit is looked at than those that stand behind it in the order; none is where nobody read what it answers otherwise. What the last build
+    /// settled stays as it is, until [`Self::settle`] or [`Self::cancel`].
+    /// - `updated`: which units were checked, which entries there are and will be, how many stored answers were compared.
+    /// - `renewed`: where it tells of a renewal, all other units have the entries that they had.
     ///
     /// # Errors
     ///
@@ -109,13 +113,13 @@ impl<C: UnitCheck> UnitCache<C> {
         predefined: &P,
         sources: &Sources,
         order: &[UnitKey],
-        edited: &Option<UnitKey>,
+        edited: &Option<EditedUnit>,
     ) -> Result<Rechecked, NoMemory>
         requires ready { AreReady (P.table predefined.now) self.old.store }
         requires order { HasOrder C.Text.header (P.table predefined.now) sources.now order.now }
-        requires edited { IfSome edited.now (λ unit. AreAllReached self.old.store × IsRenewable C.meaning C.Text.header (P.table predefined.now) sources.now (settled_at self.old.store) unit) }
+        requires edited { IfSome edited.now (IsOneEdit C.meaning C.Text.header (P.table predefined.now) sources.now self.old.store) }
         ensures updated { IfOk result (λ r. IsUpdated C.meaning C.Text.header (P.table predefined.now) sources.now self.old.store self.new.store r.checked.items r.compared) }
-        ensures renewed { IfSome edited.now (λ unit. OnOk result (IsRenewal (settled_at self.old.store) unit (now_at self.new.store))) }
+        ensures renewed { IfOk result (λ r. IsTrue r.is_renewal → IsRenewalOf edited.now (settled_at self.old.store) (now_at self.new.store)) }
         ensures law { OnOk result (AllKeepLaw C.meaning C.Text.header (will_be self.new.store)) }
         ensures counted { IfOk result (λ r. C.count self.new.checker ≡ raised (C.count self.old.checker) (length r.checked.items)) }
         ensures left { IsLeft self.old.store self.new.store }

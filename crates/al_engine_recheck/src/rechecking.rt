@@ -1,5 +1,5 @@
 // Which units a build checks again.
-ghost use Rattle.std.specs.Prelude.{◌≡◌, IfOk, length};
+ghost use Rattle.std.specs.Prelude.{◌≡◌, false, IfOk, length};
 ghost use Rattle.al_query_store.specs.Keyed.{settled_at};
 ghost use Rattle.al_entries.specs.EntryLaw.{AllKeepLaw};
 ghost use Rattle.al_engine_keep.specs.Moves.{IsLeft};
@@ -9,7 +9,7 @@ ghost use Rattle.al_engine_recheck.specs.Rechecks.{AreReady, HasOrder, IsUpdated
 use crate::sorted::in_key_order;
 use al_base::{NoMemory, UnitKey};
 use al_engine_keep::KeptEntries;
-use al_engine_refresh::{Done, refresh};
+use al_engine_refresh::refresh;
 use al_query::Answers;
 use al_query_check::UnitCheck;
 use al_unit_graph::Sources;
@@ -21,6 +21,8 @@ pub struct Rechecked {
     pub checked: Vec<UnitKey>,
     /// How many stored answers were compared, to 2^64-1.
     pub compared: usize,
+    /// Whether it is known that one unit alone has another entry than before.
+    pub is_renewal: bool,
 }
 
 impl Drop for Rechecked {
@@ -28,7 +30,22 @@ impl Drop for Rechecked {
         let Rechecked {
             checked: _,
             compared: _,
+            is_renewal: _,
         } = self;
+    }
+}
+
+impl Rechecked {
+    /// The units that were checked, and how many stored answers were compared.
+    pub fn into_parts(self) -> (Vec<UnitKey>, usize)
+        ensures { result ≡ (self.checked, self.compared) }
+    {
+        let Rechecked {
+            checked,
+            compared,
+            is_renewal: _,
+        } = self;
+        (checked, compared)
     }
 }
 
@@ -45,11 +62,16 @@ pub fn recheck<C: UnitCheck, P: Answers>(
     requires ready { AreReady (P.table predefined.now) entries.old }
     requires order { HasOrder C.Text.header (P.table predefined.now) sources.now order.now }
     ensures updated { IfOk result (λ r. IsUpdated C.meaning C.Text.header (P.table predefined.now) sources.now entries.old entries.new r.checked.items r.compared) }
+    ensures whole { IfOk result (λ r. r.is_renewal ≡ false) }
     ensures counted { IfOk result (λ r. C.count checker.new ≡ raised (C.count checker.old) (length r.checked.items)) }
     ensures left { IsLeft entries.old entries.new }
 {
     let done = refresh(alloc, checker, predefined, sources, order, entries)?;
-    let Done { checked, compared } = done;
+    let (checked, compared) = done.into_parts();
     let checked = in_key_order(alloc, checked.as_slice())?;
-    Ok(Rechecked { checked, compared })
+    Ok(Rechecked {
+        checked,
+        compared,
+        is_renewal: false,
+    })
 }

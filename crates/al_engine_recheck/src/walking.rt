@@ -1,5 +1,5 @@
 // The units that stand behind one that alone was edited, and on which others may depend.
-ghost use Rattle.std.specs.Prelude.{◌≡◌, ◌<◌, ◌++◌, ◌∷◌, ℕ, true, IfOk, IfSome, List, length, position};
+ghost use Rattle.std.specs.Prelude.{◌≡◌, ◌<◌, ◌++◌, ◌∷◌, ℕ, false, true, IfOk, IfSome, List, length, position};
 ghost use Rattle.al_base.specs.declared.unit_key.UnitKey.{UnitKey};
 ghost use Rattle.al_view.specs.Symbols.{same_unit};
 ghost use Rattle.al_query.specs.Known.{has_unit};
@@ -53,6 +53,7 @@ pub(crate) fn walk_behind<C: UnitCheck, P: Answers>(
 ) -> Result<Rechecked, NoMemory>
     requires { (before : Entries) × IsEditedChecked C.meaning C.Text.header (P.table predefined.now) sources.now order.now unit.now before entries.old done.checked }
     ensures updated { (before : Entries) → IsEditedChecked C.meaning C.Text.header (P.table predefined.now) sources.now order.now unit.now before entries.old done.checked → IsCompared entries.old done.compared → IfOk result (λ r. IsUpdated C.meaning C.Text.header (P.table predefined.now) sources.now before entries.new r.checked.items r.compared) }
+    ensures whole { IfOk result (λ r. r.is_renewal ≡ false) }
     ensures counted { (before : Entries) → IsEditedChecked C.meaning C.Text.header (P.table predefined.now) sources.now order.now unit.now before entries.old done.checked → (n : ℕ) → C.count checker.old ≡ raised n (length done.checked) → IfOk result (λ r. C.count checker.new ≡ raised n (length r.checked.items)) }
     ensures left { IsLeft entries.old entries.new }
 {
@@ -61,7 +62,11 @@ pub(crate) fn walk_behind<C: UnitCheck, P: Answers>(
     refresh_rest(
         alloc, checker, predefined, sources, rest, entries, &mut done,
     )?;
-    let Done { checked, compared } = done;
+    let (checked, compared) = done.into_parts();
     let checked = in_key_order(alloc, checked.as_slice())?;
-    Ok(Rechecked { checked, compared })
+    Ok(Rechecked {
+        checked,
+        compared,
+        is_renewal: false,
+    })
 }

@@ -128,6 +128,16 @@ impl Drop for Done {
     }
 }
 
+impl Done {
+    /// The units that were checked, and how many stored answers were compared.
+    pub fn into_parts(self) -> (Seq<UnitKey>, usize)
+        ensures { result ≡ (self.checked, self.compared) }
+    {
+        let Done { checked, compared } = self;
+        (checked, compared)
+    }
+}
+
 /// Checks a unit anew, where all on which it depends is sound, and holds the entry that is made of it.
 pub fn check_anew<C: UnitCheck, P: Answers>(
     alloc: Global,

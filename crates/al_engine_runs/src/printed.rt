@@ -50,21 +50,26 @@ fn push_findings(alloc: Global, text: &mut Vec<u8>, found: &[Diagnostic]) -> Res
     Ok(())
 }
 
-fn push_lack(text: &mut Vec<u8>, main: &[u8], lack: &MissingItem) -> Result<(), NoMemory> {
+fn lack_text(lack: &MissingItem) -> &'static str {
     match lack {
-        MissingItem::Main => {
-            text.extend_from_slice(b"failed B1 main ")?;
-            text.extend_from_slice(main)?;
-        }
-        MissingItem::Body(name) => {
-            text.extend_from_slice(b"failed B2 body ")?;
-            text.extend_from_slice(name.as_slice())?;
-        }
-        MissingItem::Subunit(name) => {
-            text.extend_from_slice(b"failed B3 subunit ")?;
-            text.extend_from_slice(name.as_slice())?;
-        }
+        MissingItem::Main => "failed B1 main ",
+        MissingItem::Body(_) => "failed B2 body ",
+        MissingItem::Subunit(_) => "failed B3 subunit ",
     }
+}
+
+/// The name of what a program lacks, whose main unit is this.
+fn name_lacked<'a>(main: &'a [u8], lack: &'a MissingItem) -> &'a [u8] {
+    match lack {
+        MissingItem::Main => main,
+        MissingItem::Body(name) => name.as_slice(),
+        MissingItem::Subunit(name) => name.as_slice(),
+    }
+}
+
+fn push_lack(text: &mut Vec<u8>, main: &[u8], lack: &MissingItem) -> Result<(), NoMemory> {
+    text.extend_from_slice(lack_text(lack).as_bytes())?;
+    text.extend_from_slice(name_lacked(main, lack))?;
     Ok(())
 }
 

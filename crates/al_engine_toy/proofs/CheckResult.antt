@@ -154,11 +154,11 @@ module _ (unit : UnitKey) (h : Header) (log : Log) (asks : AsksWell unit h [] lo
 -- ---- what is checked
 
 module _ (unit : UnitKey) (text : List ℕ) where
-  abbrev judged : Table → Outcome
-  judged t = by_first unit (is_marked text) (first_named unit (header_in text)) t
+  abbrev checked : Table → Outcome
+  checked t = by_first unit (is_marked text) (first_named unit (header_in text)) t
 
-  by_whole : (t : Table) (b : Bool) → b ≡ is_whole unit (header_in text) t → toy_meaning unit text t ≡ cond b (judged t) (faulty unit)
-  by_whole t b is = ap (λ x. cond x (judged t) (faulty unit)) (sym is)
+  by_whole : (t : Table) (b : Bool) → b ≡ is_whole unit (header_in text) t → toy_meaning unit text t ≡ cond b (checked t) (faulty unit)
+  by_whole t b is = ap (λ x. cond x (checked t) (faulty unit)) (sym is)
 
   -- a unit of the language was judged
   pub whole_is_checked : (mid log : Log) (o : Outcome) (b : Bool) → ((t : Table) → Agrees t mid → Agrees t [] × (b ≡ is_whole unit (header_in text) t)) → b ≡ true → AsksWell unit (header_in text) [] mid → AsksWell unit (header_in text) [] log

@@ -1,6 +1,6 @@
 mod Known
 mod CheckResult
-mod Judged
+mod JudgeLemmas
 mod ToyFiles
 mod Predefined
 mod Results

@@ -1,4 +1,4 @@
--- In how many ways an expression can be what is wanted: what is kept at each candidate of each head.
+-- In how many ways an expression can be what is expected: what is kept at each candidate of each head.
 use Rattle.std.specs.Prelude.{◌≡◌, ℕ, zero, suc, Bool, true, false, nat_lt, ◌*◌, List, [], ◌∷◌, map, length, ⊤, if◌then◌else◌}
 use Rattle.std.specs.List.{sum_by}
 use Rattle.al_overload_choice.specs.declared.count.Count.{Count}
@@ -59,7 +59,7 @@ abbrev mutual
   AreCounted NoTerms = ⊤
   AreCounted (MoreTerms' p a q more) = IsCounted a × AreCounted more
 
--- the ways that one candidate adds, where it is of this kind and gives what is wanted
+-- the ways that one candidate adds, where it is of this kind and gives what is expected
 abbrev pub share : Bool → Expected → Choice → ℕ
 share root t c = if same_bool c.candidate.is_root root then (if fits c.candidate.given t then size c.ways else 0) else 0
 

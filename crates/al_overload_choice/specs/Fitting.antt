@@ -1,4 +1,4 @@
--- When what a declaration gives is what is wanted (ARM 8.6).
+-- When what a declaration gives is what is expected (ARM 8.6).
 use Rattle.std.specs.Prelude.{Bool, true, false}
 use Rattle.al_view.specs.Symbols.{same_symbol}
 use Rattle.al_overload_choice.specs.declared.types.Class.{Class}

@@ -18,7 +18,7 @@ pub(crate) struct Link {
     pub(crate) others: LabelledTerms,
 }
 
-/// A step down: a link with the head that is its first operand and what that is wanted to be, or a head that has no operands.
+/// A step down: a link with the head that is its first operand and what that is expected to be, or a head that has no operands.
 #[derive(Drop)]
 pub(crate) enum Step<'a> {
     Down {

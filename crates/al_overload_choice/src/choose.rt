@@ -64,7 +64,7 @@ fn one_each(operand: &Term, more: &Terms, first: &Expected, others: &[Expected])
     ensures others { length (preferred_all (plain_all more.now) others.now) ≡ 1 }
 {}
 
-/// The one labelling of a head with its operands that is what is wanted. First operands are gone down by a loop, so that a chain of
+/// The one labelling of a head with its operands that is what is expected. First operands are gone down by a loop, so that a chain of
 /// operators takes nothing of the stack for each.
 #[cycle(choose)]
 #[tactic(auto, using(crate::proofs::ChainLemmas::first_mapped, crate::proofs::ChainLemmas::same_labels, crate::proofs::ChainLemmas::only_one))]
@@ -86,10 +86,10 @@ fn choose<'a>(
                 link,
                 choices: inner_choices,
                 operands: inner,
-                expected: wanted,
+                expected: first_expected,
             } => {
                 links.push(link)?;
-                (choices, operands, expected) = (inner_choices, inner, wanted);
+                (choices, operands, expected) = (inner_choices, inner, first_expected);
             }
             Step::Last(labelled) => return all_linked(alloc, links, labelled),
         }
@@ -152,16 +152,16 @@ fn choose_each(
     ensures { IfOk result (λ each. preferred_all (plain_all operands.now) expected.now ≡ listed each.items NoLabel ∷ []) }
 {
     let mut each = Vec::new(alloc);
-    let (mut rest, mut wanted) = (operands, expected);
+    let (mut rest, mut rest_expected) = (operands, expected);
     while let Terms::MoreTerms(operand, more) = rest {
-        let [first, others @ ..] = wanted else {
+        let [first, others @ ..] = rest_expected else {
             unreachable!()
         };
         one_each(operand, more, first, others);
         let Term::Head(choices, inner) = &**operand;
         let chosen = choose(alloc, choices, inner, first)?;
         each.push(chosen)?;
-        (rest, wanted) = (more, others);
+        (rest, rest_expected) = (more, others);
     }
     Ok(each)
 }
@@ -180,7 +180,7 @@ fn choose_all(
     gathered(alloc, each)
 }
 
-/// What an expression means where it is wanted to be this.
+/// What an expression means where it is expected to be this.
 pub fn interpret(
     alloc: Global,
     expression: &Expression,

@@ -1,4 +1,4 @@
-// In how many ways an expression can be what is wanted: none, one or more.
+// In how many ways an expression can be what is expected: none, one or more.
 ghost use Rattle.std.specs.Prelude.{◌≡◌, ◌+◌, ◌*◌, nat_lt};
 ghost use Rattle.al_overload_choice.specs.Counts.{AreCounted, counted, held_all, held_in, plain_all, share, size, tally, ways_of};
 
@@ -49,7 +49,7 @@ impl Count {
     }
 }
 
-/// In how many ways this candidate can be what is wanted, where it is of this kind.
+/// In how many ways this candidate can be what is expected, where it is of this kind.
 fn ways_with(choice: &Choice, is_root: bool, expected: &Expected) -> Count
     ensures { result ≡ ways_of (share is_root expected.now choice.now) }
 {
@@ -60,7 +60,7 @@ fn ways_with(choice: &Choice, is_root: bool, expected: &Expected) -> Count
     }
 }
 
-/// In how many ways candidates of this kind can be what is wanted.
+/// In how many ways candidates of this kind can be what is expected.
 pub fn ways_in(choices: &[Choice], is_root: bool, expected: &Expected) -> Count
     ensures { result ≡ ways_of (tally is_root expected.now choices.now) }
 {
@@ -71,7 +71,7 @@ pub fn ways_in(choices: &[Choice], is_root: bool, expected: &Expected) -> Count
     ways
 }
 
-/// In how many ways a head can be what is wanted, with the root type's operators where they serve.
+/// In how many ways a head can be what is expected, with the root type's operators where they serve.
 pub fn ways_at(choices: &[Choice], expected: &Expected) -> Count
     ensures { result ≡ held_in choices.now expected.now }
 {
@@ -82,22 +82,26 @@ pub fn ways_at(choices: &[Choice], expected: &Expected) -> Count
     }
 }
 
-/// In how many ways operands can be what is wanted of them.
+/// In how many ways operands can be what is expected of them.
 #[tactic(auto, using(crate::proofs::Counting::with_first, crate::proofs::Counting::with_more, crate::proofs::Counting::with_no_more, crate::proofs::Counting::with_misfit))]
 pub fn ways_of_operands(operands: &Terms, expected: &[Expected]) -> Count
     ensures { result ≡ held_all operands.now expected.now }
 {
     let mut ways = Count::One;
-    let (mut rest, mut wanted) = (operands, expected);
+    let (mut rest, mut rest_expected) = (operands, expected);
     while let Terms::MoreTerms(operand, more) = rest {
-        let [first, others @ ..] = wanted else {
+        let [first, others @ ..] = rest_expected else {
             return Count::None;
         };
         let Term::Head(choices, _) = &**operand;
         ways = ways.with(ways_at(choices.as_slice(), first));
-        (rest, wanted) = (more, others);
+        (rest, rest_expected) = (more, others);
     }
-    if wanted.is_empty() { ways } else { Count::None }
+    if rest_expected.is_empty() {
+        ways
+    } else {
+        Count::None
+    }
 }
 
 impl Choice {

@@ -16,7 +16,7 @@ use std::marker::Model;
 /// A declaration that the name, call or operator at the head of an expression may mean.
 #[derive(Drop)]
 pub struct Candidate {
-    /// What its operands are wanted to be.
+    /// What its operands are expected to be.
     pub operands: Seq<Expected>,
     pub given: Given,
     /// Whether it is an operator of the root type of all integer types (ARM 3.4.1(8)), which is preferred (ARM 8.6(29)).

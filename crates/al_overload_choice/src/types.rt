@@ -54,7 +54,7 @@ impl Drop for Given {
     }
 }
 
-/// What an expression is wanted to be at its place (ARM 8.6(20)).
+/// What an expression is expected to be at its place (ARM 8.6(20)).
 pub enum Expected {
     /// A call without a value.
     Nothing,
@@ -108,7 +108,7 @@ impl Class {
 }
 
 impl Given {
-    /// Whether this is what is wanted.
+    /// Whether this is what is expected.
     pub fn fits(&self, expected: &Expected) -> bool
         ensures { result ≡ fits self.now expected.now }
     {

@@ -18,15 +18,15 @@ suc_positive : (k : ℕ) → (suc k == 0) ≡ false
 suc_positive k = grind (arith, nat_tests)
 
 -- behind the first
-nth_behind : (k : ℕ) (l : Label) (more : Labels) → nth_label (suc k) (MoreLabels l more) ≡ nth_label k more
-nth_behind k l more =
+nth_after : (k : ℕ) (l : Label) (more : Labels) → nth_label (suc k) (MoreLabels l more) ≡ nth_label k more
+nth_after k l more =
     let less : suc k - 1 ≡ k = omega arith in
     ap (λ (b : Bool). if b then Some l else nth_label (suc k - 1) more) (suc_positive k) ∙ ap (λ (j : ℕ). nth_label j more) less
 
 nth_is_next : (k : ℕ) (ls : Labels) → nth_label k ls ≡ next_label (labels_from k ls)
 nth_is_next k NoLabel = sym (ap next_label (none_from k))
 nth_is_next zero (MoreLabels l more) = refl
-nth_is_next (suc k) (MoreLabels l more) = nth_behind k l more ∙ nth_is_next k more ∙ sym (ap next_label (more_from k l more))
+nth_is_next (suc k) (MoreLabels l more) = nth_after k l more ∙ nth_is_next k more ∙ sym (ap next_label (more_from k l more))
 
 operand_is_next : (k : ℕ) (label : Label) → operand_label k label ≡ next_label (labels_from k (operand_labels label))
 operand_is_next k (NodeAs n root operands) = nth_is_next k operands

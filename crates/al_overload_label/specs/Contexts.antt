@@ -57,13 +57,13 @@ abbrev pub term_checked : Predefined → Option Symbol → Context → Option No
 term_checked p own context allowed types term = checked (term_read p own context allowed types term)
 
 -- the target of an assignment: E406 where it is no name of a variable
-abbrev pub target_checked : TermTree → ReadingTree → Result Label Fault → Result TypedTree Fault
-target_checked term r (Ok label) = unless (unless_variable (variable_as term label) (first_place term)) (checked r)
-target_checked term r (Err fault) = Err fault
+abbrev pub target_labelled : TermTree → ReadingTree → Result Label Fault → Result TypedTree Fault
+target_labelled term r (Ok label) = unless (unless_variable (variable_as term label) (first_place term)) (checked r)
+target_labelled term r (Err fault) = Err fault
 
-abbrev pub target_judged : Predefined → Option Symbol → List TypeView → TermTree → Result TypedTree Fault
-target_judged p own types term =
-    target_checked term (term_read p own contexts.Target None types term) (interpreted p contexts.Target None term)
+abbrev pub target_checked : Predefined → Option Symbol → List TypeView → TermTree → Result TypedTree Fault
+target_checked p own types term =
+    target_labelled term (term_read p own contexts.Target None types term) (interpreted p contexts.Target None term)
 
 -- the call of a procedure or an entry, whose actual parameters were read
 abbrev pub call_checked : Option Symbol → Place → SubprogramView → Parts ActualTree → Result CallTree Fault

@@ -15,7 +15,7 @@ use Rattle.al_overload_heads.specs.declared.everywhere.Predefined.{Predefined}
 use Rattle.al_overload_nodes.specs.Nodes.{ReadingTree, checked}
 use Rattle.al_overload_label.specs.Contexts.{stands_at}
 use Rattle.al_overload_label.specs.Readings.{operand_read, reading}
-use Rattle.al_overload_label.specs.Static.{checked_as, wanted_after}
+use Rattle.al_overload_label.specs.Static.{checked_as, expected_after}
 use Rattle.al_overload_label.specs.declared.staticness.Staticness.{Staticness}
 use Rattle.al_overload_label.specs.declared.staticness.Staticness.TheVariants.{Any}
 use Rattle.al_overload_types.specs.FromAnswers.{DeterminedType, among, everywhere, pair_type, range_type, type_told, types_in}
@@ -39,26 +39,26 @@ abbrev pub bound_at : Predefined → Option Symbol → List TypeView → TermTre
 bound_at p own types low k bound label t = operand_read p own (first_place low) k bound label (types_in types t) t.of
 
 abbrev pub pair_at : Predefined → Option Symbol → Staticness → List TypeView → TermTree → TermTree → Label → DeterminedType → Result PairTree Fault
-pair_at p own wanted types low high label t =
+pair_at p own expected types low high label t =
     map_ok (pair_of (found_type (range_type p t)))
-    (both (checked_as wanted (first_place low) (bound_at p own types low 0 low label t))
-    (checked_as wanted (first_place high) (bound_at p own types low 1 high label t)))
+    (both (checked_as expected (first_place low) (bound_at p own types low 0 low label t))
+    (checked_as expected (first_place high) (bound_at p own types low 1 high label t)))
 
 abbrev pub pair_read : Predefined → Option Symbol → Staticness → List TypeView → Symbol → TermTree → TermTree → Label → Result PairTree Fault
-pair_read p own wanted types at low high label = pair_at p own wanted types low high label (pair_type p (among types at) low high label)
+pair_read p own expected types at low high label = pair_at p own expected types low high label (pair_type p (among types at) low high label)
 
 -- A pair of bounds: E402 or E403 at the first token of the low one, where the two have no interpretation, or several; else the
 -- first fault in them.
 abbrev pub bounds_checked_as : Predefined → Option Symbol → Staticness → Context → List TypeView → TermTree → TermTree → Result PairTree Fault
-bounds_checked_as p own wanted context types low high =
-    next (bounds_interpreted p context low high) (pair_read p own wanted types (stands_at p context) low high)
+bounds_checked_as p own expected context types low high =
+    next (bounds_interpreted p context low high) (pair_read p own expected types (stands_at p context) low high)
 
 abbrev pub bounds_checked : Predefined → Option Symbol → Context → List TypeView → TermTree → TermTree → Result PairTree Fault
 bounds_checked p own context types low high = bounds_checked_as p own Any context types low high
 
 -- the same of bounds that must be static, where this was found in the prefixes of their attributes: E304 at each that isn't
 abbrev pub static_bounds_checked : Predefined → Option Symbol → Context → List TypeView → Option Fault → TermTree → TermTree → Result PairTree Fault
-static_bounds_checked p own context types found low high = bounds_checked_as p own (wanted_after (first_place low) found) context types low high
+static_bounds_checked p own context types found low high = bounds_checked_as p own (expected_after (first_place low) found) context types low high
 
 -- an expression, with the type that it tells
 pub record FoundTree : Type 0 where

@@ -38,11 +38,11 @@ abbrev pub stands_there : Place → Option Fault → Bool
 stands_there place None = false
 stands_there place (Some f) = (f.place.line == place.line) && (f.place.col == place.col)
 
-abbrev pub wanted_after : Place → Option Fault → Staticness
-wanted_after place found = if stands_there place found then Any else Static
+abbrev pub expected_after : Place → Option Fault → Staticness
+expected_after place found = if stands_there place found then Any else Static
 
 abbrev pub static_checked : TermTree → Option Fault → ReadingTree → Result Label Fault → Result TypedTree Fault
-static_checked term found r (Ok label) = checked_as (wanted_after (first_place term) found) (first_place term) r
+static_checked term found r (Ok label) = checked_as (expected_after (first_place term) found) (first_place term) r
 static_checked term found r (Err fault) = Err fault
 
 -- a context's term that must be static, where this was found in the prefixes of its attributes: E402 or E403 where it has no interpretation, or several;

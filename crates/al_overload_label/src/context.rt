@@ -6,12 +6,12 @@ ghost use Rattle.al_overload_term.specs.Terms.{TermTree as terms};
 ghost use Rattle.al_overload_term.specs.TermViews.{term_model, terms_of};
 ghost use Rattle.al_view_typed.specs.ExpressionViews.{call_model, typed_model};
 ghost use Rattle.al_overload_label.specs.Static.{static_term_checked};
-ghost use Rattle.al_overload_label.specs.Contexts.{call_checked, call_read, stands_at, statement_checked, target_judged, term_checked, term_read};
+ghost use Rattle.al_overload_label.specs.Contexts.{call_checked, call_read, stands_at, statement_checked, target_checked, term_checked, term_read};
 ghost use Rattle.al_overload_nodes.specs.Views.{actuals_model, reading_model};
 
 use crate::meaning::interpret;
 use crate::reading::{read, read_actuals, read_inner};
-use crate::staticness::{checked_as, wanted_after};
+use crate::staticness::{checked_as, expected_after};
 use crate::variable::variable_as;
 use al_base::{NoMemory, Place};
 use al_base_fault::{CheckResult, Fault, unless};
@@ -103,7 +103,7 @@ pub fn check_static_term(
             );
             drop(label);
             let place = first_place(term);
-            Ok(checked_as(wanted_after(place, found), place, reading?))
+            Ok(checked_as(expected_after(place, found), place, reading?))
         }
         Err(fault) => Ok(Err(fault)),
     }
@@ -115,7 +115,7 @@ pub fn check_target(
     types: &Types,
     term: &Term,
 ) -> Result<CheckResult<Typed>, NoMemory>
-    ensures { IfOk result (λ typed. map_ok typed_model typed ≡ target_judged labeller.now.predefined labeller.now.own types.now (term_model term.now)) }
+    ensures { IfOk result (λ typed. map_ok typed_model typed ≡ target_checked labeller.now.predefined labeller.now.own types.now (term_model term.now)) }
 {
     match interpret(labeller, Context::Target, term)? {
         Ok(label) => {

@@ -17,7 +17,7 @@ use crate::context::stands_at;
 use crate::meaning::interpret;
 use crate::pair::together;
 use crate::reading::{read, read_operand};
-use crate::staticness::{Staticness, checked_as, wanted_after};
+use crate::staticness::{Staticness, checked_as, expected_after};
 use al_base::NoMemory;
 use al_base_fault::{CheckResult, Fault, both};
 use al_overload::Context;
@@ -155,7 +155,7 @@ fn pair_of(range: FoundType, bounds: CheckResult<(Typed, Typed)>) -> CheckResult
 /// A bound at the type of the pair.
 fn bound_at(
     labeller: &Labeller,
-    wanted: Staticness,
+    expected: Staticness,
     types: &Types,
     low: &Term,
     position: usize,
@@ -163,29 +163,29 @@ fn bound_at(
     label: &Labelled,
     determined: &DeterminedType<'_>,
 ) -> Result<CheckResult<Typed>, NoMemory>
-    ensures { IfOk result (λ typed. map_ok typed_model typed ≡ checked_as wanted (first_place (term_model bound.now)) (bound_at labeller.now.predefined labeller.now.own types.now (term_model low.now) position (term_model bound.now) (label_of label.now) (told_model determined.now))) }
+    ensures { IfOk result (λ typed. map_ok typed_model typed ≡ checked_as expected (first_place (term_model bound.now)) (bound_at labeller.now.predefined labeller.now.own types.now (term_model low.now) position (term_model bound.now) (label_of label.now) (told_model determined.now))) }
 {
     let (among, of) = (types_in(types, determined), determined.of);
     let own_label = operand_label(label, position);
     let reading = read_operand(labeller, bound, first_place(low), own_label, among, of)?;
-    Ok(checked_as(wanted, first_place(bound), reading))
+    Ok(checked_as(expected, first_place(bound), reading))
 }
 
 fn read_pair(
     labeller: &Labeller,
-    wanted: Staticness,
+    expected: Staticness,
     types: &Types,
     at: &Symbol,
     low: &Term,
     high: &Term,
     label: &Labelled,
 ) -> Result<CheckResult<Pair>, NoMemory>
-    ensures { IfOk result (λ pair. map_ok pair_model pair ≡ pair_read labeller.now.predefined labeller.now.own wanted types.now at.now (term_model low.now) (term_model high.now) (label_of label.now)) }
+    ensures { IfOk result (λ pair. map_ok pair_model pair ≡ pair_read labeller.now.predefined labeller.now.own expected types.now at.now (term_model low.now) (term_model high.now) (label_of label.now)) }
 {
     let otherwise = among(types, at);
     let determined = pair_type(labeller, otherwise, low, high, label);
-    let first = bound_at(labeller, wanted, types, low, 0, low, label, &determined);
-    let last = bound_at(labeller, wanted, types, low, 1, high, label, &determined);
+    let first = bound_at(labeller, expected, types, low, 0, low, label, &determined);
+    let last = bound_at(labeller, expected, types, low, 1, high, label, &determined);
     let range = found_type(labeller.alloc, &range_type(labeller, determined));
     let (range, (first, last)) = together(range, together(first, last))?;
     Ok(pair_of(range, both(first, last)))
@@ -193,18 +193,18 @@ fn read_pair(
 
 fn check_bounds_as(
     labeller: &Labeller,
-    wanted: Staticness,
+    expected: Staticness,
     context: &Context,
     types: &Types,
     low: &Term,
     high: &Term,
 ) -> Result<CheckResult<Pair>, NoMemory>
-    ensures { IfOk result (λ pair. map_ok pair_model pair ≡ bounds_checked_as labeller.now.predefined labeller.now.own wanted context.now types.now (term_model low.now) (term_model high.now)) }
+    ensures { IfOk result (λ pair. map_ok pair_model pair ≡ bounds_checked_as labeller.now.predefined labeller.now.own expected context.now types.now (term_model low.now) (term_model high.now)) }
 {
     match interpret_bounds(labeller.alloc, &labeller.predefined, context, low, high)? {
         Ok(label) => {
             let at = stands_at(&labeller.predefined, context);
-            let pair = read_pair(labeller, wanted, types, at, low, high, &label);
+            let pair = read_pair(labeller, expected, types, at, low, high, &label);
             drop(label);
             pair
         }
@@ -237,8 +237,8 @@ pub fn check_static_bounds(
 ) -> Result<CheckResult<Pair>, NoMemory>
     ensures { IfOk result (λ pair. map_ok pair_model pair ≡ static_bounds_checked labeller.now.predefined labeller.now.own context.now types.now found (term_model low.now) (term_model high.now)) }
 {
-    let wanted = wanted_after(first_place(low), found);
-    check_bounds_as(labeller, wanted, context, types, low, high)
+    let expected = expected_after(first_place(low), found);
+    check_bounds_as(labeller, expected, context, types, low, high)
 }
 
 fn found_of(found: FoundType, value: CheckResult<Typed>) -> CheckResult<DeterminedValue>

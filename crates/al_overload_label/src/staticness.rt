@@ -1,7 +1,7 @@
 // Expressions that must be static (ARM 4.9).
 ghost use Rattle.std.specs.Prelude.{◌≡◌};
 ghost use Rattle.al_base_fault.specs.Judging.{map_ok};
-ghost use Rattle.al_overload_label.specs.Static.{checked_as, stands_there, unless_static, wanted_after};
+ghost use Rattle.al_overload_label.specs.Static.{checked_as, stands_there, unless_static, expected_after};
 ghost use Rattle.al_overload_nodes.specs.Views.{reading_model};
 ghost use Rattle.al_view_typed.specs.ExpressionViews.{typed_model};
 
@@ -11,7 +11,7 @@ use al_overload_nodes::{Reading, checked};
 use al_static::Known;
 use al_view_typed::Typed;
 
-/// What is wanted of an expression beside its type.
+/// What is expected of an expression beside its type.
 #[derive(Clone, Copy)]
 pub(crate) enum Staticness {
     Any,
@@ -43,10 +43,10 @@ fn stands_there(place: Place, found: Option<Fault>) -> bool
     }
 }
 
-/// What is wanted of a context that must be static and begins there, where this was found in the prefixes of its attributes: a fault at its
+/// What is expected of a context that must be static and begins there, where this was found in the prefixes of its attributes: a fault at its
 /// first token says that it has no interpretation.
-pub(crate) fn wanted_after(place: Place, found: Option<Fault>) -> Staticness
-    ensures { result ≡ wanted_after place found }
+pub(crate) fn expected_after(place: Place, found: Option<Fault>) -> Staticness
+    ensures { result ≡ expected_after place found }
 {
     if stands_there(place, found) {
         return Staticness::Any;
@@ -56,10 +56,10 @@ pub(crate) fn wanted_after(place: Place, found: Option<Fault>) -> Staticness
 
 /// What has an interpretation and begins there: its labelled tree, or the first of the rules that it breaks, those of contexts inside it
 /// among them.
-pub(crate) fn checked_as(wanted: Staticness, place: Place, reading: Reading) -> CheckResult<Typed>
-    ensures { map_ok typed_model result ≡ checked_as wanted place (reading_model reading) }
+pub(crate) fn checked_as(expected: Staticness, place: Place, reading: Reading) -> CheckResult<Typed>
+    ensures { map_ok typed_model result ≡ checked_as expected place (reading_model reading) }
 {
-    match wanted {
+    match expected {
         Staticness::Any => checked(reading),
         Staticness::Static => {
             let fault = unless_static(place, reading.known);

@@ -25,8 +25,8 @@ unless_model f (Some h) (Err k) = refl
 pub faulty_model : {A B : Type 0} (f : A → B) (c d : Option Fault) (g : Fault) → map_ok f (unless c (unless d (Err g))) ≡ unless c (unless d (Err g))
 faulty_model f c d g = sym (unless_model f c (unless d (Err g))) ∙ ap (λ r. unless c r) (sym (unless_model f d (Err g)))
 
-pub three_seen : (value low high : Result Typed Fault) → map_ok three_model (both value (both low high)) ≡ both (map_ok typed_model value) (both (map_ok typed_model low) (map_ok typed_model high))
-three_seen value low high =
+pub both_of_three : (value low high : Result Typed Fault) → map_ok three_model (both value (both low high)) ≡ both (map_ok typed_model value) (both (map_ok typed_model low) (map_ok typed_model high))
+both_of_three value low high =
     sym (both_model typed_model pair_model value (both low high))
     ∙ ap (λ r. both (map_ok typed_model value) r) (sym (both_model typed_model typed_model low high))
 

@@ -1,23 +1,10 @@
 // Where the context of an argument begins, by the form of what stands before it.
 ghost use Rattle.std.specs.Prelude.{◌≡◌};
 ghost use Rattle.al_overload_prefixes.specs.Prefixes.{is_attribute, may_be_mark};
-ghost use Rattle.al_overload_terms.specs.Texts.{is_selector};
 ghost use Rattle.al_tree.specs.ExpressionViews.{expression_model, part_model};
 
+use al_overload_terms::is_selector;
 use al_tree::{Expression, NamePart};
-
-#[tactic(auto, using(al_tree::proofs::ExpressionsMade::part_selector_model, al_tree::proofs::ExpressionsMade::part_arguments_model, al_tree::proofs::ExpressionsMade::part_attribute_model, al_tree::proofs::ExpressionsMade::part_range_attribute_model, al_tree::proofs::ExpressionsMade::part_operand_model))]
-fn is_selector(part: &NamePart) -> bool
-    ensures { result ≡ is_selector (part_model part.now) }
-{
-    match part {
-        NamePart::Selector(_) => true,
-        NamePart::Arguments(_, _, _) => false,
-        NamePart::Attribute(_) => false,
-        NamePart::RangeAttribute => false,
-        NamePart::Operand(_) => false,
-    }
-}
 
 #[tactic(auto, using(al_tree::proofs::ExpressionsMade::part_selector_model, al_tree::proofs::ExpressionsMade::part_arguments_model, al_tree::proofs::ExpressionsMade::part_attribute_model, al_tree::proofs::ExpressionsMade::part_range_attribute_model, al_tree::proofs::ExpressionsMade::part_operand_model))]
 fn is_attribute(part: &NamePart) -> bool

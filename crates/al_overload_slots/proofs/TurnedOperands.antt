@@ -102,8 +102,8 @@ unwound_after word (Labelled labels ClockForm) operand c = refl
 
 -- ---- the program's expressions
 
-typed_seen : (t : Typed) → typed_model t ≡ Labelled t.labels (form_model t.form)
-typed_seen t = ap typed_model (sym (rolls-Typed' (record { labels = t.labels; form = t.form }))) ∙ typed_made t.labels t.form
+typed_layers : (t : Typed) → typed_model t ≡ Labelled t.labels (form_model t.form)
+typed_layers t = ap typed_model (sym (rolls-Typed' (record { labels = t.labels; form = t.form }))) ∙ typed_made t.labels t.form
 
 pub form_less : (t : Typed) → size-Form t.form < size-Typed t
 form_less t = omega (arith, ap size-Typed (sym (rolls-Typed' (record { labels = t.labels; form = t.form }))) ∙ size_roll-Typed (record { labels = t.labels; form = t.form }))
@@ -120,13 +120,13 @@ AreBelow bound (Binary' operator p labels form q second other) = (size-Typed (re
 AreBelow bound (ShortCircuit' operator p labels form q second other) = (size-Typed (record { labels = second; form = other }) < bound) × AreBelow bound form
 AreBelow bound form = ⊤
 
-binary_seen : (labels : Labels) (operator : BinaryOperator) (left right : Box Typed Global)
+binary_layers : (labels : Labels) (operator : BinaryOperator) (left right : Box Typed Global)
     → typed_model (record { labels = labels; form = Binary operator left right }) ≡ Labelled labels (BinaryForm operator (typed_model left.value) (typed_model right.value))
-binary_seen labels operator left right = typed_seen (record { labels = labels; form = Binary operator left right }) ∙ ap (Labelled labels) (binary_made operator left right)
+binary_layers labels operator left right = typed_layers (record { labels = labels; form = Binary operator left right }) ∙ ap (Labelled labels) (binary_made operator left right)
 
-short_circuit_seen : (labels : Labels) (operator : ShortCircuitOperator) (left right : Box Typed Global)
+short_circuit_layers : (labels : Labels) (operator : ShortCircuitOperator) (left right : Box Typed Global)
     → typed_model (record { labels = labels; form = ShortCircuit operator left right }) ≡ Labelled labels (ShortCircuitForm operator (typed_model left.value) (typed_model right.value))
-short_circuit_seen labels operator left right = typed_seen (record { labels = labels; form = ShortCircuit operator left right }) ∙ ap (Labelled labels) (short_circuit_made operator left right)
+short_circuit_layers labels operator left right = typed_layers (record { labels = labels; form = ShortCircuit operator left right }) ∙ ap (Labelled labels) (short_circuit_made operator left right)
 
 not_static : (value : Option StaticValue) (b : Bool) → unless_value value b ≡ true → value ≡ None
 not_static (Some value) b e = absurd (cc)
@@ -152,11 +152,11 @@ down_binary bound labels operator left right passed none within below computed =
     let size = form_less (record { labels = labels; form = Binary operator left right }) in
     let deep = sized-Binary operator left right in
     record {
-      same = ap (λ (t : TypedTree). unwound t (typed_model left.value)) (binary_seen labels operator other right)
-          ∙ sym (ap (unwound (typed_model passed)) (binary_seen labels operator left right));
+      same = ap (λ (t : TypedTree). unwound t (typed_model left.value)) (binary_layers labels operator other right)
+          ∙ sym (ap (unwound (typed_model passed)) (binary_layers labels operator left right));
       less = omega (arith, size, deep);
       below = (omega (arith, size, deep, within), below);
-      computed = subst AreComputed (sym (binary_seen labels operator other right)) (none, computed);
+      computed = subst AreComputed (sym (binary_layers labels operator other right)) (none, computed);
     }
 
 down_short_circuit : (bound : ℕ) (labels : Labels) (operator : ShortCircuitOperator) (left right : Box Typed Global) (passed : Typed) → labels.value ≡ None
@@ -168,11 +168,11 @@ down_short_circuit bound labels operator left right passed none within below com
     let size = form_less (record { labels = labels; form = ShortCircuit operator left right }) in
     let deep = sized-ShortCircuit operator left right in
     record {
-      same = ap (λ (t : TypedTree). unwound t (typed_model left.value)) (short_circuit_seen labels operator other right)
-          ∙ sym (ap (unwound (typed_model passed)) (short_circuit_seen labels operator left right));
+      same = ap (λ (t : TypedTree). unwound t (typed_model left.value)) (short_circuit_layers labels operator other right)
+          ∙ sym (ap (unwound (typed_model passed)) (short_circuit_layers labels operator left right));
       less = omega (arith, size, deep);
       below = (omega (arith, size, deep, within), below);
-      computed = subst AreComputed (sym (short_circuit_seen labels operator other right)) (none, computed);
+      computed = subst AreComputed (sym (short_circuit_layers labels operator other right)) (none, computed);
     }
 
 went_down : (bound : ℕ) (labels : Labels) (form : Form) (passed : Typed) → labels.value ≡ None → form_leans form ≡ true → size-Typed (record { labels = labels; form = form }) ≤ bound
@@ -206,9 +206,9 @@ up_binary : (bound word : ℕ) (typed : Typed) (labels : Labels) (operator : Bin
 up_binary bound word typed labels operator left right last below =
     let other : Box Typed Global = record { ptr = left.ptr; alloc = left.alloc; value = typed } in
     record {
-      tree = ap (λ (t : TypedTree). numbered_up word t (typed_model typed)) (binary_seen labels operator left right)
+      tree = ap (λ (t : TypedTree). numbered_up word t (typed_model typed)) (binary_layers labels operator left right)
           ∙ sym (ap (λ (f : FormTree). numbered_up (second_after word f) (typed_model left.value) (Labelled labels (second_numbered word f))) (binary_made operator other right));
-      next = ap (after_up word) (binary_seen labels operator left right)
+      next = ap (after_up word) (binary_layers labels operator left right)
           ∙ sym (ap (λ (f : FormTree). after_up (second_after word f) (typed_model left.value)) (binary_made operator other right));
       less = omega (arith, form_less (record { labels = labels; form = Binary operator left right }), sized-Binary operator left right);
       below = below;
@@ -222,9 +222,9 @@ up_short_circuit : (bound word : ℕ) (typed : Typed) (labels : Labels) (operato
 up_short_circuit bound word typed labels operator left right last below =
     let other : Box Typed Global = record { ptr = left.ptr; alloc = left.alloc; value = typed } in
     record {
-      tree = ap (λ (t : TypedTree). numbered_up word t (typed_model typed)) (short_circuit_seen labels operator left right)
+      tree = ap (λ (t : TypedTree). numbered_up word t (typed_model typed)) (short_circuit_layers labels operator left right)
           ∙ sym (ap (λ (f : FormTree). numbered_up (second_after word f) (typed_model left.value) (Labelled labels (second_numbered word f))) (short_circuit_made operator other right));
-      next = ap (after_up word) (short_circuit_seen labels operator left right)
+      next = ap (after_up word) (short_circuit_layers labels operator left right)
           ∙ sym (ap (λ (f : FormTree). after_up (second_after word f) (typed_model left.value)) (short_circuit_made operator other right));
       less = omega (arith, form_less (record { labels = labels; form = ShortCircuit operator left right }), sized-ShortCircuit operator left right);
       below = below;
@@ -297,7 +297,7 @@ pub next_up : (bound word next start : ℕ) (typed passed mid new-passed whole n
 next_up bound word next start typed passed mid new-passed whole new up put tree more = (
   ap (λ (w : ℕ). numbered_up w (typed_model new-passed) (typed_model new)) put.goes
       ∙ ap (numbered_up (second_after word (form_model mid.form)) (typed_model new-passed))
-      (typed_seen new ∙ ap (λ (l : Labels). Labelled l (form_model new.form)) put.labels ∙ ap (Labelled mid.labels) put.tree)
+      (typed_layers new ∙ ap (λ (l : Labels). Labelled l (form_model new.form)) put.labels ∙ ap (Labelled mid.labels) put.tree)
       ∙ sym up.tree
       ∙ tree,
   ap (λ (w : ℕ). after_up w (typed_model new-passed)) put.goes ∙ sym up.next ∙ more,
@@ -307,25 +307,25 @@ next_up bound word next start typed passed mid new-passed whole new up put tree 
 
 pub nothing_passed : (bound : ℕ) (tree : TypedTree) (passed : Typed) → passed.form ≡ Clock → (unwound (typed_model passed) tree ≡ tree) × AreBelow bound passed.form × AreComputed (typed_model passed)
 nothing_passed bound tree passed e =
-    let seen : typed_model passed ≡ Labelled passed.labels ClockForm = typed_seen passed ∙ ap (λ (f : Form). Labelled passed.labels (form_model f)) e ∙ ap (Labelled passed.labels) clock_made in
+    let seen : typed_model passed ≡ Labelled passed.labels ClockForm = typed_layers passed ∙ ap (λ (f : Form). Labelled passed.labels (form_model f)) e ∙ ap (Labelled passed.labels) clock_made in
     (ap (λ (t : TypedTree). unwound t tree) seen, subst (AreBelow bound) (sym e) tt, subst AreComputed (sym seen) tt)
 
 -- the first operand has its words
-first_seen : (word next : ℕ) (value : Option StaticValue) (old new : FormTree) → new ≡ cond (is_some value) old (form_numbered word old) → next ≡ cond (is_some value) word (form_after word old)
+first_is : (word next : ℕ) (value : Option StaticValue) (old new : FormTree) → new ≡ cond (is_some value) old (form_numbered word old) → next ≡ cond (is_some value) word (form_after word old)
     → (new ≡ unless_static value old (form_numbered word old)) × (next ≡ unless_static value word (form_after word old))
-first_seen word next (Some value) old new e f = (e, f)
-first_seen word next None old new e f = (e, f)
+first_is word next (Some value) old new e f = (e, f)
+first_is word next None old new e f = (e, f)
 
 pub begins_up : (word next : ℕ) (whole typed passed : Typed) (form : Form) (static : Bool) → static ≡ is_some typed.labels.value → unwound (typed_model passed) (typed_model typed) ≡ typed_model whole → AreComputed (typed_model passed)
     → form_model form ≡ cond static (form_model typed.form) (form_numbered word (form_model typed.form))
     → next ≡ cond static word (form_after word (form_model typed.form))
     → (numbered_up next (typed_model passed) (typed_model (record { labels = typed.labels; form = form })) ≡ numbered word (typed_model whole)) × (after_up next (typed_model passed) ≡ after word (typed_model whole))
 begins_up word next whole typed passed form static known same computed e f =
-    let first = first_seen word next typed.labels.value (form_model typed.form) (form_model form) (e ∙ ap (λ (b : Bool). cond b (form_model typed.form) (form_numbered word (form_model typed.form))) known)
+    let first = first_is word next typed.labels.value (form_model typed.form) (form_model form) (e ∙ ap (λ (b : Bool). cond b (form_model typed.form) (form_numbered word (form_model typed.form))) known)
     (f ∙ ap (λ (b : Bool). cond b word (form_after word (form_model typed.form))) known) in
     let tree : typed_model (record { labels = typed.labels; form = form }) ≡ numbered word (typed_model typed) =
-    typed_seen (record { labels = typed.labels; form = form }) ∙ ap (Labelled typed.labels) first.0 ∙ sym (ap (numbered word) (typed_seen typed)) in
-    let more : next ≡ after word (typed_model typed) = first.1 ∙ sym (ap (after word) (typed_seen typed)) in (
+    typed_layers (record { labels = typed.labels; form = form }) ∙ ap (Labelled typed.labels) first.0 ∙ sym (ap (numbered word) (typed_layers typed)) in
+    let more : next ≡ after word (typed_model typed) = first.1 ∙ sym (ap (after word) (typed_layers typed)) in (
       ap (λ (w : ℕ). numbered_up w (typed_model passed) (typed_model (record { labels = typed.labels; form = form }))) more
           ∙ ap (numbered_up (after word (typed_model typed)) (typed_model passed)) tree
           ∙ sym (unwound_numbered word (typed_model passed) (typed_model typed) computed)
@@ -351,6 +351,6 @@ ended word labels ClockForm tree none = (refl, refl)
 pub ends_up : (word : ℕ) (typed passed : Typed) → tree_leans (form_model passed.form) ≡ false → (numbered_up word (typed_model passed) (typed_model typed) ≡ typed_model typed) × (after_up word (typed_model passed) ≡ word)
 ends_up word typed passed none =
     let end = ended word passed.labels (form_model passed.form) (typed_model typed) none in (
-      ap (λ (t : TypedTree). numbered_up word t (typed_model typed)) (typed_seen passed) ∙ end.0,
-      ap (after_up word) (typed_seen passed) ∙ end.1,
+      ap (λ (t : TypedTree). numbered_up word t (typed_model typed)) (typed_layers passed) ∙ end.0,
+      ap (after_up word) (typed_layers passed) ∙ end.1,
     )

@@ -9,4 +9,4 @@ mod text;
 
 pub use laws::first_faults_are_reported;
 pub use range::{RangeTerm, bounds_of, range_of};
-pub use text::{mark_of_text, one_range, read, read_identifier, term_of};
+pub use text::{is_selector, mark_of_text, one_range, read, read_identifier, term_of};

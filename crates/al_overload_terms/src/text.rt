@@ -79,8 +79,9 @@ pub fn read_identifier(
     )
 }
 
+/// Whether what stands after a name is a selector.
 #[tactic(auto, using(al_tree::proofs::ExpressionsMade::part_selector_model, al_tree::proofs::ExpressionsMade::part_arguments_model, al_tree::proofs::ExpressionsMade::part_attribute_model, al_tree::proofs::ExpressionsMade::part_range_attribute_model, al_tree::proofs::ExpressionsMade::part_operand_model))]
-fn is_selector(part: &NamePart) -> bool
+pub fn is_selector(part: &NamePart) -> bool
     ensures { result ≡ is_selector (part_model part.now) }
 {
     match part {

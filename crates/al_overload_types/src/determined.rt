@@ -4,6 +4,7 @@ ghost use Rattle.std.specs.Option.{option_and_then, option_or};
 ghost use Rattle.al_overload_choice.specs.Counts.{label_of};
 ghost use Rattle.al_overload_heads.specs.Parts.{declared_under, nominal, part_of};
 ghost use Rattle.al_overload_heads.specs.Universal.{computes_one, computes_two, is_universal};
+ghost use Rattle.al_overload_nodes.specs.Operators.{root_result};
 ghost use Rattle.al_overload_term.specs.TermViews.{term_model};
 ghost use Rattle.al_overload_types.specs.Seen.{told_model};
 ghost use Rattle.al_overload_types.specs.FromAnswers.{among, attribute_type, everywhere, mark_told, operand_type, operator_type, pair_type, part_type, range_type, result_of, test_type, type_of_view, type_picked, type_told, types_in};
@@ -53,23 +54,17 @@ fn is_universal(term: &Term) -> bool
                 operand
             }
             Term::Group { place: _, inner } => inner,
-            Term::Number { .. } => return true,
             Term::Named { place: _, views } => return is_sole_number(views.as_slice()),
-            Term::Length { .. } => return true,
             Term::Attribute { conversion, .. } => return is_position(*conversion),
-            Term::Text { .. } => return false,
-            Term::Selected { .. } => return false,
-            Term::Applied { .. } => return false,
+            Term::Number { .. } | Term::Length { .. } => return true,
+            Term::Text { .. } | Term::Image { .. } => return false,
+            Term::Selected { .. } | Term::Applied { .. } => return false,
+            Term::Conversion { .. } | Term::Qualified { .. } => return false,
+            Term::Member { .. } | Term::RangeMember { .. } => return false,
+            Term::Aggregate { .. } | Term::Others { .. } => return false,
             Term::Bound { .. } => return false,
-            Term::Conversion { .. } => return false,
-            Term::Qualified { .. } => return false,
-            Term::Image { .. } => return false,
             Term::Concatenation { .. } => return false,
             Term::ShortCircuit { .. } => return false,
-            Term::Member { .. } => return false,
-            Term::RangeMember { .. } => return false,
-            Term::Aggregate { .. } => return false,
-            Term::Others { .. } => return false,
             Term::Nothing { .. } => return false,
         };
     }
@@ -186,6 +181,38 @@ fn operator_type<'a>(
     }
 }
 
+/// The type of an operator in front of this operand.
+fn prefixed_type<'a>(
+    labeller: &'a Labeller,
+    operator: UnaryOperator,
+    visible: &'a [View],
+    operand: &Term,
+    label: &Labelled,
+) -> Option<DeterminedType<'a>>
+    ensures { option_map told_model result ≡ operator_type labeller.now.predefined.root visible.now (computes_one operator && is_universal (term_model operand.now)) (label_of label.now) }
+{
+    let of_numbers = is_computed(operator, operand);
+    let (standard, root) = (&labeller.predefined.standard, &labeller.predefined.root);
+    operator_type(standard, root, visible, of_numbers, label)
+}
+
+/// The type of an operator between these operands.
+fn infix_type<'a>(
+    labeller: &'a Labeller,
+    operator: BinaryOperator,
+    visible: &'a [View],
+    left: &Term,
+    right: &Term,
+    label: &Labelled,
+) -> Option<DeterminedType<'a>>
+    ensures { option_map told_model result ≡ operator_type (root_result labeller.now.predefined operator) visible.now (computes_two operator && (is_universal (term_model left.now) && is_universal (term_model right.now))) (label_of label.now) }
+{
+    let of_numbers = are_universal(operator, left, right);
+    let standard = &labeller.predefined.standard;
+    let root = root_result(&labeller.predefined, operator);
+    operator_type(standard, root, visible, of_numbers, label)
+}
+
 /// The type of what stands after a name.
 fn applied_type<'a>(
     standard: &'a StandardTypes,
@@ -214,7 +241,6 @@ pub fn type_told<'a>(
     ensures { option_map told_model result ≡ type_told labeller.now.predefined (term_model term.now) (label_of label.now) }
 {
     let standard = &labeller.predefined.standard;
-    let root = &labeller.predefined.root;
     let boolean = &labeller.predefined.types.boolean.symbol;
     match term {
         Term::Named { place: _, views } => type_picked(standard, label, views.as_slice()),
@@ -233,20 +259,13 @@ pub fn type_told<'a>(
             views,
             operand,
             ..
-        } => {
-            let of_numbers = is_computed(*operator, operand);
-            operator_type(standard, root, views.as_slice(), of_numbers, label)
-        }
+        } => prefixed_type(labeller, *operator, views.as_slice(), operand, label),
         Term::Infix {
             operator,
             views,
             left,
             right,
-        } => {
-            let of_numbers = are_universal(*operator, left, right);
-            let root = root_result(&labeller.predefined, *operator);
-            operator_type(standard, root, views.as_slice(), of_numbers, label)
-        }
+        } => infix_type(labeller, *operator, views.as_slice(), left, right, label),
         Term::ShortCircuit { .. } => Some(everywhere(boolean)),
         Term::Member { .. } => Some(everywhere(boolean)),
         Term::RangeMember { .. } => Some(everywhere(boolean)),

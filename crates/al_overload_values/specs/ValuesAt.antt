@@ -4,7 +4,7 @@ use Rattle.std.specs.Prelude.{ℕ, List, [], Option, Some, None, Result}
 use Rattle.al_overload_heads.specs.declared.part.Nominal.{Nominal}
 use Rattle.al_base_fault.specs.Judging.{next, unless}
 use Rattle.al_base_fault.specs.declared.fault.Fault.{Fault}
-use Rattle.al_overload_label.specs.Contexts.{target_judged, term_checked}
+use Rattle.al_overload_label.specs.Contexts.{target_checked, term_checked}
 use Rattle.al_overload_label.specs.Ranges.{FoundTree, PairTree, bounds_checked, selector_checked, static_bounds_checked}
 use Rattle.al_overload_label.specs.Static.{static_term_checked}
 use Rattle.al_overload_label.specs.Variables.{target_part}
@@ -70,7 +70,7 @@ result_at t s of x word = value_at t s (contexts.ReturnValue (mark_type of)) Non
 -- what is assigned to
 abbrev pub target_at : Table → Surroundings → ExpressionTree → ℕ → Worded TypedTree
 target_at t s x word =
-    with_words word (next (context_with_at t s.place s.packages s.predefined s.own x) (λ (w : With TermTree). unless w.1 (target_judged s.predefined s.own [] w.0)))
+    with_words word (next (context_with_at t s.place s.packages s.predefined s.own x) (λ (w : With TermTree). unless w.1 (target_checked s.predefined s.own [] w.0)))
 
 -- what is assigned to a target of this nominal subtype; an aggregate may stand there
 abbrev pub source_checked : Table → Surroundings → ExpressionTree → Nominal → Result TypedTree Fault

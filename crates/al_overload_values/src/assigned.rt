@@ -1,7 +1,7 @@
 // Targets and sources of assignments (ARM 5.2).
 ghost use Rattle.std.specs.Prelude.{◌≡◌, IfOk, [], Some};
 ghost use Rattle.al_base_fault.specs.Judging.{next, map_ok, unless};
-ghost use Rattle.al_overload_label.specs.Contexts.{target_judged};
+ghost use Rattle.al_overload_label.specs.Contexts.{target_checked};
 ghost use Rattle.al_overload_label.specs.Variables.{target_part};
 ghost use Rattle.al_overload_name.specs.Types.{value_type};
 ghost use Rattle.al_overload.specs.declared.context.Context.TheVariants as contexts;
@@ -35,7 +35,7 @@ use al_tree::Expression;
 use al_view_typed::Typed;
 
 fn check_assigned(labeller: &Labeller, term: &Term) -> Result<CheckResult<Typed>, NoMemory>
-    ensures { IfOk result (λ checked. map_ok typed_model checked ≡ target_judged labeller.now.predefined labeller.now.own [] (term_model term.now)) }
+    ensures { IfOk result (λ checked. map_ok typed_model checked ≡ target_checked labeller.now.predefined labeller.now.own [] (term_model term.now)) }
 {
     let types = no_types(labeller.alloc)?;
     check_target(labeller, &types, term)
@@ -46,7 +46,7 @@ fn check_found_target(
     labeller: &Labeller,
     term: CheckResult<(Term, Option<Fault>)>,
 ) -> Result<CheckResult<Typed>, NoMemory>
-    ensures { IfOk result (λ checked. map_ok typed_model checked ≡ next (map_ok term_with_model term) (λ w. unless w.1 (target_judged labeller.now.predefined labeller.now.own [] w.0))) }
+    ensures { IfOk result (λ checked. map_ok typed_model checked ≡ next (map_ok term_with_model term) (λ w. unless w.1 (target_checked labeller.now.predefined labeller.now.own [] w.0))) }
 {
     match term {
         Ok((term, fault)) => {
@@ -171,7 +171,7 @@ fn target_part_at<A: Answers>(
     part_of_target(labeller, term)
 }
 
-/// What is assigned to this target (ARM 5.2), which is wanted at the type of the target's nominal subtype; an aggregate of that may stand
+/// What is assigned to this target (ARM 5.2), which is expected at the type of the target's nominal subtype; an aggregate of that may stand
 /// there.
 pub fn source_at<A: Answers>(
     site: &Site<'_>,

@@ -22,8 +22,8 @@ returns-clause-answered g c t h =
     let halves = first.1 ∙ ap (flat_map half) (c.as_slice-2.ensures.value ∙ c.in_ok-first.ensures) in
     let others = more.1 ∙ ap (flat_map half) (c.as_slice-3.ensures.value ∙ mentioned) in
     let own_halves = flat_map half (own_mentions (header_model c.args.header.now)) in
-    let both = c.in_ok-halves-2.ensures ∙ ap (λ (l : List UnitKey). l ++ c.in_ok-more.more.items) halves ∙ ap (λ (l : List UnitKey). own_halves ++ l) others in
-    let all = c.in_ok-mentioned-2.ensures ∙ ap (λ (l : List UnitKey). l ++ c.in_ok-halves-2.halves.items) mentioned ∙ ap (λ (l : List UnitKey). mentions ++ l) both in
+    let both = ap (λ (l : List UnitKey). l ++ c.in_ok-more.more.items) halves ∙ ap (λ (l : List UnitKey). own_halves ++ l) others in
+    let all = ap (λ (l : List UnitKey). l ++ (c.in_ok-halves.halves.items ++ c.in_ok-more.more.items)) mentioned ∙ ap (λ (l : List UnitKey). mentions ++ l) both in
     (named.0, c.in_ok-found.ensures ∙ ap (λ (l : List UnitKey). us ++ l) all)
 
 pub returns-clause-asks : goal.returns-clause-asks
@@ -60,6 +60,6 @@ returns-clause-known g c known before =
     let later_us = known-asked c.as_slice-3.result.now known us two end third (known-asked c.as_slice-2.result.now known us one two second (known-asked c.as_slice.result.now known us start one first before)) in
     let later_mentioned = known-asked c.as_slice-3.result.now known mentioned two end third (known-asked c.as_slice-2.result.now known mentioned one two second (c.in_ok-mentioned.ensures.learned known)) in
     let later_halves = known-asked c.as_slice-3.result.now known halves two end third (c.in_ok-halves.ensures.learned known) in
-    let both = subst (λ (l : List UnitKey). AreKnown now l) (sym c.in_ok-halves-2.ensures) (known-join now halves more later_halves (c.in_ok-more.ensures.learned known)) in
-    let all = subst (λ (l : List UnitKey). AreKnown now l) (sym c.in_ok-mentioned-2.ensures) (known-join now mentioned c.in_ok-halves-2.halves.items later_mentioned both) in
-    subst (λ (l : List UnitKey). AreKnown now l) (sym c.in_ok-found.ensures) (known-join now us c.in_ok-mentioned-2.mentioned.items later_us all)
+    let both = known-join now halves more later_halves (c.in_ok-more.ensures.learned known) in
+    let all = known-join now mentioned (halves ++ more) later_mentioned both in
+    subst (λ (l : List UnitKey). AreKnown now l) (sym c.in_ok-found.ensures) (known-join now us (mentioned ++ (halves ++ more)) later_us all)

@@ -8,8 +8,7 @@ use Rattle.al_engine_refresh.specs.Builds.{results_of}
 use Rattle.al_engine_batch.specs.Renewals.{KeepsPartition}
 use Rattle.al_engine_rebuild.specs.Prepared.{IsPrepared}
 use Rattle.al_engine_rebuild.specs.Renewed.{IsCleanBut}
-use Rattle.al_engine_recheck.specs.Rechecks.{AreAllReached}
-use Rattle.al_engine_recheck.specs.Renewals.{IsRenewable}
+use Rattle.al_engine_recheck.specs.Renewals.{IsOneEdit}
 use Rattle.al_engine_graph.specs.Graphs.{HaveSameHeaders}
 use Rattle.al_engine_graph.specs.Kept.{IsGraphOf}
 use Rattle.al_engine_graph.specs.declared.graph.UnitGraph.{UnitGraph}
@@ -56,10 +55,10 @@ edited_now-requires-clause-headers g c =
 
 pub prepare-requires-clause-edited : goal.prepare-requires-clause-edited
 prepare-requires-clause-edited g c =
-    subst (λ (l : Library). IfSome c.in_ok-unit.unit (λ unit. AreAllReached c.args.cache.now.store × IsRenewable g.C.UnitCheck.meaning g.C.Text.ReadText.header (g.P.Answers.table c.args.predefined.now) l (settled_at c.args.cache.now.store) unit)) (sym c.sources-sources.ensures) c.in_ok-unit.ensures.renewable
+    subst (λ (l : Library). IfSome c.in_ok-unit.unit (IsOneEdit g.C.UnitCheck.meaning g.C.Text.ReadText.header (g.P.Answers.table c.args.predefined.now) l c.args.cache.now.store)) (sym c.sources-sources.ensures) c.in_ok-unit.ensures.renewable
 
 pub prepare-requires-clause-clean : goal.prepare-requires-clause-clean
-prepare-requires-clause-clean g c = subst (λ (l : Library). IfSome c.in_ok-unit.unit (IsCleanBut l (settled_at c.args.cache.now.store))) (sym c.sources-sources.ensures) c.in_ok-unit.ensures.clean
+prepare-requires-clause-clean g c = subst (λ (l : Library). IfSome c.in_ok-unit.unit (λ e. IsCleanBut l (settled_at c.args.cache.now.store) e.unit)) (sym c.sources-sources.ensures) c.in_ok-unit.ensures.clean
 
 pub prepare-requires-clause-headed : goal.prepare-requires-clause-headed
 prepare-requires-clause-headed g c = subst (λ (l : Library). AreHeaded g.C.Text.ReadText.header l) (sym c.sources-sources.ensures) (c.requires.reading.headed (g.R.ReadFiles.files c.args.read.now))

@@ -13,7 +13,8 @@ use Rattle.al_engine_keep.specs.Moves.{Entries}
 use Rattle.al_engine_found.specs.Found.{findings_of}
 use Rattle.al_engine_refresh.specs.Builds.{results_of}
 use Rattle.al_engine_rebuild.proofs.Clean.{clean-now}
-use Rattle.al_engine_rebuild.proofs.Left.{others-left, settled-left}
+use Rattle.al_engine_rebuild.proofs.Left.{known-of, of-edited, others-left, renewed-by, settled-left}
+use Rattle.al_engine_rebuild.specs.Renewed.{IsCleanBut}
 use Rattle.al_engine_rebuild.proofs.rebuilding.prepare.Goals as goal
 
 pub plan_now-requires-clause-faults : goal.plan_now-requires-clause-faults
@@ -24,20 +25,32 @@ plan_now-requires-clause-coded g c = subst (λ (e : Entries). AreCoded (now_at e
 
 pub plan_now-requires-clause-clean : goal.plan_now-requires-clause-clean
 plan_now-requires-clause-clean g c = λ is.
+    let old = settled_at c.args.cache.now.store in
+    let new = c.check_library.new.cache.store in
+    let found = c.renewed_unit-unit.result in
+    let names = c.renewed_unit-unit.ensures in
+    let but = of-edited c.args.edited.now c.in_ok-given.given.is_renewal (λ (u : UnitKey). IsCleanBut c.args.sources.now old u) found names c.requires.clean in
+    let renewed = renewed-by c.args.edited.now c.in_ok-given.given.is_renewal old (now_at new) found names c.in_ok-given.ensures.renewed in
     subst (λ (e : Entries). findings_of c.args.sources.now (results_of (now_at e)) ≡ []) (sym c.entries-entries.ensures)
-    (clean-now c.args.sources.now (settled_at c.args.cache.now.store) (now_at c.check_library.new.cache.store) c.args.edited.now c.requires.clean c.in_ok-given.ensures.renewed (subst (λ (e : Entries). MatchOption c.args.edited.now ⊥ (λ unit. is_sound (results_of (now_at e) unit) ≡ true)) c.entries-entries.ensures is))
+    (clean-now c.args.sources.now old (now_at new) found but renewed (subst (λ (e : Entries). MatchOption found ⊥ (λ unit. is_sound (results_of (now_at e) unit.now) ≡ true)) c.entries-entries.ensures is))
 
 pub plan_now-requires-clause-others : goal.plan_now-requires-clause-others
 plan_now-requires-clause-others g c =
-    subst (λ (e : Entries). IfSome c.args.edited.now (λ unit. (w : UnitKey) → same_unit unit w ≡ false → now_at e w ≡ settled_at e w)) (sym c.entries-entries.ensures)
-    (others-left c.args.cache.now.store c.check_library.new.cache.store c.in_ok-given.ensures.left c.args.edited.now c.in_ok-given.ensures.renewed)
+    let old = c.args.cache.now.store in
+    let new = c.check_library.new.cache.store in
+    let found = c.renewed_unit-unit.result in
+    let renewed = renewed-by c.args.edited.now c.in_ok-given.given.is_renewal (settled_at old) (now_at new) found c.renewed_unit-unit.ensures c.in_ok-given.ensures.renewed in
+    subst (λ (e : Entries). IfSome found (λ unit. (w : UnitKey) → same_unit unit.now w ≡ false → now_at e w ≡ settled_at e w)) (sym c.entries-entries.ensures)
+    (others-left old new c.in_ok-given.ensures.left found renewed)
 
 pub plan_now-requires-clause-kept : goal.plan_now-requires-clause-kept
 plan_now-requires-clause-kept g c =
     let old = c.args.cache.now.store in
     let new = c.check_library.new.cache.store in
-    subst (λ (e : Entries). IfSome c.args.known (λ _. IfSome c.args.edited.now (λ _. KeepsPartition c.args.sources.now (results_of (settled_at e)) c.args.main.now c.args.before.now))) (sym c.entries-entries.ensures)
-    (subst (λ (at : UnitKey → Option Stored). IfSome c.args.known (λ _. IfSome c.args.edited.now (λ _. KeepsPartition c.args.sources.now (results_of at) c.args.main.now c.args.before.now))) (λ i u. sym (settled-left old new c.in_ok-given.ensures.left u) i) c.requires.kept)
+    let found = c.renewed_unit-unit.result in
+    subst (λ (e : Entries). IfSome c.args.known (λ _. IfSome found (λ _. KeepsPartition c.args.sources.now (results_of (settled_at e)) c.args.main.now c.args.before.now))) (sym c.entries-entries.ensures)
+    (subst (λ (at : UnitKey → Option Stored). IfSome c.args.known (λ _. IfSome found (λ _. KeepsPartition c.args.sources.now (results_of at) c.args.main.now c.args.before.now))) (λ i u. sym (settled-left old new c.in_ok-given.ensures.left u) i)
+    (known-of c.args.edited.now c.in_ok-given.given.is_renewal (KeepsPartition c.args.sources.now (results_of (settled_at old)) c.args.main.now c.args.before.now) c.args.known found c.renewed_unit-unit.ensures c.requires.kept))
 
 pub returns-clause-prepared : goal.returns-clause-prepared
 returns-clause-prepared g c =

@@ -4,7 +4,7 @@ use Rattle.al_query_outcome.specs.Results.{checked_model}
 use Rattle.al_engine_toy.specs.Outcomes.{faulty}
 use Rattle.al_engine_toy.specs.Toys.{AsksWell, IsChecked, IsJudged, header_in, is_marked, is_whole}
 use Rattle.al_engine_toy.proofs.CheckResult.{other_is_checked, whole_is_checked}
-use Rattle.al_engine_toy.proofs.Judged.{asks_more}
+use Rattle.al_engine_toy.proofs.JudgeLemmas.{asks_more}
 use Rattle.al_engine_toy.proofs.Results.{on_ok}
 use Rattle.al_engine_toy.proofs.checker.checked.Goals as goal
 

@@ -3,7 +3,7 @@ use Rattle.al_base.specs.declared.unit_key.UnitKind.{UnitKind}
 use Rattle.al_base.specs.declared.unit_key.UnitKind.TheVariants.{Body}
 use Rattle.al_query.specs.Reads.{FromAnswers}
 use Rattle.al_engine_toy.specs.Toys.{header_in, is_whole, is_whole_as}
-use Rattle.al_engine_toy.proofs.Judged.{asks_nothing}
+use Rattle.al_engine_toy.proofs.JudgeLemmas.{asks_nothing}
 use Rattle.al_engine_toy.proofs.Results.{on_ok}
 use Rattle.al_engine_toy.proofs.checker.is_whole.Goals as goal
 

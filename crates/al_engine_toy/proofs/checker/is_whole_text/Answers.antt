@@ -6,7 +6,7 @@ use Rattle.al_query.specs.declared.query.Query.TheVariants.{Of}
 use Rattle.al_base.specs.declared.unit_key.UnitKind.TheVariants.{Body}
 use Rattle.al_unit_graph.specs.Headers.{Header}
 use Rattle.al_engine_toy.specs.Toys.{AsksWell, header_in, is_body_of, is_nothing, is_whole_as}
-use Rattle.al_engine_toy.proofs.Judged.{asks_nothing}
+use Rattle.al_engine_toy.proofs.JudgeLemmas.{asks_nothing}
 use Rattle.al_engine_toy.proofs.Known.{no_parent_body}
 use Rattle.al_engine_toy.proofs.Results.{ok_then, on_ok}
 use Rattle.al_engine_toy.proofs.checker.is_whole_text.Goals as goal

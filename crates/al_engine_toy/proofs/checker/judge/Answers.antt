@@ -2,7 +2,7 @@ use Rattle.std.proofs.Common.{◌≡◌, None, ap, sym, ◌∙◌}
 use Rattle.al_query_outcome.specs.Results.{checked_model}
 use Rattle.al_engine_toy.specs.Outcomes.{plain}
 use Rattle.al_engine_toy.specs.Toys.{IsJudged, first_named, header_in, is_marked}
-use Rattle.al_engine_toy.proofs.Judged.{judged_none}
+use Rattle.al_engine_toy.proofs.JudgeLemmas.{judged_none}
 use Rattle.al_engine_toy.proofs.Results.{on_ok}
 use Rattle.al_engine_toy.proofs.checker.judge.Goals as goal
 

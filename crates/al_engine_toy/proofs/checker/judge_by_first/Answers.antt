@@ -6,7 +6,7 @@ use Rattle.al_query.specs.declared.answer.AnswerKind.{AnswerKind}
 use Rattle.al_query_outcome.specs.Results.{checked_model}
 use Rattle.al_engine_toy.specs.Outcomes.{plain}
 use Rattle.al_engine_toy.specs.Toys.{HasParent, IsJudged, another, first_named}
-use Rattle.al_engine_toy.proofs.Judged.{judged_one, parent_asked}
+use Rattle.al_engine_toy.proofs.JudgeLemmas.{judged_one, parent_asked}
 use Rattle.al_engine_toy.proofs.Results.{on_ok}
 use Rattle.al_engine_toy.proofs.checker.judge_by_first.Goals as goal
 

@@ -6,7 +6,7 @@ use Rattle.al_query.specs.declared.answer.AnswerKind.{AnswerKind}
 use Rattle.al_query_outcome.specs.Results.{checked_model}
 use Rattle.al_engine_toy.specs.Outcomes.{faulty, plain}
 use Rattle.al_engine_toy.specs.Toys.{HasParent, IsJudged, another, by_private}
-use Rattle.al_engine_toy.proofs.Judged.{judged_two}
+use Rattle.al_engine_toy.proofs.JudgeLemmas.{judged_two}
 use Rattle.al_engine_toy.proofs.Results.{on_ok}
 use Rattle.al_engine_toy.proofs.checker.judge_by_second.Goals as goal
 

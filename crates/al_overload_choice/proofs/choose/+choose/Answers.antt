@@ -13,10 +13,10 @@ pub choose_each-loop-rest-preserved : goal.choose_each-loop-rest-preserved
 choose_each-loop-rest-preserved t c =
     let a = ap size-Terms c.in-MoreTerms.is in let b = ap size-Terms c.deref-rest.ensures in (
       more_listed c.loop-rest.each.items c.push.new.self.items c.in_ok-chosen.chosen _ _
-          (preferred_all (plain_all c.loop-rest.rest.now) c.loop-rest.wanted.now) _
+          (preferred_all (plain_all c.loop-rest.rest.now) c.loop-rest.rest_expected.now) _
           c.in_ok-push.ensures.items c.in_ok-chosen.ensures
-          (ap (λ (ts : Terms). preferred_all (plain_all ts) c.loop-rest.wanted.now) c.in-MoreTerms.is
-          ∙ sliced (plain c.in-MoreTerms.operand.value) (plain_all c.in-MoreTerms.more.value) c.loop-rest.wanted.now c.first-item.result c.in-len1-up.len_at_least c.first-item.is
+          (ap (λ (ts : Terms). preferred_all (plain_all ts) c.loop-rest.rest_expected.now) c.in-MoreTerms.is
+          ∙ sliced (plain c.in-MoreTerms.operand.value) (plain_all c.in-MoreTerms.more.value) c.loop-rest.rest_expected.now c.first-item.result c.in-len1-up.len_at_least c.first-item.is
           ∙ search rules)
           c.loop-rest.invariant.0,
       search rules,

@@ -18,7 +18,7 @@ decreases-choose-loop-links l = size-Terms l.operands
 
 abbrev pub invariant-choose_each-loop-rest : goal.invariant-choose_each-loop-rest
 invariant-choose_each-loop-rest l =
-    (map (listed l.each.items) (preferred_all (plain_all l.rest) l.wanted) ≡ preferred_all (plain_all l.operands) l.expected)
+    (map (listed l.each.items) (preferred_all (plain_all l.rest) l.rest_expected) ≡ preferred_all (plain_all l.operands) l.expected)
     × AreCounted l.rest
-    × (length (preferred_all (plain_all l.rest) l.wanted) ≡ 1)
+    × (length (preferred_all (plain_all l.rest) l.rest_expected) ≡ 1)
     × (size-Terms l.rest ≤ size-Terms l.operands)

@@ -1,7 +1,7 @@
 use Rattle.std.proofs.Common.{Result, [], ap, ◌∙◌}
 use Rattle.al_base_fault.specs.Judging.{next, unless}
 use Rattle.al_base_fault.specs.declared.fault.Fault.{Fault}
-use Rattle.al_overload_label.specs.Contexts.{target_judged}
+use Rattle.al_overload_label.specs.Contexts.{target_checked}
 use Rattle.al_overload_prefixes.specs.TextsAt.{With}
 use Rattle.al_overload_term.specs.Terms.{TermTree}
 use Rattle.al_overload_values.specs.Words.{with_words}
@@ -13,5 +13,5 @@ returns-clause-answered g c t h =
     let l = c.args.site.now.labeller.now in (
       answered.0,
       c.take_words.ensures ∙ ap (with_words c.args.word.now)
-          (c.in_ok-checked.ensures ∙ ap (λ (r : Result (With TermTree) Fault). next r (λ (w : With TermTree). unless w.1 (target_judged l.predefined l.own [] w.0))) answered.1),
+          (c.in_ok-checked.ensures ∙ ap (λ (r : Result (With TermTree) Fault). next r (λ (w : With TermTree). unless w.1 (target_checked l.predefined l.own [] w.0))) answered.1),
     )

@@ -4,7 +4,7 @@ use Rattle.al_base_fault.specs.Judging.{both, map_ok}
 use Rattle.al_base_fault.specs.declared.fault.Fault.{Fault}
 use Rattle.al_overload_nodes.specs.Nodes.{membership_form, node}
 use Rattle.al_overload_nodes.specs.Views.{three_model}
-use Rattle.al_overload_nodes.proofs.Seen.{three_seen}
+use Rattle.al_overload_nodes.proofs.Seen.{both_of_three}
 use Rattle.al_overload_nodes.proofs.labeller.Labeller.membership.Goals as goal
 use Rattle.al_static.specs.declared.knowledge.Known.{Known}
 use Rattle.al_view_typed.specs.ExpressionTrees.{FormTree}
@@ -15,7 +15,7 @@ returns c =
     let seen =
     c.in_ok-form.ensures
     ∙ ap (λ r. map_ok (membership_form c.args.is_negated) (map_ok three_model r)) (c.both-operands.ensures ∙ ap (λ r. both c.args.value.typed r) c.both.ensures)
-    ∙ ap (map_ok (membership_form c.args.is_negated)) (three_seen c.args.value.typed c.args.low.typed c.args.high.typed) in
+    ∙ ap (map_ok (membership_form c.args.is_negated)) (both_of_three c.args.value.typed c.args.low.typed c.args.high.typed) in
     IfOk-weaker c.node.result _ _
     (λ r h.
     h
