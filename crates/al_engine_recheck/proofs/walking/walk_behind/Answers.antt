@@ -1,7 +1,9 @@
-use Rattle.std.proofs.Common.{◌∙◌, ◌++◌, ◌∷◌, [], map, ap}
+use Rattle.std.proofs.Common.{◌∙◌, ◌++◌, ◌∷◌, [], ℕ, List, map, sym, ap, subst}
 use Rattle.al_base.specs.Batch.{key_of}
+use Rattle.al_base.specs.declared.unit_key.UnitKey.{UnitKey}
 use Rattle.al_unit_graph.specs.Orders.{in_order}
 use Rattle.al_unit_order.specs.Reached.{is_faultless}
+use Rattle.al_engine_refresh.specs.Moving.{IsCompared}
 use Rattle.al_engine_recheck.proofs.WalkLemmas.{built-rest, in-order, marks-mid, once-rest, steady-mid, unmoved-rest, walk-counted, walk-updated}
 use Rattle.al_engine_recheck.proofs.walking.walk_behind.Goals as goal
 
@@ -45,8 +47,8 @@ returns-clause-updated g c before checked counted =
     let given = c.in_ok-refresh_rest.ensures in
     let place = c.behind-rest.ensures (in-order meaning header pre lib order unit before mid c.args.done.checked checked) in
     let built = built-rest meaning header pre lib order unit before mid c.args.done.checked checked place.0 c.behind-rest.result.now place.1 new row (λ o laws p none. given.built (place.0 ++ unit ∷ []) (λ u. is_faultless lib (key_of u)) checked.ordered.0 o laws p none) in
-    walk-updated meaning header pre lib order unit before mid c.args.done.checked checked new row _ built (c.in_ok-checked.ensures ∙ ap (λ us. in_order (map key_of us)) c.as_slice.ensures)
-    c.refresh_rest.ensures.left (given.steady (steady-mid meaning header pre lib order unit before mid c.args.done.checked checked)) given.marks _ (given.compared counted)
+    walk-updated meaning header pre lib order unit before mid c.args.done.checked checked new row _ built (c.in_ok-checked.ensures ∙ ap (λ us. in_order (map key_of us)) c.as_slice.ensures ∙ ap (λ parts. in_order (map key_of parts.0)) c.into_parts-checked.ensures)
+    c.refresh_rest.ensures.left (given.steady (steady-mid meaning header pre lib order unit before mid c.args.done.checked checked)) given.marks _ (subst (λ (parts : List UnitKey × ℕ). IsCompared new parts.1) (sym c.into_parts-checked.ensures) (given.compared counted))
 
 pub returns-clause-counted : goal.returns-clause-counted
 returns-clause-counted g c before checked n counted =
@@ -62,4 +64,4 @@ returns-clause-counted g c before checked n counted =
     let given = c.in_ok-refresh_rest.ensures in
     let place = c.behind-rest.ensures (in-order meaning header pre lib order unit before mid c.args.done.checked checked) in
     let built = built-rest meaning header pre lib order unit before mid c.args.done.checked checked place.0 c.behind-rest.result.now place.1 new row (λ o laws p none. given.built (place.0 ++ unit ∷ []) (λ u. is_faultless lib (key_of u)) checked.ordered.0 o laws p none) in
-    walk-counted meaning header pre lib order unit before mid c.args.done.checked checked new row _ built (c.in_ok-checked.ensures ∙ ap (λ us. in_order (map key_of us)) c.as_slice.ensures) n _ (given.counted n counted)
+    walk-counted meaning header pre lib order unit before mid c.args.done.checked checked new row _ built (c.in_ok-checked.ensures ∙ ap (λ us. in_order (map key_of us)) c.as_slice.ensures ∙ ap (λ parts. in_order (map key_of parts.0)) c.into_parts-checked.ensures) n _ (given.counted n counted)
