@@ -1,4 +1,4 @@
-use Rattle.std.proofs.Common.{◌≡◌, ◌∙◌, ◌+◌, ◌-◌, ◌<◌, ◌≤◌, ◌++◌, ◌∷◌, ◌||◌, ℕ, Bool, true, false, List, [], Option, Some, None, cond, length, length-drop, take, drop, get_or, drop-cons, sym, ap, add-one, arith, position}
+use Rattle.std.proofs.Common.{◌≡◌, ◌∙◌, ◌+◌, ◌-◌, ◌≤◌, ◌++◌, ◌∷◌, ◌||◌, ℕ, Bool, true, false, List, [], Some, None, cond, length, length-drop, take, drop, get_or, drop-cons, sym, ap, add-one, arith, position}
 use Rattle.std.specs.List.{position_from}
 use Rattle.std.proofs.lemmas.Bool.{true≢false}
 use Rattle.std.proofs.lemmas.List.{take_all, take-append-drop}
