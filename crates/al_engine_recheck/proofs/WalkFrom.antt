@@ -33,7 +33,7 @@ left-each : (P : UnitKey → Type 0) (us : List UnitKey) → ((w : UnitKey) → 
 left-each P [] never = no_units
 left-each P (v ∷ us) never = left (never v (has_unit-first v us)) (left-each P us (λ w h. never w (in-rest v us w h)))
 
--- the rest of an order stands behind its beginning
+-- the rest of an order stands after its beginning
 stands-from : (s : Setting) (rank : UnitKey → ℕ) (seen before rest : List UnitKey) → StandsAfter s rank seen (before ++ rest) → StandsAfter s rank (seen ++ before) rest
 stands-from s rank seen [] rest after = subst (λ (us : List UnitKey). StandsAfter s rank us rest) (sym (append-nil seen)) after
 stands-from s rank seen (v ∷ before) rest after = subst (λ (us : List UnitKey). StandsAfter s rank us rest) (append_assoc seen (v ∷ []) before) (stands-from s rank (seen ++ v ∷ []) before rest after.3)

@@ -99,7 +99,7 @@ impl<C: UnitCheck> UnitCache<C> {
     }
 
     /// Brings the units of a library up to date, in an order of dependence. Where one unit is given, it alone was edited, and no other
-    /// unit is looked at than those that stand behind it in the order; none is where nobody read what it answers otherwise. What the last build
+    /// unit is looked at than those that stand after it in the order; none is where nobody read what it answers otherwise. What the last build
     /// settled stays as it is, until [`Self::settle`] or [`Self::cancel`].
     /// - `updated`: which units were checked, which entries there are and will be, how many stored answers were compared.
     /// - `renewed`: where it tells of a renewal, all other units have the entries that they had.

@@ -14,7 +14,7 @@ ghost use Rattle.al_engine_recheck.specs.Walks.{IsEditedChecked};
 
 use crate::edited::EditedUnit;
 use crate::rechecking::{Rechecked, recheck};
-use crate::walking::walk_behind;
+use crate::walking::walk_after;
 use al_base::{NoMemory, UnitKey};
 use al_engine_keep::KeptEntries;
 use al_engine_refresh::{Done, begun, check_anew, has_sound, text_of};
@@ -92,7 +92,7 @@ fn is_unread(entries: &KeptEntries, edited: &EditedUnit, was_sound: bool) -> boo
 }
 
 /// Brings the units of a library up to date where this one alone was edited. It is checked under the answers that there are. Where that
-/// leaves all others as they are, no other unit is looked at; else those are that stand behind it in the order. What the last build settled
+/// leaves all others as they are, no other unit is looked at; else those are that stand after it in the order. What the last build settled
 /// stays as it is.
 fn renew<C: UnitCheck, P: Answers>(
     alloc: Global,
@@ -115,7 +115,7 @@ fn renew<C: UnitCheck, P: Answers>(
     let was_sound = has_sound(entries, unit);
     let done = check_edited(alloc, checker, predefined, sources, order, edited, entries)?;
     if !is_unread(entries, edited, was_sound) {
-        return walk_behind(
+        return walk_after(
             alloc, checker, predefined, sources, order, unit, entries, done,
         );
     }

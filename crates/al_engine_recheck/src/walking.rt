@@ -1,4 +1,4 @@
-// The units that stand behind one that alone was edited, and on which others may depend.
+// The units that stand after one that alone was edited, and on which others may depend.
 ghost use Rattle.std.specs.Prelude.{◌≡◌, ◌<◌, ◌++◌, ◌∷◌, ℕ, false, true, IfOk, IfSome, List, length, position};
 ghost use Rattle.al_base.specs.declared.unit_key.UnitKey.{UnitKey};
 ghost use Rattle.al_view.specs.Symbols.{same_unit};
@@ -28,8 +28,8 @@ fn place_of(order: &[UnitKey], unit: &UnitKey) -> Option<usize>
     order.iter().position(|other| is_unit(unit, other))
 }
 
-/// Those units of an order that stand behind this one, which is in it.
-fn behind<'a>(order: &'a [UnitKey], unit: &UnitKey) -> &'a [UnitKey]
+/// Those units of an order that stand after this one, which is in it.
+fn units_after<'a>(order: &'a [UnitKey], unit: &UnitKey) -> &'a [UnitKey]
     ensures { has_unit order.now unit.now ≡ true → (before : List UnitKey) × (order.now ≡ before ++ unit.now ∷ result.now) }
 {
     match place_of(order, unit) {
@@ -39,9 +39,9 @@ fn behind<'a>(order: &'a [UnitKey], unit: &UnitKey) -> &'a [UnitKey]
 }
 
 /// Goes on with a build in which the unit that alone was edited was checked, and nothing else: it brings those units up to date that stand
-/// behind it in the order. What the last build settled stays as it is.
+/// after it in the order. What the last build settled stays as it is.
 /// - `updated`: all is then as a build of the whole order makes it of what there was before the unit was checked.
-pub(crate) fn walk_behind<C: UnitCheck, P: Answers>(
+pub(crate) fn walk_after<C: UnitCheck, P: Answers>(
     alloc: Global,
     checker: &mut C,
     predefined: &P,
@@ -58,7 +58,7 @@ pub(crate) fn walk_behind<C: UnitCheck, P: Answers>(
     ensures left { IsLeft entries.old entries.new }
 {
     let mut done = done;
-    let rest = behind(order, unit);
+    let rest = units_after(order, unit);
     refresh_rest(
         alloc, checker, predefined, sources, rest, entries, &mut done,
     )?;

@@ -74,7 +74,7 @@ module _ (meaning : TextMeaning) (header : List ℕ → Header) (lib : Library) 
   next-now store new done rest checked more u p out laws count after handled =
       next-by meaning header lib fl pre is old (within done (now_at store)) (within (done ++ u ∷ []) (now_at new)) done rest checked more u p laws (results_of (now_at store)) (fits-now store done (u ∷ rest) checked p out) count after handled
 
-  -- one unit more of an order that stands behind others
+  -- one unit more of an order that stands after others
   pub next-rest : (store new : Entries) (before order checked more : List UnitKey) (i : ℕ) (u : UnitKey) → i < length order → u ≡ get_or order i u → ((v : UnitKey) → has_unit (before ++ order) v ≡ false → now_at store v ≡ None) → AllKeepLaw meaning header old
       → Progress meaning header lib fl pre is old (within (before ++ take i order) (now_at store)) (before ++ take i order) (drop i order) checked → (count after : ℕ)
       → (has_unit (before ++ take i order) u ≡ false

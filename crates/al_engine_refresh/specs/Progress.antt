@@ -27,7 +27,7 @@ module _ (meaning : TextMeaning) (header : List ℕ → Header) (lib : Library) 
     pub record Progress (at : UnitKey → Option Stored) (done rest checked : List UnitKey) : Type 0 where
       -- every entry keeps the law
       pub law : AllKeepLaw meaning header at
-      -- the rest stands behind the units that are done, each of which breaks no rule of the graph; no other unit has an entry
+      -- the rest stands after the units that are done, each of which breaks no rule of the graph; no other unit has an entry
       pub ordered : StandsAfter (setting header lib fl pre) is.rank done rest
       pub there : (u : UnitKey) → has_unit done u ≡ true → fl u ≡ true
       pub undone : (u : UnitKey) → has_unit done u ≡ false → at u ≡ None

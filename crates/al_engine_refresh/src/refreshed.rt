@@ -34,7 +34,7 @@ pub fn begun(alloc: Global) -> Done
     }
 }
 
-/// Brings those units of a library up to date that stand behind others in an order of dependence, where these are done. Of a unit that is
+/// Brings those units of a library up to date that stand after others in an order of dependence, where these are done. Of a unit that is
 /// reached, the settled entry is used again where its text and all answers are as they were; else the unit is checked, and an entry is made
 /// of it. What is settled stays as it is.
 /// - `built`: where the units that are done are as a build of the whole order leaves them, all are so.

@@ -1,4 +1,4 @@
-use Rattle.std.proofs.Common.{◌≡◌, ◌∙◌, ◌+◌, ◌-◌, ◌<◌, ◌≤◌, ◌++◌, ◌∷◌, ◌||◌, ℕ, Bool, true, false, List, [], Option, Some, None, cond, length, length-drop, take, drop, get_or, drop-cons, sym, ap, add-one, arith, position}
+use Rattle.std.proofs.Common.{◌≡◌, ◌∙◌, ◌+◌, ◌-◌, ◌≤◌, ◌++◌, ◌∷◌, ◌||◌, ℕ, Bool, true, false, List, [], Some, None, cond, length, length-drop, take, drop, get_or, drop-cons, sym, ap, add-one, arith, position}
 use Rattle.std.specs.List.{position_from}
 use Rattle.std.proofs.lemmas.Bool.{true≢false}
 use Rattle.std.proofs.lemmas.List.{take_all, take-append-drop}
@@ -8,9 +8,9 @@ use Rattle.al_base.specs.declared.unit_key.UnitKey.{UnitKey}
 use Rattle.al_view.specs.Symbols.{same_unit}
 use Rattle.al_view.proofs.SymbolLemmas.{same_unit-one}
 use Rattle.al_query.specs.Known.{has_unit}
-use Rattle.al_engine_recheck.proofs.walking.behind.Goals as goal
+use Rattle.al_engine_recheck.proofs.walking.units_after.Goals as goal
 
--- the unit at its place, and what stands behind it
+-- the unit at its place, and what stands after it
 there : (order : List UnitKey) (unit : UnitKey) (i : ℕ) → position (same_unit unit) order ≡ Some i → order ≡ take i order ++ unit ∷ take (length order - (i + 1)) (drop (i + 1) order)
 there order unit i is =
     let at = position-Some (same_unit unit) order i unit is in
