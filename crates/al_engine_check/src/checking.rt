@@ -20,7 +20,7 @@ use al_unit_graph::Sources;
 
 /// Checks the units of a library over what is kept of them: each unit that is reached and has no entry for its text, or one with an
 /// answer that differs now. The library's graph is given. Where one unit is given, it alone was edited, and no other one is looked at than those
-/// that stand behind it in the order; none is where nobody read what it answers otherwise. What the last build settled stays as it is.
+/// that stand after it in the order; none is where nobody read what it answers otherwise. What the last build settled stays as it is.
 /// - `updated`: which units were checked, and the entries of those that are reached: their outcomes are the one map that solves the
 ///   library's equations, whatever was kept; which entries there will be; and how many stored answers were compared.
 /// - `renewed`: where it tells of a renewal, all units but the given one have the entries that they had.
