@@ -1,8 +1,10 @@
-use Rattle.std.proofs.Common.{map, ap, sym, ◌∙◌}
+use Rattle.std.proofs.Common.{ℕ, List, map, ap, sym, subst, ◌∙◌}
 use Rattle.al_base.specs.Batch.{key_of}
+use Rattle.al_base.specs.declared.unit_key.UnitKey.{UnitKey}
 use Rattle.al_unit_order.specs.Reached.{is_faultless}
 use Rattle.al_unit_graph.specs.Orders.{in_order}
 use Rattle.al_engine_refresh.specs.Builds.{raised}
+use Rattle.al_engine_refresh.specs.Moving.{IsCompared}
 use Rattle.al_engine_recheck.proofs.KeyOrders.{same-units}
 use Rattle.al_engine_recheck.proofs.OrderLemmas.{marks-ready, order-distinct, order-there}
 use Rattle.al_engine_recheck.proofs.RecheckLemmas.{as-long, rechecked}
@@ -29,12 +31,12 @@ returns-clause-updated g c =
     let new = c.refresh.new.entries in
     let given = c.in_ok-done.ensures in
     let built = given.built (λ u. is_faultless lib (key_of u)) has.0 has.1 c.requires.law in
-    let sorted = c.in_ok-checked.ensures ∙ ap (λ us. in_order (map key_of us)) c.as_slice.ensures in
+    let sorted = c.in_ok-checked.ensures ∙ ap (λ us. in_order (map key_of us)) c.as_slice.ensures ∙ ap (λ parts. in_order (map key_of parts.0)) c.into_parts-checked.ensures in
     record {
       rechecked = rechecked _ _ _ has.0.rank _ _ c.args.order.now _ _ built has.1 sorted;
       staying = will-stay lib old new c.refresh.ensures.left given.steady.leaving given.steady.are_made;
       marks = given.marks;
-      compared = given.compared;
+      compared = subst (λ (parts : List UnitKey × ℕ). IsCompared new parts.1) (sym c.into_parts-checked.ensures) given.compared;
       made = λ u. let same = same-units _ _ sorted u in (λ h. (given.steady.listed u).0 (same.0 h), λ h. same.1 ((given.steady.listed u).1 h));
       are_made = given.steady.are_made;
       leaving = given.steady.leaving;
@@ -46,4 +48,4 @@ returns-clause-counted g c =
     let has = c.requires.order in
     let built = c.in_ok-done.ensures.built (λ u. is_faultless lib (key_of u)) has.0 has.1 c.requires.law in
     c.in_ok-done.ensures.counted
-    ∙ ap (raised (g.C.UnitCheck.count c.args.checker.now)) (sym (as-long _ _ _ has.0.rank _ _ c.args.order.now _ _ built has.1 (c.in_ok-checked.ensures ∙ ap (λ us. in_order (map key_of us)) c.as_slice.ensures)))
+    ∙ ap (raised (g.C.UnitCheck.count c.args.checker.now)) (sym (as-long _ _ _ has.0.rank _ _ c.args.order.now _ _ built has.1 (c.in_ok-checked.ensures ∙ ap (λ us. in_order (map key_of us)) c.as_slice.ensures ∙ ap (λ parts. in_order (map key_of parts.0)) c.into_parts-checked.ensures)))

@@ -27,3 +27,7 @@ pub returns-clause-counted : goal.returns-clause-counted
 returns-clause-counted g c =
     let k = c.in_ok-done.ensures.checked in
     c.in_ok-done.ensures.counted ∙ ap (λ (us : List UnitKey). raised (g.C.UnitCheck.count c.args.checker.now) (length us)) (k.listed ∙ sym c.in_ok-checked.ensures)
+
+pub returns-then-not-is_unread-clause-counted : goal.returns-then-not-is_unread-clause-counted
+returns-then-not-is_unread-clause-counted g c =
+    c.walk_behind.ensures.counted c.args.entries.now c.in_ok-done.ensures.checked (g.C.UnitCheck.count c.args.checker.now) c.in_ok-done.ensures.counted
