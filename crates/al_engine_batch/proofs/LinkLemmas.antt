@@ -116,14 +116,16 @@ module _ (lib : Library) (f : UnitKey → Option Outcome) (main : List ℕ) (uni
           image_is = ap (λ (x : LinkSymbol). image_of x l.units) its ∙ ap (image_of (main_symbol lib main)) kept;
           bytes_are = refl;
         },
-        record {
-          ordered = ordered program.order.items linked.0;
-          placed = is.placed;
-          are_placed = are_placed program.order.items linked.0;
-          symbol_is = refl;
-          objects_are = linked.2 ∙ is.objects_are;
-        },
-        (subst IsLinkable (sym linked.2) linked.1.0, linked.1.2 ∙ ap linked_units (sym linked.2)),
+        (
+          record {
+            ordered = ordered program.order.items linked.0;
+            placed = is.placed;
+            are_placed = are_placed program.order.items linked.0;
+            symbol_is = refl;
+            objects_are = linked.2 ∙ is.objects_are;
+          },
+          (subst IsLinkable (sym linked.2) linked.1.0, linked.1.2 ∙ ap linked_units (sym linked.2)),
+        ),
       )
 
 pub partition-batch : (lib : Library) (f : UnitKey → Option Outcome) (main : List ℕ) (before : Compiled) (p : Partition) (compiled : Compiled)

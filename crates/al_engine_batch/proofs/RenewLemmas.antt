@@ -62,14 +62,16 @@ module _ (f g : UnitKey → Option Outcome) (u : UnitKey) (x : WithObject) (othe
       let is = subst (λ (c : Compiled). KeepsPartition lib g main c) made kept in
       subst (λ (c : Compiled). IsPlanned lib f main c (Renewed r)) (sym made) (
         none,
-        record {
-          ordered = is.0.ordered;
-          placed = is.0.placed;
-          are_placed = is.0.are_placed;
-          symbol_is = symbol;
-          objects_are = sym objects ∙ ap (renewed x) is.0.objects_are ∙ sym (objects-renewed (map unit_named is.0.placed));
-        },
-        is.1,
+        (
+          record {
+            ordered = is.0.ordered;
+            placed = is.0.placed;
+            are_placed = is.0.are_placed;
+            symbol_is = symbol;
+            objects_are = sym objects ∙ ap (renewed x) is.0.objects_are ∙ sym (objects-renewed (map unit_named is.0.placed));
+          },
+          is.1,
+        ),
       )
 
 -- ---- where a unit stands among others
