@@ -30,4 +30,4 @@ returns-clause-counted g c =
 
 pub returns-then-not-is_unread-clause-counted : goal.returns-then-not-is_unread-clause-counted
 returns-then-not-is_unread-clause-counted g c =
-    c.walk_behind.ensures.counted c.args.entries.now c.in_ok-done.ensures.checked (g.C.UnitCheck.count c.args.checker.now) c.in_ok-done.ensures.counted
+    c.walk_after.ensures.counted c.args.entries.now c.in_ok-done.ensures.checked (g.C.UnitCheck.count c.args.checker.now) c.in_ok-done.ensures.counted
