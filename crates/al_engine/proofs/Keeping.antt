@@ -52,13 +52,16 @@ module _ (old new : Library) (one : HaveOneGraph old new) where
   placed-stay _ _ (item {x = x} {items = items} {subunits = subunits} {placed = placed} are more) = item (subunits-stay x subunits are) (placed-stay items placed more)
 
   partition-stays : (f : UnitKey → Option Outcome) (main : List ℕ) (program : Program) → HoldsPartition old f main program → HoldsPartition new f main program
-  partition-stays f main program is = record {
-    ordered = one.elaboration main (map key_of program.order.items) is.ordered;
-    placed = is.placed;
-    are_placed = placed-stay (map key_of program.order.items) is.placed is.are_placed;
-    symbol_is = refl;
-    objects_are = is.objects_are;
-  }
+  partition-stays f main program is = (
+    record {
+      ordered = one.elaboration main (map key_of program.order.items) is.0.ordered;
+      placed = is.0.placed;
+      are_placed = placed-stay (map key_of program.order.items) is.0.placed is.0.are_placed;
+      symbol_is = refl;
+      objects_are = is.0.objects_are;
+    },
+    is.1,
+  )
 
   -- what compiling gave holds the partition of a library with the same headers, by the same outcomes
   batch-keeps : (f : UnitKey → Option Outcome) (main : List ℕ) (compiled : Compiled) → IsBatch old f main compiled → KeepsPartition new f main compiled

@@ -1,3 +1,4 @@
 pub mod LinkLemmas
 pub mod PatchLemmas
 pub mod RenewLemmas
+pub mod ExchangeLemmas

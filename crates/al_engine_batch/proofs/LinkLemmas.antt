@@ -24,7 +24,7 @@ use Rattle.al_query_outcome.specs.Results.{Outcome}
 use Rattle.al_engine_batch.specs.Objects.{IsLinkable, WithObject, is_unit_name, linked_units, objects_at}
 use Rattle.al_engine_found.specs.Found.{findings_of}
 use Rattle.al_engine_batch.specs.Batches.{IsBatch}
-use Rattle.al_engine_batch.specs.Links.{IsLinkedAs, IsLinkedOver}
+use Rattle.al_engine_batch.specs.Links.{IsLinkedAs, IsLinkedOver, units_renewed}
 use Rattle.al_engine_batch.specs.ObjectsSeen.{left_model, object_model}
 use Rattle.al_engine_batch.specs.Partitions.{IsPartition}
 use Rattle.al_engine_batch.specs.Plans.{AreClosedObjects, IsClosedPlan, IsPlanned}
@@ -116,22 +116,25 @@ module _ (lib : Library) (f : UnitKey → Option Outcome) (main : List ℕ) (uni
           image_is = ap (λ (x : LinkSymbol). image_of x l.units) its ∙ ap (image_of (main_symbol lib main)) kept;
           bytes_are = refl;
         },
-        record {
-          ordered = ordered program.order.items linked.0;
-          placed = is.placed;
-          are_placed = are_placed program.order.items linked.0;
-          symbol_is = refl;
-          objects_are = linked.2 ∙ is.objects_are;
-        },
+        (
+          record {
+            ordered = ordered program.order.items linked.0;
+            placed = is.placed;
+            are_placed = are_placed program.order.items linked.0;
+            symbol_is = refl;
+            objects_are = linked.2 ∙ is.objects_are;
+          },
+          (subst IsLinkable (sym linked.2) linked.1.0, linked.1.2 ∙ ap linked_units (sym linked.2)),
+        ),
       )
 
 pub partition-batch : (lib : Library) (f : UnitKey → Option Outcome) (main : List ℕ) (before : Compiled) (p : Partition) (compiled : Compiled)
-    → IsClosedPlan (Linkable p) → IsPlanned lib f main before (Linkable p) → IsLinkedAs p.main (map object_model p.objects.items) p.order.items compiled → IsBatch lib f main compiled
+    → IsClosedPlan before (Linkable p) → IsPlanned lib f main before (Linkable p) → IsLinkedAs p.main (map object_model p.objects.items) p.order.items compiled → IsBatch lib f main compiled
 partition-batch lib f main before p compiled closed planned linked = linked-batch lib f main p.order.items p.main (map object_model p.objects.items) planned.0 planned.1 closed compiled linked
 
 pub renewal-batch : (lib : Library) (f : UnitKey → Option Outcome) (main : List ℕ) (before : Compiled) (r : Renewal) (compiled : Compiled)
-    → IsClosedPlan (Renewed r) → IsPlanned lib f main before (Renewed r) → IsLinkedOver r.main (map object_model r.objects.items) before compiled → IsBatch lib f main compiled
+    → IsClosedPlan before (Renewed r) → IsPlanned lib f main before (Renewed r) → IsLinkedOver r before compiled → IsBatch lib f main compiled
 renewal-batch lib f main (Faulty diagnostics) r compiled closed planned linked = absurd planned.1
 renewal-batch lib f main (Unbound fault) r compiled closed planned linked = absurd planned.1
 renewal-batch lib f main (TooLarge order) r compiled closed planned linked = absurd planned.1
-renewal-batch lib f main (Made program) r compiled closed planned linked = linked-batch lib f main program.order.items r.main (map object_model r.objects.items) planned.0 planned.1 closed compiled linked
+renewal-batch lib f main (Made program) r compiled closed planned linked = linked-batch lib f main program.order.items r.main (units_renewed program r) planned.0 planned.1.0 closed compiled (linked planned.1.1)

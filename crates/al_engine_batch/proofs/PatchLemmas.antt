@@ -14,7 +14,7 @@ use Rattle.al_engine_batch.specs.Patches.{AreLike, ArePatched, IsPatched}
 
 -- ---- units that all have objects
 
-neither : (a b : Bool) → (a || b) ≡ false → (a ≡ false) × (b ≡ false)
+pub neither : (a b : Bool) → (a || b) ≡ false → (a ≡ false) × (b ≡ false)
 neither false b e = (refl, e)
 neither true b e = absurd cc
 
@@ -59,10 +59,10 @@ module _ (ls : List CompiledUnit) (main : LinkSymbol) (old new : LinkedImage) (s
 
 -- ---- an image that stays
 
-differs-same : (u : UnitObject) → differs u u ≡ 0
+pub differs-same : (u : UnitObject) → differs u u ≡ 0
 differs-same u = ap (λ (b : Bool). cond b 0 1) ((bytes_eq-Decides u.object.code u.object.code).1 refl)
 
-differing-same : (us : List UnitObject) → differing us us ≡ 0
+pub differing-same : (us : List UnitObject) → differing us us ≡ 0
 differing-same [] = refl
 differing-same (u ∷ us) = omega (arith, differs-same u, differing-same us)
 

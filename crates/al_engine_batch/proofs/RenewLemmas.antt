@@ -1,6 +1,6 @@
 -- What is to be linked where one unit alone has another outcome than before.
-use Rattle.std.proofs.Common.{◌≡◌, inl, inr, ℕ, true, false, Bool, List, [], ◌∷◌, ◌++◌, map, Option, Some, None, refl, sym, ap, subst, ◌∙◌, if◌then◌else◌}
-use Rattle.std.proofs.lemmas.List.{map-append}
+use Rattle.std.proofs.Common.{is_some, zero, suc, ◌≡◌, inl, inr, ℕ, true, false, Bool, ◌+◌, ◌<◌, List, [], ◌∷◌, ◌++◌, length, take, set, get_or, map, Option, Some, None, refl, sym, ap, subst, ◌∙◌, if◌then◌else◌, arith}
+use Rattle.std.proofs.lemmas.List.{length-take-le, map-append, set-append_left, set_at, take_more}
 use Rattle.al_base.specs.declared.unit_key.UnitKey.{UnitKey}
 use Rattle.al_unit_graph.specs.Headers.{Library}
 use Rattle.al_view.specs.Symbols.{same_unit}
@@ -13,6 +13,7 @@ use Rattle.al_code.specs.ObjectOf.{object_of}
 use Rattle.al_engine_found.specs.Found.{findings_of}
 use Rattle.al_engine_batch.specs.Objects.{WithObject, objects_at, objects_of}
 use Rattle.al_engine_batch.specs.ObjectsSeen.{object_model}
+use Rattle.al_engine_batch.specs.Links.{units_renewed}
 use Rattle.al_engine_batch.specs.Plans.{IsPlanned}
 use Rattle.al_engine_batch.specs.Renewals.{KeepsPartition, renewed, renewed_one}
 use Rattle.al_engine_batch.specs.declared.compiled.Compiled.{Compiled}
@@ -56,16 +57,61 @@ module _ (f g : UnitKey → Option Outcome) (u : UnitKey) (x : WithObject) (othe
       ∙ sym (map-append (renewed_one x) (objects_of k (g k)) (objects_at g ks))
 
   pub renewed-plan : (lib : Library) (main : List ℕ) (before : Compiled) (program : Program) (r : Renewal) → before ≡ compiled.Made program → findings_of lib f ≡ [] → KeepsPartition lib g main before
-      → r.main ≡ main_symbol lib main → map object_model r.objects.items ≡ renewed x (map object_model program.objects.items) → IsPlanned lib f main before (Renewed r)
+      → r.main ≡ main_symbol lib main → renewed x (map object_model program.objects.items) ≡ units_renewed program r → IsPlanned lib f main before (Renewed r)
   renewed-plan lib main before program r made none kept symbol objects =
       let is = subst (λ (c : Compiled). KeepsPartition lib g main c) made kept in
       subst (λ (c : Compiled). IsPlanned lib f main c (Renewed r)) (sym made) (
         none,
-        record {
-          ordered = is.ordered;
-          placed = is.placed;
-          are_placed = is.are_placed;
-          symbol_is = symbol;
-          objects_are = objects ∙ ap (renewed x) is.objects_are ∙ sym (objects-renewed (map unit_named is.placed));
-        },
+        (
+          record {
+            ordered = is.0.ordered;
+            placed = is.0.placed;
+            are_placed = is.0.are_placed;
+            symbol_is = symbol;
+            objects_are = sym objects ∙ ap (renewed x) is.0.objects_are ∙ sym (objects-renewed (map unit_named is.0.placed));
+          },
+          is.1,
+        ),
       )
+
+-- ---- where a unit stands among others
+
+-- .. among so many of them: at no place, or at one
+abbrev pub FoundTo : WithObject → List WithObject → ℕ → Option ℕ → Type 0
+FoundTo x us i None = renewed x (take i us) ≡ take i us
+FoundTo x us i (Some at) = (at < i) × (renewed x (take i us) ≡ set (take i us) at x)
+
+module _ (x : WithObject) (us : List WithObject) (i : ℕ) (w : WithObject) (lt : i < length us) (at_i : w ≡ get_or us i w) where
+  more : take (i + 1) us ≡ take i us ++ w ∷ []
+  more = take_more us i w lt ∙ ap (λ (y : WithObject). take i us ++ y ∷ []) (sym at_i)
+
+  many : length (take i us) ≡ i
+  many = length-take-le i us (omega arith)
+
+  renewed-more : renewed x (take (i + 1) us) ≡ renewed x (take i us) ++ renewed_one x w ∷ []
+  renewed-more = ap (renewed x) more ∙ map-append (renewed_one x) (take i us) (w ∷ [])
+
+  pub another : same_unit x.0 w.0 ≡ false → (found : Option ℕ) → FoundTo x us i found → FoundTo x us (i + 1) found
+  another apart None h = renewed-more ∙ ap (λ (l : List WithObject). l ++ renewed_one x w ∷ []) h ∙ ap (λ (b : Bool). take i us ++ (if b then x else w) ∷ []) apart ∙ sym more
+  another apart (Some at) h = (
+    omega (arith, h.0),
+    renewed-more ∙ ap (λ (l : List WithObject). l ++ renewed_one x w ∷ []) h.1 ∙ ap (λ (b : Bool). set (take i us) at x ++ (if b then x else w) ∷ []) apart
+        ∙ sym (ap (λ (l : List WithObject). set l at x) more ∙ set-append_left (take i us) (w ∷ []) at x (omega (arith, many, h.0))),
+  )
+
+  the-one : same_unit x.0 w.0 ≡ true → FoundTo x us i None → FoundTo x us (i + 1) (Some i)
+  the-one same h = (
+    omega arith,
+    renewed-more ∙ ap (λ (l : List WithObject). l ++ renewed_one x w ∷ []) h ∙ ap (λ (b : Bool). take i us ++ (if b then x else w) ∷ []) same
+        ∙ sym (ap (λ (l : List WithObject). set l i x) more ∙ set_at (take i us) w [] x i many),
+  )
+
+  pub the-only : same_unit x.0 w.0 ≡ true → (found : Option ℕ) → is_some found ≡ false → FoundTo x us i found → FoundTo x us (i + 1) (Some i)
+  the-only same None none h = the-one same h
+  the-only same (Some at) none h = absurd (cc)
+
+-- what is seen of an item
+pub seen-at : {A B : Type 0} (f : A → B) (xs : List A) (i : ℕ) (x : A) → i < length xs → x ≡ get_or xs i x → f x ≡ get_or (map f xs) i (f x)
+seen-at f [] i x lt e = absurd (omega arith)
+seen-at f (y ∷ xs) zero x lt e = ap f e
+seen-at f (y ∷ xs) (suc n) x lt e = seen-at f xs n x (omega arith) e

@@ -1,13 +1,18 @@
 -- What linking a partition gives.
-use Rattle.std.specs.Prelude.{◌≡◌, ⊤, Bool, true, false, List, map, Option, Some, None}
+use Rattle.std.specs.Prelude.{◌≡◌, ℕ, ⊤, Bool, true, false, List, map, slice_set, Option, Some, None}
 use Rattle.al_base.specs.declared.unit_key.UnitKey.{UnitKey}
 use Rattle.al_view.specs.declared.link.LinkSymbol.{LinkSymbol}
-use Rattle.al_link.specs.Relinking.{LinkedImage}
+use Rattle.al_code_object.specs.Objects.{CompiledCode}
+use Rattle.al_code_object.specs.declared.object.Object.TheVariants as left
+use Rattle.al_link.specs.Relinking.{IsInPlace, LinkedImage, exchanged}
+use Rattle.al_link.specs.Units.{AreWithin}
 use Rattle.al_engine_batch.specs.Objects.{IsLinkable, WithObject, linked_units}
 use Rattle.al_engine_batch.specs.ObjectsSeen.{object_model}
 use Rattle.al_engine_batch.specs.Patches.{ArePatched}
 use Rattle.al_engine_batch.specs.declared.compiled.Compiled.{Compiled}
 use Rattle.al_engine_batch.specs.declared.compiled.Compiled.TheVariants.{Faulty, Unbound, TooLarge, Made}
+use Rattle.al_engine_batch.specs.declared.compiled.Program.{Program}
+use Rattle.al_engine_batch.specs.declared.planned.Renewal.{Renewal}
 
 -- the units can be linked, and this is their image
 abbrev pub AreLinked : LinkSymbol → List WithObject → LinkedImage → Type 0
@@ -29,9 +34,26 @@ IsLinkedAs symbol us order (TooLarge kept) = (kept.items ≡ order) × (IsLinkab
 IsLinkedAs symbol us order (Made program) = (program.order.items ≡ order) × AreLinked symbol us program.linked × (map object_model program.objects.items ≡ us)
 IsLinkedAs symbol us order other = ⊥
 
--- .. with the order of the program before, if there was one
-abbrev pub IsLinkedOver : LinkSymbol → List WithObject → Compiled → Compiled → Type 0
-IsLinkedOver symbol us (Faulty diagnostics) new = ⊤
-IsLinkedOver symbol us (Unbound fault) new = ⊤
-IsLinkedOver symbol us (TooLarge order) new = ⊤
-IsLinkedOver symbol us (Made program) new = IsLinkedAs symbol us program.order.items new
+-- one unit's object was put in the place of the one before, which is as this one but for its code
+pub record IsExchanged (symbol : LinkSymbol) (at : ℕ) (x : WithObject) (old new : LinkedImage) : Type 0 where
+  pub code : CompiledCode
+  pub has_code : x.1 ≡ left.Compiled code
+  pub main_is : symbol ≡ old.main
+  pub in_place : IsInPlace old.units at (record { key = x.0; object = code })
+  pub is : new ≡ exchanged old at (record { key = x.0; object = code })
+  pub within : AreWithin new.units
+
+-- a program whose image is that of its objects
+abbrev pub IsHeld : Program → Type 0
+IsHeld program = IsLinkable (map object_model program.objects.items) × (program.linked.units ≡ linked_units (map object_model program.objects.items))
+
+-- its units with their objects, of which one has another object now
+abbrev pub units_renewed : Program → Renewal → List WithObject
+units_renewed program r = slice_set (map object_model program.objects.items) r.at (object_model r.object)
+
+-- the program of these units with the order of the program before, if there was such a one
+abbrev pub IsLinkedOver : Renewal → Compiled → Compiled → Type 0
+IsLinkedOver r (Faulty diagnostics) new = ⊤
+IsLinkedOver r (Unbound fault) new = ⊤
+IsLinkedOver r (TooLarge order) new = ⊤
+IsLinkedOver r (Made program) new = IsHeld program → IsLinkedAs r.main (units_renewed program r) program.order.items new

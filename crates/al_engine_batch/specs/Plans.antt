@@ -10,6 +10,7 @@ use Rattle.al_link.specs.Closed.{AreClosed}
 use Rattle.al_link.specs.Partitions.{is_large}
 use Rattle.al_query_outcome.specs.Results.{Outcome}
 use Rattle.al_engine_found.specs.Found.{findings_of}
+use Rattle.al_engine_batch.specs.Links.{IsHeld, units_renewed}
 use Rattle.al_engine_batch.specs.Objects.{WithObject, linked_units}
 use Rattle.al_engine_batch.specs.ObjectsSeen.{object_model}
 use Rattle.al_engine_batch.specs.Partitions.{IsPartition}
@@ -19,12 +20,12 @@ use Rattle.al_engine_batch.specs.declared.planned.Planned.{Planned}
 use Rattle.al_engine_batch.specs.declared.planned.Planned.TheVariants.{Faulty, Unbound, Linkable, Renewed}
 use Rattle.al_engine_batch.specs.declared.planned.Renewal.{Renewal}
 
--- what is to be linked with the order of the program before
+-- what is to be linked with the order of the program before and its objects but for one, where its image is that of its objects
 abbrev pub IsRenewal : Library → (UnitKey → Option Outcome) → List ℕ → Compiled → Renewal → Type 0
 IsRenewal lib f main (compiled.Faulty diagnostics) r = ⊥
 IsRenewal lib f main (compiled.Unbound fault) r = ⊥
 IsRenewal lib f main (compiled.TooLarge order) r = ⊥
-IsRenewal lib f main (compiled.Made program) r = IsPartition lib f main (map key_of program.order.items) r.main (map object_model r.objects.items)
+IsRenewal lib f main (compiled.Made program) r = IsPartition lib f main (map key_of program.order.items) r.main (units_renewed program r) × IsHeld program
 
 -- what is wrong with the files; where nothing is, why there is no order of elaboration; or else what is to be linked, with its order or
 -- with that of what compiling gave before
@@ -38,9 +39,16 @@ IsPlanned lib f main before (Renewed r) = (findings_of lib f ≡ []) × IsRenewa
 abbrev pub AreClosedObjects : LinkSymbol → List WithObject → Type 0
 AreClosedObjects symbol us = list_any (λ u. is_large u.1) us ≡ false → AreClosed symbol (linked_units us)
 
--- so is what is to be linked
-abbrev pub IsClosedPlan : Planned → Type 0
-IsClosedPlan (Faulty diagnostics) = ⊤
-IsClosedPlan (Unbound fault) = ⊤
-IsClosedPlan (Linkable p) = AreClosedObjects p.main (map object_model p.objects.items)
-IsClosedPlan (Renewed r) = AreClosedObjects r.main (map object_model r.objects.items)
+-- .. where one of those of the program before has another object now
+abbrev pub IsClosedRenewal : Compiled → Renewal → Type 0
+IsClosedRenewal (compiled.Faulty diagnostics) r = ⊤
+IsClosedRenewal (compiled.Unbound fault) r = ⊤
+IsClosedRenewal (compiled.TooLarge order) r = ⊤
+IsClosedRenewal (compiled.Made program) r = AreClosedObjects r.main (units_renewed program r)
+
+-- so is what is to be linked, over what compiling gave before
+abbrev pub IsClosedPlan : Compiled → Planned → Type 0
+IsClosedPlan before (Faulty diagnostics) = ⊤
+IsClosedPlan before (Unbound fault) = ⊤
+IsClosedPlan before (Linkable p) = AreClosedObjects p.main (map object_model p.objects.items)
+IsClosedPlan before (Renewed r) = IsClosedRenewal before r

@@ -6,6 +6,7 @@ use Rattle.al_unit_graph.specs.Headers.{Library}
 use Rattle.al_view.specs.Symbols.{same_unit}
 use Rattle.al_query_outcome.specs.Defines.{main_symbol}
 use Rattle.al_query_outcome.specs.Results.{Outcome}
+use Rattle.al_engine_batch.specs.Links.{IsHeld}
 use Rattle.al_engine_batch.specs.Objects.{WithObject}
 use Rattle.al_engine_batch.specs.ObjectsSeen.{object_model}
 use Rattle.al_engine_batch.specs.Partitions.{IsPartition}
@@ -13,9 +14,10 @@ use Rattle.al_engine_batch.specs.declared.compiled.Compiled.{Compiled}
 use Rattle.al_engine_batch.specs.declared.compiled.Compiled.TheVariants.{Faulty, Unbound, TooLarge, Made}
 use Rattle.al_engine_batch.specs.declared.compiled.Program.{Program}
 
--- the order and the objects of a program are those of the main unit's partition, where the units have these outcomes
+-- the order and the objects of a program are those of the main unit's partition, where the units have these outcomes, and its image is
+-- that of its objects
 abbrev pub HoldsPartition : Library → (UnitKey → Option Outcome) → List ℕ → Program → Type 0
-HoldsPartition lib f main program = IsPartition lib f main (map key_of program.order.items) (main_symbol lib main) (map object_model program.objects.items)
+HoldsPartition lib f main program = IsPartition lib f main (map key_of program.order.items) (main_symbol lib main) (map object_model program.objects.items) × IsHeld program
 
 -- .. of the program that compiling gave, if it gave one
 abbrev pub KeepsPartition : Library → (UnitKey → Option Outcome) → List ℕ → Compiled → Type 0

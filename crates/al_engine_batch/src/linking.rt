@@ -1,5 +1,5 @@
 // The image of a partition.
-ghost use Rattle.std.specs.Prelude.{◌≡◌, ℕ, List, Option, None, true, map, IfOk, IsTrue, OnErr, OnOk};
+ghost use Rattle.std.specs.Prelude.{◌≡◌, ℕ, List, Option, None, true, false, map, slice_set, IfOk, IsTrue, OnErr, OnOk};
 ghost use Rattle.std.specs.List.{list_all};
 ghost use Rattle.al_base.specs.declared.unit_key.UnitKey.{UnitKey};
 ghost use Rattle.al_unit_graph.specs.Headers.{Library};
@@ -8,14 +8,15 @@ ghost use Rattle.al_engine_batch.specs.Batches.{IsBatch};
 ghost use Rattle.al_engine_batch.specs.Objects.{is_unit_name};
 ghost use Rattle.al_engine_batch.specs.ObjectsSeen.{left_model, object_model};
 ghost use Rattle.al_engine_batch.specs.Patches.{IsPatched, linked_in};
-ghost use Rattle.al_engine_batch.specs.Plans.{AreClosedObjects, IsClosedPlan, IsPlanned};
-ghost use Rattle.al_engine_batch.specs.Links.{IsLinkedAgain, IsLinkedAnew, IsLinkedAs, IsLinkedOver};
+ghost use Rattle.al_engine_batch.specs.Plans.{AreClosedObjects, IsClosedPlan, IsClosedRenewal, IsPlanned};
+ghost use Rattle.al_engine_batch.specs.Links.{IsExchanged, IsLinkedAgain, IsLinkedAnew, IsLinkedAs, IsLinkedOver};
 
 use crate::compiled::{Compiled, Program};
 use crate::names::is_unit_name;
 use crate::objects::UnitObject;
 use crate::planned::{Partition, Planned, Renewal};
 use al_base::{NoMemory, UnitKey};
+use al_code_object::Object;
 use al_link::{CompiledUnit, Linked};
 use al_link_image::LinkFault;
 use al_view::LinkSymbol;
@@ -163,41 +164,88 @@ fn link_partition(
     Ok(0)
 }
 
+/// Puts a unit's object in the place of another one, if there is one at that place.
+fn put(objects: &mut Vec<Rc<UnitObject>>, at: usize, object: Rc<UnitObject>)
+    ensures { objects.new.items ≡ slice_set objects.old.items at object }
+{
+    if at < objects.len() {
+        objects[at] = object;
+    }
+}
+
+/// These units with their objects, one of which has another object now. The others are shared.
+fn objects_with(
+    alloc: Global,
+    before: &[Rc<UnitObject>],
+    at: usize,
+    object: Rc<UnitObject>,
+) -> Result<Vec<Rc<UnitObject>>, NoMemory>
+    ensures { IfOk result (λ objects. map object_model objects.items ≡ slice_set (map object_model before.now) at (object_model object)) }
+{
+    let mut objects = Vec::with_capacity(alloc, before.len())?;
+    for one in before {
+        objects.push(one.clone()?)?;
+    }
+    put(&mut objects, at, object);
+    Ok(objects)
+}
+
+/// Links a unit's object in the place of the one before, if this is as that one but for its code, and the main subprogram is the same:
+/// whether it was so; else nothing is done.
+fn exchanged(linked: &mut Linked, main: &LinkSymbol, at: usize, unit: &Rc<UnitObject>) -> bool
+    ensures exchanged { IsTrue result → IsExchanged main.now at (object_model unit.now) linked.old linked.new }
+    ensures otherwise { result ≡ false → linked.new ≡ linked.old }
+{
+    match &unit.object {
+        Object::Large => false,
+        Object::Compiled(object) => linked.exchange(main, at, &unit.key, object),
+    }
+}
+
 /// Links units in the place of others, and keeps their objects: whether an image can name them, and that passes no limit.
-fn renewed_again(alloc: Global, program: &mut Program, renewal: Renewal) -> Result<bool, NoMemory>
-    requires { AreClosedObjects renewal.main (map object_model renewal.objects.items) }
-    ensures again { IfOk result (IsLinkedAgain renewal.main (map object_model renewal.objects.items) program.old.linked program.new.linked) }
+fn renewed_again(
+    alloc: Global,
+    program: &mut Program,
+    main: &LinkSymbol,
+    objects: Vec<Rc<UnitObject>>,
+) -> Result<bool, NoMemory>
+    requires { AreClosedObjects main.now (map object_model objects.items) }
+    ensures again { IfOk result (IsLinkedAgain main.now (map object_model objects.items) program.old.linked program.new.linked) }
     ensures order { program.new.order ≡ program.old.order }
-    ensures objects { IfOk result (λ fits. IsTrue fits → program.new.objects ≡ renewal.objects) }
+    ensures objects { IfOk result (λ fits. IsTrue fits → program.new.objects ≡ objects) }
     ensures err { OnErr result (program.new ≡ program.old) }
 {
-    let objects = renewal.objects.as_slice();
-    if !are_named(objects) {
+    if !are_named(objects.as_slice()) {
         return Ok(false);
     }
-    let fits = linked_again(alloc, &mut program.linked, &renewal.main, objects)?;
+    let fits = linked_again(alloc, &mut program.linked, main, objects.as_slice())?;
     if !fits {
         return Ok(false);
     }
-    program.objects = renewal.into_objects();
+    program.objects = objects;
     Ok(true)
 }
 
-/// The program of a partition in the place of that of before, which has the same order; or the order alone where its image would pass a
-/// limit. Nothing is done where compiling gave no program before.
+/// The program of a partition in the place of that of before, of which one unit has another object now; or its order alone where its image
+/// would pass a limit. Nothing is done where compiling gave no program before.
 fn link_renewed(alloc: Global, renewal: Renewal, compiled: &mut Compiled) -> Result<usize, NoMemory>
-    requires { AreClosedObjects renewal.main (map object_model renewal.objects.items) }
-    ensures linked { OnOk result (IsLinkedOver renewal.main (map object_model renewal.objects.items) compiled.old compiled.new) }
+    requires { IsClosedRenewal compiled.old renewal }
+    ensures linked { OnOk result (IsLinkedOver renewal compiled.old compiled.new) }
     ensures patched { IfOk result (IsPatched (linked_in compiled.old) (linked_in compiled.new)) }
     ensures err { OnErr result (compiled.new ≡ compiled.old) }
 {
     let Compiled::Made(program) = compiled else {
         return Ok(0);
     };
-    let fits = renewed_again(alloc, program, renewal)?;
+    let (main, at, object) = renewal.into_parts();
+    if exchanged(&mut program.linked, &main, at, &object) {
+        put(&mut program.objects, at, object);
+        return Ok(program.linked.patched());
+    }
+    let objects = objects_with(alloc, program.objects.as_slice(), at, object)?;
+    let fits = renewed_again(alloc, program, &main, objects)?;
     if fits {
-        let patched = program.linked.patched();
-        return Ok(patched);
+        return Ok(program.linked.patched());
     }
     let order = std::mem::replace(&mut program.order, Vec::new(alloc));
     *compiled = Compiled::TooLarge(order);
@@ -213,7 +261,7 @@ fn link_renewed(alloc: Global, renewal: Renewal, compiled: &mut Compiled) -> Res
 ///
 /// `NoMemory` where memory was wanted and not given: all is as before.
 pub fn link(alloc: Global, planned: Planned, compiled: &mut Compiled) -> Result<usize, NoMemory>
-    requires closed { IsClosedPlan planned }
+    requires closed { IsClosedPlan compiled.old planned }
     ensures batch { OnOk result ((lib : Library) (f : UnitKey → Option Outcome) (main : List ℕ) → IsPlanned lib f main compiled.old planned → IsBatch lib f main compiled.new) }
     ensures patched { IfOk result (IsPatched (linked_in compiled.old) (linked_in compiled.new)) }
     ensures err { OnErr result (compiled.new ≡ compiled.old) }

@@ -51,28 +51,31 @@ impl Partition {
     }
 }
 
-/// A partition with the order of items of the one before: its units with their objects, of which most are shared with that one.
+/// A partition as the one before, of which one unit has another object: where that unit stands among the units of the one before, and its
+/// object.
 pub struct Renewal {
     pub(crate) main: LinkSymbol,
-    pub(crate) objects: Vec<Rc<UnitObject>>,
+    pub(crate) at: usize,
+    pub(crate) object: Rc<UnitObject>,
 }
 
 impl Drop for Renewal {
     fn drop(self) {
         let Renewal {
             main: _,
-            objects: _,
+            at: _,
+            object: _,
         } = self;
     }
 }
 
 impl Renewal {
-    /// The units with their objects.
-    pub(crate) fn into_objects(self) -> Vec<Rc<UnitObject>>
-        ensures { result ≡ self.objects }
+    /// The main subprogram's symbol, the place, and the object.
+    pub(crate) fn into_parts(self) -> (LinkSymbol, usize, Rc<UnitObject>)
+        ensures { result ≡ (self.main, self.at, self.object) }
     {
-        let Renewal { main: _, objects } = self;
-        objects
+        let Renewal { main, at, object } = self;
+        (main, at, object)
     }
 }
 
@@ -85,6 +88,6 @@ pub enum Planned {
     Unbound(BindFault),
     /// The image of this partition is what is left to do.
     Linkable(Partition),
-    /// The same, and the order of its items is that of the partition before.
+    /// The same, and it is the partition before but for the object of one unit.
     Renewed(Renewal),
 }

@@ -1,5 +1,5 @@
 // What is to be linked where one unit alone has another object than in the partition before.
-ghost use Rattle.std.specs.Prelude.{◌≡◌, true, false, [], map, IfOk, IfSome, IsTrue};
+ghost use Rattle.std.specs.Prelude.{◌≡◌, true, false, [], map, slice_set, IfOk, IfSome, IsTrue};
 ghost use Rattle.al_base.specs.declared.unit_key.UnitKey.{UnitKey};
 ghost use Rattle.al_view.specs.Symbols.{same_unit};
 ghost use Rattle.al_query_outcome.specs.Equations.{is_sound};
@@ -9,7 +9,7 @@ ghost use Rattle.al_engine_refresh.specs.Builds.{results_of};
 ghost use Rattle.al_engine_batch.specs.Objects.{AreCoded};
 ghost use Rattle.al_engine_batch.specs.ObjectsSeen.{object_model};
 ghost use Rattle.al_engine_batch.specs.Plans.{IsPlanned};
-ghost use Rattle.al_engine_batch.specs.Renewals.{KeepsPartition, renewed, renewed_one};
+ghost use Rattle.al_engine_batch.specs.Renewals.{KeepsPartition, renewed};
 
 use crate::compiled::Compiled;
 use crate::names::main_symbol;
@@ -23,30 +23,20 @@ use al_view::is_unit;
 use std::alloc::Global;
 use std::rc::Rc;
 
-/// Of two units with their objects the second one, where they are one unit, or else the first one.
-fn renewed_one(one: &Rc<UnitObject>, unit: &Rc<UnitObject>) -> Result<Rc<UnitObject>, NoMemory>
-    ensures { IfOk result (λ chosen. object_model chosen ≡ renewed_one (object_model unit.now) (object_model one.now)) }
+/// Where a unit stands among these; none where it stands at no place, or at two.
+fn place_of(objects: &[Rc<UnitObject>], unit: &Rc<UnitObject>) -> Option<usize>
+    ensures { IfSome result (λ at. renewed (object_model unit.now) (map object_model objects.now) ≡ slice_set (map object_model objects.now) at (object_model unit.now)) }
 {
-    if is_unit(&unit.key, &one.key) {
-        Ok(unit.clone()?)
-    } else {
-        Ok(one.clone()?)
+    let mut found = None;
+    for at in 0..objects.len() {
+        if is_unit(&unit.key, &objects[at].key) {
+            if found.is_some() {
+                return None;
+            }
+            found = Some(at);
+        }
     }
-}
-
-/// These units with their objects, but for this unit, which has this object. They are shared.
-fn objects_with(
-    alloc: Global,
-    before: &[Rc<UnitObject>],
-    unit: &Rc<UnitObject>,
-) -> Result<Vec<Rc<UnitObject>>, NoMemory>
-    ensures { IfOk result (λ objects. map object_model objects.items ≡ renewed (object_model unit.now) (map object_model before.now)) }
-{
-    let mut objects = Vec::with_capacity(alloc, before.len())?;
-    for one in before {
-        objects.push(renewed_one(one, unit)?)?;
-    }
-    Ok(objects)
+    found
 }
 
 /// Whether the last build found no fault in a unit.
@@ -64,7 +54,7 @@ fn was_sound(entries: &KeptEntries, unit: &UnitKey) -> bool
 
 /// What is to be linked where nothing is wrong with the files, no file has another header, and one unit alone has another entry than in the
 /// last build, which gave an image: the objects of the other units are those of then. None where that build gave no image, or found a fault
-/// in the unit.
+/// in the unit, or where the unit isn't one of those of the image.
 ///
 /// # Errors
 ///
@@ -92,7 +82,9 @@ pub fn renewed(
     let Some(object) = object_at(alloc, entries, unit)? else {
         return Ok(None);
     };
+    let Some(at) = place_of(program.objects.as_slice(), &object) else {
+        return Ok(None);
+    };
     let main = main_symbol(alloc, sources, main)?;
-    let objects = objects_with(alloc, program.objects.as_slice(), &object)?;
-    Ok(Some(Planned::Renewed(Renewal { main, objects })))
+    Ok(Some(Planned::Renewed(Renewal { main, at, object })))
 }

@@ -25,10 +25,11 @@ use Rattle.al_query_outcome.specs.Equations.{Setting, is_sound, unit_named}
 use Rattle.al_query_outcome.specs.Results.{Outcome, Faulty, Sound}
 use Rattle.al_query_outcome.specs.declared.interface.UnitInterface.{UnitInterface}
 use Rattle.al_engine_found.specs.Found.{findings_of}
+use Rattle.al_engine_batch.specs.Links.{units_renewed}
 use Rattle.al_engine_batch.specs.Objects.{WithObject, linked_units, objects_at, objects_of}
 use Rattle.al_engine_batch.specs.ObjectsSeen.{object_model}
 use Rattle.al_engine_batch.specs.Partitions.{IsPartition}
-use Rattle.al_engine_batch.specs.Plans.{AreClosedObjects, IsClosedPlan, IsPlanned, IsRenewal}
+use Rattle.al_engine_batch.specs.Plans.{AreClosedObjects, IsClosedPlan, IsClosedRenewal, IsPlanned, IsRenewal}
 use Rattle.al_engine_batch.specs.declared.compiled.Compiled.{Compiled as Built}
 use Rattle.al_engine_batch.specs.declared.compiled.Compiled.TheVariants as built
 use Rattle.al_engine_batch.specs.declared.planned.Renewal.{Renewal}
@@ -108,14 +109,14 @@ closed_partition s main f closed coded placing whole there order symbol us p sma
 
 -- of a plan
 module _ (lib : Library) (f : UnitKey → Option Outcome) (main : List ℕ) (each : (order : List Key) (symbol : LinkSymbol) (us : List WithObject) → IsPartition lib f main order symbol us → AreClosedObjects symbol us) where
-  closed_renewal : (before : Built) (r : Renewal) → IsRenewal lib f main before r → AreClosedObjects r.main (map object_model r.objects.items)
+  closed_renewal : (before : Built) (r : Renewal) → IsRenewal lib f main before r → IsClosedRenewal before r
   closed_renewal (built.Faulty diagnostics) r is = absurd is
   closed_renewal (built.Unbound fault) r is = absurd is
   closed_renewal (built.TooLarge order) r is = absurd is
-  closed_renewal (built.Made program) r is = each (map key_of program.order.items) r.main (map object_model r.objects.items) is
+  closed_renewal (built.Made program) r is = each (map key_of program.order.items) r.main (units_renewed program r) is.0
 
 pub closed_plan : (lib : Library) (f : UnitKey → Option Outcome) (main : List ℕ) (before : Built) (plan : Planned) → IsPlanned lib f main before plan
-    → (findings_of lib f ≡ [] → (order : List Key) (symbol : LinkSymbol) (us : List WithObject) → IsPartition lib f main order symbol us → AreClosedObjects symbol us) → IsClosedPlan plan
+    → (findings_of lib f ≡ [] → (order : List Key) (symbol : LinkSymbol) (us : List WithObject) → IsPartition lib f main order symbol us → AreClosedObjects symbol us) → IsClosedPlan before plan
 closed_plan lib f main before (planned.Faulty diagnostics) is each = tt
 closed_plan lib f main before (planned.Unbound fault) is each = tt
 closed_plan lib f main before (planned.Linkable p) is each = each is.0 (map key_of p.order.items) p.main (map object_model p.objects.items) is.1

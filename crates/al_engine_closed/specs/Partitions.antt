@@ -22,4 +22,4 @@ PartitionsAreClosed =
     (meaning : TextMeaning) (header : List ℕ → Header) (predefined : Query → AnswerKind) (lib : Library) (order : List UnitKey)
     → AreHeaded header lib → NameParentBodies lib → ArePredefined predefined → IsDependenceOrder lib (map key_of order)
     → (old made : UnitKey → Option Stored) (checked : List UnitKey) → IsRechecked meaning header (setting_of header predefined lib) old made checked
-    → (main : List ℕ) (before : Compiled) (planned : Planned) → IsPlanned lib (results_of made) main before planned → IsClosedPlan planned
+    → (main : List ℕ) (before : Compiled) (planned : Planned) → IsPlanned lib (results_of made) main before planned → IsClosedPlan before planned

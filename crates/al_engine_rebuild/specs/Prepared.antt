@@ -18,5 +18,5 @@ use Rattle.al_engine_batch.specs.declared.planned.Planned.{Planned}
 pub record IsPrepared (meaning : TextMeaning) (header : List ℕ → Header) (predefined : Query → AnswerKind) (lib : Library) (main : List ℕ) (before : Compiled) (old : Entries) (planned : Planned) (new : Entries) (checked : List UnitKey) (compared : ℕ) : Type 0 where
   pub updated : IsUpdated meaning header predefined lib old new checked compared
   pub is_planned : IsPlanned lib (results_of (now_at new)) main before planned
-  pub closed : IsClosedPlan planned
+  pub closed : IsClosedPlan before planned
   pub law : AllKeepLaw meaning header (will_be new)

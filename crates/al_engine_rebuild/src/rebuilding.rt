@@ -244,7 +244,7 @@ impl PreparedBuild {
         gave: &mut Rebuilt,
     ) -> Result<(), NoMemory>
         requires law { AllKeepLaw C.meaning C.Text.header (will_be cache.old.store) }
-        requires closed { IsClosedPlan self.planned }
+        requires closed { IsClosedPlan gave.old.compiled self.planned }
         ensures rebuilt { OnOk result ((header : List ℕ → Header) (predefined : Query → AnswerKind) (lib : Library) (main : List ℕ) (old : Entries) → IsLeft old cache.old.store → IsPrepared C.meaning header predefined lib main gave.old.compiled old self.planned cache.old.store self.checked.items self.compared → (is : IsRebuilt C.meaning header predefined lib main (settled_at old) (settled_at cache.new.store) gave.new) × IsKept predefined lib old cache.new.store is.made gave.new) }
         ensures patched { OnOk result (IsPatched (linked_in gave.old.compiled) (linked_in gave.new.compiled) gave.new.patched) }
         ensures checked { OnOk result (gave.new.checked ≡ self.checked.items) }

@@ -19,7 +19,7 @@ use Rattle.al_link.specs.declared.bases.Bases.{Bases}
 use Rattle.al_link.specs.declared.prepared.Prepared.{Prepared}
 use Rattle.al_link.specs.Bases.{AreSmall, next_bases}
 use Rattle.al_link.specs.Images.{called, calls_of, code_linked, image_of, lines_of, object_of, regions_of}
-use Rattle.al_link.specs.Kept.{IsLinked, IsPrepared, all_located, starting_of}
+use Rattle.al_link.specs.Kept.{IsKeeping, IsLinked, IsPrepared, all_located, starting_of}
 use Rattle.al_link.specs.Linking.{linked, places_of}
 use Rattle.al_link.specs.Relinking.{code_size, linked_units, regions_count, regions_from, with_unit, words_size}
 use Rattle.al_link.specs.Symbols.{Places, place_in}
@@ -32,14 +32,14 @@ abbrev lines_in : ImageParts → Option (List LineEntry)
 lines_in p = option_map (λ v. v.items) p.lines
 
 -- the code of units goes by their objects alone
-linked_located : (places : Places) (start : List ℕ) (b : Bases) (us : List UnitObject) → linked places start (located b us) ≡ linked_units places start us
+pub linked_located : (places : Places) (start : List ℕ) (b : Bases) (us : List UnitObject) → linked places start (located b us) ≡ linked_units places start us
 linked_located places start b [] = refl
 linked_located places start b (u ∷ us) = linked_located places (with_unit places start u) (next_bases b u.object) us
 
 -- parts that are those of the units' image
-pub parts_linked : (main : LinkSymbol) (us : List UnitObject) (p : ImageParts) (image : Image) (places : Places) (start : List ℕ) → AreWithin us → places ≡ places_of (all_located us) → start ≡ starting_of main us → IsCode start → length start + code_size us ≡ (totals us).code
+pub parts_linked : (main : LinkSymbol) (us : List UnitObject) (p : ImageParts) (image : Image) (places : Places) (start : List ℕ) → AreWithin us → All IsKeeping us → places ≡ places_of (all_located us) → start ≡ starting_of main us → IsCode start → length start + code_size us ≡ (totals us).code
     → p.tasks ≡ (totals us).tasks → p.data_words ≡ (totals us).words → p.protected.items ≡ flat_map regions_of (all_located us) → p.objects.items ≡ map object_of (all_located us) → p.code.items ≡ linked_units places start us → IsCode p.code.items → length p.code.items ≡ (totals us).code → lines_in p ≡ Some (flat_map lines_of (all_located us)) → image ≡ parts.image_of p → IsLinked main us image places start
-parts_linked main us p image places start within pl st is size t w r o c code len ln im =
+parts_linked main us p image places start within keep pl st is size t w r o c code len ln im =
     let xs : List Located = all_located us in
     let linked_is : p.code.items ≡ code_linked main xs =
     c ∙ ap (λ (q : Places). linked_units q start us) pl ∙ ap (λ (bs : List ℕ). linked_units (places_of xs) bs us) st ∙ sym (linked_located (places_of xs) (starting_of main us) (first_bases us) us) in
@@ -51,6 +51,7 @@ parts_linked main us p image places start within pl st is size t w r o c code le
       start_code = is;
       size = size;
       image_size = ap (λ (i : Image). length (code_bytes i.code)) im ∙ ap (λ (bs : List ℕ). length bs) code.bytes_are ∙ len;
+      keep = keep;
     }
 
 -- ---- made anew
@@ -65,15 +66,15 @@ made_whole main us q p h t w r o code len ln =
     whole p (omega (arith, small.tasks)) (omega (arith, small.words)) (omega (arith, ap (λ (xs : List Region). length xs) r, h.protected_count)) (subst (λ (n : ℕ). All (IsRegion n) p.protected.items) (sym w) regions)
     (omega (arith, ap (λ (xs : List ImageObject). length xs) o, h.objects_count)) (subst (λ (xs : List ImageObject). All IsObject xs) (sym o) h.objects_fit) code (omega (arith, h.within.sums.code)) lines
 
-pub made_linked : (main : LinkSymbol) (us : List UnitObject) (q : Prepared) (p : ImageParts) (image : Image) → IsPrepared main us q → p.tasks ≡ q.totals.tasks → p.data_words ≡ q.totals.words → p.protected.items ≡ q.protected.items → p.objects.items ≡ q.objects.items → p.code.items ≡ linked_units q.places q.start.items us → IsCode p.code.items → length p.code.items ≡ (totals us).code → lines_in p ≡ Some q.lines.items → image ≡ parts.image_of p → IsLinked main us image q.places q.start.items
-made_linked main us q p image h t w r o c code len ln im =
-    parts_linked main us p image q.places q.start.items h.within h.places_are h.start_is h.start_code (h.size ∙ ap (λ (b : Bases). b.code) h.totals_are)
+pub made_linked : (main : LinkSymbol) (us : List UnitObject) (q : Prepared) (p : ImageParts) (image : Image) → IsPrepared main us q → All IsKeeping us → p.tasks ≡ q.totals.tasks → p.data_words ≡ q.totals.words → p.protected.items ≡ q.protected.items → p.objects.items ≡ q.objects.items → p.code.items ≡ linked_units q.places q.start.items us → IsCode p.code.items → length p.code.items ≡ (totals us).code → lines_in p ≡ Some q.lines.items → image ≡ parts.image_of p → IsLinked main us image q.places q.start.items
+made_linked main us q p image h keep t w r o c code len ln im =
+    parts_linked main us p image q.places q.start.items h.within keep h.places_are h.start_is h.start_code (h.size ∙ ap (λ (b : Bases). b.code) h.totals_are)
     (t ∙ ap (λ (b : Bases). b.tasks) h.totals_are) (w ∙ ap (λ (b : Bases). b.words) h.totals_are) (r ∙ h.protected_are) (o ∙ h.objects_are) c code len (ln ∙ ap (λ (es : List LineEntry). Some es) h.lines_are) im
 
 -- ---- with other bytes of code
 
 module _ (main : LinkSymbol) (us vs : List UnitObject) (image : Image) (places : Places) (start : List ℕ) (p : ImageParts) (h : IsLinked main us image places start) (e : AreAlike vs us) (im : image ≡ parts.image_of p) (whole_p : IsWhole p) where
-  old_size : length p.code.items ≡ (totals us).code
+  pub old_size : length p.code.items ≡ (totals us).code
   old_size = ap (λ (bs : List ℕ). length bs) (sym whole_p.bytes_are) ∙ sym (ap (λ (i : Image). length (code_bytes i.code)) im) ∙ h.image_size
 
   pub room_again : length start + code_size vs ≡ length p.code.items
@@ -103,8 +104,8 @@ module _ (main : LinkSymbol) (us vs : List UnitObject) (image : Image) (places :
       (subst (λ (n : ℕ). All (IsRegion n) q.protected.items) (sym w) fit)
       (omega (arith, ap (λ (xs : List ImageObject). length xs) o, old.object_count)) (subst (λ (xs : List ImageObject). All IsObject xs) (sym o) old.objects) code (omega (arith, len, small_again)) lines
 
-  pub linked_again : (q : ImageParts) (new : Image) → q.tasks ≡ p.tasks → q.data_words ≡ p.data_words → q.protected.items ≡ regions_from 0 vs → q.objects.items ≡ p.objects.items → q.code.items ≡ linked_units places start vs → IsCode q.code.items → length q.code.items ≡ length p.code.items → lines_in q ≡ lines_in p → new ≡ parts.image_of q → IsLinked main vs new places start
-  linked_again q new t w r o c code len ln nm =
+  pub linked_again : All IsKeeping vs → (q : ImageParts) (new : Image) → q.tasks ≡ p.tasks → q.data_words ≡ p.data_words → q.protected.items ≡ regions_from 0 vs → q.objects.items ≡ p.objects.items → q.code.items ≡ linked_units places start vs → IsCode q.code.items → length q.code.items ≡ length p.code.items → lines_in q ≡ lines_in p → new ≡ parts.image_of q → IsLinked main vs new places start
+  linked_again keep q new t w r o c code len ln nm =
       let was : parts.image_of p ≡ image_of main us = sym im ∙ h.image_is in
       let same : totals us ≡ totals vs = sym (totals_same vs us e) in
       let calls : List Instr → ℕ → List ℕ = λ is m. code_bytes (is ++ (Plain plain.Go ∷ (called m ++ Plain plain.Done ∷ []))) in
@@ -112,7 +113,7 @@ module _ (main : LinkSymbol) (us vs : List UnitObject) (image : Image) (places :
       let st : starting_of main us ≡ starting_of main vs =
       ap (λ (is : List Instr). calls is (place_in (places_of (all_located us)) main)) (sym (elaborations_same vs us e)) ∙ ap (λ (q : Places). calls (flat_map calls_of (all_located vs)) (place_in q main)) pl in
       let sums : (totals us).code ≡ (totals vs).code = ap (λ (b : Bases). b.code) same in
-      parts_linked main vs q new places start (within_same vs us e h.within) (h.places_are ∙ pl) (h.start_is ∙ st) h.start_code (ap (λ (n : ℕ). length start + n) (sizes_same vs us e) ∙ h.size ∙ sums)
+      parts_linked main vs q new places start (within_same vs us e h.within) keep (h.places_are ∙ pl) (h.start_is ∙ st) h.start_code (ap (λ (n : ℕ). length start + n) (sizes_same vs us e) ∙ h.size ∙ sums)
       (t ∙ ap (λ (i : Image). i.tasks) was ∙ ap (λ (b : Bases). b.tasks) same) (w ∙ ap (λ (i : Image). i.data_words) was ∙ ap (λ (b : Bases). b.words) same)
       (r ∙ sym (regions_located (first_bases vs) vs)) (o ∙ ap (λ (i : Image). i.objects) was ∙ sym (objects_same vs us e)) c code (len ∙ old_size ∙ sums)
       (ln ∙ ap (λ (i : Image). i.lines) was ∙ ap (λ (es : List LineEntry). Some es) (sym (lines_same vs us e))) nm

@@ -3,7 +3,7 @@ use Rattle.std.proofs.Common.{◌≡◌, ℕ, ◌+◌, ◌-◌, ◌≤◌, ◌<�
 use Rattle.std.specs.List.{All}
 use Rattle.std.proofs.lemmas.Grind.{fold-append, flat_map-append}
 use Rattle.std.proofs.lemmas.List.{take_at, length-take-le, take_more}
-use Rattle.std.proofs.lemmas.List.Elements.{All-head, All-tail}
+use Rattle.std.proofs.lemmas.List.Elements.{All-head, All-push, All-tail}
 use Rattle.std.proofs.lemmas.List.Sums.{sum_by-cons}
 use Rattle.std.proofs.Math.Seq.{drop-cons}
 use borrow.Rule.Slice.PartMut.{put_mid, post_of}
@@ -14,6 +14,7 @@ use Rattle.al_code_object.specs.Parts as parts
 use Rattle.al_code_object.specs.Parts.{Part, Whole, Using, IsPart, part_bytes, instr_of, uses_from}
 use Rattle.al_link_image.specs.Parts.{IsCode}
 use Rattle.al_instr.specs.Codes.{encoded}
+use Rattle.al_link.specs.Kept.{IsKeeping}
 use Rattle.al_link.specs.Symbols.{Places, place_in}
 use Rattle.al_link.specs.Linking.{patched}
 use Rattle.al_link.specs.LinkedParts.{linked_part, shifted}
@@ -92,6 +93,7 @@ pub record WrittenTo (places : Places) (start : List ℕ) (us : List CompiledUni
   pub small : length code ≤ 16777216
   pub done : take base code ≡ linked_units places start (compiled_units (take i us))
   pub is_code : IsCode (take base code)
+  pub keep : All IsKeeping (compiled_units (take i us))
 
 module _ (places : Places) (start : List ℕ) (us : List CompiledUnit) (i base : ℕ) (code : List ℕ) (h : WrittenTo places start us i base code) (key : UnitKey) (o : CompiledCode) (u : CompiledUnit) (lt : i < length us) (at : u ≡ get_or us i u) (is : units_of u ≡ record { key = key; object = o } ∷ []) where
   pub room : base + length o.code ≤ length code
@@ -101,8 +103,8 @@ module _ (places : Places) (start : List ℕ) (us : List CompiledUnit) (i base :
       ap (λ (xs : List UnitObject). code_size xs) (less ∙ ap (λ (xs : List UnitObject). xs ++ compiled_units (drop (i + 1) us)) is) ∙ sum_by-cons (λ x. length x.object.code) (record { key = key; object = o }) (compiled_units (drop (i + 1) us)) in
       omega (arith, h.size)
 
-  pub one_written : (new : List ℕ) → length new ≡ length code → take (base + length o.code) new ≡ patched places o.code base (take base code ++ o.code) o.uses → IsCode (take (base + length o.code) new) → WrittenTo places start us (i + 1) (base + length o.code) new
-  one_written new len w is_code =
+  pub one_written : (new : List ℕ) → length new ≡ length code → take (base + length o.code) new ≡ patched places o.code base (take base code ++ o.code) o.uses → IsCode (take (base + length o.code) new) → Keeps o → WrittenTo places start us (i + 1) (base + length o.code) new
+  one_written new len w is_code keeps =
       let n : length (take base code) ≡ base = length-take-le base code (omega (arith, room)) in
       let one : UnitObject = record { key = key; object = o } in
       let more : compiled_units (take (i + 1) us) ≡ compiled_units (take i us) ++ one ∷ [] = units_more us i u lt at ∙ ap (λ (xs : List UnitObject). compiled_units (take i us) ++ xs) is in
@@ -117,6 +119,7 @@ module _ (places : Places) (start : List ℕ) (us : List CompiledUnit) (i base :
             ∙ ap (λ (xs : List ℕ). with_unit places xs one) h.done
             ∙ sym (ap (λ (xs : List UnitObject). linked_units places start xs) more ∙ fold-append (with_unit places) start (compiled_units (take i us)) (one ∷ []));
         is_code = is_code;
+        keep = subst (λ (xs : List UnitObject). All IsKeeping xs) (sym more) (All-push IsKeeping (compiled_units (take i us)) one h.keep keeps);
       }
 
 -- a unit without an object has no code
@@ -129,4 +132,5 @@ none_written places start us i base code u h lt at is =
       small = h.small;
       done = h.done ∙ sym (ap (λ (xs : List UnitObject). linked_units places start xs) more);
       is_code = h.is_code;
+      keep = subst (λ (xs : List UnitObject). All IsKeeping xs) (sym more) h.keep;
     }

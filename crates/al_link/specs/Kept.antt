@@ -2,6 +2,7 @@
 use Rattle.std.specs.Prelude.{ℕ, ◌≡◌, ◌≤◌, ◌+◌, ◌*◌, List, length, map, All}
 use Rattle.std.specs.List.{flat_map}
 use Rattle.al_view.specs.declared.link.LinkSymbol.{LinkSymbol}
+use Rattle.al_code_object.specs.Objects.{Keeps}
 use Rattle.al_instr.specs.Codes.{code_bytes}
 use Rattle.al_instr.specs.Lines.{AreLines}
 use Rattle.al_link_image.specs.Images.{Image, IsObject, IsRegion, object_bytes}
@@ -56,6 +57,10 @@ pub record IsPrepared (main : LinkSymbol) (us : List UnitObject) (p : Prepared) 
 abbrev pub prepared_size : Prepared → ℕ
 prepared_size p = 30 + 12 * length p.protected.items + length (flat_map object_bytes p.objects.items) + p.totals.code + 8 * length p.lines.items
 
+-- the object keeps what each object does
+abbrev pub IsKeeping : UnitObject → Type 0
+IsKeeping u = Keeps u.object
+
 -- what a linked image keeps
 pub record IsLinked (main : LinkSymbol) (us : List UnitObject) (image : Image) (places : Places) (start : List ℕ) : Type 0 where
   pub within : AreWithin us
@@ -65,3 +70,4 @@ pub record IsLinked (main : LinkSymbol) (us : List UnitObject) (image : Image) (
   pub start_code : IsCode start
   pub size : length start + code_size us ≡ (totals us).code
   pub image_size : length (code_bytes image.code) ≡ (totals us).code
+  pub keep : All IsKeeping us

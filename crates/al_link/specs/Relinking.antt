@@ -1,5 +1,5 @@
 -- Images that are linked again.
-use Rattle.std.specs.Prelude.{ℕ, ◌≡◌, ◌+◌, if◌then◌else◌, List, [], ◌∷◌, ◌++◌, length, map, sum_by, fold, Option, Some, None}
+use Rattle.std.specs.Prelude.{ℕ, ◌≡◌, ◌+◌, if◌then◌else◌, ◌<◌, List, [], ◌∷◌, ◌++◌, length, take, drop, map, sum_by, fold, slice_index_or, slice_set, Option, Some, None}
 use Rattle.std.specs.Str.{bytes_eq}
 use Rattle.al_base.specs.declared.unit_key.UnitKey.{UnitKey}
 use Rattle.al_instr.specs.declared.lines.LineEntry.{LineEntry}
@@ -92,3 +92,23 @@ with_unit places code u = patched places u.object.code (length code) (code ++ u.
 
 abbrev pub linked_units : Places → List ℕ → List UnitObject → List ℕ
 linked_units places start us = fold (with_unit places) start us
+
+-- ---- one unit's object alone
+
+-- a unit's code wherever it stands: its operands are filled in within it
+abbrev pub piece : Places → UnitObject → List ℕ
+piece places u = patched places u.object.code 0 u.object.code u.object.uses
+
+-- bytes with others at a place
+abbrev pub with_bytes : List ℕ → ℕ → List ℕ → List ℕ
+with_bytes code place bytes = take place code ++ (bytes ++ drop (place + length bytes) code)
+
+-- a unit is as the one at a place by its lengths, counts, symbols, lines and protected objects
+pub record IsInPlace (us : List UnitObject) (at : ℕ) (u : UnitObject) : Type 0 where
+  pub within : at < length us
+  pub shape_is : shape_of u ≡ shape_of (slice_index_or us at u)
+  pub regions_are : u.object.protected ≡ (slice_index_or us at u).object.protected
+
+-- the image with this unit there
+abbrev pub exchanged : LinkedImage → ℕ → UnitObject → LinkedImage
+exchanged l at u = record { main = l.main; units = slice_set l.units at u; patched = differs (slice_index_or l.units at u) u }

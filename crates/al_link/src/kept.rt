@@ -122,7 +122,7 @@ pub(crate) fn all_kept(alloc: Global, units: &[CompiledUnit<'_>]) -> Result<Vec<
 }
 
 // Whether an object is as before by its lengths, counts, symbols and lines.
-fn is_same_object(kept: &KeptUnit, object: &Compiled) -> bool
+pub(crate) fn is_same_object(kept: &KeptUnit, object: &Compiled) -> bool
     ensures { IsTrue result ↔ (shape_of (record { key = kept.now.key; object = object.now }) ≡ shape_of (kept_model kept.now)) }
 {
     kept.code.len() == object.code().len()
@@ -160,7 +160,7 @@ pub(crate) fn are_same_units(kept: &[KeptUnit], units: &[CompiledUnit<'_>]) -> b
 }
 
 // Keeps an object that is as before but for the bytes of its code: 1 where these differed, else 0.
-fn keep_code(kept: &mut KeptUnit, object: &Compiled) -> usize
+pub(crate) fn keep_code(kept: &mut KeptUnit, object: &Compiled) -> usize
     requires { shape_of (record { key = kept.old.key; object = object.now }) ≡ shape_of (kept_model kept.old) }
     ensures kept { kept_model kept.new ≡ record { key = kept.old.key; object = object.now } }
     ensures differs { result ≡ differs (kept_model kept.old) (kept_model kept.new) }

@@ -3,6 +3,7 @@
 #![tactic(auto)]
 
 mod bases;
+mod exchanging;
 mod image;
 mod kept;
 mod laws;

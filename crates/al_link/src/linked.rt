@@ -1,5 +1,5 @@
 // An image that may be linked again in its place.
-ghost use Rattle.std.specs.Prelude.{◌≡◌, ◌≤◌, ◌↔◌, IsTrue, IsOk, length, map, vec_capacity, IfOk, IfErr, OnOk, OnErr};
+ghost use Rattle.std.specs.Prelude.{◌≡◌, ◌≤◌, ◌↔◌, false, IsTrue, IsOk, length, map, vec_capacity, IfOk, IfErr, OnOk, OnErr};
 ghost use Rattle.std.specs.List.{All};
 ghost use Rattle.al_link_image.specs.Images.{IsUnitName, image_bytes};
 ghost use Rattle.al_link_image.specs.Parts.{IsWhole, image_of as image_of_parts};
@@ -7,17 +7,20 @@ ghost use Rattle.al_link.specs.Closed.{AreClosedUnits};
 ghost use Rattle.al_link.specs.Images.{image_of};
 ghost use Rattle.al_link.specs.Kept.{IsPrepared, kept_model, prepared_size};
 ghost use Rattle.al_link.specs.Partitions.{AreLinkable, IsFaultOf, compiled_units};
-ghost use Rattle.al_link.specs.Relinking.{AreAsBefore, differing, shapes_kept, shapes_left};
-ghost use Rattle.al_link.specs.Units.{totals};
+ghost use Rattle.al_link.specs.Relinking.{AreAsBefore, IsInPlace, differing, exchanged, shapes_kept, shapes_left};
+ghost use Rattle.al_link.specs.Units.{AreWithin, totals, unit_model};
 
-use crate::kept::{KeptUnit, all_kept, are_same_units, copied_symbol, keep_all};
+use crate::exchanging::{code_place, is_in_place, write_over};
+use crate::kept::{KeptUnit, all_kept, are_same_units, copied_symbol, keep_all, keep_code};
 use crate::linking::{CompiledUnit, compiled};
 use crate::places::Places;
 use crate::prepared::{Prepared, prepare};
 use crate::refilling::refill;
 use crate::sizes::image_size;
+use crate::units::LinkUnit;
 use crate::writing::write_all;
-use al_code_object::is_same_symbol;
+use al_base::UnitKey;
+use al_code_object::{Compiled, is_same_symbol};
 use al_link_image::{Image, ImageParts, LinkFault};
 use al_view::LinkSymbol;
 use std::alloc::Global;
@@ -194,8 +197,8 @@ impl Linked {
         image
     }
 
-    /// Of how many units the last call of `relink` wrote other code: where lengths, counts and symbols were as before, the number
-    /// of units whose code differed, else of all. 0 after `new`.
+    /// Of how many units the last call of `relink`, or of `exchange` where that was done, wrote other code: where lengths, counts and
+    /// symbols were as before, the number of units whose code differed, else of all. 0 after `new`.
     pub fn patched(&self) -> usize
         ensures { result ≡ self.now.patched }
     {
@@ -221,6 +224,28 @@ impl Linked {
         self.image = Image::new(parts);
         let _written = self.image.bytes_into(&mut self.bytes);
         self.count = keep_all(&mut self.kept, units);
+    }
+
+    // A unit's other object in the place of the one before. It takes no memory.
+    fn write_one(&mut self, at: usize, unit: &LinkUnit<'_>)
+        requires { IsInPlace self.old.units at (unit_model unit.now) }
+        ensures linked { self.new ≡ exchanged self.old at (unit_model unit.now) }
+        ensures within { AreWithin self.new.units }
+    {
+        unit.object.keeps();
+        let mut parts = taken(self.alloc, &mut self.image);
+        let place = parts.objects[at].place as usize;
+        let front = code_place(&parts, self.bytes.len());
+        write_over(
+            &mut parts.code,
+            &mut self.bytes,
+            front,
+            place,
+            unit.object,
+            &self.places,
+        );
+        self.image = Image::new(parts);
+        self.count = keep_code(&mut self.kept[at], unit.object);
     }
 
     // Other units.
@@ -273,6 +298,32 @@ impl Linked {
             return Ok(());
         }
         self.write_anew(main, units)
+    }
+
+    /// Links the object of one unit in the place of the one before. It is so where the main subprogram is the same, the unit at that place
+    /// has this key, and its object is as before by its lengths, counts, symbols, lines and protected objects: then its code alone is
+    /// written, in the image and in its bytes, and no other unit is looked at. Whether it was so; else nothing is done. It takes no memory.
+    pub fn exchange(
+        &mut self,
+        main: &LinkSymbol,
+        at: usize,
+        key: &UnitKey,
+        object: &Compiled,
+    ) -> bool
+        ensures whether { IsTrue result ↔ (main.now ≡ self.old.main) × IsInPlace self.old.units at (record { key = key.now; object = object.now }) }
+        ensures exchanged { IsTrue result → self.new ≡ exchanged self.old at (record { key = key.now; object = object.now }) }
+        ensures within { IsTrue result → AreWithin self.new.units }
+        ensures unchanged { result ≡ false → self.new ≡ self.old }
+    {
+        let unit = LinkUnit { key, object };
+        if !is_same_symbol(main, &self.main) || at >= self.kept.len() {
+            return false;
+        }
+        if !is_in_place(&self.kept[at], &unit) {
+            return false;
+        }
+        self.write_one(at, &unit);
+        true
     }
 }
 

@@ -1,6 +1,9 @@
 // Code that is written over other code.
 ghost use Rattle.std.specs.Prelude.{◌≡◌, ◌+◌, ◌≤◌, ◌++◌, length, take};
+ghost use Rattle.std.specs.List.{All};
+ghost use Rattle.al_code_object.specs.Objects.{Keeps};
 ghost use Rattle.al_link_image.specs.Parts.{IsCode};
+ghost use Rattle.al_link.specs.Kept.{IsKeeping};
 ghost use Rattle.al_link.specs.Linking.{patched};
 ghost use Rattle.al_link.specs.Partitions.{compiled_units};
 ghost use Rattle.al_link.specs.Relinking.{code_size, linked_units};
@@ -29,6 +32,7 @@ fn write_code(code: &mut [u8], base: usize, object: &Compiled, places: &Places)
     requires is_code { IsCode (take base code.old) }
     ensures written { take (base + length object.now.code) code.new ≡ patched places.now object.now.code base (take base code.old ++ object.now.code) object.now.uses }
     ensures is_code { IsCode (take (base + length object.now.code) code.new) }
+    ensures keeps { Keeps object.now }
 {
     object.keeps();
     write_object(code, base, object, places);
@@ -41,6 +45,7 @@ fn write_units(code: &mut [u8], start: usize, units: &[CompiledUnit<'_>], places
     requires is_code { IsCode (take start code.old) }
     ensures written { code.new ≡ linked_units places.now (take start code.old) (compiled_units units.now) }
     ensures is_code { IsCode code.new }
+    ensures keep { All IsKeeping (compiled_units units.now) }
 {
     let mut base = start;
     for unit in units {
@@ -58,6 +63,7 @@ pub(crate) fn write_all(code: &mut [u8], start: &[u8], units: &[CompiledUnit<'_>
     requires is_code { IsCode start.now }
     ensures written { code.new ≡ linked_units places.now start.now (compiled_units units.now) }
     ensures is_code { IsCode code.new }
+    ensures keep { All IsKeeping (compiled_units units.now) }
 {
     code[..start.len()].copy_from_slice(start);
     write_units(code, start.len(), units, places);

@@ -35,7 +35,7 @@ invariant_of-result c =
     let is_code : IsCode p.code.items = subst (λ (xs : List ℕ). IsCode xs) (sym is) c.write_all.ensures.is_code in
     let len : length p.code.items ≡ (totals us).code = ap (λ (xs : List ℕ). length xs) is ∙ n in
     let all : IsLinked c.args.fresh.main us c.new-image.result q.places q.start.items =
-    made_linked c.args.fresh.main us q p c.new-image.result c.requires.prepared refl refl refl refl (is ∙ w) is_code len refl c.new-image.ensures in
+    made_linked c.args.fresh.main us q p c.new-image.result c.requires.prepared c.write_all.ensures.keep refl refl refl refl (is ∙ w) is_code len refl c.new-image.ensures in
     let whole : IsWhole p = made_whole c.args.fresh.main us q p c.requires.prepared refl refl refl refl is_code len refl in
     let size : length (image_bytes c.new-image.result) ≡ prepared_size q =
     ap (λ (i : Image). length (image_bytes i)) c.new-image.ensures ∙ made_size q p whole refl refl (len ∙ sym (ap (λ (b : Bases). b.code) c.requires.prepared.totals_are)) refl in

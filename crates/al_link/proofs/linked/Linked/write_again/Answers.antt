@@ -76,7 +76,7 @@ invariant_of-self c =
     let is_code : IsCode p.code.items = subst (λ (xs : List ℕ). IsCode xs) (sym is) c.write_all.ensures.is_code in
     let len : length p.code.items ≡ length p0.code.items = ap (λ (xs : List ℕ). length xs) is ∙ n in
     let all : IsLinked s.main vs c.new.result s.places s.start.items =
-    linked_again s.main us vs s.image s.places s.start.items p0 c.self.invariant.0 alike c.taken-parts.ensures.value c.taken-parts.ensures.whole p c.new.result refl refl regions refl (is ∙ w) is_code len refl c.new.ensures in
+    linked_again s.main us vs s.image s.places s.start.items p0 c.self.invariant.0 alike c.taken-parts.ensures.value c.taken-parts.ensures.whole c.write_all.ensures.keep p c.new.result refl refl regions refl (is ∙ w) is_code len refl c.new.ensures in
     let whole : IsWhole p =
     whole_again s.main us vs s.image s.places s.start.items p0 c.self.invariant.0 alike c.taken-parts.ensures.value c.taken-parts.ensures.whole p refl refl regions (on_ok c.refill-filled.result _ done c.refill-filled.ensures.fit) refl is_code len refl in
     let count : length p.protected.items ≡ length p0.protected.items = ap (λ (rs : List Region). length rs) regions ∙ regions_length 0 vs ∙ room in
