@@ -1,5 +1,5 @@
 -- One unit's object in the place of the one before.
-use Rattle.std.proofs.Common.{◌≡◌, ℕ, zero, suc, ◌+◌, ◌<◌, ◌&&◌, ◌||◌, Bool, true, false, List, [], ◌∷◌, length, set, get_or, map, Option, Some, refl, sym, ap, subst, ◌∙◌, arith}
+use Rattle.std.proofs.Common.{◌≡◌, ℕ, zero, suc, ◌<◌, ◌&&◌, ◌||◌, Bool, true, false, List, [], ◌∷◌, length, set, get_or, Option, Some, refl, sym, ap, subst, ◌∙◌, arith}
 use Rattle.std.specs.List.{list_all, list_any}
 use Rattle.al_base.specs.declared.unit_key.UnitKey.{UnitKey}
 use Rattle.al_code_object.specs.Objects.{CompiledCode}
@@ -8,7 +8,7 @@ use Rattle.al_code_object.specs.declared.object.Object.TheVariants as left
 use Rattle.al_view.proofs.SymbolLemmas.{both}
 use Rattle.al_view.specs.declared.link.LinkSymbol.{LinkSymbol}
 use Rattle.al_link.specs.Partitions.{is_large}
-use Rattle.al_link.specs.Relinking.{IsInPlace, LinkedImage, Shape, differing, differs, exchanged, shape_of, shapes_kept}
+use Rattle.al_link.specs.Relinking.{LinkedImage, Shape, differing, differs, shape_of, shapes_kept}
 use Rattle.al_link.specs.Units.{AreWithin, UnitObject}
 use Rattle.al_engine_batch.specs.Links.{AreLinked, IsExchanged}
 use Rattle.al_engine_batch.specs.Objects.{IsLinkable, WithObject, is_unit_name, linked_units}

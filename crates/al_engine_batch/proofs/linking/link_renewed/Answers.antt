@@ -1,7 +1,7 @@
-use Rattle.std.proofs.Common.{◌≡◌, ℕ, List, Some, refl, sym, ap, subst, ◌∙◌, map, set}
+use Rattle.std.proofs.Common.{ℕ, List, Some, refl, sym, ap, subst, ◌∙◌, map, set}
 use Rattle.std.proofs.lemmas.List.{map-set}
 use Rattle.al_link.specs.Relinking.{LinkedImage}
-use Rattle.al_engine_batch.specs.Links.{AreLinked, IsExchanged, IsLinkedOver}
+use Rattle.al_engine_batch.specs.Links.{AreLinked, IsLinkedOver}
 use Rattle.al_engine_batch.specs.Objects.{WithObject}
 use Rattle.al_engine_batch.specs.ObjectsSeen.{object_model}
 use Rattle.al_engine_batch.specs.Patches.{ArePatched, IsPatched, linked_in}
