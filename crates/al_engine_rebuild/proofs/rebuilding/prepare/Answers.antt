@@ -1,4 +1,4 @@
-use Rattle.std.proofs.Common.{[], Option, IfSome, map, ap, sym, subst, true, false, ◌≡◌, ◌∙◌}
+use Rattle.std.proofs.Common.{[], ℕ, List, Option, IfSome, map, ap, sym, subst, true, false, ◌≡◌, ◌∙◌}
 use Rattle.std.specs.Prelude.{MatchOption}
 use Rattle.al_base.specs.declared.unit_key.UnitKey.{UnitKey}
 use Rattle.al_unit_faults.specs.FilesSeen.{file_faults_model}
@@ -12,6 +12,7 @@ use Rattle.al_engine_batch.specs.Renewals.{KeepsPartition}
 use Rattle.al_engine_keep.specs.Moves.{Entries}
 use Rattle.al_engine_found.specs.Found.{findings_of}
 use Rattle.al_engine_refresh.specs.Builds.{results_of}
+use Rattle.al_engine_recheck.specs.Rechecks.{IsUpdated}
 use Rattle.al_engine_rebuild.proofs.Clean.{clean-now}
 use Rattle.al_engine_rebuild.proofs.Left.{known-of, of-edited, others-left, renewed-by, settled-left}
 use Rattle.al_engine_rebuild.specs.Renewed.{IsCleanBut}
@@ -56,8 +57,13 @@ pub returns-clause-prepared : goal.returns-clause-prepared
 returns-clause-prepared g c =
     let new = c.check_library.new.cache.store in
     let planned = subst (λ (e : Entries). IsPlanned c.args.sources.now (results_of (now_at e)) c.args.main.now c.args.before.now c.in_ok-planned.planned) c.entries-entries.ensures c.in_ok-planned.ensures in
+    let given = c.in_ok-given.given in
+    let parts = c.into_parts-checked.ensures in
+    let update : (List UnitKey → ℕ → Type 0) = λ us n. IsUpdated g.C.UnitCheck.meaning g.C.Text.ReadText.header (g.P.Answers.table c.args.predefined.now) c.args.sources.now c.args.cache.now.store new us n in
     record {
-      updated = c.in_ok-given.ensures.updated;
+      updated =
+          subst (λ (us : List UnitKey). update us c.into_parts-checked.result.1) (ap (λ it. it.0.items) (sym parts))
+          (subst (λ (n : ℕ). update given.checked.items n) (ap (λ it. it.1) (sym parts)) c.in_ok-given.ensures.updated);
       is_planned = planned;
       closed =
           c.partitions_are_closed.ensures g.C.UnitCheck.meaning g.C.Text.ReadText.header (g.P.Answers.table c.args.predefined.now) c.args.sources.now c.args.graph.now.order.items c.requires.headed c.requires.bodies c.requires.predefined c.requires.graph.order
