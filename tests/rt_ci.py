@@ -103,8 +103,14 @@ class Kept:
         files = [f"{rt.KIT}/KIT-ID", f"{rt.KIT}/WHAT", rt.__file__, rt.rtlib.__file__]
         return [digest(it) for it in files]
 
+    def library(self, crate):
+        """The hash of each file of the library that stands in the crate's out/; rt may have put it there of what it keeps by itself."""
+        if crate.folder not in self.libraries:
+            self.libraries[crate.folder] = content(pathlib.Path(crate.folder) / "out", made_by(crate, False))
+        return self.libraries[crate.folder]
+
     def name(self, crate, tests):
-        below = [[it.name, self.libraries[it.folder]] for it in crate.below()]
+        below = [[it.name, self.library(it)] for it in crate.below()]
         whole = json.dumps([self.kit, crate.name, tests, crate.stamp(), list(self.crate.allowed), below])
         return hashlib.sha256(whole.encode()).hexdigest()
 
