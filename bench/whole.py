@@ -2,8 +2,8 @@
 """whole.py PROGRAM [packages [COUNT ..] | statements]: times builds, beside GNAT where it is there.
 
 packages: 200, 1,000 and 4,000 packages (or so many), every fiftieth with a body, and a main unit: the first build, and builds behind no
-edit, the edit of a body, of a declaration that nobody reads, and of one that all read; gnatmake does the same by turns, over files, which
-takes it some minutes of 4,000 packages. Behind them how many times the figure of the number before each is, and what is aimed at. A library
+edit, the edit of a body, of a declaration that nobody reads, and of one that all read; gnatmake does the same by turns, over files, with as
+many compilers at once as there are processors, which takes it some minutes of 4,000 packages. Behind them how many times the figure of the number before each is, and what is aimed at. A library
 has at most 4,096 files, so that not each of 4,000 packages can have a body. statements: a unit of so many assignments. Each figure is in
 milliseconds of the clock, with those of the processor in parentheses, the least of some runs. That each build gives an image is seen to
 first. Programs that are built and run are timed by bench/machine/run. It is no test.
@@ -100,7 +100,7 @@ def by_gnatmake(files, edits):
                 path = pathlib.Path(folder) / name
                 path.write_text(text)
                 os.utime(path, (path.stat().st_mtime + when,) * 2)
-            return spent_by(["gnatmake", "-q", "main.adb"], b"", folder)
+            return spent_by(["gnatmake", "-q", f"-j{os.cpu_count()}", "main.adb"], b"", folder)
 
         times = [made(files)]
         if not (pathlib.Path(folder) / "main").exists():
