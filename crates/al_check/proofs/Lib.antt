@@ -1,4 +1,4 @@
 pub mod Naming
-pub mod FaultLemmas
+pub mod Told
 pub mod UnitResult
 pub mod Verdicts

@@ -69,7 +69,7 @@ impl UnitStart {
     )
         ensures text { result.0 ≡ (self.own, self.packages, self.hidden) }
         ensures place { result.1 ≡ (self.scope, self.progress, self.uncompleted) }
-        ensures enclosing { result.2 ≡ (self.parent, self.view) }
+        ensures round { result.2 ≡ (self.parent, self.view) }
     {
         let UnitStart {
             own,
