@@ -1,12 +1,14 @@
 #!/usr/bin/env python3
-"""whole.py PROGRAM [packages [COUNT ..] | statements]: times builds, beside GNAT where it is there.
+"""whole.py PROGRAM [packages [COUNT ..] | chain [COUNT ..] | statements]: times builds, beside GNAT where it is there.
 
-packages: 200, 1,000 and 4,000 packages (or so many), every fiftieth with a body, and a main unit: the first build, and builds behind no
-edit, the edit of a body, of a declaration that nobody reads, and of one that all read; gnatmake does the same by turns, over files, with as
-many compilers at once as there are processors, which takes it some minutes of 4,000 packages. Behind them how many times the figure of the number before each is, and what is aimed at. A library
-has at most 4,096 files, so that not each of 4,000 packages can have a body. statements: a unit of so many assignments. Each figure is in
-milliseconds of the clock, with those of the processor in parentheses, the least of some runs. That each build gives an image is seen to
-first. Programs that are built and run are timed by bench/machine/run. It is no test.
+packages: 200, 1,000 and 4,000 packages (or so many) that depend on each other as a tree, every fiftieth with a body, and a main unit: the first
+build, and builds behind no edit, the edit of a body, of a declaration that nobody reads, and of one that all read; gnatmake does the same by
+turns, over files, with as many compilers at once as there are processors. Behind them how many times the figure of the number before
+each is, and what is aimed at. A library has at most 4,096 files, so that not each of 4,000 packages can have a body. chain: the same for packages
+that each read the three before it; a compiler of GNAT reads all that its unit depends on, so that gnatmake grows as the square there, and
+takes its turn up to 1,000. statements: a unit of so many assignments. Each figure is in milliseconds of the clock, with those of the processor in
+parentheses, the least of some runs. That each build gives an image is seen to first. Programs that are built and run are timed by
+bench/machine/run. It is no test.
 """
 import os
 import pathlib
@@ -18,6 +20,8 @@ import tempfile
 from timings import doubled, procedure, put, spent_by
 
 COUNTS = (200, 1000, 4000)
+# Of how many packages in a chain gnatmake takes its turn.
+LONGEST_CHAIN = 1000
 TURNS = 3
 # What is aimed at, in milliseconds of the processor: what, at which numbers of packages, under how many.
 AIMS = {"no edit": ((200, 1000, 4000), 0.2), "one body": ((4000,), 10)}
@@ -50,9 +54,18 @@ def times(figure, before):
     return max(figure[1], 0.001) / max(before[1], 0.001)
 
 
-def package(number):
-    """The declaration of a package that reads up to three of those before it, and a body where its number is a multiple of fifty."""
-    named = range(max(0, number - 3), number)
+def chain(number, _count):
+    """The packages that a package reads, where each reads the three before it."""
+    return range(max(0, number - 3), number)
+
+
+def tree(number, count):
+    """The same where they are a tree, with three below each, and the first above all: eight deep for 4,000."""
+    return range(min(3 * number + 1, count), min(3 * number + 4, count))
+
+
+def package(number, named):
+    """The declaration of a package that reads those, and a body where its number is a multiple of fifty."""
     withs = "".join(f"with P{it}; " for it in named)
     values = "".join(f" + P{it}.Value" for it in named)
     has_body = number % 50 == 0
@@ -65,14 +78,14 @@ def package(number):
     return files
 
 
-def library(count):
+def library(count, shape=chain):
     """The files, and those edits that the builds stand behind: each a file with its new text."""
     files = {"base.ads": base()}
     for number in range(count):
-        files |= package(number)
-    last, middle = count - 1, count // 100 * 50
+        files |= package(number, shape(number, count))
+    top, middle = count - 1 if shape is chain else 0, count // 100 * 50
     files["main.adb"] = (
-        f"with Ada.Text_IO; with P{last}; with P{middle};\nprocedure Main is\nbegin\n   Ada.Text_IO.Put_Line (Integer'Image (P{last}.Value + P{middle}.Twice));\nend Main;\n"
+        f"with Ada.Text_IO; with P{top}; with P{middle};\nprocedure Main is\nbegin\n   Ada.Text_IO.Put_Line (Integer'Image (P{top}.Value + P{middle}.Twice));\nend Main;\n"
     )
     body = f"p{middle}.adb"
     edits = {
@@ -147,23 +160,23 @@ def by_program(program, files, edits):
         return [less(built, base_time)] + [behind(changed) for changed in edits.values()]
 
 
-def packages(program, counts):
-    tools = [("solbreog", lambda files, edits: by_program(program, files, edits))]
-    if shutil.which("gnatmake"):
-        tools.append(("gnatmake", by_gnatmake))
-    before = last = None
+def packages(program, counts, shape):
+    before, last = {}, None
     for count in counts:
-        files, edits = library(count)
-        turns = [[run(files, edits) for _, run in tools] for _ in range(TURNS if count < 1000 else 1)]
-        figures = [[least_of(rows) for rows in zip(*(turn[at] for turn in turns))] for at in range(len(tools))]
+        files, edits = library(count, shape)
+        tools = {"solbreog": lambda files, edits: by_program(program, files, edits)}
+        if shutil.which("gnatmake") and (shape is tree or count <= LONGEST_CHAIN):
+            tools["gnatmake"] = by_gnatmake
+        turns = [{name: run(files, edits) for name, run in tools.items()} for _ in range(TURNS if count < 1000 else 1)]
+        figures = {name: [least_of(rows) for rows in zip(*(turn[name] for turn in turns))] for name in tools}
         for row, what in enumerate(("first build", *edits)):
-            tell(f"{count} packages: {what}", *((name, figures[at][row]) for at, (name, _) in enumerate(tools)))
-            if before:
-                grown = ", ".join(f"{name} {times(figures[at][row], before[at][row]):.1f}" for at, (name, _) in enumerate(tools))
+            tell(f"{count} packages: {what}", *((name, figures[name][row]) for name in tools))
+            grown = ", ".join(f"{name} {times(figures[name][row], before[name][row]):.1f}" for name in tools if name in before)
+            if grown:
                 print(f"{'':<48} times the processor's figure of {last}: {grown}", flush=True)
             aimed_at, most = AIMS.get(what, ((), 0))
             if count in aimed_at:
-                reached = "reached" if figures[0][row][1] < most else "not reached"
+                reached = "reached" if figures["solbreog"][row][1] < most else "not reached"
                 print(f"{'':<48} aim: under {most} ms: {reached}", flush=True)
         before, last = figures, count
 
@@ -180,9 +193,11 @@ def statements(program):
 def main():
     program = str(pathlib.Path(sys.argv[1]).resolve())
     part, counts = sys.argv[2:3], [int(it) for it in sys.argv[3:]] or COUNTS
-    if part != ["statements"]:
-        packages(program, counts)
-    if part != ["packages"]:
+    if part in ([], ["packages"]):
+        packages(program, counts, tree)
+    if part == ["chain"]:
+        packages(program, counts, chain)
+    if part in ([], ["statements"]):
         statements(program)
 
 

@@ -7,7 +7,9 @@
     together FOLDER [NAME ..]
                             tries those of edits/ that tests/wrong-bodies.txt lists, of these crates or of all, over the libraries that
                             `rt ci` left in FOLDER, which has the same text
-    beside FOLDER NAME ..   the same for all of edits/ of these crates, listed or not
+    follow FOLDER SAID      the same while `rt ci` goes on in FOLDER and writes what it says into the file SAID: two crates at a time, each once
+                            the libraries below it are proved; once there is a file SAID.ended, no other one begins
+    beside FOLDER NAME ..   as `together`, for all of edits/ of these crates, listed or not
 
 `rt ci` tries those of must-fail/: there are those of crates that prove in some twenty seconds, as it proves a crate once more before it tries the first of them.
 All others are tried here, those of a crate that stand in different functions in one check of these functions (`rattle check --only`). Each must
@@ -28,6 +30,7 @@ import re
 import shutil
 import subprocess
 import sys
+import time
 
 import together
 from edits import BadEdit, edits
@@ -36,6 +39,10 @@ ROOT = pathlib.Path(__file__).resolve().parent.parent
 LIST = ROOT / "tests" / "wrong-bodies.txt"
 KEPT = pathlib.Path(os.environ.get("SOLBREOG_REFUSED") or pathlib.Path.home() / ".cache" / "solbreog" / "refused")
 REFUSED = re.compile(r"(?:rt: )?must-fail (\w+)/(\S+\.edit): refused, as it must be")
+# What `rt ci` says of a crate whose library is there.
+PROVED = re.compile(r"^rt: (\w+) (?:proved$|is kept: )", re.MULTILINE)
+# Of how many crates wrong bodies are tried beside `rt ci`.
+FOLLOWING = 2
 
 
 def libraries(root):
@@ -159,27 +166,65 @@ def apply():
     return 1 if failed else 0
 
 
-def tried(folder, names, is_listed):
-    """Tries the wrong bodies of edits/, of these crates or of all, that weren't refused before: all, or those that the list has."""
+def left_of(names, is_listed):
+    """The wrong bodies of edits/, of these crates or of all, that weren't refused before, by crate: all, or those that the list has; and what each is kept under."""
     lines = libraries(ROOT)
     listed = set(LIST.read_text().split("\n"))
     found = keys(ROOT, "edits")
     wanted = [it for it in edits(ROOT, ["edits"]) if it.crate.name in (names or lines)]
     wanted = [it for it in wanted if not is_listed or f"{it.crate.name}/{it.name}" in listed]
-    left = [it for it in wanted if not is_kept(found[it.crate.name, it.path.name])]
-    crates = sorted({it.crate.name for it in left})
-    print(f"wrong bodies: {len(left)} to be tried together, {len(wanted) - len(left)} refused earlier on this machine", flush=True)
-    below = together.Libraries(lines, folder)
-    for name in sorted({it for crate in crates for it in [crate, *below.below(crate)]}):
-        if digest_of_crate(folder / "crates" / name) != digest_of_crate(ROOT / "crates" / name):
-            print(f"{folder} has another text of {name}")
-            return 2
+    left = {}
+    for it in wanted:
+        if not is_kept(found[it.crate.name, it.path.name]):
+            left.setdefault(it.crate.name, []).append(it)
+    count = sum(map(len, left.values()))
+    print(f"wrong bodies: {count} to be tried together, {len(wanted) - count} refused earlier on this machine", flush=True)
+    return left, found
+
+
+def differing(folder, below, crates):
+    """The crates, of these and those that they stand on, of which the folder has another text."""
+    all_of_them = sorted({it for crate in crates for it in [crate, *below.below(crate)]})
+    return [it for it in all_of_them if digest_of_crate(folder / "crates" / it) != digest_of_crate(ROOT / "crates" / it)]
+
+
+def tried(folder, names, is_listed):
+    """Tries the wrong bodies of edits/ that are left, of these crates or of all."""
+    left, found = left_of(names, is_listed)
+    below = together.Libraries(libraries(ROOT), folder)
+    for name in differing(folder, below, left):
+        print(f"{folder} has another text of {name}")
+        return 2
     jobs = int(os.environ.get("RT_JOBS") or len(os.sched_getaffinity(0)))
     with concurrent.futures.ThreadPoolExecutor(jobs) as pool:
-        of_crate = {crate: [it for it in left if it.crate.name == crate] for crate in crates}
-        passed = sum(pool.map(lambda crate: one_crate(below, crate, of_crate[crate], found), crates))
-    print(f"{passed} passed, {len(left) - passed} failed")
-    return 0 if passed == len(left) else 1
+        passed = sum(pool.map(lambda crate: one_crate(below, crate, left[crate], found), sorted(left)))
+    return told(passed, sum(map(len, left.values())))
+
+
+def told(passed, count):
+    print(f"{passed} passed, {count - passed} failed")
+    return 0 if passed == count else 1
+
+
+def follow(folder, said):
+    """Tries those that are listed and left beside `rt ci`, each crate's once the libraries below it are proved."""
+    left, found = left_of([], True)
+    below = together.Libraries(libraries(ROOT), folder)
+    for name in differing(folder, below, left):
+        print(f"{folder} has another text of {name}")
+        return 2
+    begun, count, is_over = [], 0, said.with_name(f"{said.name}.ended")
+    with concurrent.futures.ThreadPoolExecutor(FOLLOWING) as pool:
+        while left and not is_over.exists():
+            proved = set(PROVED.findall(said.read_text(errors="replace")))
+            ready = [it for it in left if proved.issuperset(below.below(it))]
+            if ready and sum(not it.done() for it in begun) < FOLLOWING:
+                own = left.pop(ready[0])
+                count += len(own)
+                begun.append(pool.submit(one_crate, below, ready[0], own, found))
+            else:
+                time.sleep(5)
+        return told(sum(it.result() for it in begun), count)
 
 
 def one_crate(below, crate, own, found):
@@ -202,6 +247,8 @@ def main(words):
         record(pathlib.Path(words[1]))
     elif len(words) > 1 and words[0] == "together":
         return tried(pathlib.Path(words[1]), words[2:], True)
+    elif len(words) == 3 and words[0] == "follow":
+        return follow(pathlib.Path(words[1]), pathlib.Path(words[2]))
     elif len(words) > 2 and words[0] == "beside":
         return tried(pathlib.Path(words[1]), words[2:], False)
     else:
