@@ -1,13 +1,12 @@
 #!/usr/bin/env python3
 """gate.py sample FOLDER FILE: beside a run of `rt ci` in FOLDER, what each crate takes of the processors.
 
-    gate.py fill LOG FILE [FIRST]
-                           writes the table and the figures of docs/GATE.md and README.md, by what `tests/run` printed (LOG), by FILE, and by
-                           the seconds that the first command of the README took
+    gate.py table LOG FILE [LOG ..]
+                           makes the table of docs/GATE.md anew, by FILE and by what `tests/run` printed (each LOG), and tells the sums
 
 `sample` looks every four seconds at the provers that work in FOLDER, and writes FILE until it is ended: seconds of processor time by crate, of its
 proof with its tests, and of its wrong bodies that `rt ci` tries. What a prover takes after the last look at it is lost, some two seconds each.
-A page has its figures between `<!-- NAME -->` and `<!-- -->`.
+The table keeps its column of an earlier run; the pace is told by the crates in PACE, whose text was the same in both.
 """
 import collections
 import json
@@ -21,6 +20,8 @@ ROOT = pathlib.Path(__file__).resolve().parent.parent
 TICKS = os.sysconf("SC_CLK_TCK")
 TRIED = re.compile(r"must-fail (\w+)/\S+\.edit: refused")
 TOGETHER = re.compile(r"^wrong bodies of (\w+): (\d+) of \d+ refused, (\d+) checks, (\d+) seconds", re.MULTILINE)
+HEAD = "| Crate | Proofs and tests | Before | Wrong bodies | Their seconds |"
+PACE = ("al_lex", "al_machine")
 
 
 def provers(folder):
@@ -53,60 +54,50 @@ def sample(folder, file):
         time.sleep(4)
 
 
-def functions(log):
-    """How many functions of each crate were proved, by what `rt ci` printed."""
-    crates = re.split(r"^== (\w+)(: its tests)?$", log, flags=re.MULTILINE)
-    found = {}
-    for name, tests, text in zip(crates[1::3], crates[2::3], crates[3::3]):
-        proved = re.search(r"logic=proved functions=(\d+)", text)
-        if proved and not tests:
-            found[name] = int(proved[1])
+def tried(log):
+    """Of each crate how many wrong bodies were refused, and the seconds of those that `rt ci` doesn't try."""
+    found = collections.defaultdict(lambda: [0, 0])
+    for name in TRIED.findall(log):
+        found[name][0] += 1
+    for name, refused, _, seconds in TOGETHER.findall(log):
+        found[name][0] += int(refused)
+        found[name][1] += int(seconds)
     return found
 
 
-def table(log, sums):
-    tried = collections.Counter(TRIED.findall(log))
-    together = {name: (int(refused), int(seconds)) for name, refused, _, seconds in TOGETHER.findall(log)}
-    proved = functions(log)
-    lines = ["| Crate | Functions | Seconds | Wrong bodies | Seconds | Others in edits/ |", "|---|---|---|---|---|---|"]
+def before(page):
+    """The column of the earlier run."""
+    return dict(re.findall(r"^\| `(\w+)` \| [^|]* \| (\d+|-) \|", page, re.MULTILINE))
+
+
+def table(log, sums, earlier):
+    bodies = tried(log)
+    lines = [HEAD, "|---" * HEAD.count(" | ") + "|---|"]
     for name, (proof, wrong) in sorted(sums.items(), key=lambda it: -it[1][0]):
-        refused, seconds = together.get(name, (0, 0))
-        edits = len(list((ROOT / "crates" / name / "edits").glob("*.edit"))) - refused
-        lines.append(f"| `{name}` | {proved.get(name, '-')} | {proof:.0f} | {tried[name] + refused} | {wrong + seconds:.0f} | {edits} |")
-    return "\n".join(lines)
+        refused, seconds = bodies[name]
+        lines.append(f"| `{name}` | {proof:.0f} | {earlier.get(name, '-')} | {refused or ''} | {f'{wrong + seconds:.0f}' if refused else ''} |")
+    return "\n".join(lines) + "\n"
 
 
-def filled(page, name, text):
-    mark = re.compile(rf"(<!-- {name} -->).*?(<!-- -->)", re.DOTALL)
-    return mark.sub(lambda found: f"{found[1]}{text}{found[2]}", page)
-
-
-def fill(log, sums, first):
+def make_table(log, sums):
+    path = ROOT / "docs" / "GATE.md"
+    page = path.read_text()
+    earlier, bodies = before(page), tried(log)
+    path.write_text(page[: page.index("\n| Crate |") + 1] + table(log, sums, earlier))
     proofs, wrong = (sum(it[at] for it in sums.values()) for at in (0, 1))
-    together = TOGETHER.findall(log)
-    figures = {
-        "table": f"\n{table(log, sums)}\n",
-        "proofs": f"{proofs:,.0f}",
-        "wrong": f"{wrong + sum(int(it[3]) for it in together):,.0f}",
-        "bodies": str(len(TRIED.findall(log)) + sum(int(it[1]) for it in together)),
-        "crates": str(len(sums)),
-        "last": (re.findall(r"^\d+ passed, \d+ failed$", log, re.MULTILINE) or ["nothing"])[-1],
-    }
-    if first:
-        figures["first"] = first
-    for page in (ROOT / "docs" / "GATE.md", ROOT / "README.md"):
-        text = page.read_text()
-        for name, figure in figures.items():
-            text = filled(text, name, figure)
-        page.write_text(text)
+    wrong += sum(seconds for _, seconds in bodies.values())
+    pace = sum(sums[it][0] for it in PACE) / sum(float(earlier[it]) for it in PACE)
+    print(f"{len(sums)} crates: proofs and tests {proofs:,.0f} s, {sum(count for count, _ in bodies.values())} wrong bodies {wrong:,.0f} s")
+    print(f"the pace is {pace:.2f} of the earlier run; at that {proofs / pace:,.0f} s and {wrong / pace:,.0f} s")
+    print(*re.findall(r"^\d+ passed, \d+ failed$", log, re.MULTILINE)[-1:])
 
 
 def main(words):
     if len(words) == 3 and words[0] == "sample":
         sample(pathlib.Path(words[1]).resolve(), pathlib.Path(words[2]))
-    elif len(words) in (3, 4) and words[0] == "fill":
-        log = pathlib.Path(words[1]).read_text(errors="replace")
-        fill(log, json.loads(pathlib.Path(words[2]).read_text()), words[3] if len(words) == 4 else "")
+    elif len(words) >= 3 and words[0] == "table":
+        logs = [pathlib.Path(it).read_text(errors="replace") for it in [words[1], *words[3:]]]
+        make_table("\n".join(logs), json.loads(pathlib.Path(words[2]).read_text()))
     else:
         print(__doc__, end="", file=sys.stderr)
         return 2
