@@ -6,7 +6,8 @@
 
 `sample` looks every four seconds at the provers that work in FOLDER, and writes FILE until it is ended: seconds of processor time by crate, of its
 proof with its tests, and of its wrong bodies that `rt ci` tries. What a prover takes after the last look at it is lost, some two seconds each.
-The table keeps its column of an earlier run; the pace is told by all crates that both runs saw.
+The table keeps its column of an earlier run; the pace is told by the crates in PACE, and beside it
+by all crates that both runs saw.
 """
 import collections
 import json
@@ -20,6 +21,7 @@ ROOT = pathlib.Path(__file__).resolve().parent.parent
 TICKS = os.sysconf("SC_CLK_TCK")
 TRIED = re.compile(r"must-fail (\w+)/\S+\.edit: refused")
 TOGETHER = re.compile(r"^wrong bodies of (\w+): (\d+) of \d+ refused, (\d+) checks, (\d+) seconds", re.MULTILINE)
+PACE = ("al_lex", "al_machine")
 HEAD = "| Crate | Proofs and tests | Before | Wrong bodies | Their seconds |"
 
 
@@ -85,10 +87,11 @@ def make_table(log, sums):
     path.write_text(page[: page.index("\n| Crate |") + 1] + table(log, sums, earlier))
     proofs, wrong = (sum(it[at] for it in sums.values()) for at in (0, 1))
     wrong += sum(seconds for _, seconds in bodies.values())
-    both = [it for it in sums if earlier.get(it, "-") not in ("-", "0")]
-    pace = sum(sums[it][0] for it in both) / sum(int(earlier[it]) for it in both)
     print(f"{len(sums)} crates: proofs and tests {proofs:,.0f} s, {sum(count for count, _ in bodies.values())} wrong bodies {wrong:,.0f} s")
-    print(f"the pace is {pace:.2f} of the earlier run; at that {proofs / pace:,.0f} s and {wrong / pace:,.0f} s")
+    both = [it for it in sums if earlier.get(it, "-") not in ("-", "0")]
+    for what, crates in ((" and ".join(PACE), PACE), ("all crates", both)):
+        pace = sum(sums[it][0] for it in crates) / sum(int(earlier[it]) for it in crates)
+        print(f"by {what} {pace:.2f} times the earlier run: at that pace {proofs / pace:,.0f} s and {wrong / pace:,.0f} s")
     print(*re.findall(r"^\d+ passed, \d+ failed$", log, re.MULTILINE)[-1:])
 
 
