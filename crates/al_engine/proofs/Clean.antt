@@ -1,4 +1,4 @@
--- Nothing found again, where one unit alone has another outcome.
+-- Nothing found again, where some units alone have other outcomes.
 use Rattle.std.proofs.Common.{◌≡◌, inl, inr, ℕ, true, false, List, [], ◌∷◌, ◌++◌, Option, Some, None, refl, sym, ap, subst, ◌∙◌}
 use Rattle.std.specs.List.{flat_map}
 use Rattle.std.specs.Map.{keys_of}
@@ -8,8 +8,7 @@ use Rattle.al_base.specs.declared.unit_key.UnitKey.{UnitKey}
 use Rattle.al_unit_graph.specs.Headers.{Contents, Headed, Library, Source, Unread, key_of_unit}
 use Rattle.al_unit_graph.specs.Library.{source_at}
 use Rattle.al_unit_faults.specs.GraphFaults.{file_faults, or_else}
-use Rattle.al_view.specs.Symbols.{same_unit}
-use Rattle.al_view.proofs.SymbolLemmas.{same_unit-one}
+use Rattle.al_query.specs.Known.{has_unit}
 use Rattle.al_query_outcome.specs.Equations.{is_sound, unit_named}
 use Rattle.al_query_outcome.specs.Results.{Faulty, Outcome, Sound}
 use Rattle.al_query_outcome.proofs.Names.{tested}
@@ -33,16 +32,16 @@ none-first : (xs ys : List Finding) → or_else xs ys ≡ [] → xs ≡ []
 none-first [] ys is = refl
 none-first (x ∷ xs) ys is = absurd (cc)
 
--- where the headers are the same and one unit alone has another outcome, which is sound, nothing is found if nothing was
-module _ (old new : Library) (g f : UnitKey → Option Outcome) (same : HaveSameHeaders old new) (one : HaveOneGraph old new) (none : findings_of old g ≡ []) (u : UnitKey) (others : (w : UnitKey) → same_unit u w ≡ false → f w ≡ g w) (sound : is_sound (f u) ≡ true) where
+-- where the headers are the same and some units alone have other outcomes, which are sound, nothing is found if nothing was
+module _ (old new : Library) (g f : UnitKey → Option Outcome) (same : HaveSameHeaders old new) (one : HaveOneGraph old new) (none : findings_of old g ≡ []) (units : List UnitKey) (others : (w : UnitKey) → has_unit units w ≡ false → f w ≡ g w) (sound : (u : UnitKey) → has_unit units u ≡ true → is_sound (f u) ≡ true) where
   sound-none : (file : List ℕ) (o : Option Outcome) → is_sound o ≡ true → outcome_findings file o ≡ []
   sound-none file None is = absurd (cc)
   sound-none file (Some (Faulty faults)) is = absurd (cc)
   sound-none file (Some (Sound interface tree)) is = refl
 
   outcome-none : (file : List ℕ) (w : UnitKey) → outcome_findings file (g w) ≡ [] → outcome_findings file (f w) ≡ []
-  outcome-none file w has = elim (tested (same_unit u w)) as (λ _. outcome_findings file (f w) ≡ []) [
-    | inl k ↦ subst (λ (x : UnitKey). outcome_findings file (f x) ≡ []) (same_unit-one u w k) (sound-none file (f u) sound)
+  outcome-none file w has = elim (tested (has_unit units w)) as (λ _. outcome_findings file (f w) ≡ []) [
+    | inl k ↦ sound-none file (f w) (sound w k)
     | inr k ↦ ap (outcome_findings file) (others w k) ∙ has
   ]
 

@@ -1,12 +1,14 @@
--- The unit that alone was edited since a build that found nothing wrong.
-use Rattle.std.proofs.Common.{IfSome, ◌≡◌, inl, inr, ℕ, Bool, true, false, List, [], ◌∷◌, Option, Some, None, refl, sym, ap, subst, ◌∙◌, if◌then◌else◌}
+-- The units that alone were edited since a build that found nothing wrong.
+use Rattle.std.proofs.Common.{IfSome, IfOk, ◌≡◌, ◌||◌, ◌++◌, inl, inr, ℕ, Bool, true, false, List, [], ◌∷◌, Result, Ok, Err, Option, Some, None, refl, sym, ap, subst, ◌∙◌, if◌then◌else◌}
 use Rattle.std.specs.List.{Contains, flat_map}
 use Rattle.std.specs.Map.{keys_of}
 use Rattle.std.specs.Option.{is_some, option_and_then, option_map, option_map_or}
 use Rattle.al_base.specs.Batch.{Finding, Key, key_of}
 use Rattle.al_base.specs.FileNames.{file_name_of}
 use Rattle.al_base.specs.declared.unit_key.UnitKey.{UnitKey}
-use Rattle.al_base_graph.proofs.Members.{first_or_later, nowhere}
+use Rattle.std.proofs.lemmas.List.Elements.{Contains-append_cases}
+use Rattle.std.proofs.lemmas.List.Folds.{list_any-append}
+use Rattle.al_base_graph.proofs.Members.{first, first_or_later, later, nowhere}
 use Rattle.al_unit_graph.specs.Headers.{Contents, Header, Headed, Library, Source, Unread, key_of_unit}
 use Rattle.al_unit_graph.specs.Library.{held, is_rightly_named, is_unit, source_at, unit_at, unit_in}
 use Rattle.al_unit_faults.specs.GraphFaults.{file_faults}
@@ -14,7 +16,9 @@ use Rattle.al_unit_faults.proofs.UnitLemmas.{at_key}
 use Rattle.al_unit_map.specs.Units.{at_unit}
 use Rattle.al_unit_order.specs.Reached.{is_faultless}
 use Rattle.al_view.specs.Symbols.{same_unit}
-use Rattle.al_view.proofs.SymbolLemmas.{both, same_unit-self}
+use Rattle.al_view.proofs.SymbolLemmas.{both, same_unit-one}
+use Rattle.al_query.specs.Known.{has_unit}
+use Rattle.al_query.proofs.KnownLemmas.{has_unit-first, has_unit-left}
 use Rattle.al_query.specs.declared.answer.AnswerKind.{AnswerKind}
 use Rattle.al_query.specs.declared.query.Query.{Query}
 use Rattle.al_query_outcome.specs.Equations.{unit_named}
@@ -32,7 +36,8 @@ use Rattle.al_engine_graph.specs.declared.alike.Edited.{Edited}
 use Rattle.al_engine_graph.specs.declared.graph.UnitGraph.{UnitGraph}
 use Rattle.al_engine_graph.proofs.Files.{file_there}
 use Rattle.al_engine_recheck.specs.Rechecks.{IsRechecked, setting_of}
-use Rattle.al_engine_recheck.specs.Renewals.{IsBaseOfNone, IsEditedAlone}
+use Rattle.al_engine_recheck.specs.Edits.{AreEditedAlone, IsBaseOfNone, IsForAnother, units_of}
+use Rattle.al_engine_recheck.specs.declared.edited.EditedUnit.{EditedUnit}
 use Rattle.al_engine_batch.specs.Batches.{IsBatch}
 use Rattle.al_engine_batch.specs.declared.compiled.Compiled.{Compiled}
 use Rattle.al_engine_batch.specs.declared.compiled.Compiled.TheVariants.{Faulty, Unbound, TooLarge, Made}
@@ -40,7 +45,7 @@ use Rattle.al_engine_rebuild.specs.Rebuilds.{IsRebuilt}
 use Rattle.al_engine_rebuild.specs.Renewed.{IsCleanBut}
 use Rattle.al_engine_rebuild.specs.declared.rebuilding.Rebuilt.{Rebuilt}
 use Rattle.al_engine_reported.specs.Gave.{order_of}
-use Rattle.al_engine.specs.Edits.{HoldsAlone}
+use Rattle.al_engine.specs.Edits.{AreEditedIn, HoldsAlone, IsEdited, IsEntered}
 use Rattle.al_engine.proofs.Clean.{none-again, none-else, none-left, none-right}
 
 -- the unit of a key
@@ -126,25 +131,25 @@ module _ (meaning : TextMeaning) (header : List ℕ → Header) (pre : Query →
   pub made-entries : IsRechecked meaning header (setting_of header pre lib) before entries gave.checked
   made-entries = subst (λ (at : UnitKey → Option Stored). IsRechecked meaning header (setting_of header pre lib) before at gave.checked) (λ i w. sym (all-made w) i) is.rechecked
 
-  -- and where one unit alone has another outcome now, which is sound, nothing is found
-  pub clean-but : (new : Library) → HaveSameHeaders lib new → HaveOneGraph lib new → (u : UnitKey) → IsCleanBut new entries u
-  clean-but new same one u f others sound =
-      none-again lib new (results_of is.made) f same one (nothing-found lib (results_of is.made) main gave.compiled ordered is.is_batch) u (λ w k. others w k ∙ ap (option_map outcome_of) (all-made w)) sound
+  -- and where some units alone have other outcomes now, which are sound, nothing is found
+  pub clean-but : (new : Library) → HaveSameHeaders lib new → HaveOneGraph lib new → (units : List UnitKey) → IsCleanBut new entries units
+  clean-but new same one units f others sound =
+      none-again lib new (results_of is.made) f same one (nothing-found lib (results_of is.made) main gave.compiled ordered is.is_batch) units (λ w k. others w k ∙ ap (option_map outcome_of) (all-made w)) sound
 
 -- a unit that breaks no rule is there
 there-of : (lib : Library) (key : Key) → is_faultless lib key ≡ true → is_unit lib key ≡ true
 unfolding is_faultless
 there-of lib key is = (both (is_unit lib key) _ is).0
 
-module _ (old new : Library) (entries : UnitKey → Option Stored) (edited : Edited) (u : UnitKey) (one : HaveOneGraph old new) (texts : HaveTextsBut old new edited) (holds : (w : UnitKey) → is_unit new (key_of w) ≡ true → may_differ edited (file_name_of (key_of w)) → u ≡ w) (other : (e : Stored) × (entries u ≡ Some e) × (e.text ≡ text_of new u → ⊥)) where
-  pub edited-alone : IsEditedAlone old new entries u
+module _ (old new : Library) (entries : UnitKey → Option Stored) (edited : Edited) (units : List UnitKey) (one : HaveOneGraph old new) (texts : HaveTextsBut old new edited)
+    (holds : (w : UnitKey) → is_unit new (key_of w) ≡ true → may_differ edited (file_name_of (key_of w)) → has_unit units w ≡ true) (others : (u : UnitKey) → has_unit units u ≡ true → IsForAnother (entries u) (text_of new u)) where
+  pub edited-alone : AreEditedAlone old new entries units
   edited-alone = record {
-    units = one.units;
+    headers = one.units;
     dependences = one.dependences;
     faultless = one.faultless;
-    texts = λ w t apart. texts (file_name_of (key_of w)) (λ may. let same : same_unit u w ≡ true = subst (λ (x : UnitKey). same_unit u x ≡ true) (holds w (there-of new (key_of w) t) may) (same_unit-self u) in absurd (cc));
-    there = ap is_some other.1;
-    edited = λ d is same. let k : Some other.0 ≡ Some d = sym other.1 ∙ is in let e : other.0 ≡ d = cc in other.2 (ap (λ (x : Stored). x.text) e ∙ same);
+    texts = λ w t apart. texts (file_name_of (key_of w)) (λ may. let has = holds w (there-of new (key_of w) t) may in absurd (cc));
+    edited = others;
   }
 
 -- no unit depends by itself on one that isn't among the bases
@@ -159,6 +164,53 @@ pub for-any : {X : Type 0} (o : Option X) (Q : X → Type 0) → ((x : X) → Q 
 for-any None Q f = tt
 for-any (Some x) Q f = f x
 
-pub for-one : {X : Type 0} (o : Option X) (A B C Q : X → Type 0) → IfSome o A → IfSome o B → IfSome o C → ((x : X) → A x → B x → C x → Q x) → IfSome o Q
-for-one None A B C Q a b c f = tt
-for-one (Some x) A B C Q a b c f = f x a b c
+-- what follows for each holds of the one that was found
+pub each-found : {X E : Type 0} (r : Result (Option X) E) (A B : X → Type 0) → IfOk r (λ found. IfSome found A) → ((x : X) → A x → B x) → IfOk r (λ found. IfSome found B)
+each-found (Ok None) A B is f = tt
+each-found (Ok (Some x)) A B is f = f x is
+each-found (Err e) A B is f = tt
+
+-- no unit was edited yet
+pub none-edited : (lib : Library) (entries : UnitKey → Option Stored) (graph : UnitGraph) → AreEditedIn lib entries graph [] []
+none-edited lib entries graph = record { holds = λ w t c. absurd (nowhere (file_name_of (key_of w)) c); each = λ e c. absurd (nowhere e c) }
+
+units-more : (edits : List EditedUnit) (e : EditedUnit) → units_of (edits ++ e ∷ []) ≡ units_of edits ++ e.unit ∷ []
+units-more [] e = refl
+units-more (d ∷ ds) e = ap (λ (us : List UnitKey). d.unit ∷ us) (units-more ds e)
+
+-- one file more
+pub one-edited : (lib : Library) (entries : UnitKey → Option Stored) (graph : UnitGraph) (files : List (List ℕ)) (edits : List EditedUnit) (file : List ℕ) (e : EditedUnit) → AreEditedIn lib entries graph files edits → IsEdited lib entries graph file e → AreEditedIn lib entries graph (files ++ file ∷ []) (edits ++ e ∷ [])
+one-edited lib entries graph files edits file e are is = record {
+  holds = λ w t c. elim (Contains-append_cases files (file ∷ []) (file_name_of (key_of w)) c) as (λ _. has_unit (units_of (edits ++ e ∷ [])) w ≡ true) [
+    | inl h ↦ widened w (are.holds w t h)
+    | inr h ↦ elim (first_or_later file [] (file_name_of (key_of w)) h) as (λ _. has_unit (units_of (edits ++ e ∷ [])) w ≡ true) [
+        | inl k ↦ subst (λ (x : UnitKey). has_unit (units_of (edits ++ e ∷ [])) x ≡ true) (is.0 w t (sym k)) last
+        | inr k ↦ absurd (nowhere (file_name_of (key_of w)) k)
+      ]
+  ];
+  each = λ d c. elim (Contains-append_cases edits (e ∷ []) d c) as (λ _. IsEntered lib entries graph d) [
+    | inl h ↦ are.each d h
+    | inr h ↦ elim (first_or_later e [] d h) as (λ _. IsEntered lib entries graph d) [ inl k ↦ subst (λ (x : EditedUnit). IsEntered lib entries graph x) k is.1 | inr k ↦ absurd (nowhere d k) ]
+  ];
+}
+  where
+    or_true : (b : Bool) → (b || true) ≡ true
+    or_true true = refl
+    or_true false = refl
+
+    widened : (w : UnitKey) → has_unit (units_of edits) w ≡ true → has_unit (units_of (edits ++ e ∷ [])) w ≡ true
+    widened w h = ap (λ (us : List UnitKey). has_unit us w) (units-more edits e) ∙ has_unit-left (units_of edits) (e.unit ∷ []) w h
+
+    last : has_unit (units_of (edits ++ e ∷ [])) e.unit ≡ true
+    last =
+        ap (λ (us : List UnitKey). has_unit us e.unit) (units-more edits e) ∙ list_any-append (same_unit e.unit) (units_of edits) (e.unit ∷ [])
+        ∙ ap (λ (b : Bool). has_unit (units_of edits) e.unit || b) (has_unit-first e.unit []) ∙ or_true (has_unit (units_of edits) e.unit)
+
+-- an edited unit has an entry for another text
+pub entered-of : (lib : Library) (entries : UnitKey → Option Stored) (edits : List EditedUnit) → ((e : EditedUnit) → Contains edits e → IsForAnother (entries e.unit) (text_of lib e.unit)) → (u : UnitKey) → has_unit (units_of edits) u ≡ true → IsForAnother (entries u) (text_of lib u)
+entered-of lib entries [] each u h = absurd (cc)
+entered-of lib entries (e ∷ es) each u h = by (same_unit u e.unit) refl h (entered-of lib entries es (λ d c. each d (later e es d c)) u)
+  where
+    by : (b : Bool) → same_unit u e.unit ≡ b → (b || has_unit (units_of es) u) ≡ true → (has_unit (units_of es) u ≡ true → IsForAnother (entries u) (text_of lib u)) → IsForAnother (entries u) (text_of lib u)
+    by true k m then_so = subst (λ (x : UnitKey). IsForAnother (entries x) (text_of lib x)) (sym (same_unit-one u e.unit k)) (each e (first e es))
+    by false k m then_so = then_so m

@@ -44,7 +44,7 @@ struct Begun {
 }
 
 /// Begins a build of files that are read. Of the last build, which gave this, it takes over the graph of the units and the order of
-/// elaboration, where the headers are known to be as they were; and where one unit alone was edited, no other one is looked at.
+/// elaboration, where the headers are known to be as they were; and where these alone were edited, no unit is looked at but those that stand after the first of them of which somebody read what it answers otherwise.
 fn begin<R: ReadFiles, C: UnitCheck, P: Answers>(
     alloc: Global,
     cache: &mut UnitCache<C>,
@@ -66,11 +66,11 @@ fn begin<R: ReadFiles, C: UnitCheck, P: Answers>(
     ensures counted { IfOk result (λ b. C.count cache.new.checker ≡ raised (C.count cache.old.checker) (length b.prepared.checked.items)) }
     ensures left { IsLeft cache.old.store cache.new.store }
 {
-    let found = alike(read, last, edited);
+    let found = alike(alloc, read, last, edited);
     let (same, edited) = found;
     let graph = graph_now(alloc, read, same)?;
     let order = order_now(main, read, same, gave);
-    let unit = edited_now(alloc, cache, predefined, read, same, &edited, gave)?;
+    let edits = edited_now(alloc, cache, predefined, read, same, &edited, gave)?;
     let sources = read.sources();
     let prepared = prepare(
         alloc,
@@ -80,7 +80,7 @@ fn begin<R: ReadFiles, C: UnitCheck, P: Answers>(
         main,
         &graph,
         order,
-        &unit,
+        &edits,
         &gave.compiled,
     )?;
     Ok(Begun { graph, prepared })

@@ -1,26 +1,21 @@
-// Which unit alone was edited since the last build.
+// Which units alone were edited since the last build.
 ghost use Rattle.std.specs.Prelude.{◌≡◌, false, true, None, IfOk, IfSome, IsTrue};
 ghost use Rattle.std.specs.Option.{is_some};
-ghost use Rattle.al_base.specs.Batch.{key_of};
-ghost use Rattle.al_base.specs.FileNames.{file_name_of};
-ghost use Rattle.al_base.specs.declared.unit_key.UnitKey.{UnitKey};
 ghost use Rattle.al_unit_graph.specs.Headers.{key_of_unit};
-ghost use Rattle.al_unit_graph.specs.Library.{is_unit};
 ghost use Rattle.al_unit_graph.specs.Views.{header_model};
 ghost use Rattle.al_query_outcome.specs.Equations.{unit_named};
 ghost use Rattle.al_unit_map.specs.Units.{at_unit};
 ghost use Rattle.al_query_store.specs.Keyed.{settled_at};
-ghost use Rattle.al_entries.specs.Stored.{Stored};
 ghost use Rattle.al_engine_refresh.specs.Builds.{results_of, text_of};
 ghost use Rattle.al_engine_graph.specs.Graphs.{HaveSameHeaders};
 ghost use Rattle.al_engine_graph.specs.Kept.{IsGraphOf};
-ghost use Rattle.al_engine_graph.specs.Texts.{HaveTextsBut, may_differ};
+ghost use Rattle.al_engine_graph.specs.Texts.{HaveTextsBut};
 ghost use Rattle.al_engine_setting.specs.Settings.{ArePredefined};
-ghost use Rattle.al_engine_recheck.specs.Renewals.{IsOneEdit};
+ghost use Rattle.al_engine_recheck.specs.Edits.{AreEdits, IsForAnother, units_of};
 ghost use Rattle.al_engine_batch.specs.Renewals.{KeepsPartition};
 ghost use Rattle.al_engine_rebuild.specs.Renewed.{IsCleanBut};
 ghost use Rattle.al_engine_reported.specs.Gave.{order_of};
-ghost use Rattle.al_engine.specs.Edits.{HoldsAlone};
+ghost use Rattle.al_engine.specs.Edits.{AreEditedIn, HoldsAlone, IsEdited};
 ghost use Rattle.al_engine.specs.States.{AreReadFor, IsSettledBy};
 
 use crate::last_build::LastBuild;
@@ -57,21 +52,6 @@ fn unit_in(alloc: Global, sources: &Sources, file: &[u8]) -> Result<Option<UnitK
     }
 }
 
-/// The unit that the one file holds of which the text may be another one.
-fn unit_edited(
-    alloc: Global,
-    sources: &Sources,
-    edited: &Edited,
-) -> Result<Option<UnitKey>, NoMemory>
-    ensures { IfOk result (λ found. IfSome found (λ unit. (w : UnitKey) → is_unit sources.now (key_of w) ≡ true → may_differ edited.now (file_name_of (key_of w)) → unit ≡ w)) }
-{
-    match edited {
-        Edited::One(file) => unit_in(alloc, sources, file.as_slice()),
-        Edited::Nothing => Ok(None),
-        Edited::Several => Ok(None),
-    }
-}
-
 /// Whether a build gave an order of elaboration: then it found nothing wrong.
 fn is_ordered(gave: &Rebuilt) -> bool
     ensures { IsTrue result → is_some (order_of gave.now.compiled) ≡ true }
@@ -89,7 +69,7 @@ fn edited_unit<C: UnitCheck>(
     graph: &UnitGraph,
     unit: UnitKey,
 ) -> Option<EditedUnit>
-    ensures edited { IfSome result (λ e. (d : Stored) × (settled_at cache.now.store e.unit ≡ Some d) × (d.text ≡ text_of sources.now e.unit → ⊥)) }
+    ensures edited { IfSome result (λ e. IsForAnother (settled_at cache.now.store e.unit) (text_of sources.now e.unit)) }
     ensures unit { IfSome result (λ e. e.unit ≡ unit) }
     ensures base { IfSome result (λ e. e.is_base ≡ false → at_unit graph.now.bases e.unit ≡ None) }
 {
@@ -100,8 +80,44 @@ fn edited_unit<C: UnitCheck>(
     Some(EditedUnit { unit, is_base })
 }
 
-/// The unit that alone was edited since the last build, and whether another one depends on it by itself; none where more was edited, or where
-/// that build found something wrong.
+/// The unit that a file holds, as [`edited_unit`] gives it; none where the file holds none.
+fn edited_in<C: UnitCheck>(
+    alloc: Global,
+    cache: &UnitCache<C>,
+    sources: &Sources,
+    graph: &UnitGraph,
+    file: &[u8],
+) -> Result<Option<EditedUnit>, NoMemory>
+    ensures { IfOk result (λ found. IfSome found (IsEdited sources.now (settled_at cache.now.store) graph.now file.now)) }
+{
+    match unit_in(alloc, sources, file)? {
+        Some(unit) => Ok(edited_unit(cache, sources, graph, unit)),
+        None => Ok(None),
+    }
+}
+
+/// The units that these files hold; none where one of them holds none, or one that has no entry for another text than it has now.
+fn edited_units<C: UnitCheck>(
+    alloc: Global,
+    cache: &UnitCache<C>,
+    sources: &Sources,
+    graph: &UnitGraph,
+    files: &[Name],
+) -> Result<Option<Vec<EditedUnit>>, NoMemory>
+    ensures { IfOk result (λ found. IfSome found (λ edits. AreEditedIn sources.now (settled_at cache.now.store) graph.now files.now edits.items)) }
+{
+    let mut edits = Vec::new(alloc);
+    for file in files {
+        let Some(edited) = edited_in(alloc, cache, sources, graph, file.as_slice())? else {
+            return Ok(None);
+        };
+        edits.push(edited)?;
+    }
+    Ok(Some(edits))
+}
+
+/// The units that alone were edited since the last build, and whether another one depends on each by itself; none where more was edited, or
+/// where that build found something wrong.
 pub(crate) fn edited_now<R: ReadFiles, C: UnitCheck, P: Answers>(
     alloc: Global,
     cache: &UnitCache<C>,
@@ -110,15 +126,15 @@ pub(crate) fn edited_now<R: ReadFiles, C: UnitCheck, P: Answers>(
     same: Option<&LastBuild<R>>,
     edited: &Edited,
     gave: &Rebuilt,
-) -> Result<Option<EditedUnit>, NoMemory>
+) -> Result<Option<Vec<EditedUnit>>, NoMemory>
     requires reading { AreReadFor C.Text.header R.library }
     requires predefined { ArePredefined (P.table predefined.now) }
     requires graph { IfSome same (λ b. IsGraphOf (R.library (R.files b.now.read)) b.now.graph.value) }
     requires settled { IfSome same (λ b. IsSettledBy C.meaning C.Text.header (P.table predefined.now) R.library cache.now.store (record { files = R.files b.now.read; main = b.now.main; gave = gave.now })) }
     requires headers { IfSome same (λ b. HaveSameHeaders (R.library (R.files b.now.read)) (R.library (R.files read.now))) }
     requires texts { IfSome same (λ b. HaveTextsBut (R.library (R.files b.now.read)) (R.library (R.files read.now)) edited.now) }
-    ensures renewable { IfOk result (λ found. IfSome found (IsOneEdit C.meaning C.Text.header (P.table predefined.now) (R.library (R.files read.now)) cache.now.store)) }
-    ensures clean { IfOk result (λ found. IfSome found (λ e. IsCleanBut (R.library (R.files read.now)) (settled_at cache.now.store) e.unit)) }
+    ensures renewable { IfOk result (λ found. IfSome found (λ edits. AreEdits C.meaning C.Text.header (P.table predefined.now) (R.library (R.files read.now)) cache.now.store edits.items)) }
+    ensures clean { IfOk result (λ found. IfSome found (λ edits. IsCleanBut (R.library (R.files read.now)) (settled_at cache.now.store) (units_of edits.items))) }
     ensures kept { IfOk result (λ found. IfSome found (λ _. IfSome same.entry (λ b. KeepsPartition (R.library (R.files read.now)) (results_of (settled_at cache.now.store)) b.now.main gave.now.compiled))) }
 {
     order_is_for_builds();
@@ -131,8 +147,5 @@ pub(crate) fn edited_now<R: ReadFiles, C: UnitCheck, P: Answers>(
         return Ok(None);
     }
     let sources = read.sources();
-    let Some(unit) = unit_edited(alloc, sources, edited)? else {
-        return Ok(None);
-    };
-    Ok(edited_unit(cache, sources, &build.graph, unit))
+    edited_units(alloc, cache, sources, &build.graph, edited.files.as_slice())
 }

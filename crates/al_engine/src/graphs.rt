@@ -36,6 +36,7 @@ fn with_last<'a, R: ReadFiles>(
 
 /// The last build, where its files are known to be those that were read now, each read as the same; and which of them may have other texts.
 pub(crate) fn alike<'a, R: ReadFiles>(
+    alloc: Global,
     read: &R,
     last: &'a Option<LastBuild<R>>,
     edited: Option<Edited>,
@@ -46,7 +47,7 @@ pub(crate) fn alike<'a, R: ReadFiles>(
 {
     match edited {
         Some(edited) => with_last(read, last, edited),
-        None => (None, Edited::Several),
+        None => (None, Edited::nothing(alloc)),
     }
 }
 

@@ -1,5 +1,5 @@
 // The units of a library checked, over what is kept of them.
-ghost use Rattle.std.specs.Prelude.{◌≡◌, IfOk, IfSome, IsTrue, OnOk, length};
+ghost use Rattle.std.specs.Prelude.{◌≡◌, IfOk, IfSome, IsTrue, MatchOption, OnOk, length};
 ghost use Rattle.al_unit_order.specs.Read.{AreHeaded, NameParentBodies};
 ghost use Rattle.al_query_store.specs.Keyed.{now_at, settled_at};
 ghost use Rattle.al_entries.specs.EntryLaw.{AllKeepLaw};
@@ -8,7 +8,7 @@ ghost use Rattle.al_engine_keep.specs.Moves.{IsLeft};
 ghost use Rattle.al_engine_setting.specs.Settings.{ArePredefined};
 ghost use Rattle.al_engine_refresh.specs.Builds.{raised};
 ghost use Rattle.al_engine_recheck.specs.Rechecks.{AreReady, IsUpdated, will_be};
-ghost use Rattle.al_engine_recheck.specs.Renewals.{IsOneEdit, IsRenewalOf};
+ghost use Rattle.al_engine_recheck.specs.Edits.{AreEdits, IsRenewal, units_of};
 
 use al_base::NoMemory;
 use al_engine_graph::UnitGraph;
@@ -19,11 +19,11 @@ use al_query_check::UnitCheck;
 use al_unit_graph::Sources;
 
 /// Checks the units of a library over what is kept of them: each unit that is reached and has no entry for its text, or one with an
-/// answer that differs now. The library's graph is given. Where one unit is given, it alone was edited, and no other one is looked at than those
-/// that stand after it in the order; none is where nobody read what it answers otherwise. What the last build settled stays as it is.
+/// answer that differs now. The library's graph is given. Where units are given, these alone were edited, and no other one is looked at than
+/// those that stand after the first of them of which somebody read what it answers otherwise. What the last build settled stays as it is.
 /// - `updated`: which units were checked, and the entries of those that are reached: their outcomes are the one map that solves the
 ///   library's equations, whatever was kept; which entries there will be; and how many stored answers were compared.
-/// - `renewed`: where it tells of a renewal, all units but the given one have the entries that they had.
+/// - `renewed`: where it tells of a renewal, all units but the given ones have the entries that they had.
 /// - `counted`: so many checks were made.
 ///
 /// # Errors
@@ -35,16 +35,16 @@ pub fn check_library<C: UnitCheck, P: Answers>(
     predefined: &P,
     sources: &Sources,
     graph: &UnitGraph,
-    edited: &Option<EditedUnit>,
+    edited: &Option<Vec<EditedUnit>>,
 ) -> Result<Rechecked, NoMemory>
     requires headed { AreHeaded C.Text.header sources.now }
     requires bodies { NameParentBodies sources.now }
     requires predefined { ArePredefined (P.table predefined.now) }
     requires graph { IsGraphOf sources.now graph.now }
     requires ready { AreReady (P.table predefined.now) cache.old.store }
-    requires edited { IfSome edited.now (IsOneEdit C.meaning C.Text.header (P.table predefined.now) sources.now cache.old.store) }
+    requires edited { IfSome edited.now (λ edits. AreEdits C.meaning C.Text.header (P.table predefined.now) sources.now cache.old.store edits.items) }
     ensures updated { IfOk result (λ r. IsUpdated C.meaning C.Text.header (P.table predefined.now) sources.now cache.old.store cache.new.store r.checked.items r.compared) }
-    ensures renewed { IfOk result (λ r. IsTrue r.is_renewal → IsRenewalOf edited.now (settled_at cache.old.store) (now_at cache.new.store)) }
+    ensures renewed { IfOk result (λ r. IsTrue r.is_renewal → MatchOption edited.now ⊥ (λ edits. IsRenewal (settled_at cache.old.store) (units_of edits.items) (now_at cache.new.store))) }
     ensures law { OnOk result (AllKeepLaw C.meaning C.Text.header (will_be cache.new.store)) }
     ensures counted { IfOk result (λ r. C.count cache.new.checker ≡ raised (C.count cache.old.checker) (length r.checked.items)) }
     ensures left { IsLeft cache.old.store cache.new.store }

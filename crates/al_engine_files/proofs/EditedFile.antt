@@ -2,7 +2,7 @@
 use Rattle.std.proofs.Common.{◌≡◌, ℕ, Bool, true, false, List, [], ◌∷◌, Option, Some, None, is_some, sym, ap, subst, refl, ◌∙◌}
 use Rattle.std.specs.Prelude.{IfSome}
 use Rattle.std.specs.BTreeMap.{insert_entry, is_at}
-use Rattle.std.specs.List.{AllByRecursion}
+use Rattle.std.specs.List.{AllByRecursion, Contains}
 use Rattle.std.specs.Map.{keys_of}
 use Rattle.std.specs.Option.{option_map, option_map_or}
 use Rattle.std.specs.Ordering.{is_eq}
@@ -15,6 +15,7 @@ use Rattle.std.proofs.lemmas.Slice.Eq.{bytes_eq-Decides}
 use Rattle.al_base.specs.FileLaws.{Ascend}
 use Rattle.al_base.specs.Files.{IsFile, Texts, name_cmp, text_of, with_file}
 use Rattle.al_base.specs.Names.{is_file_name}
+use Rattle.al_base_graph.proofs.Members.{first}
 use Rattle.al_base.proofs.Renames.{text_of-with_file, text_of-with_file_other}
 use Rattle.al_unit_graph.specs.Headers.{Library, Source}
 use Rattle.al_unit_graph.specs.Library.{source_at}
@@ -23,7 +24,6 @@ use Rattle.al_unit.proofs.LibraryLemmas.{names_of-library_of}
 use Rattle.al_engine_graph.specs.Graphs.{HaveSameHeaders, contents_at}
 use Rattle.al_engine_graph.specs.Texts.{HaveTextsBut, text_in}
 use Rattle.al_engine_graph.specs.declared.alike.Edited.{Edited}
-use Rattle.al_engine_graph.specs.declared.alike.Edited.TheVariants.{One}
 use Rattle.al_engine.specs.Readings.{IsEditedAt}
 use Rattle.al_engine_files.specs.AdaFiles.{AreOfTexts}
 
@@ -110,23 +110,23 @@ module _ (before : Library) (name : List ℕ) (now : Texts) (text : List ℕ) (o
         by true same = subst (λ (f : List ℕ). contents_at before f ≡ contents_at (library_of now) f) (sym (at_name file same)) (read ∙ sym there)
         by false apart = ap (option_map (λ (s : Source). s.contents)) (others file apart)
 
-    texts : HaveTextsBut before (library_of now) (One name)
-    texts file never = by (is_eq (name_cmp file name)) refl
+    texts : (edited : Edited) → edited.files.items ≡ name ∷ [] → HaveTextsBut before (library_of now) edited
+    texts edited told file never = by (is_eq (name_cmp file name)) refl
       where
         by : (b : Bool) → is_eq (name_cmp file name) ≡ b → text_in before file ≡ text_in (library_of now) file
-        by true same = absurd (never (at_name file same))
+        by true same = absurd (never (subst (λ (files : List (List ℕ)). Contains files file) (sym told) (subst (λ (f : List ℕ). Contains (name ∷ []) f) (sym (at_name file same)) (first name []))))
         by false apart = ap (λ (o : Option Source). option_map_or (λ (s : Source). s.text) o []) (others file apart)
 
-    pub edited_alone : HaveSameHeaders before (library_of now) × HaveTextsBut before (library_of now) (One name)
-    edited_alone = (
+    pub edited_alone : (edited : Edited) → edited.files.items ≡ name ∷ [] → HaveSameHeaders before (library_of now) × HaveTextsBut before (library_of now) edited
+    edited_alone edited told = (
       record {
         files = ap keys_of of ∙ names_of-library_of (texts_of before) ∙ sym (keys-stay (texts_of before) name is.1.0 is.0 (subst Ascend is.1.1 sorted)) ∙ ap keys_of (sym is.1.1) ∙ sym (names_of-library_of now);
         contents = contents;
       },
-      texts,
+      texts edited told,
     )
 
   -- .. or nothing is told
-  pub edited_so : Ascend now → (found : Option Edited) → IfSome found (λ e. (e ≡ One name) × (contents_at before name ≡ Some (source_of text).contents)) → IfSome found (λ edited. HaveSameHeaders before (library_of now) × HaveTextsBut before (library_of now) edited)
+  pub edited_so : Ascend now → (found : Option Edited) → IfSome found (λ e. (e.files.items ≡ name ∷ []) × (contents_at before name ≡ Some (source_of text).contents)) → IfSome found (λ edited. HaveSameHeaders before (library_of now) × HaveTextsBut before (library_of now) edited)
   edited_so sorted None told = tt
-  edited_so sorted (Some e) told = subst (λ (x : Edited). HaveSameHeaders before (library_of now) × HaveTextsBut before (library_of now) x) (sym told.0) (edited_alone sorted told.1)
+  edited_so sorted (Some e) told = edited_alone sorted told.1 e told.0

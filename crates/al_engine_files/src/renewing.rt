@@ -1,5 +1,5 @@
 // One file that is read again among others that stay as they are.
-ghost use Rattle.std.specs.Prelude.{◌≡◌, ◌≤◌, IfOk, IfSome, OnOk, Some, length};
+ghost use Rattle.std.specs.Prelude.{◌≡◌, ◌≤◌, ◌∷◌, [], IfOk, IfSome, OnOk, Some, length};
 ghost use Rattle.std.specs.BTreeMap.{insert_entry};
 ghost use Rattle.al_base.specs.FileLaws.{Ascend};
 ghost use Rattle.al_base.specs.Files.{AreFiles, name_cmp};
@@ -8,7 +8,6 @@ ghost use Rattle.al_unit.specs.Libraries.{library_of, texts_of};
 ghost use Rattle.al_engine.specs.Readings.{IsEditedAt};
 ghost use Rattle.al_engine_graph.specs.Graphs.{HaveSameHeaders, contents_at};
 ghost use Rattle.al_engine_graph.specs.Texts.{HaveTextsBut};
-ghost use Rattle.al_engine_graph.specs.declared.alike.Edited.TheVariants.{One};
 ghost use Rattle.al_engine_files.specs.AdaFiles.{AreOfTexts};
 
 use crate::sources::held_after;
@@ -59,10 +58,10 @@ fn edited_at(
     name: &[u8],
     source: &Source,
 ) -> Result<Option<Edited>, NoMemory>
-    ensures { IfOk result (λ edited. IfSome edited (λ e. (e ≡ One name.now) × (contents_at before.now name.now ≡ Some (source_model source.now).contents))) }
+    ensures { IfOk result (λ edited. IfSome edited (λ e. (e.files.items ≡ name.now ∷ []) × (contents_at before.now name.now ≡ Some (source_model source.now).contents))) }
 {
     if is_read_as(before, name, &source.contents) {
-        Ok(Some(Edited::One(Name::from_slice(alloc, name)?)))
+        Ok(Some(Edited::one(alloc, name)?))
     } else {
         Ok(None)
     }

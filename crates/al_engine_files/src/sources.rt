@@ -186,7 +186,7 @@ fn read_each(alloc: Global, files: &Files, before: &Sources) -> Result<ReadAgain
 {
     let list = files.shared()?;
     let mut sources = Sources::new(alloc);
-    let mut edited = Edited::Nothing;
+    let mut edited = Edited::nothing(alloc);
     let mut are_alike = true;
     for (name, text) in list.iter() {
         let is_alike = add_file(alloc, before, name, text, &mut sources, &mut edited)?;

@@ -1,5 +1,5 @@
 // Whether two libraries have the same headers, and of which files the texts differ.
-ghost use Rattle.std.specs.Prelude.{◌≡◌, ℕ, false, List, IfOk, IfSome, IsTrue, OnOk, Some, map};
+ghost use Rattle.std.specs.Prelude.{◌≡◌, ◌∷◌, [], ℕ, false, List, IfOk, IfSome, IsTrue, OnOk, Some, map};
 ghost use Rattle.std.specs.Map.{keys_of};
 ghost use Rattle.al_unit_graph.specs.Views.{contents_model};
 ghost use Rattle.al_engine_graph.specs.Graphs.{HaveSameHeaders, contents_at};
@@ -11,11 +11,34 @@ use al_unit_graph::{Contents, Sources};
 use std::alloc::Global;
 
 /// The files of a library that may have another text than before.
-#[derive(Drop)]
-pub enum Edited {
-    Nothing,
-    One(Name),
-    Several,
+pub struct Edited {
+    pub files: Vec<Name>,
+}
+
+impl Drop for Edited {
+    fn drop(self) {
+        let Edited { files: _ } = self;
+    }
+}
+
+impl Edited {
+    /// No file. It takes no memory.
+    pub fn nothing(alloc: Global) -> Edited
+        ensures { result.files.items ≡ [] }
+    {
+        Edited {
+            files: Vec::new(alloc),
+        }
+    }
+
+    /// One file.
+    pub fn one(alloc: Global, file: &[u8]) -> Result<Edited, NoMemory>
+        ensures { IfOk result (λ edited. edited.files.items ≡ file.now ∷ []) }
+    {
+        let mut edited = Edited::nothing(alloc);
+        edited.files.push(Name::from_slice(alloc, file)?)?;
+        Ok(edited)
+    }
 }
 
 /// Whether these are the same names in the same order.
@@ -84,17 +107,8 @@ pub fn note(alloc: Global, file: &[u8], is_same: bool, edited: &mut Edited) -> R
     if is_same {
         return Ok(());
     }
-    match edited {
-        Edited::Nothing => {
-            *edited = Edited::One(Name::from_slice(alloc, file)?);
-            Ok(())
-        }
-        Edited::One(_) => {
-            *edited = Edited::Several;
-            Ok(())
-        }
-        Edited::Several => Ok(()),
-    }
+    edited.files.push(Name::from_slice(alloc, file)?)?;
+    Ok(())
 }
 
 /// Where two libraries have files of the same names, and each is read as the same in both, a unit with the same header, or no unit for
@@ -115,7 +129,7 @@ pub fn edited_between(
         return Ok(None);
     }
     let files = new.file_names()?;
-    let mut edited = Edited::Nothing;
+    let mut edited = Edited::nothing(alloc);
     for file in files.as_slice() {
         let Some(is_same) = kept_at(old, new, file) else {
             return Ok(None);

@@ -1,5 +1,6 @@
 // A build of a library's units over what is kept of them.
-ghost use Rattle.std.specs.Prelude.{ℕ, ◌≡◌, [], true, false, List, IfOk, IfSome, IsTrue, MatchOption, None, OnErr, OnOk, length, map};
+ghost use Rattle.std.specs.Prelude.{ℕ, ◌≡◌, ◌∷◌, [], true, false, List, IfOk, IfSome, IsTrue, MatchOption, None, OnErr, OnOk, length, map};
+ghost use Rattle.std.specs.List.{list_all};
 ghost use Rattle.std.specs.Map.{keys_of};
 ghost use Rattle.al_base.specs.Batch.{key_of};
 ghost use Rattle.al_base.specs.declared.unit_key.UnitKey.{UnitKey};
@@ -7,6 +8,7 @@ ghost use Rattle.al_bind.specs.Binding.{IsElaboration};
 ghost use Rattle.al_unit_faults.specs.FilesSeen.{file_faults_model};
 ghost use Rattle.al_unit_faults.specs.GraphFaults.{file_faults};
 ghost use Rattle.al_view.specs.Symbols.{same_unit};
+ghost use Rattle.al_query.specs.Known.{has_unit};
 ghost use Rattle.al_unit_graph.specs.Headers.{Header, Library};
 ghost use Rattle.al_unit_order.specs.Read.{AreHeaded, NameParentBodies};
 ghost use Rattle.al_query.specs.declared.answer.AnswerKind.{AnswerKind};
@@ -24,7 +26,7 @@ ghost use Rattle.al_engine_batch.specs.Patches.{IsPatched, linked_in};
 ghost use Rattle.al_engine_batch.specs.Plans.{IsClosedPlan, IsPlanned};
 ghost use Rattle.al_engine_batch.specs.Renewals.{KeepsPartition};
 ghost use Rattle.al_engine_recheck.specs.Rechecks.{AreReady, will_be};
-ghost use Rattle.al_engine_recheck.specs.Renewals.{IsOneEdit};
+ghost use Rattle.al_engine_recheck.specs.Edits.{AreEdits, units_of};
 ghost use Rattle.al_engine_rebuild.specs.Prepared.{IsPrepared};
 ghost use Rattle.al_engine_rebuild.specs.Rebuilds.{IsKept, IsRebuilt};
 ghost use Rattle.al_engine_rebuild.specs.Renewed.{IsCleanBut};
@@ -99,23 +101,45 @@ impl Drop for PreparedBuild {
     }
 }
 
-/// The unit that alone was edited, where all others have the entries that they had.
-fn renewed_unit(edited: &Option<EditedUnit>, is_renewal: bool) -> Option<&UnitKey>
-    ensures { IfSome result (λ unit. IsTrue is_renewal × MatchOption edited.now ⊥ (λ e. e.unit ≡ unit.now)) }
+/// The units that alone were edited, where all others have the entries that they had.
+fn renewed_units(edited: &Option<Vec<EditedUnit>>, is_renewal: bool) -> Option<&[EditedUnit]>
+    ensures { IfSome result (λ edits. IsTrue is_renewal × MatchOption edited.now ⊥ (λ e. e.items ≡ edits.now)) }
 {
     match edited {
-        Some(edited) => if is_renewal { Some(&edited.unit) } else { None },
+        Some(edits) => if is_renewal { Some(edits.as_slice()) } else { None },
         None => None,
     }
 }
 
-/// Whether one unit alone has another entry than before, and this is without faults.
-fn is_clean(entries: &KeptEntries, renewed: Option<&UnitKey>) -> bool
-    ensures { IsTrue result → MatchOption renewed.entry ⊥ (λ unit. is_sound (results_of (now_at entries.now) unit.now) ≡ true) }
+/// Whether these units are without faults.
+fn are_sound(entries: &KeptEntries, edits: &[EditedUnit]) -> bool
+    ensures { result ≡ list_all (λ e. is_sound (results_of (now_at entries.now) e.unit)) edits.now }
+{
+    edits
+        .iter()
+        .all(|edited| has_sound(entries, &edited.unit))
+}
+
+/// Whether some units alone have other entries than before, and these are without faults.
+fn is_clean(entries: &KeptEntries, renewed: Option<&[EditedUnit]>) -> bool
+    ensures { IsTrue result → MatchOption renewed.entry ⊥ (λ edits. (u : UnitKey) → has_unit (units_of edits.now) u ≡ true → is_sound (results_of (now_at entries.now) u) ≡ true) }
 {
     match renewed {
-        Some(unit) => has_sound(entries, unit),
+        Some(edits) => are_sound(entries, edits),
         None => false,
+    }
+}
+
+/// The one unit that alone has another entry than before.
+fn alone_in(renewed: Option<&[EditedUnit]>) -> Option<&UnitKey>
+    ensures { IfSome result (λ unit. MatchOption renewed.entry ⊥ (λ edits. units_of edits.now ≡ unit.now ∷ [])) }
+{
+    let edits = renewed?;
+    let (edited, others) = edits.split_first()?;
+    if others.is_empty() {
+        Some(&edited.unit)
+    } else {
+        None
     }
 }
 
@@ -145,8 +169,8 @@ fn renewed_plan(
     }
 }
 
-/// What compiling the files gives for a main unit, up to the image, as `plan` gives it. Where one unit alone has another entry than
-/// before, without faults, what the last build gave is used again.
+/// What compiling the files gives for a main unit, up to the image, as `plan` gives it. Where some units alone have other entries than
+/// before, without faults, no fault is looked for; and where it is one, what the last build gave is used again.
 fn plan_now(
     alloc: Global,
     sources: &Sources,
@@ -154,19 +178,20 @@ fn plan_now(
     faults: &[FileFaults],
     main: &[u8],
     known: Option<&[UnitKey]>,
-    unit: Option<&UnitKey>,
+    edits: Option<&[EditedUnit]>,
     before: &Compiled,
 ) -> Result<Planned, NoMemory>
     requires faults { map file_faults_model faults.now ≡ map (λ file. (file, file_faults sources.now file)) (keys_of sources.now) }
     requires coded { AreCoded (now_at entries.now) }
     requires known { IfSome known (λ order. IsElaboration sources.now main.now (map key_of order.now)) }
-    requires clean { MatchOption unit ⊥ (λ u. is_sound (results_of (now_at entries.now) u.now) ≡ true) → findings_of sources.now (results_of (now_at entries.now)) ≡ [] }
-    requires others { IfSome unit (λ u. (w : UnitKey) → same_unit u.now w ≡ false → now_at entries.now w ≡ settled_at entries.now w) }
-    requires kept { IfSome known (λ _. IfSome unit (λ _. KeepsPartition sources.now (results_of (settled_at entries.now)) main.now before.now)) }
+    requires clean { MatchOption edits ⊥ (λ e. (u : UnitKey) → has_unit (units_of e.now) u ≡ true → is_sound (results_of (now_at entries.now) u) ≡ true) → findings_of sources.now (results_of (now_at entries.now)) ≡ [] }
+    requires others { IfSome edits (λ e. (w : UnitKey) → has_unit (units_of e.now) w ≡ false → now_at entries.now w ≡ settled_at entries.now w) }
+    requires kept { IfSome known (λ _. IfSome edits (λ _. KeepsPartition sources.now (results_of (settled_at entries.now)) main.now before.now)) }
     ensures { IfOk result (IsPlanned sources.now (results_of (now_at entries.now)) main.now before.now) }
 {
-    let clean = is_clean(entries, unit);
+    let clean = is_clean(entries, edits);
     if clean {
+        let unit = alone_in(edits);
         let found = renewed_plan(alloc, sources, entries, main, known, unit, before)?;
         if let Some(planned) = found {
             return Ok(planned);
@@ -178,7 +203,7 @@ fn plan_now(
 
 /// Does all of a build of a main unit but for its image: each unit is checked that is reached and has no entry for its text, or one with
 /// an answer that differs now, and what all units give then is compiled. The library's graph is given, and the order of elaboration
-/// where it is known; and the unit that alone was edited since a build that found nothing wrong, and what compiling gave in that build. What the
+/// where it is known; and the units that alone were edited since a build that found nothing wrong, and what compiling gave in that build. What the
 /// last build settled stays as it is.
 /// - `prepared`: which units were checked, what compiling gives up to the image, which entries there will be. Where there is something to
 ///   link, its units define the main subprogram's code and all that they use.
@@ -196,7 +221,7 @@ pub fn prepare<C: UnitCheck, P: Answers>(
     main: &[u8],
     graph: &UnitGraph,
     known: Option<&[UnitKey]>,
-    edited: &Option<EditedUnit>,
+    edited: &Option<Vec<EditedUnit>>,
     before: &Compiled,
 ) -> Result<PreparedBuild, NoMemory>
     requires headed { AreHeaded C.Text.header sources.now }
@@ -205,8 +230,8 @@ pub fn prepare<C: UnitCheck, P: Answers>(
     requires graph { IsGraphOf sources.now graph.now }
     requires known { IfSome known (λ order. IsElaboration sources.now main.now (map key_of order.now)) }
     requires ready { AreReady (P.table predefined.now) cache.old.store }
-    requires edited { IfSome edited.now (IsOneEdit C.meaning C.Text.header (P.table predefined.now) sources.now cache.old.store) }
-    requires clean { IfSome edited.now (λ e. IsCleanBut sources.now (settled_at cache.old.store) e.unit) }
+    requires edited { IfSome edited.now (λ edits. AreEdits C.meaning C.Text.header (P.table predefined.now) sources.now cache.old.store edits.items) }
+    requires clean { IfSome edited.now (λ edits. IsCleanBut sources.now (settled_at cache.old.store) (units_of edits.items)) }
     requires kept { IfSome known (λ _. IfSome edited.now (λ _. KeepsPartition sources.now (results_of (settled_at cache.old.store)) main.now before.now)) }
     ensures prepared { IfOk result (λ p. IsPrepared C.meaning C.Text.header (P.table predefined.now) sources.now main.now before.now cache.old.store p.planned cache.new.store p.checked.items p.compared) }
     ensures counted { IfOk result (λ p. C.count cache.new.checker ≡ raised (C.count cache.old.checker) (length p.checked.items)) }
@@ -214,11 +239,11 @@ pub fn prepare<C: UnitCheck, P: Answers>(
 {
     partitions_are_closed();
     let given = check_library(cache, predefined, sources, graph, edited)?;
-    let unit = renewed_unit(edited, given.is_renewal);
+    let edits = renewed_units(edited, given.is_renewal);
     let (checked, compared) = given.into_parts();
     let faults = graph.faults.as_slice();
     let entries = cache.entries();
-    let planned = plan_now(alloc, sources, entries, faults, main, known, unit, before)?;
+    let planned = plan_now(alloc, sources, entries, faults, main, known, edits, before)?;
     Ok(PreparedBuild {
         planned,
         checked,

@@ -1,5 +1,5 @@
 -- The law of what is kept, once a build is settled or cancelled.
-use Rattle.std.proofs.Common.{◌≡◌, ◌∙◌, ℕ, Bool, true, false, List, sym, ap, subst, refl, Option, Some, None, Result, Ok, Err, IfOk, OnOk, if◌then◌else◌}
+use Rattle.std.proofs.Common.{◌≡◌, ◌∙◌, ℕ, Bool, true, false, not, List, sym, ap, subst, refl, Option, Some, None, Result, Ok, Err, IfOk, OnOk, if◌then◌else◌}
 use Rattle.std.specs.Option.{option_map}
 use Rattle.al_base.specs.declared.unit_key.UnitKey.{UnitKey}
 use Rattle.al_query_slots.specs.Stored.{base}
@@ -13,6 +13,11 @@ use Rattle.al_engine_keep.specs.Staying.{is_there, or_else, staying}
 use Rattle.al_engine_recheck.specs.Rechecks.{will_be}
 use Rattle.al_engine_recheck.specs.UnitCache.{Kept}
 use Rattle.al_engine_recheck.proofs.ReadyLemmas.{entry-kept}
+
+-- what is so isn't otherwise
+pub clash : (b : Bool) → b ≡ true → not b ≡ true → ⊥
+clash true is other = absurd (cc)
+clash false is other = absurd (cc)
 
 pub settled-is : (old new : Entries) → ((u : UnitKey) → state new u ≡ kept_state (settled_state (state old u))) → (u : UnitKey) → settled_at new u ≡ will_be old u
 settled-is old new ends u = ap (λ (s : State Stored). entry_of s.settled) (ends u) ∙ entry-kept (settled_state (state old u)).settled

@@ -1,11 +1,10 @@
 pub mod KeyOrders
 pub mod RecheckLemmas
-mod Renewals
 pub mod StayLemmas
 pub mod ReadyLemmas
 pub mod KeptLemmas
 pub mod OrderLemmas
-pub mod RenewLemmas
+mod RowLemmas
 pub mod SameLemmas
-mod WalkFrom
+mod Skipping
 mod WalkLemmas

@@ -83,7 +83,7 @@ module _ (pre : Query → AnswerKind) (store : Entries) (ready : AreReady pre st
   tables : (q : Query) → now_table pre store q ≡ last_table pre store q
   tables q = ap (λ (o : Option Stored). if has_unit predefined_units (unit_of q) then pre q else entry (option_map outcome_of o) q) (reached-alike (unit_of q))
 
-  marks-same : (u : UnitKey) (h : Held Stored) → (state store u).settled ≡ Some h → h.marks.now ≡ h.marks.last
+  pub marks-same : (u : UnitKey) (h : Held Stored) → (state store u).settled ≡ Some h → h.marks.now ≡ h.marks.last
   marks-same u h is = by (state store u).settled (sym (ap (λ (s : State Stored). s.settled) (ready.quiet u)) ∙ is) is
     where
       by : (o : Option (Held Stored)) → option_map base o ≡ Some h → o ≡ Some h → h.marks.now ≡ h.marks.last

@@ -1,4 +1,4 @@
 pub mod Rechecks
 pub mod UnitCache
-pub mod Renewals
+pub mod Edits
 pub mod Walks

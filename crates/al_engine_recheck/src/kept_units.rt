@@ -1,5 +1,5 @@
 // What is kept from build to build.
-ghost use Rattle.std.specs.Prelude.{◌≡◌, [], Some, IfOk, IfSome, IsTrue, OnOk, length};
+ghost use Rattle.std.specs.Prelude.{◌≡◌, [], Some, IfOk, IfSome, IsTrue, MatchOption, OnOk, length};
 ghost use Rattle.al_base.specs.declared.unit_key.UnitKey.{UnitKey};
 ghost use Rattle.al_query_store.specs.Keyed.{kept_state, now_at, settled_at, settled_state, state};
 ghost use Rattle.al_entries.specs.EntryLaw.{AllKeepLaw};
@@ -7,7 +7,7 @@ ghost use Rattle.al_entries.specs.Stored.{Stored};
 ghost use Rattle.al_engine_keep.specs.Moves.{IsLeft, left_by_last};
 ghost use Rattle.al_engine_refresh.specs.Builds.{raised, text_of};
 ghost use Rattle.al_engine_recheck.specs.Rechecks.{AreReady, HasOrder, IsUpdated, will_be};
-ghost use Rattle.al_engine_recheck.specs.Renewals.{IsOneEdit, IsRenewalOf};
+ghost use Rattle.al_engine_recheck.specs.Edits.{AreEdits, IsRenewal, units_of};
 
 use crate::edited::EditedUnit;
 use crate::rechecking::Rechecked;
@@ -98,8 +98,8 @@ impl<C: UnitCheck> UnitCache<C> {
         &self.entries
     }
 
-    /// Brings the units of a library up to date, in an order of dependence. Where one unit is given, it alone was edited, and no other
-    /// unit is looked at than those that stand after it in the order; none is where nobody read what it answers otherwise. What the last build
+    /// Brings the units of a library up to date, in an order of dependence. Where units are given, these alone were edited, and no other
+    /// unit is looked at than those that stand after the first of them of which somebody read what it answers otherwise. What the last build
     /// settled stays as it is, until [`Self::settle`] or [`Self::cancel`].
     /// - `updated`: which units were checked, which entries there are and will be, how many stored answers were compared.
     /// - `renewed`: where it tells of a renewal, all other units have the entries that they had.
@@ -113,13 +113,13 @@ impl<C: UnitCheck> UnitCache<C> {
         predefined: &P,
         sources: &Sources,
         order: &[UnitKey],
-        edited: &Option<EditedUnit>,
+        edited: &Option<Vec<EditedUnit>>,
     ) -> Result<Rechecked, NoMemory>
         requires ready { AreReady (P.table predefined.now) self.old.store }
         requires order { HasOrder C.Text.header (P.table predefined.now) sources.now order.now }
-        requires edited { IfSome edited.now (IsOneEdit C.meaning C.Text.header (P.table predefined.now) sources.now self.old.store) }
+        requires edited { IfSome edited.now (λ edits. AreEdits C.meaning C.Text.header (P.table predefined.now) sources.now self.old.store edits.items) }
         ensures updated { IfOk result (λ r. IsUpdated C.meaning C.Text.header (P.table predefined.now) sources.now self.old.store self.new.store r.checked.items r.compared) }
-        ensures renewed { IfOk result (λ r. IsTrue r.is_renewal → IsRenewalOf edited.now (settled_at self.old.store) (now_at self.new.store)) }
+        ensures renewed { IfOk result (λ r. IsTrue r.is_renewal → MatchOption edited.now ⊥ (λ edits. IsRenewal (settled_at self.old.store) (units_of edits.items) (now_at self.new.store))) }
         ensures law { OnOk result (AllKeepLaw C.meaning C.Text.header (will_be self.new.store)) }
         ensures counted { IfOk result (λ r. C.count self.new.checker ≡ raised (C.count self.old.checker) (length r.checked.items)) }
         ensures left { IsLeft self.old.store self.new.store }

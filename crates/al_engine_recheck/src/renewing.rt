@@ -1,27 +1,27 @@
-// A build in which one unit alone was edited.
-ghost use Rattle.std.specs.Prelude.{◌≡◌, ◌⊎◌, ◌∷◌, [], false, IfOk, IfSome, IsTrue, length};
-ghost use Rattle.al_base.specs.declared.unit_key.UnitKey.{UnitKey};
+// A build in which some units alone were edited.
+ghost use Rattle.std.specs.Prelude.{◌≡◌, ◌⊎◌, ◌∷◌, ◌++◌, [], false, IfOk, IfSome, IsTrue, MatchOption, OnOk, length};
+ghost use Rattle.al_base_shortage.specs.Counts.{one_more};
 ghost use Rattle.al_query_outcome.specs.Equations.{is_sound};
-ghost use Rattle.al_query_store.specs.Changes.{AreMarkedAsBefore};
+ghost use Rattle.al_query_store.specs.Changes.{AreMarkedAsBefore, with_made};
 ghost use Rattle.al_query_store.specs.Keyed.{now_at, settled_at};
-ghost use Rattle.al_entries.specs.EntryLaw.{AllKeepLaw};
-ghost use Rattle.al_engine_keep.specs.Moves.{IsLeft};
+ghost use Rattle.al_entries.specs.EntryLaw.{AllKeepLaw, IsCurrent, KeepsLaw};
+ghost use Rattle.al_entries.specs.Stored.{Stored, log_of};
+ghost use Rattle.al_engine_keep.specs.Moves.{IsLeft, has_moved};
 ghost use Rattle.al_engine_refresh.specs.Builds.{raised, results_of, text_of};
-ghost use Rattle.al_engine_refresh.specs.Moving.{IsCompared};
+ghost use Rattle.al_engine_refresh.specs.Moving.{IsCompared, Turned, now_table};
+ghost use Rattle.al_engine_recheck.specs.Edits.{AreEdits, IsRenewal, units_of};
 ghost use Rattle.al_engine_recheck.specs.Rechecks.{AreReady, HasOrder, IsUpdated};
-ghost use Rattle.al_engine_recheck.specs.Renewals.{IsOneEdit, IsRenewal, IsRenewalOf};
-ghost use Rattle.al_engine_recheck.specs.Walks.{IsEditedChecked};
 
 use crate::edited::EditedUnit;
 use crate::rechecking::{Rechecked, recheck};
-use crate::walking::walk_after;
+use crate::sorted::in_key_order;
+use crate::walking::walk_in_order;
 use al_base::{NoMemory, UnitKey};
 use al_engine_keep::KeptEntries;
 use al_engine_refresh::{Done, begun, check_anew, has_sound, text_of};
 use al_query::Answers;
 use al_query_check::UnitCheck;
 use al_unit_graph::Sources;
-use al_view::copied_unit;
 use std::alloc::Global;
 
 /// Whether a unit's file is without a text, or this is its text.
@@ -37,118 +37,111 @@ pub(crate) fn has_text(sources: &Sources, unit: &UnitKey, text: &[u8]) -> bool
     }
 }
 
-/// This unit alone.
-fn alone(alloc: Global, unit: &UnitKey) -> Result<Vec<UnitKey>, NoMemory>
-    ensures { IfOk result (λ units. units.items ≡ unit.now ∷ []) }
+/// Whether the new entry of an edited unit leaves all others as they are: no stored answer differs from those of now that didn't before; and no
+/// unit depends on it by itself, or it is as sound as before.
+fn is_unread(entries: &KeptEntries, edited: &EditedUnit, was_sound: bool) -> bool
+    ensures { IsTrue result → ((edited.now.is_base ≡ false) ⊎ (is_sound (results_of (now_at entries.now) edited.now.unit) ≡ was_sound)) × AreMarkedAsBefore entries.now }
 {
-    let mut units = Vec::new(alloc);
-    units.push(copied_unit(alloc, unit)?)?;
-    Ok(units)
+    if !entries.is_untouched() {
+        return false;
+    }
+    if !edited.is_base {
+        return true;
+    }
+    has_sound(entries, &edited.unit) == was_sound
 }
 
-/// Checks the unit that alone was edited, under the answers that there are. What the last build settled stays as it is.
-fn check_edited<C: UnitCheck, P: Answers>(
+/// Checks an edited unit under the answers that there are; whether that leaves all others as they are.
+pub(crate) fn check_edited<C: UnitCheck, P: Answers>(
     alloc: Global,
     checker: &mut C,
     predefined: &P,
     sources: &Sources,
-    order: &[UnitKey],
     edited: &EditedUnit,
     entries: &mut KeptEntries,
-) -> Result<Done, NoMemory>
-    requires ready { AreReady (P.table predefined.now) entries.old }
-    requires order { HasOrder C.Text.header (P.table predefined.now) sources.now order.now }
-    requires edited { IsOneEdit C.meaning C.Text.header (P.table predefined.now) sources.now entries.old edited.now }
-    ensures checked { IfOk result (λ done. IsEditedChecked C.meaning C.Text.header (P.table predefined.now) sources.now order.now edited.now.unit entries.old entries.new done.checked) }
-    ensures compared { IfOk result (λ done. IsCompared entries.new done.compared) }
-    ensures counted { IfOk result (λ done. C.count checker.new ≡ raised (C.count checker.old) (length done.checked)) }
+    done: &mut Done,
+) -> Result<bool, NoMemory>
+    requires { has_moved entries.old edited.now.unit ≡ false }
+    ensures made { OnOk result ((e : Stored) × KeepsLaw C.meaning C.Text.header edited.now.unit e × IsCurrent e (text_of sources.now edited.now.unit) (now_table (P.table predefined.now) entries.old) × Turned (P.table predefined.now) (with_made log_of e) edited.now.unit entries.old entries.new) }
+    ensures unread { IfOk result (λ unread. IsTrue unread → ((edited.now.is_base ≡ false) ⊎ (is_sound (results_of (now_at entries.new) edited.now.unit) ≡ is_sound (results_of (now_at entries.old) edited.now.unit))) × AreMarkedAsBefore entries.new) }
+    ensures checked { OnOk result (done.new.checked ≡ done.old.checked ++ edited.now.unit ∷ []) }
+    ensures counted { OnOk result (C.count checker.new ≡ one_more (C.count checker.old)) }
+    ensures compared { IsCompared entries.old done.old.compared → OnOk result (IsCompared entries.new done.new.compared) }
     ensures left { IsLeft entries.old entries.new }
 {
-    let _order = order;
-    let _before = checker.checks();
-    let text = text_of(alloc, sources, &edited.unit)?;
-    let mut done = begun(alloc);
+    let unit = &edited.unit;
+    let was_sound = has_sound(entries, unit);
+    let text = text_of(alloc, sources, unit)?;
     check_anew(
-        alloc,
-        checker,
-        predefined,
-        &edited.unit,
-        text,
-        entries,
-        &mut done,
+        alloc, checker, predefined, unit, text, entries, done,
     )?;
-    Ok(done)
+    Ok(is_unread(entries, edited, was_sound))
 }
 
-/// Whether a new entry of the edited unit leaves all others as they are: no unit depends on it by itself, or it is as sound as before and no
-/// stored answer differs from those of now that didn't before.
-fn is_unread(entries: &KeptEntries, edited: &EditedUnit, was_sound: bool) -> bool
-    ensures { IsTrue result → (edited.now.is_base ≡ false) ⊎ ((is_sound (results_of (now_at entries.now) edited.now.unit) ≡ was_sound) × AreMarkedAsBefore entries.now) }
-{
-    if !edited.is_base {
-        return true;
-    }
-    entries.is_untouched() && has_sound(entries, &edited.unit) == was_sound
-}
-
-/// Brings the units of a library up to date where this one alone was edited. It is checked under the answers that there are. Where that
-/// leaves all others as they are, no other unit is looked at; else those are that stand after it in the order. What the last build settled
-/// stays as it is.
+/// Brings the units of a library up to date where these alone were edited. Each is checked under the answers that there are, in the order.
+/// Where that leaves all others as they are, no other unit is looked at; else those are that stand after the first that doesn't. What
+/// the last build settled stays as it is.
 fn renew<C: UnitCheck, P: Answers>(
     alloc: Global,
     checker: &mut C,
     predefined: &P,
     sources: &Sources,
     order: &[UnitKey],
-    edited: &EditedUnit,
+    edits: &[EditedUnit],
     entries: &mut KeptEntries,
 ) -> Result<Rechecked, NoMemory>
     requires ready { AreReady (P.table predefined.now) entries.old }
     requires order { HasOrder C.Text.header (P.table predefined.now) sources.now order.now }
-    requires edited { IsOneEdit C.meaning C.Text.header (P.table predefined.now) sources.now entries.old edited.now }
+    requires edits { AreEdits C.meaning C.Text.header (P.table predefined.now) sources.now entries.old edits.now }
     ensures updated { IfOk result (λ r. IsUpdated C.meaning C.Text.header (P.table predefined.now) sources.now entries.old entries.new r.checked.items r.compared) }
-    ensures renewed { IfOk result (λ r. IsTrue r.is_renewal → IsRenewal (settled_at entries.old) edited.now.unit (now_at entries.new)) }
+    ensures renewed { IfOk result (λ r. IsTrue r.is_renewal → IsRenewal (settled_at entries.old) (units_of edits.now) (now_at entries.new)) }
     ensures counted { IfOk result (λ r. C.count checker.new ≡ raised (C.count checker.old) (length r.checked.items)) }
     ensures left { IsLeft entries.old entries.new }
 {
-    let unit = &edited.unit;
-    let was_sound = has_sound(entries, unit);
-    let done = check_edited(alloc, checker, predefined, sources, order, edited, entries)?;
-    if !is_unread(entries, edited, was_sound) {
-        return walk_after(
-            alloc, checker, predefined, sources, order, unit, entries, done,
-        );
-    }
-    let checked = alone(alloc, unit)?;
+    let _before = checker.checks();
+    let mut done = begun(alloc);
+    let is_renewal = walk_in_order(
+        alloc, checker, predefined, sources, order, edits, entries, &mut done,
+    )?;
+    let (checked, compared) = done.into_parts();
+    let checked = in_key_order(alloc, checked.as_slice())?;
     Ok(Rechecked {
         checked,
-        compared: done.compared,
-        is_renewal: true,
+        compared,
+        is_renewal,
     })
 }
 
-/// Brings the units of a library up to date, in an order of dependence; where one unit is given, it alone was edited. What the last build
-/// settled stays as it is.
+/// Brings the units of a library up to date, in an order of dependence; where some units are given, these alone were edited. What the last
+/// build settled stays as it is.
 pub(crate) fn update<C: UnitCheck, P: Answers>(
     alloc: Global,
     checker: &mut C,
     predefined: &P,
     sources: &Sources,
     order: &[UnitKey],
-    edited: &Option<EditedUnit>,
+    edited: &Option<Vec<EditedUnit>>,
     entries: &mut KeptEntries,
 ) -> Result<Rechecked, NoMemory>
     requires law { AllKeepLaw C.meaning C.Text.header (settled_at entries.old) }
     requires ready { AreReady (P.table predefined.now) entries.old }
     requires order { HasOrder C.Text.header (P.table predefined.now) sources.now order.now }
-    requires edited { IfSome edited.now (IsOneEdit C.meaning C.Text.header (P.table predefined.now) sources.now entries.old) }
+    requires edited { IfSome edited.now (λ edits. AreEdits C.meaning C.Text.header (P.table predefined.now) sources.now entries.old edits.items) }
     ensures updated { IfOk result (λ r. IsUpdated C.meaning C.Text.header (P.table predefined.now) sources.now entries.old entries.new r.checked.items r.compared) }
-    ensures renewed { IfOk result (λ r. IsTrue r.is_renewal → IsRenewalOf edited.now (settled_at entries.old) (now_at entries.new)) }
+    ensures renewed { IfOk result (λ r. IsTrue r.is_renewal → MatchOption edited.now ⊥ (λ edits. IsRenewal (settled_at entries.old) (units_of edits.items) (now_at entries.new))) }
     ensures counted { IfOk result (λ r. C.count checker.new ≡ raised (C.count checker.old) (length r.checked.items)) }
     ensures left { IsLeft entries.old entries.new }
 {
     match edited {
-        Some(edited) => renew(alloc, checker, predefined, sources, order, edited, entries),
+        Some(edits) => renew(
+            alloc,
+            checker,
+            predefined,
+            sources,
+            order,
+            edits.as_slice(),
+            entries,
+        ),
         None => recheck(alloc, checker, predefined, sources, order, entries),
     }
 }

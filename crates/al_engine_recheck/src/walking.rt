@@ -1,16 +1,20 @@
-// The units that stand after one that alone was edited, and on which others may depend.
-ghost use Rattle.std.specs.Prelude.{◌≡◌, ◌<◌, ◌++◌, ◌∷◌, ℕ, false, true, IfOk, IfSome, List, length, position};
+// The edited units of a library, as they stand in an order of dependence.
+ghost use Rattle.std.specs.Prelude.{◌≡◌, ◌<◌, ◌++◌, ◌∷◌, ℕ, [], true, IfOk, IfSome, IsTrue, List, OnOk, length, position};
+ghost use Rattle.std.specs.List.{find};
+ghost use Rattle.std.specs.Option.{option_copied};
 ghost use Rattle.al_base.specs.declared.unit_key.UnitKey.{UnitKey};
 ghost use Rattle.al_view.specs.Symbols.{same_unit};
 ghost use Rattle.al_query.specs.Known.{has_unit};
-ghost use Rattle.al_engine_keep.specs.Moves.{Entries, IsLeft};
-ghost use Rattle.al_engine_refresh.specs.Builds.{raised};
-ghost use Rattle.al_engine_refresh.specs.Moving.{IsCompared};
-ghost use Rattle.al_engine_recheck.specs.Rechecks.{IsUpdated};
-ghost use Rattle.al_engine_recheck.specs.Walks.{IsEditedChecked};
+ghost use Rattle.al_query_store.specs.Keyed.{now_at, settled_at};
+ghost use Rattle.al_engine_keep.specs.Moves.{IsLeft};
+ghost use Rattle.al_engine_refresh.specs.Builds.{IsBuilt, raised};
+ghost use Rattle.al_engine_refresh.specs.Moving.{IsCompared, IsSteady, MarksFollow};
+ghost use Rattle.al_engine_recheck.specs.Edits.{AreEdits, IsRenewal, units_of};
+ghost use Rattle.al_engine_recheck.specs.Rechecks.{AreReady, HasOrder, setting_of};
+ghost use Rattle.al_engine_recheck.specs.Walks.{AreInOrder};
 
-use crate::rechecking::Rechecked;
-use crate::sorted::in_key_order;
+use crate::edited::EditedUnit;
+use crate::renewing::check_edited;
 use al_base::{NoMemory, UnitKey};
 use al_engine_keep::KeptEntries;
 use al_engine_refresh::{Done, refresh_rest};
@@ -38,35 +42,110 @@ fn units_after<'a>(order: &'a [UnitKey], unit: &UnitKey) -> &'a [UnitKey]
     }
 }
 
-/// Goes on with a build in which the unit that alone was edited was checked, and nothing else: it brings those units up to date that stand
-/// after it in the order. What the last build settled stays as it is.
-/// - `updated`: all is then as a build of the whole order makes it of what there was before the unit was checked.
-pub(crate) fn walk_after<C: UnitCheck, P: Answers>(
+/// The edit of a unit, where there is one.
+fn edit_of<'a>(edits: &'a [EditedUnit], unit: &UnitKey) -> Option<&'a EditedUnit>
+    ensures { option_copied result ≡ find (λ e. same_unit unit.now e.unit) edits.now }
+{
+    edits.iter().find(|edited| is_unit(unit, &edited.unit))
+}
+
+/// The edited units, each once, as they stand in an order.
+fn in_order(
+    alloc: Global,
+    order: &[UnitKey],
+    edits: &[EditedUnit],
+) -> Result<Vec<EditedUnit>, NoMemory>
+    ensures { IfOk result (λ row. AreInOrder order.now edits.now row.items) }
+{
+    let mut row = Vec::new(alloc);
+    for unit in order {
+        if let Some(edited) = edit_of(edits, unit) {
+            row.push(edited.copied(alloc)?)?;
+        }
+    }
+    Ok(row)
+}
+
+/// Checks the edited units, which stand so in the order, under the answers that there are. Where one doesn't leave all others as they are,
+/// those are brought up to date that stand after it. Whether all leave all others as they are.
+fn walk<C: UnitCheck, P: Answers>(
     alloc: Global,
     checker: &mut C,
     predefined: &P,
     sources: &Sources,
     order: &[UnitKey],
-    unit: &UnitKey,
+    edits: &[EditedUnit],
+    row: &[EditedUnit],
     entries: &mut KeptEntries,
-    done: Done,
-) -> Result<Rechecked, NoMemory>
-    requires { (before : Entries) × IsEditedChecked C.meaning C.Text.header (P.table predefined.now) sources.now order.now unit.now before entries.old done.checked }
-    ensures updated { (before : Entries) → IsEditedChecked C.meaning C.Text.header (P.table predefined.now) sources.now order.now unit.now before entries.old done.checked → IsCompared entries.old done.compared → IfOk result (λ r. IsUpdated C.meaning C.Text.header (P.table predefined.now) sources.now before entries.new r.checked.items r.compared) }
-    ensures whole { IfOk result (λ r. r.is_renewal ≡ false) }
-    ensures counted { (before : Entries) → IsEditedChecked C.meaning C.Text.header (P.table predefined.now) sources.now order.now unit.now before entries.old done.checked → (n : ℕ) → C.count checker.old ≡ raised n (length done.checked) → IfOk result (λ r. C.count checker.new ≡ raised n (length r.checked.items)) }
+    done: &mut Done,
+) -> Result<bool, NoMemory>
+    requires ready { AreReady (P.table predefined.now) entries.old }
+    requires order { HasOrder C.Text.header (P.table predefined.now) sources.now order.now }
+    requires edits { AreEdits C.meaning C.Text.header (P.table predefined.now) sources.now entries.old edits.now }
+    requires row { AreInOrder order.now edits.now row.now }
+    requires begun { done.old.checked ≡ [] }
+    ensures built { OnOk result (IsBuilt C.meaning C.Text.header (setting_of C.Text.header (P.table predefined.now) sources.now) (settled_at entries.old) (now_at entries.new) order.now done.new.checked) }
+    ensures renewed { IfOk result (λ all. IsTrue all → IsRenewal (settled_at entries.old) (units_of edits.now) (now_at entries.new)) }
+    ensures counted { (n : ℕ) → C.count checker.old ≡ raised n (length done.old.checked) → OnOk result (C.count checker.new ≡ raised n (length done.new.checked)) }
+    ensures marks { OnOk result (MarksFollow (P.table predefined.now) entries.new) }
+    ensures compared { IsCompared entries.old done.old.compared → OnOk result (IsCompared entries.new done.new.compared) }
+    ensures steady { OnOk result (IsSteady sources.now done.new.checked entries.new) }
     ensures left { IsLeft entries.old entries.new }
 {
-    let mut done = done;
-    let rest = units_after(order, unit);
-    refresh_rest(
-        alloc, checker, predefined, sources, rest, entries, &mut done,
-    )?;
-    let (checked, compared) = done.into_parts();
-    let checked = in_key_order(alloc, checked.as_slice())?;
-    Ok(Rechecked {
-        checked,
-        compared,
-        is_renewal: false,
-    })
+    let _edits = edits;
+    for edited in row {
+        let is_unread = check_edited(
+            alloc, checker, predefined, sources, edited, entries, done,
+        )?;
+        if !is_unread {
+            let rest = units_after(order, &edited.unit);
+            refresh_rest(
+                alloc, checker, predefined, sources, rest, entries, done,
+            )?;
+            return Ok(false);
+        }
+    }
+    Ok(true)
+}
+
+/// The same of edited units in any order.
+pub(crate) fn walk_in_order<C: UnitCheck, P: Answers>(
+    alloc: Global,
+    checker: &mut C,
+    predefined: &P,
+    sources: &Sources,
+    order: &[UnitKey],
+    edits: &[EditedUnit],
+    entries: &mut KeptEntries,
+    done: &mut Done,
+) -> Result<bool, NoMemory>
+    requires ready { AreReady (P.table predefined.now) entries.old }
+    requires order { HasOrder C.Text.header (P.table predefined.now) sources.now order.now }
+    requires edits { AreEdits C.meaning C.Text.header (P.table predefined.now) sources.now entries.old edits.now }
+    requires begun { done.old.checked ≡ [] }
+    ensures built { OnOk result (IsBuilt C.meaning C.Text.header (setting_of C.Text.header (P.table predefined.now) sources.now) (settled_at entries.old) (now_at entries.new) order.now done.new.checked) }
+    ensures renewed { IfOk result (λ all. IsTrue all → IsRenewal (settled_at entries.old) (units_of edits.now) (now_at entries.new)) }
+    ensures counted { (n : ℕ) → C.count checker.old ≡ raised n (length done.old.checked) → OnOk result (C.count checker.new ≡ raised n (length done.new.checked)) }
+    ensures marks { OnOk result (MarksFollow (P.table predefined.now) entries.new) }
+    ensures compared { IsCompared entries.old done.old.compared → OnOk result (IsCompared entries.new done.new.compared) }
+    ensures steady { OnOk result (IsSteady sources.now done.new.checked entries.new) }
+    ensures left { IsLeft entries.old entries.new }
+{
+    if edits.len() < 2 {
+        return walk(
+            alloc, checker, predefined, sources, order, edits, edits, entries, done,
+        );
+    }
+    let row = in_order(alloc, order, edits)?;
+    walk(
+        alloc,
+        checker,
+        predefined,
+        sources,
+        order,
+        edits,
+        row.as_slice(),
+        entries,
+        done,
+    )
 }

@@ -8,7 +8,7 @@ use Rattle.al_engine_refresh.specs.Builds.{results_of}
 use Rattle.al_engine_batch.specs.Renewals.{KeepsPartition}
 use Rattle.al_engine_rebuild.specs.Prepared.{IsPrepared}
 use Rattle.al_engine_rebuild.specs.Renewed.{IsCleanBut}
-use Rattle.al_engine_recheck.specs.Renewals.{IsOneEdit}
+use Rattle.al_engine_recheck.specs.Edits.{AreEdits, units_of}
 use Rattle.al_engine_graph.specs.Graphs.{HaveSameHeaders}
 use Rattle.al_engine_graph.specs.Kept.{IsGraphOf}
 use Rattle.al_engine_graph.specs.declared.graph.UnitGraph.{UnitGraph}
@@ -55,10 +55,10 @@ edited_now-requires-clause-headers g c =
 
 pub prepare-requires-clause-edited : goal.prepare-requires-clause-edited
 prepare-requires-clause-edited g c =
-    subst (λ (l : Library). IfSome c.in_ok-unit.unit (IsOneEdit g.C.UnitCheck.meaning g.C.Text.ReadText.header (g.P.Answers.table c.args.predefined.now) l c.args.cache.now.store)) (sym c.sources-sources.ensures) c.in_ok-unit.ensures.renewable
+    subst (λ (l : Library). IfSome c.in_ok-edits.edits (λ edits. AreEdits g.C.UnitCheck.meaning g.C.Text.ReadText.header (g.P.Answers.table c.args.predefined.now) l c.args.cache.now.store edits.items)) (sym c.sources-sources.ensures) c.in_ok-edits.ensures.renewable
 
 pub prepare-requires-clause-clean : goal.prepare-requires-clause-clean
-prepare-requires-clause-clean g c = subst (λ (l : Library). IfSome c.in_ok-unit.unit (λ e. IsCleanBut l (settled_at c.args.cache.now.store) e.unit)) (sym c.sources-sources.ensures) c.in_ok-unit.ensures.clean
+prepare-requires-clause-clean g c = subst (λ (l : Library). IfSome c.in_ok-edits.edits (λ edits. IsCleanBut l (settled_at c.args.cache.now.store) (units_of edits.items))) (sym c.sources-sources.ensures) c.in_ok-edits.ensures.clean
 
 pub prepare-requires-clause-headed : goal.prepare-requires-clause-headed
 prepare-requires-clause-headed g c = subst (λ (l : Library). AreHeaded g.C.Text.ReadText.header l) (sym c.sources-sources.ensures) (c.requires.reading.headed (g.R.ReadFiles.files c.args.read.now))
@@ -78,8 +78,8 @@ prepare-requires-clause-known g c =
 pub prepare-requires-clause-kept : goal.prepare-requires-clause-kept
 prepare-requires-clause-kept g c =
     let K : (Library → List ℕ → Type 0) = λ l m. KeepsPartition l (results_of (settled_at c.args.cache.now.store)) m c.args.gave.now.compiled in
-    subst (λ (l : Library). IfSome c.order_now-order.result (λ _. IfSome c.in_ok-unit.unit (λ _. K l c.args.main.now))) (sym c.sources-sources.ensures)
-    (kept-for c.order_now-order.result c.in_ok-unit.unit c.alike-found.result.0 (λ b. b.now.main) c.args.main.now (K (g.R.ReadFiles.library (g.R.ReadFiles.files c.args.read.now))) c.order_now-order.ensures.main c.in_ok-unit.ensures.kept)
+    subst (λ (l : Library). IfSome c.order_now-order.result (λ _. IfSome c.in_ok-edits.edits (λ _. K l c.args.main.now))) (sym c.sources-sources.ensures)
+    (kept-for c.order_now-order.result c.in_ok-edits.edits c.alike-found.result.0 (λ b. b.now.main) c.args.main.now (K (g.R.ReadFiles.library (g.R.ReadFiles.files c.args.read.now))) c.order_now-order.ensures.main c.in_ok-edits.ensures.kept)
 
 pub returns-clause-prepared : goal.returns-clause-prepared
 returns-clause-prepared g c =

@@ -1,7 +1,18 @@
+use Rattle.al_query_store.specs.Keyed.{now_at, settled_at}
+use Rattle.al_engine_batch.specs.Renewals.{KeepsPartition}
+use Rattle.al_engine_refresh.specs.Builds.{results_of}
+use Rattle.al_engine_rebuild.proofs.Left.{known-alone, others-alone}
 use Rattle.al_engine_rebuild.proofs.rebuilding.plan_now.Goals as goal
 
 pub renewed_plan-requires-clause-clean : goal.renewed_plan-requires-clause-clean
 renewed_plan-requires-clause-clean c = c.requires.clean (c.is_clean-clean.ensures c.if-clean.true)
+
+pub renewed_plan-requires-clause-others : goal.renewed_plan-requires-clause-others
+renewed_plan-requires-clause-others c = others-alone (now_at c.args.entries.now) (settled_at c.args.entries.now) c.args.edits c.alone_in-unit.result c.alone_in-unit.ensures c.requires.others
+
+pub renewed_plan-requires-clause-kept : goal.renewed_plan-requires-clause-kept
+renewed_plan-requires-clause-kept c =
+    known-alone (KeepsPartition c.args.sources.now (results_of (settled_at c.args.entries.now)) c.args.main.now c.args.before.now) c.args.known c.args.edits c.alone_in-unit.result c.alone_in-unit.ensures c.requires.kept
 
 pub returns-in-Some : goal.returns-in-Some
 returns-in-Some c = rw c.in-Some.is at c.in_ok-found.ensures

@@ -2,8 +2,7 @@ use Rattle.std.proofs.Common.{[], ℕ, List, Option, IfSome, map, ap, sym, subst
 use Rattle.std.specs.Prelude.{MatchOption}
 use Rattle.al_base.specs.declared.unit_key.UnitKey.{UnitKey}
 use Rattle.al_unit_faults.specs.FilesSeen.{file_faults_model}
-use Rattle.al_view.specs.Symbols.{same_unit}
-use Rattle.al_query_outcome.specs.Equations.{is_sound}
+use Rattle.al_query.specs.Known.{has_unit}
 use Rattle.al_query_store.specs.Keyed.{now_at, settled_at}
 use Rattle.al_entries.specs.Stored.{Stored}
 use Rattle.al_engine_batch.specs.Objects.{AreCoded}
@@ -13,7 +12,9 @@ use Rattle.al_engine_keep.specs.Moves.{Entries}
 use Rattle.al_engine_found.specs.Found.{findings_of}
 use Rattle.al_engine_refresh.specs.Builds.{results_of}
 use Rattle.al_engine_recheck.specs.Rechecks.{IsUpdated}
-use Rattle.al_engine_rebuild.proofs.Clean.{clean-now}
+use Rattle.al_engine_recheck.specs.Edits.{units_of}
+use Rattle.al_engine_recheck.specs.declared.edited.EditedUnit.{EditedUnit}
+use Rattle.al_engine_rebuild.proofs.Clean.{AreSound, clean-now}
 use Rattle.al_engine_rebuild.proofs.Left.{known-of, of-edited, others-left, renewed-by, settled-left}
 use Rattle.al_engine_rebuild.specs.Renewed.{IsCleanBut}
 use Rattle.al_engine_rebuild.proofs.rebuilding.prepare.Goals as goal
@@ -28,30 +29,30 @@ pub plan_now-requires-clause-clean : goal.plan_now-requires-clause-clean
 plan_now-requires-clause-clean g c = λ is.
     let old = settled_at c.args.cache.now.store in
     let new = c.check_library.new.cache.store in
-    let found = c.renewed_unit-unit.result in
-    let names = c.renewed_unit-unit.ensures in
-    let but = of-edited c.args.edited.now c.in_ok-given.given.is_renewal (λ (u : UnitKey). IsCleanBut c.args.sources.now old u) found names c.requires.clean in
+    let found = c.renewed_units-edits.result in
+    let names = c.renewed_units-edits.ensures in
+    let but = of-edited c.args.edited.now c.in_ok-given.given.is_renewal (λ (edits : List EditedUnit). IsCleanBut c.args.sources.now old (units_of edits)) found names c.requires.clean in
     let renewed = renewed-by c.args.edited.now c.in_ok-given.given.is_renewal old (now_at new) found names c.in_ok-given.ensures.renewed in
     subst (λ (e : Entries). findings_of c.args.sources.now (results_of (now_at e)) ≡ []) (sym c.entries-entries.ensures)
-    (clean-now c.args.sources.now old (now_at new) found but renewed (subst (λ (e : Entries). MatchOption found ⊥ (λ unit. is_sound (results_of (now_at e) unit.now) ≡ true)) c.entries-entries.ensures is))
+    (clean-now c.args.sources.now old (now_at new) found but renewed (subst (λ (e : Entries). MatchOption found ⊥ (λ edits. AreSound (now_at e) edits.now)) c.entries-entries.ensures is))
 
 pub plan_now-requires-clause-others : goal.plan_now-requires-clause-others
 plan_now-requires-clause-others g c =
     let old = c.args.cache.now.store in
     let new = c.check_library.new.cache.store in
-    let found = c.renewed_unit-unit.result in
-    let renewed = renewed-by c.args.edited.now c.in_ok-given.given.is_renewal (settled_at old) (now_at new) found c.renewed_unit-unit.ensures c.in_ok-given.ensures.renewed in
-    subst (λ (e : Entries). IfSome found (λ unit. (w : UnitKey) → same_unit unit.now w ≡ false → now_at e w ≡ settled_at e w)) (sym c.entries-entries.ensures)
+    let found = c.renewed_units-edits.result in
+    let renewed = renewed-by c.args.edited.now c.in_ok-given.given.is_renewal (settled_at old) (now_at new) found c.renewed_units-edits.ensures c.in_ok-given.ensures.renewed in
+    subst (λ (e : Entries). IfSome found (λ edits. (w : UnitKey) → has_unit (units_of edits.now) w ≡ false → now_at e w ≡ settled_at e w)) (sym c.entries-entries.ensures)
     (others-left old new c.in_ok-given.ensures.left found renewed)
 
 pub plan_now-requires-clause-kept : goal.plan_now-requires-clause-kept
 plan_now-requires-clause-kept g c =
     let old = c.args.cache.now.store in
     let new = c.check_library.new.cache.store in
-    let found = c.renewed_unit-unit.result in
+    let found = c.renewed_units-edits.result in
     subst (λ (e : Entries). IfSome c.args.known (λ _. IfSome found (λ _. KeepsPartition c.args.sources.now (results_of (settled_at e)) c.args.main.now c.args.before.now))) (sym c.entries-entries.ensures)
     (subst (λ (at : UnitKey → Option Stored). IfSome c.args.known (λ _. IfSome found (λ _. KeepsPartition c.args.sources.now (results_of at) c.args.main.now c.args.before.now))) (λ i u. sym (settled-left old new c.in_ok-given.ensures.left u) i)
-    (known-of c.args.edited.now c.in_ok-given.given.is_renewal (KeepsPartition c.args.sources.now (results_of (settled_at old)) c.args.main.now c.args.before.now) c.args.known found c.renewed_unit-unit.ensures c.requires.kept))
+    (known-of c.args.edited.now c.in_ok-given.given.is_renewal (KeepsPartition c.args.sources.now (results_of (settled_at old)) c.args.main.now c.args.before.now) c.args.known found c.renewed_units-edits.ensures c.requires.kept))
 
 pub returns-clause-prepared : goal.returns-clause-prepared
 returns-clause-prepared g c =

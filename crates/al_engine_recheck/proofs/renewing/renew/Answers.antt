@@ -1,7 +1,12 @@
-use Rattle.std.proofs.Common.{◌∙◌, List, length, sym, ap}
+use Rattle.std.proofs.Common.{ℕ, List, map, ap, sym, subst, arith, ◌∙◌}
+use Rattle.al_base.specs.Batch.{key_of}
 use Rattle.al_base.specs.declared.unit_key.UnitKey.{UnitKey}
-use Rattle.al_engine_refresh.specs.Builds.{raised}
-use Rattle.al_engine_recheck.proofs.RenewLemmas.{renewal-so, renewed-so, updated-so}
+use Rattle.al_unit_graph.specs.Orders.{in_order}
+use Rattle.al_engine_refresh.specs.Moving.{IsCompared}
+use Rattle.al_engine_refresh.proofs.Comparing.{compared-none, quiet-unmoved}
+use Rattle.al_engine_refresh.proofs.LoopLemmas.{count-start}
+use Rattle.al_engine_refresh.specs.declared.unit.Done.{Done}
+use Rattle.al_engine_recheck.proofs.WalkLemmas.{walk-counted, walk-updated}
 use Rattle.al_engine_recheck.proofs.renewing.renew.Goals as goal
 
 pub returns-clause-updated : goal.returns-clause-updated
@@ -10,24 +15,17 @@ returns-clause-updated g c =
     let header = g.C.Text.ReadText.header in
     let pre = g.P.Answers.table c.args.predefined.now in
     let lib = c.args.sources.now in
-    let order = c.args.order.now in
-    let edited = c.args.edited.now in
     let old = c.args.entries.now in
-    let new = c.check_edited.new.entries in
-    let done = c.in_ok-done.done in
-    let k = c.in_ok-done.ensures.checked in
-    updated-so meaning header pre lib order edited old new done.checked k c.in_ok-checked.checked.items c.in_ok-checked.ensures
-    (renewed-so meaning header pre lib order edited old new done.checked k c.has_sound-was_sound.result c.has_sound-was_sound.ensures c.requires.edited.alone (c.is_unread.ensures c.if-not-is_unread.false)) done.compared c.in_ok-done.ensures.compared
-
-pub returns-clause-renewed : goal.returns-clause-renewed
-returns-clause-renewed g c = λ is.
-    renewal-so g.C.UnitCheck.meaning g.C.Text.ReadText.header (g.P.Answers.table c.args.predefined.now) c.args.sources.now c.args.order.now c.args.edited.now c.args.entries.now c.check_edited.new.entries c.in_ok-done.done.checked c.in_ok-done.ensures.checked
+    let new = c.walk_in_order.new.entries in
+    let given = c.in_ok-is_renewal.ensures in
+    let row = c.walk_in_order.new.done.checked in
+    let counted = given.compared (subst (λ (d : Done). IsCompared old d.compared) (sym c.begun-done.ensures) (compared-none old (quiet-unmoved old c.requires.ready.quiet))) in
+    walk-updated meaning header pre lib c.args.order.now c.requires.order c.args.edits.now old c.requires.ready c.requires.edits new row _ given.built
+    (c.in_ok-checked.ensures ∙ ap (λ us. in_order (map key_of us)) c.as_slice.ensures ∙ ap (λ parts. in_order (map key_of parts.0)) c.into_parts-checked.ensures)
+    c.walk_in_order.ensures.left given.steady given.marks _ (subst (λ (parts : List UnitKey × ℕ). IsCompared new parts.1) (sym c.into_parts-checked.ensures) counted)
 
 pub returns-clause-counted : goal.returns-clause-counted
 returns-clause-counted g c =
-    let k = c.in_ok-done.ensures.checked in
-    c.in_ok-done.ensures.counted ∙ ap (λ (us : List UnitKey). raised (g.C.UnitCheck.count c.args.checker.now) (length us)) (k.listed ∙ sym c.in_ok-checked.ensures)
-
-pub returns-then-not-is_unread-clause-counted : goal.returns-then-not-is_unread-clause-counted
-returns-then-not-is_unread-clause-counted g c =
-    c.walk_after.ensures.counted c.args.entries.now c.in_ok-done.ensures.checked (g.C.UnitCheck.count c.args.checker.now) c.in_ok-done.ensures.counted
+    let given = c.in_ok-is_renewal.ensures in
+    walk-counted g.C.UnitCheck.meaning g.C.Text.ReadText.header (g.P.Answers.table c.args.predefined.now) c.args.sources.now c.args.order.now c.requires.order c.args.edits.now c.args.entries.now c.requires.ready c.requires.edits c.walk_in_order.new.entries c.walk_in_order.new.done.checked _ given.built
+    (c.in_ok-checked.ensures ∙ ap (λ us. in_order (map key_of us)) c.as_slice.ensures ∙ ap (λ parts. in_order (map key_of parts.0)) c.into_parts-checked.ensures) (g.C.UnitCheck.count c.args.checker.now) _ (given.counted (g.C.UnitCheck.count c.args.checker.now) (count-start (g.C.UnitCheck.count c.args.checker.now) c.checks-before.result _ c.checks-before.ensures (omega arith) (ap (λ (d : Done). d.checked) c.begun-done.ensures)))

@@ -1,7 +1,7 @@
 use Rattle.std.proofs.Common.{sym, ap, ◌∙◌}
 use Rattle.std.specs.Option.{option_copied}
 use Rattle.al_query_store.specs.Keyed.{entry_of}
-use Rattle.al_engine_recheck.proofs.Renewals.{clash}
+use Rattle.al_engine_recheck.proofs.KeptLemmas.{clash}
 use Rattle.al_engine_recheck.proofs.kept_units.UnitCache.is_edited.Goals as goal
 
 pub returns-in-Some : goal.returns-in-Some
