@@ -1,4 +1,4 @@
 pub mod Naming
-pub mod Told
+pub mod FromAnswers
 pub mod UnitResult
 pub mod Verdicts

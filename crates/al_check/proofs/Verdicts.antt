@@ -21,7 +21,7 @@ use Rattle.al_check_made.specs.Said.{own_view}
 use Rattle.al_check_made.specs.declared.after.EndedText.{EndedText}
 use Rattle.al_check_made.specs.declared.after.UnitFacts.{UnitFacts}
 use Rattle.al_check.specs.Ada.{ada_verdict, ended_text, item_faults, item_walked, round_of, verdict_from}
-use Rattle.al_check.proofs.Told.{start_own}
+use Rattle.al_check.proofs.FromAnswers.{start_own}
 use Rattle.al_check.specs.Laws.{ItemFaultsAreReported, SoundUnitsHaveNoFault, StartFaultsAreReported}
 
 -- ---- what is found after an item

@@ -80,7 +80,7 @@ abbrev pub private_part_at : Table → CompilationUnitTree → Result UnitStart 
 private_part_at t tree (Err f) = []
 private_part_at t tree (Ok s) = private_part_found t tree s
 
--- it is wanted where the visible part has private types: the words of their values are those of their full declarations, which stand behind what may
+-- it is wanted where the visible part has private types: the words of their values are those of their full declarations, which stand after what may
 -- use them
 abbrev pub private_part_of : Table → CompilationUnitTree → Result UnitStart Fault → Declarations
 private_part_of t tree start = if not (is_bare (private_types tree.item)) then private_part_at t tree start else []

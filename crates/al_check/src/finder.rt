@@ -143,7 +143,7 @@ fn private_part_where<A: Answers + Drop>(
     Ok((Interface::new(alloc), recorder))
 }
 
-/// The same where its visible part has private types: the words of their values are told by their full declarations, which stand behind what may use them.
+/// The same where its visible part has private types: the words of their values are told by their full declarations, which stand after what may use them.
 fn private_part_if<A: Answers + Drop>(
     alloc: Global,
     unit: &UnitKey,

@@ -86,10 +86,10 @@ pub(crate) fn begun_at(
     let unit = copied_unit(alloc, &start.own.unit)?;
     let private_types = Seq::new(private_types(alloc, &tree.item)?);
     let parts = start.into_parts();
-    let (text, place, round) = parts;
+    let (text, place, parent_view) = parts;
     let (own, packages, hidden) = text;
     let (scope, progress, uncompleted) = place;
-    let (parent, view) = round;
+    let (parent, view) = parent_view;
     let apart = withs_apart(alloc, own);
     let (own, withs) = apart;
     let text = text_of(alloc, packages, own, hidden, private_part)?;

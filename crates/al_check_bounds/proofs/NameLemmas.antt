@@ -11,7 +11,7 @@ use Rattle.al_query.specs.Asked.{AsksOf, Follows, OfKnown, by_property}
 use Rattle.al_query.specs.Known.{has_unit}
 use Rattle.al_query.specs.Queries.{unit_of}
 use Rattle.al_query.specs.Reads.{Log}
-use Rattle.al_query.specs.Told.{AreTold, told_names}
+use Rattle.al_query.specs.AnsweredNames.{AreTold, told_names}
 use Rattle.al_query.specs.declared.answer.AnswerKind.{AnswerKind}
 use Rattle.al_query.specs.declared.query.Property.TheVariants.{Kind, Parent, IsPrivate, Context, NeedsBody, Completions}
 use Rattle.al_query.specs.declared.query.Query.{Query}
@@ -48,23 +48,23 @@ wider unit ns ms w (Of of NeedsBody) h = refl
 
 -- ---- names that answers tell
 
-told-join : (log more : Log) → told_names (log ++ more) ≡ told_names log ++ told_names more
-told-join log more = flat_map-join (λ e. names_told e.1) log more
+names_answered-join : (log more : Log) → told_names (log ++ more) ≡ told_names log ++ told_names more
+names_answered-join log more = flat_map-join (λ e. names_told e.1) log more
 
 pub no_names : (words : List (List ℕ)) (log : Log) → AreWordsOrTold words log []
 no_names words log n h = absurd (cc)
 
-pub words_or_told : (words told : List (List ℕ)) (log : Log) → AreTold log told → AreWordsOrTold words log (words ++ told)
-words_or_told words told log h n m = at (list_any (bytes_eq n) words) refl (sym (list_any-append (bytes_eq n) words told) ∙ m)
+pub words_or_told : (words names_answered : List (List ℕ)) (log : Log) → AreTold log names_answered → AreWordsOrTold words log (words ++ names_answered)
+words_or_told words names_answered log h n m = at (list_any (bytes_eq n) words) refl (sym (list_any-append (bytes_eq n) words names_answered) ∙ m)
   where
-    at : (b : Bool) → list_any (bytes_eq n) words ≡ b → (b || list_any (bytes_eq n) told) ≡ true → list_any (bytes_eq n) (words ++ told_names log) ≡ true
+    at : (b : Bool) → list_any (bytes_eq n) words ≡ b → (b || list_any (bytes_eq n) names_answered) ≡ true → list_any (bytes_eq n) (words ++ told_names log) ≡ true
     at true is all = any-left words (told_names log) n is
     at false is all = any-right words (told_names log) n (h n all)
 
 -- after more questions
-pub told-later : (words names : List (List ℕ)) (old more new : Log) → new ≡ old ++ more → AreWordsOrTold words old names → AreWordsOrTold words new names
-told-later words names old more new is h n m =
-    let all = append_assoc words (told_names old) (told_names more) ∙ ap (λ (l : List (List ℕ)). words ++ l) (sym (told-join old more)) in
+pub names_answered-later : (words names : List (List ℕ)) (old more new : Log) → new ≡ old ++ more → AreWordsOrTold words old names → AreWordsOrTold words new names
+names_answered-later words names old more new is h n m =
+    let all = append_assoc words (told_names old) (told_names more) ∙ ap (λ (l : List (List ℕ)). words ++ l) (sym (names_answered-join old more)) in
     subst (λ (l : Log). list_any (bytes_eq n) (words ++ told_names l) ≡ true) (sym is)
     (subst (λ (l : List (List ℕ)). list_any (bytes_eq n) l ≡ true) all (any-left (words ++ told_names old) (told_names more) n (h n m)))
 
@@ -85,16 +85,16 @@ asks-append unit names (e ∷ es) more =
 -- questions by names that are words, or that were told when they began
 module _ (unit : UnitKey) (words names : List (List ℕ)) (units : List UnitKey) (wanted : Log → Query → Bool) (by : (log : Log) (q : Query) → wanted log q ≡ true → is_by_names unit names q ≡ true) where
   follows : (log es : Log) → AreWordsOrTold words log names → Follows (OfKnown units wanted) log es → asks_by_names unit (words ++ told_names log) es ≡ true
-  follows log [] told f = refl
-  follows log (e ∷ es) told f =
-      let next = ap (λ (l : List (List ℕ)). words ++ l) (told-join log (e ∷ []) ∙ ap (λ (l : List (List ℕ)). told_names log ++ l) (append-nil (names_told e.1))) ∙ sym (append_assoc words (told_names log) (names_told e.1)) in
+  follows log [] names_answered f = refl
+  follows log (e ∷ es) names_answered f =
+      let next = ap (λ (l : List (List ℕ)). words ++ l) (names_answered-join log (e ∷ []) ∙ ap (λ (l : List (List ℕ)). told_names log ++ l) (append-nil (names_told e.1))) ∙ sym (append_assoc words (told_names log) (names_told e.1)) in
       and_both (is_by_names unit (words ++ told_names log) e.0) (asks_by_names unit ((words ++ told_names log) ++ names_told e.1) es)
-      (wider unit names (words ++ told_names log) told e.0 (by log e.0 f.0.1))
-      (subst (λ (ns : List (List ℕ)). asks_by_names unit ns es ≡ true) next (follows (log ++ e ∷ []) es (told-later words names log (e ∷ []) (log ++ e ∷ []) refl told) f.1))
+      (wider unit names (words ++ told_names log) names_answered e.0 (by log e.0 f.0.1))
+      (subst (λ (ns : List (List ℕ)). asks_by_names unit ns es ≡ true) next (follows (log ++ e ∷ []) es (names_answered-later words names log (e ∷ []) (log ++ e ∷ []) refl names_answered) f.1))
 
   -- more questions by names
   pub asks-by-names : (old new : Log) → AreWordsOrTold words old names → AsksOf units wanted old new → AsksByNames unit words old → AsksByNames unit words new
-  asks-by-names old new told asks before =
+  asks-by-names old new names_answered asks before =
       subst (λ (l : Log). AsksByNames unit words l) (sym asks.1)
       (asks-append unit words old asks.0
-      ∙ and_both (asks_by_names unit words old) (asks_by_names unit (words ++ told_names old) asks.0) before (follows old asks.0 told asks.2))
+      ∙ and_both (asks_by_names unit words old) (asks_by_names unit (words ++ told_names old) asks.0) before (follows old asks.0 names_answered asks.2))

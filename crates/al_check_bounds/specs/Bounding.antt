@@ -7,7 +7,7 @@ use Rattle.al_query.specs.declared.query.Query.{Query}
 use Rattle.al_query.specs.Known.{has_unit}
 use Rattle.al_query.specs.Queries.{unit_of}
 use Rattle.al_query.specs.Reads.{Log, Table}
-use Rattle.al_query.specs.Told.{told_names}
+use Rattle.al_query.specs.AnsweredNames.{told_names}
 use Rattle.al_query_outcome.specs.ReadsLaw.{is_by_names}
 use Rattle.al_query_outcome.specs.Tables.{no_answer}
 use Rattle.al_check_bounds.specs.declared.bounds.Bounds.{Bounds}

@@ -24,16 +24,16 @@ private_here t h = private_begun (opened t h)
 
 -- the body of the unit, whose profile is its visible part (ARM 8.2); outside of all regions none is entered
 -- the result of a function is seen as its statements see it
-abbrev pub returned_seen : Table → Place → ReturnedPart → ReturnedPart
-returned_seen t place NoValue = NoValue
-returned_seen t place (Value of) = Value (map_ok (subtype_seen_at t place) of)
+abbrev pub visible_result : Table → Place → ReturnedPart → ReturnedPart
+visible_result t place NoValue = NoValue
+visible_result t place (Value of) = Value (map_ok (subtype_seen_at t place) of)
 
-abbrev pub heading_seen : Table → Place → AnalyzedHeading → AnalyzedHeading
-heading_seen t place read = record read { heading = record read.heading { returned = returned_seen t place read.heading.returned } }
+abbrev pub visible_heading : Table → Place → AnalyzedHeading → AnalyzedHeading
+visible_heading t place read = record read { heading = record read.heading { returned = visible_result t place read.heading.returned } }
 
 abbrev pub whole_body : Table → CheckState → AnalyzedHeading → CheckState
 whole_body t h read =
-    if is_nowhere h then h else let inner = with_regions h (private_regions t h.unit.own h.env.scope.regions) in whole_entered inner (heading_seen t inner.env.scope read)
+    if is_nowhere h then h else let inner = with_regions h (private_regions t h.unit.own h.env.scope.regions) in whole_entered inner (visible_heading t inner.env.scope read)
 
 -- the body of an operation of a protected object, in that one's region in the form for it; or of what else stands inside the unit
 abbrev pub renewed_for : CheckState → AnalyzedHeading → CheckState

@@ -9,7 +9,7 @@ use Rattle.al_check_here.specs.declared.state.BodyRole.{BodyRole}
 use Rattle.al_check_here.specs.declared.state.BodyRole.TheVariants as roles
 use Rattle.al_check_here.specs.declared.state.CheckState.{CheckState}
 use Rattle.al_decl_completes.specs.CompletingFound.{completing_found}
-use Rattle.al_decl_completion.specs.Standing.{stub_fault}
+use Rattle.al_decl_completion.specs.LoneBodies.{stub_fault}
 use Rattle.al_decl_subprogram.specs.Placing.{body_placed, head_duplicate}
 use Rattle.al_decl_here.specs.declared.env.Environment.{Environment}
 use Rattle.al_decl_headings.specs.Heads.{heading_read}

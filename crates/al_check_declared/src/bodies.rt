@@ -5,7 +5,7 @@ ghost use Rattle.al_scope_seen.specs.Seen.{subtype_seen_at};
 ghost use Rattle.al_query.specs.Reads.{FromAnswers};
 ghost use Rattle.al_scope_unit.specs.UnitPlaces.{private_regions};
 ghost use Rattle.al_check_declared.specs.DeclarationsHere.{with_regions};
-ghost use Rattle.al_check_declared.specs.EnteredHere.{body_here, heading_seen, nested_body, opened, private_here, read_entered, renewed_for, returned_seen, whole_body};
+ghost use Rattle.al_check_declared.specs.EnteredHere.{body_here, visible_heading, nested_body, opened, private_here, read_entered, renewed_for, visible_result, whole_body};
 
 use al_base::NoMemory;
 use al_base_fault::CheckResult;
@@ -53,7 +53,7 @@ pub fn enter_private<A: Answers>(
 }
 
 /// A judged mark as the place sees it.
-fn mark_seen<A: Answers>(
+fn visible_mark<A: Answers>(
     alloc: Global,
     scope: &Scope,
     of: CheckResult<SubtypeView>,
@@ -69,18 +69,20 @@ fn mark_seen<A: Answers>(
 }
 
 /// What a subprogram returns, as its statements see it.
-fn returned_seen<A: Answers>(
+fn visible_result<A: Answers>(
     alloc: Global,
     scope: &Scope,
     returned: ReturnedPart,
     recorder: &mut Recorder<A>,
 ) -> Result<ReturnedPart, NoMemory>
     ensures asked { recorder.new.asked ≡ recorder.old.asked }
-    ensures answered { IfOk result (λ seen. FromAnswers recorder.old.log recorder.new.log (λ t. seen ≡ returned_seen t scope.now returned)) }
+    ensures answered { IfOk result (λ seen. FromAnswers recorder.old.log recorder.new.log (λ t. seen ≡ visible_result t scope.now returned)) }
 {
     match returned {
         ReturnedPart::NoValue => Ok(ReturnedPart::NoValue),
-        ReturnedPart::Value(of) => Ok(ReturnedPart::Value(mark_seen(alloc, scope, of, recorder)?)),
+        ReturnedPart::Value(of) => Ok(ReturnedPart::Value(visible_mark(
+            alloc, scope, of, recorder,
+        )?)),
     }
 }
 
@@ -92,10 +94,10 @@ fn see_heading<A: Answers>(
     recorder: &mut Recorder<A>,
 ) -> Result<(), NoMemory>
     ensures asked { recorder.new.asked ≡ recorder.old.asked }
-    ensures answered { OnOk result (FromAnswers recorder.old.log recorder.new.log (λ t. read.new ≡ heading_seen t scope.now read.old)) }
+    ensures answered { OnOk result (FromAnswers recorder.old.log recorder.new.log (λ t. read.new ≡ visible_heading t scope.now read.old)) }
 {
     let returned = mem::replace(&mut read.heading.returned, ReturnedPart::NoValue);
-    read.heading.returned = returned_seen(alloc, scope, returned, recorder)?;
+    read.heading.returned = visible_result(alloc, scope, returned, recorder)?;
     Ok(())
 }
 

@@ -221,7 +221,7 @@ fn hidden_declaration(
     names: &[PrivateName],
     of: &Declaration,
 ) -> Result<Declaration, NoMemory>
-    ensures { IfOk result (λ told. told ≡ hidden_declaration names.now of.now) }
+    ensures { IfOk result (λ answered. answered ≡ hidden_declaration names.now of.now) }
 {
     let name = Name::from_slice(alloc, of.name.as_slice())?;
     let view = hidden(alloc, names, &of.view)?;
@@ -233,13 +233,13 @@ fn hidden_declarations(
     names: &[PrivateName],
     declarations: &[Declaration],
 ) -> Result<Seq<Declaration>, NoMemory>
-    ensures { IfOk result (λ told. told ≡ map (hidden_declaration names.now) declarations.now) }
+    ensures { IfOk result (λ answered. answered ≡ map (hidden_declaration names.now) declarations.now) }
 {
-    let mut told = Seq::empty(alloc);
+    let mut answered = Seq::empty(alloc);
     for of in declarations {
-        told.push(hidden_declaration(alloc, names, of)?)?;
+        answered.push(hidden_declaration(alloc, names, of)?)?;
     }
-    Ok(told)
+    Ok(answered)
 }
 
 /// The same of the unit's own view.

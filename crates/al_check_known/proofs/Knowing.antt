@@ -49,8 +49,8 @@ nothing-named a u is h =
     let bad : false ≡ true = no in
     absurd (cc)
 
-pub nothing-told : (a : AnswerKind) (n : List ℕ) → a ≡ answers.Nothing → list_any (bytes_eq n) (names_told a) ≡ true → ⊥
-nothing-told a n is h =
+pub nothing-names_answered : (a : AnswerKind) (n : List ℕ) → a ≡ answers.Nothing → list_any (bytes_eq n) (names_told a) ≡ true → ⊥
+nothing-names_answered a n is h =
     let bad : false ≡ true = subst (λ (x : AnswerKind). list_any (bytes_eq n) (names_told x) ≡ true) is h in
     absurd (cc)
 

@@ -3,7 +3,7 @@ ghost use Rattle.std.specs.Prelude.{◌≡◌, ◌∷◌, [], ◌++◌, IfOk, On
 ghost use Rattle.std.specs.List.{flat_map};
 ghost use Rattle.al_query.specs.Asked.{AsksOf, by_property};
 ghost use Rattle.al_query.specs.Reads.{FromAnswers};
-ghost use Rattle.al_query.specs.Told.{AreTold};
+ghost use Rattle.al_query.specs.AnsweredNames.{AreTold};
 ghost use Rattle.al_query_outcome.specs.ReadsLaw.{named_by};
 ghost use Rattle.al_unit_graph.specs.Views.{header_model};
 ghost use Rattle.al_check_known.specs.PrivateNames.{names_known, names_of};
@@ -39,7 +39,7 @@ fn add_names<A: Answers>(
     ensures answered { OnOk result (FromAnswers recorder.old.log recorder.new.log (λ t. names.new.items ≡ names.old.items ++ names_of t own.now unit.now)) }
     ensures asks { OnOk result (AsksOf (unit.now ∷ []) by_property recorder.old.log recorder.new.log) }
     ensures others { OnOk result (OnlyOthers own.now recorder.old.log recorder.new.log) }
-    ensures told { OnOk result (AreTold recorder.old.log names.old.items → AreTold recorder.new.log names.new.items) }
+    ensures names_answered { OnOk result (AreTold recorder.old.log names.old.items → AreTold recorder.new.log names.new.items) }
 {
     let answer = ask_another(alloc, own, unit, Property::Context, recorder)?;
     add_all(alloc, answer.private_types(), names)?;
@@ -57,7 +57,7 @@ fn names_of_each<A: Answers>(
     ensures answered { IfOk result (λ names. FromAnswers recorder.old.log recorder.new.log (λ t. names.items ≡ flat_map (names_of t own.now) units.now)) }
     ensures asks { OnOk result (AsksOf units.now by_property recorder.old.log recorder.new.log) }
     ensures others { OnOk result (OnlyOthers own.now recorder.old.log recorder.new.log) }
-    ensures told { IfOk result (λ names. AreTold recorder.new.log names.items) }
+    ensures names_answered { IfOk result (λ names. AreTold recorder.new.log names.items) }
 {
     let mut names = Vec::new(alloc);
     for unit in units {
@@ -78,7 +78,7 @@ pub fn names_known<A: Answers>(
     ensures answered { IfOk result (λ names. FromAnswers recorder.old.log recorder.new.log (λ t. names.items ≡ names_known t unit.now (header_model header.now))) }
     ensures asks { OnOk result (AsksOf (named_by (header_model header.now)) by_property recorder.old.log recorder.new.log) }
     ensures others { OnOk result (OnlyOthers unit.now recorder.old.log recorder.new.log) }
-    ensures told { IfOk result (λ names. AreTold recorder.new.log names.items) }
+    ensures names_answered { IfOk result (λ names. AreTold recorder.new.log names.items) }
 {
     let round = units_round(alloc, unit, header, recorder)?;
     let both = with_halves(alloc, unit, round, recorder)?;

@@ -6,7 +6,7 @@ ghost use Rattle.al_query.specs.Answers.{names_told, units_named};
 ghost use Rattle.al_query.specs.Asked.{AsksOf, by_property};
 ghost use Rattle.al_query.specs.Known.{has_unit, known_after, told_by};
 ghost use Rattle.al_query.specs.Reads.{FromAnswers};
-ghost use Rattle.al_query.specs.Told.{AreTold};
+ghost use Rattle.al_query.specs.AnsweredNames.{AreTold};
 ghost use Rattle.al_query.specs.declared.query.Query.TheVariants.{Of};
 ghost use Rattle.al_check_known.specs.Starts.{OnlyOthers, asked_of};
 
@@ -29,7 +29,7 @@ pub(crate) fn ask_another<A: Answers>(
     ensures asks { OnOk result (AsksOf (unit.now ∷ []) by_property recorder.old.log recorder.new.log) }
     ensures others { OnOk result (OnlyOthers own.now recorder.old.log recorder.new.log) }
     ensures named { IfOk result (λ answer. (known : List UnitKey) (u : UnitKey) → has_unit (units_named answer) u ≡ true → has_unit (known_after known recorder.new.log) u ≡ true) }
-    ensures told { IfOk result (λ answer. AreTold recorder.new.log (names_told answer)) }
+    ensures names_answered { IfOk result (λ answer. AreTold recorder.new.log (names_told answer)) }
     ensures half { IfOk result (λ answer. (known : List UnitKey) (u : UnitKey) → same_unit own.now unit.now ≡ false → has_unit (told_by (Of unit.now property) answer) u ≡ true → has_unit (known_after known recorder.new.log) u ≡ true) }
 {
     if is_unit(own, unit) {

@@ -88,9 +88,9 @@ itself_told unit t (inr is) =
 
 module _ (unit : UnitKey) (h : Header) (t : Table) (i : UnitInterface) (tree : UnitTree) where
   left_rightly : leaves_rightly unit h i ≡ true → (x : LinkSymbol) → Contains (left_by i.properties.completions) x → (unit.kind ≡ Decl) × (h.needs_body ≡ true)
-  left_rightly told x c =
+  left_rightly answered x c =
       let of_body = from_filter (λ (y : LinkSymbol). is_of_body y.kind) (left_shown i) x c in
-      elim (or_cases (same_kind unit.kind Decl && h.needs_body) (list_all (λ y. not (is_of_body y.kind)) (left_shown i)) told) as (λ _. (unit.kind ≡ Decl) × (h.needs_body ≡ true)) [
+      elim (or_cases (same_kind unit.kind Decl && h.needs_body) (list_all (λ y. not (is_of_body y.kind)) (left_shown i)) answered) as (λ _. (unit.kind ≡ Decl) × (h.needs_body ≡ true)) [
         | inl needs ↦ let two = both (same_kind unit.kind Decl) h.needs_body needs in (kind_one unit.kind Decl two.0, two.1)
         | inr none ↦ absurd (not_both (is_of_body x.kind) of_body.1 (all-at (λ (y : LinkSymbol). not (is_of_body y.kind)) (left_shown i) x none of_body.0))
       ]
@@ -104,16 +104,16 @@ module _ (unit : UnitKey) (h : Header) (t : Table) (i : UnitInterface) (tree : U
   completed_by false is x c = inl c
 
   completed : list_all (is_completed (completing unit i tree)) (flat_map view_uses (views_left unit.kind unit.name t)) ≡ true → (x : LinkSymbol) → Contains (left_to unit t) x → Contains (unit_defines tree) x ⊎ ((unit.kind ≡ Body) × IsStubs i x)
-  completed told x c =
+  completed answered x c =
       let seen = flat_map view_uses (views_left unit.kind unit.name t) in
       let of_body = from_filter (λ (y : LinkSymbol). is_of_body y.kind) seen x c in
-      let is = unless (is_of_body x.kind) (is_among (completing unit i tree) x) of_body.1 (all-at (is_completed (completing unit i tree)) seen x told of_body.0) in
+      let is = unless (is_of_body x.kind) (is_among (completing unit i tree) x) of_body.1 (all-at (is_completed (completing unit i tree)) seen x answered of_body.0) in
       completed_by (same_kind unit.kind Body) refl x (among-contains (completing unit i tree) x is)
 
   stub_told : (s : StubDeclarations) → is_told_stub unit h i s ≡ true → IsToldStub unit h i s
-  stub_told s told =
+  stub_told s answered =
       let seen = flat_map view_uses (one_view (first_view (views_of (part_of i.parts (Stub s.stub)) separate))) in
-      let a = both (not (same_kind unit.kind Decl)) _ told in
+      let a = both (not (same_kind unit.kind Decl)) _ answered in
       let b = both (list_any (bytes_eq s.stub) h.stubs) _ a.1 in
       let c = both (is_simple s.stub) (is_among seen (link Code s.symbol)) b.1 in
       let name = any_from (bytes_eq s.stub) h.stubs b.0 in
@@ -121,13 +121,13 @@ module _ (unit : UnitKey) (h : Header) (t : Table) (i : UnitInterface) (tree : U
         inside = λ is. not_both (same_kind unit.kind Decl) (kind_self unit.kind Decl is) a.0;
         named = subst (λ (n : List ℕ). Contains h.stubs n) (sym ((bytes_eq-Decides s.stub name.0).0 name.2)) name.1;
         simple = c.0;
-        told = into_filter (λ (y : LinkSymbol). is_of_body y.kind) seen (link Code s.symbol) (among-contains seen (link Code s.symbol) c.1) refl;
+        answered = into_filter (λ (y : LinkSymbol). is_of_body y.kind) seen (link Code s.symbol) (among-contains seen (link Code s.symbol) c.1) refl;
       }
 
   main_told : has_main unit h (declares_itself unit t) i tree ≡ true → h.is_parameterless_procedure ≡ true → DeclaresItself unit t → IsAccounted i tree (own_code unit)
-  main_told told fits declares =
+  main_told answered fits declares =
       let so = and_true h.is_parameterless_procedure (declares_itself unit t) fits (itself_told unit t declares) in
-      accounted_is i tree (own_code unit) (λ c other. absurd (cc)) (unless (h.is_parameterless_procedure && declares_itself unit t) (is_among (accounted i tree) (own_code unit)) so told)
+      accounted_is i tree (own_code unit) (λ c other. absurd (cc)) (unless (h.is_parameterless_procedure && declares_itself unit t) (is_among (accounted i tree) (own_code unit)) so answered)
 
 pub parts_completed : PartsAreCompleted
 unfolding self_checked is_complete

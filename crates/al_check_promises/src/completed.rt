@@ -160,7 +160,7 @@ pub fn is_complete(
 {
     let left = leaves_rightly(alloc, unit, header, sound);
     let completed = are_completed(alloc, unit, sound, views)?;
-    let told = are_told(alloc, unit, header, sound)?;
+    let answered = are_told(alloc, unit, header, sound)?;
     let main = has_main(alloc, unit, header, declares, sound)?;
-    Ok(left && (completed && (told && main)))
+    Ok(left && (completed && (answered && main)))
 }

@@ -41,12 +41,12 @@ fn is_named(header: &Header, stub: &[u8]) -> bool
 fn before<'a>(parts: &'a Parts, stub: &[u8]) -> Option<&'a Interface>
     ensures { option_copied result ≡ before_stub parts.now.stubs stub.now }
 {
-    let told = parts
+    let answered = parts
         .stubs
         .as_slice()
         .iter()
-        .find(|told| told.stub.as_slice() == stub)?;
-    Some(&told.before)
+        .find(|answered| answered.stub.as_slice() == stub)?;
+    Some(&answered.before)
 }
 
 /// The views there under the reserved word that no text can name.
@@ -96,8 +96,8 @@ fn is_told(
 {
     let name = stub.stub.as_slice();
     let views = first_of(told_views(&sound.parts, name));
-    let told = show_code(alloc, views, &stub.symbol)?;
-    Ok(!is_declaration(unit) && (is_named(header, name) && (is_simple(name) && told)))
+    let answered = show_code(alloc, views, &stub.symbol)?;
+    Ok(!is_declaration(unit) && (is_named(header, name) && (is_simple(name) && answered)))
 }
 
 /// Whether all stubs are.

@@ -3,7 +3,7 @@ ghost use Rattle.std.specs.Prelude.{◌≡◌, IfOk};
 ghost use Rattle.std.specs.Option.{option_copied};
 ghost use Rattle.al_base_fault.specs.Judging.{map_ok};
 ghost use Rattle.al_query.specs.Reads.{FromAnswers};
-ghost use Rattle.al_stmts_text.specs.PerformedViews.{performed_model};
+ghost use Rattle.al_stmts_text.specs.PerformedViews.{call_effect_model};
 ghost use Rattle.al_tree.specs.ExpressionViews.{expression_model};
 ghost use Rattle.al_view_typed.specs.ExpressionViews.{typed_model};
 ghost use Rattle.al_overload_label.specs.RangesSeen.{found_model};
@@ -105,7 +105,7 @@ pub fn call_effect<A: Answers>(
     recorder: &mut Recorder<A>,
 ) -> Result<CheckResult<CallEffect>, NoMemory>
     ensures asked { recorder.new.asked ≡ recorder.old.asked }
-    ensures answered { IfOk result (λ checked. FromAnswers recorder.old.log recorder.new.log (λ t. (state.new, map_ok performed_model checked) ≡ call_effect_here t state.old (expression_model expression.now))) }
+    ensures answered { IfOk result (λ checked. FromAnswers recorder.old.log recorder.new.log (λ t. (state.new, map_ok call_effect_model checked) ≡ call_effect_here t state.old (expression_model expression.now))) }
 {
     let mut word = state.word();
     let checked = call_effect_at(&site(state), expression, &mut word, recorder)?;

@@ -9,7 +9,7 @@ use crate::child::name_fault;
 use crate::completed::{Completed, completed_at};
 use crate::hidden::hidden_at;
 use crate::place::{own_text, own_view, place_at};
-use crate::waiting::{progress_at, waiting_seen};
+use crate::waiting::{progress_at, visible_waiting};
 use al_base::{NoMemory, UnitKey};
 use al_base_fault::{CheckResult, unless};
 use al_decl_completion::Uncompleted;
@@ -69,7 +69,7 @@ impl UnitStart {
     )
         ensures text { result.0 ≡ (self.own, self.packages, self.hidden) }
         ensures place { result.1 ≡ (self.scope, self.progress, self.uncompleted) }
-        ensures round { result.2 ≡ (self.parent, self.view) }
+        ensures parent_view { result.2 ≡ (self.parent, self.view) }
     {
         let UnitStart {
             own,
@@ -90,7 +90,7 @@ impl UnitStart {
 }
 
 /// What waits at the place of a unit, and the private types that its visible part hides.
-fn behind<A: Answers>(
+fn waiting_after<A: Answers>(
     alloc: Global,
     unit: &UnitKey,
     item: &LibraryItem,
@@ -103,7 +103,7 @@ fn behind<A: Answers>(
     ensures answered { IfOk result (λ found. FromAnswers recorder.old.log recorder.new.log (λ t. (found.0 ≡ completions_seen_at t scope.now (waiting t unit.now (library_item_model item.now) view.now)) × (found.1 ≡ hidden_at t own.now))) }
 {
     let hidden = hidden_at(alloc, own, recorder)?;
-    match waiting_seen(alloc, unit, item, view, scope, recorder) {
+    match visible_waiting(alloc, unit, item, view, scope, recorder) {
         Ok(uncompleted) => Ok((uncompleted, hidden)),
         Err(error) => {
             drop(hidden);
@@ -134,7 +134,7 @@ fn start_with<A: Answers>(
     let mut packages = Seq::empty(alloc);
     let scope = place_at(alloc, &own, &seen, &mut packages, recorder)?;
     let progress = progress_at(alloc, unit, item, &view)?;
-    let (uncompleted, hidden) = behind(alloc, unit, item, &view, &own, &scope, recorder)?;
+    let (uncompleted, hidden) = waiting_after(alloc, unit, item, &view, &own, &scope, recorder)?;
     Ok(UnitStart {
         own,
         scope,

@@ -80,7 +80,7 @@ pub(crate) fn waiting<A: Answers>(
 }
 
 /// The same as the place of the unit sees it.
-pub(crate) fn waiting_seen<A: Answers>(
+pub(crate) fn visible_waiting<A: Answers>(
     alloc: Global,
     unit: &UnitKey,
     item: &LibraryItem,

@@ -5,19 +5,19 @@ use Rattle.al_query.specs.Asked.{AsksOf, OfKnown, by_property}
 use Rattle.al_query.specs.Known.{AreKnown, Grounded, has_unit, known_after}
 use Rattle.al_query.specs.Reads.{Log}
 use Rattle.al_query.specs.declared.query.Query.{Query}
-use Rattle.al_query.proofs.AskLemmas.{asks_of-grounded, asks_of-known, asks_of-wanted, asks_then}
+use Rattle.al_query.proofs.AskLemmas.{asks_of-grounded, asks_of-known, asks_of-wider, asks_then}
 use Rattle.al_query.proofs.KnownLemmas.{known_after-more}
 use Rattle.al_query_outcome.specs.ReadsLaw.{AsksByNames}
 use Rattle.al_check_bounds.specs.Bounding.{AreWordsOrTold, allowed}
 use Rattle.al_check_bounds.specs.declared.bounds.Bounds.{Bounds}
-use Rattle.al_check_bounds.proofs.NameLemmas.{asks-by-names, by-property, no_names, told-later, within-bounds}
+use Rattle.al_check_bounds.proofs.NameLemmas.{asks-by-names, by-property, no_names, names_answered-later, within-bounds}
 
 any : Log → Query → Bool
 any log q = true
 
 wider : (units : List UnitKey) (wanted : Log → Query → Bool) (old new : Log) → AsksOf units wanted old new → AsksOf units any old new
 unfolding any
-wider units wanted old new asks = asks_of-wanted units wanted any old new (λ log q h. refl) asks
+wider units wanted old new asks = asks_of-wider units wanted any old new (λ log q h. refl) asks
 
 -- first what makes units known, then of these
 pub grounded : (named known : List UnitKey) (wanted within : Log → Query → Bool) (a b c : Log) → AsksOf named wanted [] a → AreKnown (known_after named a) known → AsksOf known within a b → AsksOf known within b c → Grounded named c
@@ -36,8 +36,8 @@ known_later named (u ∷ us) old more new is h = (
 
 -- first what makes units known and tells names is asked for properties, then within bounds
 pub by_words : (b : Bounds) (unit : UnitKey) (words : List (List ℕ)) (named : List UnitKey) (one two three : Log) → b.unit ≡ unit → AreWordsOrTold words one b.names → AsksOf named by_property [] one → AsksOf b.known (allowed b) one two → AsksOf b.known (allowed b) two three → AsksByNames unit words three
-by_words b unit words named one two three own told first second third =
+by_words b unit words named one two three own names_answered first second third =
     let before = asks-by-names b.unit words [] named by_property (by-property b.unit []) [] one (no_names words []) first refl in
-    let found = asks-by-names b.unit words b.names b.known (allowed b) (within-bounds b) one two told second before in
-    let all = asks-by-names b.unit words b.names b.known (allowed b) (within-bounds b) two three (told-later words b.names one second.0 two second.1 told) third found in
+    let found = asks-by-names b.unit words b.names b.known (allowed b) (within-bounds b) one two names_answered second before in
+    let all = asks-by-names b.unit words b.names b.known (allowed b) (within-bounds b) two three (names_answered-later words b.names one second.0 two second.1 names_answered) third found in
     subst (λ (u : UnitKey). AsksByNames u words three) own all

@@ -76,9 +76,9 @@ module _ (b : Bounds) (t : Table) where
             let two = both (learns b (bounded b t)) _ is in
             let views = views_same b.unit.kind b.unit.name two.0 in
             let declares = declares_same b.unit.kind b.unit.name two.0 in
-            let told : is_complete b.unit h (views_left b.unit.kind b.unit.name t) (declares_itself b.unit t) i tree ≡ true =
+            let names_answered : is_complete b.unit h (views_left b.unit.kind b.unit.name t) (declares_itself b.unit t) i tree ≡ true =
             sym (ap (λ (vs : List ViewKind). is_complete b.unit h vs (declares_itself b.unit (bounded b t)) i tree) views ∙ ap (λ (d : Bool). is_complete b.unit h (views_left b.unit.kind b.unit.name t) d i tree) declares) ∙ two.1 in
-            subst (λ (c : Bool). DefinesParts b.unit h t (self_checked b.unit shown c i tree)) told (law b.unit h t shown i tree)
+            subst (λ (c : Bool). DefinesParts b.unit h t (self_checked b.unit shown c i tree)) names_answered (law b.unit h t shown i tree)
 
 -- what is left, what is learned and what was tested, put together
 pub completed_is : (b : Bounds) (h : Header) (i : UnitInterface) (tree : UnitTree) (t : Table) (views : List ViewKind) (learned declares complete : Bool) → learned ≡ learns b t → views ≡ views_left b.unit.kind b.unit.name t

@@ -44,7 +44,7 @@ concluded_in b h verdict t = concluded b h (verdict (bounded b t)) (bounded b t)
 
 -- the bounds of a unit with that text that knows these units, and these names from answers: it asks by the words of the text and by those names
 abbrev pub bounds_of : UnitKey → List ℕ → List UnitKey → List (List ℕ) → Bounds
-bounds_of unit text known told = record { unit = unit; known = known; names = insert_all bytes_eq (words_of text) told }
+bounds_of unit text known names_answered = record { unit = unit; known = known; names = insert_all bytes_eq (words_of text) names_answered }
 
 -- the check of a unit with a text that is read as this tree, by who is known, which names answers tell, and what is found
 abbrev pub meaning_within : (UnitKey → Header → Table → List UnitKey) → (UnitKey → Header → Table → List (List ℕ)) → (UnitKey → List ℕ → CompilationUnitTree → Table → Verdict) → UnitKey → List ℕ → CompilationUnitTree → Table → Outcome
@@ -59,7 +59,7 @@ pub record IsAsGood (b : Bounds) (i : UnitInterface) (tree : UnitTree) (views al
 pub record AreBounds (units : Table → List UnitKey) (names : Table → List (List ℕ)) (h : Header) (unit : UnitKey) (text : List ℕ) (log : Log) (b : Bounds) : Type 0 where
   pub answered : HoldsBy log (λ t. b ≡ bounds_of unit text (units t) (names t))
   pub own : b.unit ≡ unit
-  pub told : AreWordsOrTold (words_of text) log b.names
+  pub names_answered : AreWordsOrTold (words_of text) log b.names
   pub asks : AsksOf (named_by h) by_property [] log
   pub others : AsksOthers unit log
   pub known : AreKnown (known_after (named_by h) log) b.known

@@ -42,11 +42,11 @@ fn names_of<F: UnitFinder, A: Answers>(
     ensures answered { IfOk result (λ names. FromAnswers recorder.old.log recorder.new.log (λ t. names ≡ insert_all bytes_eq (words_of text.now) (F.names unit.now (header_model header.now) t))) }
     ensures asks { OnOk result (AsksOf (named_by (header_model header.now)) by_property recorder.old.log recorder.new.log) }
     ensures others { OnOk result (AsksOthers unit.now recorder.old.log → AsksOthers unit.now recorder.new.log) }
-    ensures told { IfOk result (λ names. AreWordsOrTold (words_of text.now) recorder.new.log names) }
+    ensures names_answered { IfOk result (λ names. AreWordsOrTold (words_of text.now) recorder.new.log names) }
 {
-    let told = finder.names_known(alloc, unit, header, recorder)?;
+    let names_answered = finder.names_known(alloc, unit, header, recorder)?;
     let words = words_of(alloc, text)?;
-    let names = with_names(alloc, words, told.as_slice())?;
+    let names = with_names(alloc, words, names_answered.as_slice())?;
     Ok(names)
 }
 

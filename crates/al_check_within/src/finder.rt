@@ -5,7 +5,7 @@ ghost use Rattle.al_unit_graph.specs.Views.{header_model};
 ghost use Rattle.al_query.specs.Asked.{AsksOf, by_property};
 ghost use Rattle.al_query.specs.Known.{AreKnown, known_after};
 ghost use Rattle.al_query.specs.Reads.{Agrees, HoldsBy, FromAnswers};
-ghost use Rattle.al_query.specs.Told.{AreTold};
+ghost use Rattle.al_query.specs.AnsweredNames.{AreTold};
 ghost use Rattle.al_query_outcome.specs.ReadsLaw.{AsksOthers, named_by};
 ghost use Rattle.al_unit_header.specs.Units as headers;
 ghost use Rattle.al_check_within.specs.Verdicts.{IsTold, NamesWithin, verdict_of};
@@ -57,7 +57,7 @@ pub trait UnitFinder {
     /// The names that may be asked for beside the words of the text.
     /// - `asked`, `asks`, `others`: as of the units.
     /// - `answered`: under every table that agrees with the log these are the names.
-    /// - `told`: so an answer has told each of these names then.
+    /// - `answered`: so an answer has told each of these names then.
     fn names_known<A: Answers>(
         &self,
         alloc: Global,
@@ -69,7 +69,7 @@ pub trait UnitFinder {
         ensures answered { IfOk result (λ known. FromAnswers recorder.old.log recorder.new.log (λ t. known.items ≡ names unit.now (header_model header.now) t)) }
         ensures asks { OnOk result (AsksOf (named_by (header_model header.now)) by_property recorder.old.log recorder.new.log) }
         ensures others { OnOk result (AsksOthers unit.now recorder.old.log → AsksOthers unit.now recorder.new.log) }
-        ensures told { IfOk result (λ known. AreTold recorder.new.log known.items) };
+        ensures names_answered { IfOk result (λ known. AreTold recorder.new.log known.items) };
 
     /// What is found in the text of a unit, which is read as this tree, with what was asked for it.
     /// - `agrees`: who is asked gives the recorded answers.

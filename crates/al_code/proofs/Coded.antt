@@ -200,10 +200,10 @@ piece_coded above (TextPiece bytes) = whole
 piece_coded above (IntegerImage value) = whole
 piece_coded above (EnumerationImage value names) = whole
 
-put_solid : (depth : ℕ) (ends_line : Bool) (pieces : List PieceTree) → (ends_line || is_some_of pieces) ≡ solid (emit_code depth pieces ends_line)
-put_solid depth true pieces = let c : Coded (emit_code depth pieces true) = first _ (last _ whole) in sym c.is
-put_solid depth false [] = refl
-put_solid depth false (p ∷ ps) = let c : Coded (emit_code depth (p ∷ ps) false) = first _ (first _ (last _ (first _ (piece_coded _ p)))) in sym c.is
+emit_solid : (depth : ℕ) (ends_line : Bool) (pieces : List PieceTree) → (ends_line || is_some_of pieces) ≡ solid (emit_code depth pieces ends_line)
+emit_solid depth true pieces = let c : Coded (emit_code depth pieces true) = first _ (last _ whole) in sym c.is
+emit_solid depth false [] = refl
+emit_solid depth false (p ∷ ps) = let c : Coded (emit_code depth (p ∷ ps) false) = first _ (first _ (last _ (first _ (piece_coded _ p)))) in sym c.is
 
 routine_coded : (c : Callee) (words : ℕ) → Coded (routine_code c words)
 routine_coded (callee.Subprogram symbol depth) words = record { is = refl }
@@ -238,7 +238,7 @@ mutual
   form_solid r line NullStatement = refl
   form_solid r line (AssignmentStatement target words value) = let c : Coded (statement_form_code r line (AssignmentStatement target words value)) = last _ whole in sym c.is
   form_solid r line (CallStatement call) = let c : Coded (call_code r.depth call) = call_coded r.depth call in sym c.is
-  form_solid r line (PutStatement pieces ends_line) = put_solid r.depth ends_line pieces
+  form_solid r line (PutStatement pieces ends_line) = emit_solid r.depth ends_line pieces
   form_solid r line (ReturnStatement value words) = let c : Coded (return_code r value words) = return_coded r value words in sym c.is
   form_solid r line (ExitStatement loops condition) = let c : Coded (leave_code r.depth loops condition) = leave_coded r.depth loops condition in sym c.is
   form_solid r line (DelayStatement moment) = let c : Coded (statement_form_code r line (DelayStatement moment)) = last _ whole in sym c.is

@@ -63,8 +63,8 @@ here c = record { is = c }
 in_front : {p : List Piece} {x : LinkSymbol} (q : List Piece) → Stands p x → Stands (p ++ q) x
 in_front {p = p} {x = x} q s = record { is = subst (λ (l : List LinkSymbol). Contains l x) (sym (flat_map-append stood_by p q)) (Contains-append_left (stood p) (stood q) x s.is) }
 
-behind : {q : List Piece} {x : LinkSymbol} (p : List Piece) → Stands q x → Stands (p ++ q) x
-behind {q = q} {x = x} p s = record { is = subst (λ (l : List LinkSymbol). Contains l x) (sym (flat_map-append stood_by p q)) (Contains-append_right (stood p) (stood q) x s.is) }
+after : {q : List Piece} {x : LinkSymbol} (p : List Piece) → Stands q x → Stands (p ++ q) x
+after {q = q} {x = x} p s = record { is = subst (λ (l : List LinkSymbol). Contains l x) (sym (flat_map-append stood_by p q)) (Contains-append_right (stood p) (stood q) x s.is) }
 
 -- ---- bodies
 
@@ -107,7 +107,7 @@ module _ (b : BodyTree) where
       let body_begins : List Piece = Begins (link EntryBody b.symbol) ∷ [] in
       elim (Contains-append_cases (link Gate b.symbol ∷ []) (link EntryBody b.symbol ∷ []) x c) as (λ _. Stands (entry_code b object barrier) x) [
         | inl g ↦ in_front (of_size sized.Return 0) (in_front inside (in_front mark (in_front body_begins (in_front gate (in_front mark (here g))))))
-        | inr e ↦ in_front (of_size sized.Return 0) (in_front inside (in_front mark (behind (gate_begins ++ mark ++ gate) (here e))))
+        | inr e ↦ in_front (of_size sized.Return 0) (in_front inside (in_front mark (after (gate_begins ++ mark ++ gate) (here e))))
       ]
 
   kind_stands : (k : BodyKind) (x : LinkSymbol) → Contains (body_defines b.symbol k) x → Stands (kind_code b k) x
@@ -123,12 +123,12 @@ bodies_stand [] x c = absurd (nowhere x c)
 bodies_stand (b ∷ bs) x c =
     elim (Contains-append_cases (body_defines b.symbol b.kind) (flat_map (λ (a : BodyTree). body_defines a.symbol a.kind) bs) x c) as (λ _. Stands (body_code b ++ flat_map body_code bs) x) [
       | inl own ↦ in_front (flat_map body_code bs) (kind_stands b b.kind x own)
-      | inr more ↦ behind (body_code b) (bodies_stand bs x more)
+      | inr more ↦ after (body_code b) (bodies_stand bs x more)
     ]
 
 unit_stands : (u : UnitTree) (x : LinkSymbol) → Contains (flat_map (λ b. body_defines b.symbol b.kind) u.bodies) x → Stands (unit_code u) x
 unfolding unit_code
-unit_stands u x c = behind (option_map_or elaboration_code u.elaboration []) (bodies_stand u.bodies x c)
+unit_stands u x c = after (option_map_or elaboration_code u.elaboration []) (bodies_stand u.bodies x c)
 
 -- ---- data
 

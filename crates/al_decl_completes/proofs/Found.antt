@@ -6,7 +6,7 @@ use Rattle.std.proofs.lemmas.Bool.{false_from_ne_true}
 use Rattle.al_base.specs.declared.place.Place.{Place}
 use Rattle.al_base_fault.specs.declared.check_rule.CheckRule.TheVariants.{NotConformant}
 use Rattle.al_decl_completion.specs.Completing.{Completes, IsFirst}
-use Rattle.al_decl_completion.specs.Standing.{lone_body_fault}
+use Rattle.al_decl_completion.specs.LoneBodies.{lone_body_fault}
 use Rattle.al_decl_completion.specs.declared.specification.BodyHead.TheVariants as head
 use Rattle.al_decl_completion.specs.declared.specification.Specification.{Specification}
 use Rattle.al_decl_judged.specs.declared.names.DefiningName.{DefiningName}

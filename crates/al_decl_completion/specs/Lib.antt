@@ -1,4 +1,4 @@
 pub mod Uncompleted
 pub mod Completing
 pub mod Conformance
-pub mod Standing
+pub mod LoneBodies

@@ -3,7 +3,7 @@ ghost use Rattle.std.specs.Prelude.{◌≡◌, Some};
 ghost use Rattle.std.specs.List.{list_any};
 ghost use Rattle.std.specs.Str.{bytes_eq};
 ghost use Rattle.al_base_fault.specs.Faults.{fault_at};
-ghost use Rattle.al_decl_completion.specs.Standing.{dotted_name_fault, is_in, lone_body_fault, mode_fault, stub_fault};
+ghost use Rattle.al_decl_completion.specs.LoneBodies.{dotted_name_fault, is_in, lone_body_fault, mode_fault, stub_fault};
 
 use al_base::{Name, Place};
 use al_base_fault::{CheckRule, Fault};

@@ -9,7 +9,7 @@ use Rattle.al_query.specs.declared.answer.AnswerKind.{AnswerKind}
 use Rattle.al_base_fault.specs.Faults.{earlier}
 use Rattle.al_base_fault.specs.declared.fault.Fault.{Fault}
 use Rattle.al_scope.specs.Places.{Place, in_last, with_begun, with_declared}
-use Rattle.al_scope.specs.Visible.{here}
+use Rattle.al_scope.specs.Visible.{innermost}
 use Rattle.al_scope.specs.declared.region.Region.{Region}
 use Rattle.al_decl_type.specs.declared.declaration.Declaration.{Declaration}
 use Rattle.al_decl_judged.specs.DefiningNames.{duplicate_at}
@@ -32,7 +32,7 @@ begun place names = fold begun_one place names
 
 -- the innermost region has a homograph of that view under a name
 abbrev pub has_homograph : (Query → AnswerKind) → Place → List ℕ → ViewKind → Bool
-has_homograph t place name view = list_any (homographs view) (here t place.mentioned name place.regions)
+has_homograph t place name view = list_any (homographs view) (innermost t place.mentioned name place.regions)
 
 abbrev pub duplicate : (Query → AnswerKind) → Place → ViewKind → DefiningName → Option Fault
 duplicate t place view n = if has_homograph t place n.name view then Some (duplicate_at n) else None
@@ -43,7 +43,7 @@ duplicates t place view names = fold (λ (found : Option Fault) (n : DefiningNam
 
 -- the innermost region has a declaration of that name that may not be overloaded
 abbrev pub has_fixed : (Query → AnswerKind) → Place → List ℕ → Bool
-has_fixed t place name = list_any (λ (v : ViewKind). not (may_be_overloaded v)) (here t place.mentioned name place.regions)
+has_fixed t place name = list_any (λ (v : ViewKind). not (may_be_overloaded v)) (innermost t place.mentioned name place.regions)
 
 -- of a name that may be overloaded, and whose types nothing else there has: a literal of a type that is being declared
 abbrev pub overloaded_duplicate : (Query → AnswerKind) → Place → DefiningName → Option Fault

@@ -13,7 +13,7 @@ use Rattle.al_view.specs.declared.view.ViewKind.TheVariants.{OfSubprogram}
 use Rattle.al_query.specs.declared.answer.Completion.{Completion}
 use Rattle.al_decl_completion.specs.Completing.{Completes, IsFirst}
 use Rattle.al_decl_completion.specs.Conformance.{Conforms}
-use Rattle.al_decl_completion.specs.Standing.{lone_body_fault}
+use Rattle.al_decl_completion.specs.LoneBodies.{lone_body_fault}
 use Rattle.al_decl_completion.specs.declared.specification.BodyHead.{BodyHead}
 use Rattle.al_decl_completion.specs.declared.specification.BodyHead.TheVariants as head
 use Rattle.al_decl_completion.specs.declared.specification.Specification.{Specification}

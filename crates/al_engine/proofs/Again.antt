@@ -146,7 +146,7 @@ module _ (meaning : TextMeaning) (header : List ℕ → Header) (predefined : Qu
     files_are = refl;
     main_is = refl;
     rebuilt = settled-again cache.store b checked none is;
-    kept = record { reached = is.reached; ready = ready; compared = within-again cache.store b checked none is };
+    remembered = record { reached = is.reached; ready = ready; compared = within-again cache.store b checked none is };
     patched = stays-patched (linked_in b.gave.compiled);
     counted = raised-none (count cache.checker) bound ∙ ap (λ (us : List UnitKey). raised (count cache.checker) (length us)) (sym none);
   }
@@ -160,28 +160,28 @@ module _ (meaning : TextMeaning) (header : List ℕ → Header) (predefined : Qu
       (build-at count cache pre b checked none is ready bound))
 
 -- the last build is made once more with no unit checked
-module _ (meaning : TextMeaning) (header : List ℕ → Header) (library : Texts → Library) {X : Type 0} (kept : X → Texts × UnitGraph) (files_of : X → Texts) (main_of : X → List ℕ) (gave : Rebuilt) (checked : List UnitKey) (none : checked ≡ []) (files : Texts) (is_edited : Bool) where
+module _ (meaning : TextMeaning) (header : List ℕ → Header) (library : Texts → Library) {X : Type 0} (remembered : X → Texts × UnitGraph) (files_of : X → Texts) (main_of : X → List ℕ) (gave : Rebuilt) (checked : List UnitKey) (none : checked ≡ []) (files : Texts) (is_edited : Bool) where
   abbrev pub built_of : Rebuilt → Option X → Option Built
   built_of g last = option_map (λ x. record { files = files_of x; main = main_of x; gave = g }) last
 
-  pub right-again : (last : Option X) (predefined : Query → AnswerKind) (store : Entries) → IsRight meaning header predefined library files store is_edited (option_map kept last) (built_of gave last) gave.compiled
-      → IsRight meaning header predefined library files store is_edited (option_map kept last) (built_of (gave_again gave checked) last) gave.compiled
+  pub right-again : (last : Option X) (predefined : Query → AnswerKind) (store : Entries) → IsRight meaning header predefined library files store is_edited (option_map remembered last) (built_of gave last) gave.compiled
+      → IsRight meaning header predefined library files store is_edited (option_map remembered last) (built_of (gave_again gave checked) last) gave.compiled
   right-again None predefined store right = right
   right-again (Some x) predefined store right =
-      right-some meaning header predefined library files store is_edited (Some (kept x)) (record { files = files_of x; main = main_of x; gave = gave }) checked none right
+      right-some meaning header predefined library files store is_edited (Some (remembered x)) (record { files = files_of x; main = main_of x; gave = gave }) checked none right
 
   module _ {C P : Type 0} (count : C → ℕ) (table : P → Query → AnswerKind) (cache : Kept C) (pre : P) (bound : count cache.checker < 2 ^ 64) (main : List ℕ) where
     abbrev pub held : Rebuilt → Option X → Held C P
     held g last = record { cache = cache; predefined = pre; files = files; built = built_of g last }
 
-    of-held : (last : Option X) → IsRight meaning header (table pre) library files cache.store is_edited (option_map kept last) (built_of gave last) gave.compiled → IsOfNow files main (built_of gave last)
+    of-held : (last : Option X) → IsRight meaning header (table pre) library files cache.store is_edited (option_map remembered last) (built_of gave last) gave.compiled → IsOfNow files main (built_of gave last)
         → IsBuild meaning header count (table pre) library main (held gave last) (held (gave_again gave checked) last)
     of-held None right of-now = absurd of-now
     of-held (Some x) right of-now =
         build-some meaning header (table pre) library count cache pre files main (record { files = files_of x; main = main_of x; gave = gave }) checked none right.settled right.ready bound of-now
 
     pub build-again : (last : Option X) (old : Held C P) → held gave last ≡ old
-        → IsRight meaning header (table pre) library files cache.store is_edited (option_map kept last) (built_of gave last) gave.compiled → IsOfNow old.files main old.built
+        → IsRight meaning header (table pre) library files cache.store is_edited (option_map remembered last) (built_of gave last) gave.compiled → IsOfNow old.files main old.built
         → IsBuild meaning header count (table old.predefined) library main old (held (gave_again gave checked) last)
     build-again last old view right of-now =
         subst (λ (h : Held C P). IsBuild meaning header count (table h.predefined) library main h (held (gave_again gave checked) last)) view

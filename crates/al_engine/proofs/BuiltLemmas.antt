@@ -47,16 +47,16 @@ module _ (meaning : TextMeaning) (header : List ℕ → Header) (library : Texts
     first = λ e. absurd (cc);
   }
 
-  module _ {X : Type 0} (kept : X → Texts × UnitGraph) (files_of : X → Texts) (main_of : X → List ℕ) where
+  module _ {X : Type 0} (remembered : X → Texts × UnitGraph) (files_of : X → Texts) (main_of : X → List ℕ) where
     abbrev pub built_of : Rebuilt → Option X → Option Built
     built_of g last = option_map (λ x. record { files = files_of x; main = main_of x; gave = g }) last
 
     pub right-refused : (pre : Query → AnswerKind) (old new : Entries) → SameStates old new → (before now : Rebuilt) → now ≡ before → (files : Texts) (is_edited : Bool) (last : Option X)
-        → IsRight meaning header pre library files old is_edited (option_map kept last) (built_of before last) before.compiled
-        → IsRight meaning header pre library files new is_edited (option_map kept last) (built_of now last) now.compiled
+        → IsRight meaning header pre library files old is_edited (option_map remembered last) (built_of before last) before.compiled
+        → IsRight meaning header pre library files new is_edited (option_map remembered last) (built_of now last) now.compiled
     right-refused pre old new same before now e files is_edited last right =
-        subst (λ (g : Rebuilt). IsRight meaning header pre library files new is_edited (option_map kept last) (built_of g last) g.compiled) (sym e)
-        (right-same meaning header pre library old new same files is_edited (option_map kept last) (built_of before last) before.compiled right)
+        subst (λ (g : Rebuilt). IsRight meaning header pre library files new is_edited (option_map remembered last) (built_of g last) g.compiled) (sym e)
+        (right-same meaning header pre library old new same files is_edited (option_map remembered last) (built_of before last) before.compiled right)
 
     -- before the first build there is no image
     linked-is : (gave : Rebuilt) (last : Option X) → (built_of gave last ≡ None → linked_in gave.compiled ≡ None) → linked_last (built_of gave last) ≡ linked_in gave.compiled
@@ -81,7 +81,7 @@ module _ (meaning : TextMeaning) (header : List ℕ → Header) (library : Texts
             files_are = f ∙ r;
             main_is = m;
             rebuilt = made.0;
-            kept = made.1;
+            remembered = made.1;
             patched = subst (λ (l : Option LinkedImage). IsPatched l (linked_in b.gave.compiled) b.gave.patched) (sym (linked-is gave last first)) patched;
             counted = counted;
           } in

@@ -184,9 +184,9 @@ one-edited lib entries graph files edits file e are is = record {
   holds = λ w t c. elim (Contains-append_cases files (file ∷ []) (file_name_of (key_of w)) c) as (λ _. has_unit (units_of (edits ++ e ∷ [])) w ≡ true) [
     | inl h ↦ widened w (are.holds w t h)
     | inr h ↦ elim (first_or_later file [] (file_name_of (key_of w)) h) as (λ _. has_unit (units_of (edits ++ e ∷ [])) w ≡ true) [
-        | inl k ↦ subst (λ (x : UnitKey). has_unit (units_of (edits ++ e ∷ [])) x ≡ true) (is.0 w t (sym k)) last
-        | inr k ↦ absurd (nowhere (file_name_of (key_of w)) k)
-      ]
+      | inl k ↦ subst (λ (x : UnitKey). has_unit (units_of (edits ++ e ∷ [])) x ≡ true) (is.0 w t (sym k)) last
+      | inr k ↦ absurd (nowhere (file_name_of (key_of w)) k)
+    ]
   ];
   each = λ d c. elim (Contains-append_cases edits (e ∷ []) d c) as (λ _. IsEntered lib entries graph d) [
     | inl h ↦ are.each d h

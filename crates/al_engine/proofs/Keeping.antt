@@ -83,9 +83,9 @@ some-is None P p = tt
 some-is (Some x) P p = p
 
 -- the partition is that of this main unit, where the order of before is known for it
-pub kept-for : {X Y U : Type 0} (known : Option Y) (unit : Option U) (same : Option X) (main_of : X → List ℕ) (main : List ℕ) (K : List ℕ → Type 0)
+pub partition-for : {X Y U : Type 0} (known : Option Y) (unit : Option U) (same : Option X) (main_of : X → List ℕ) (main : List ℕ) (K : List ℕ → Type 0)
     → IfSome known (λ _. MatchOption same ⊥ (λ b. main_of b ≡ main)) → IfSome unit (λ _. IfSome same (λ b. K (main_of b))) → IfSome known (λ _. IfSome unit (λ _. K main))
-kept-for None unit same main_of main K is has = tt
-kept-for (Some k) None same main_of main K is has = tt
-kept-for (Some k) (Some u) None main_of main K is has = absurd is
-kept-for (Some k) (Some u) (Some b) main_of main K is has = subst K is has
+partition-for None unit same main_of main K is has = tt
+partition-for (Some k) None same main_of main K is has = tt
+partition-for (Some k) (Some u) None main_of main K is has = absurd is
+partition-for (Some k) (Some u) (Some b) main_of main K is has = subst K is has

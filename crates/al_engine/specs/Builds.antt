@@ -19,7 +19,7 @@ pub record IsBuild {C P : Type 0} (meaning : TextMeaning) (header : List ℕ →
   pub main_is : last.main ≡ main
   pub rebuilt : IsRebuilt meaning header predefined (library old.files) main (settled_at old.cache.store) (settled_at new.cache.store) last.gave
   -- what is kept of the units: which it reached, and how many stored answers it compared
-  pub kept : IsKept predefined (library old.files) old.cache.store new.cache.store rebuilt.made last.gave
+  pub remembered : IsKept predefined (library old.files) old.cache.store new.cache.store rebuilt.made last.gave
   -- so many units of its image were written into that of the build before
   pub patched : IsPatched (linked_last old.built) (linked_in last.gave.compiled) last.gave.patched
   pub counted : count new.cache.checker ≡ raised (count old.cache.checker) (length last.gave.checked)

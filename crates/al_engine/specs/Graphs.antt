@@ -16,4 +16,4 @@ IsOrdered lib main compiled = (order : List UnitKey) → order_of compiled ≡ S
 
 -- the graph that is kept is that of the files of the last build
 abbrev pub KeepsGraph : (Texts → Library) → Option (Texts × UnitGraph) → Type 0
-KeepsGraph library kept = IfSome kept (λ k. IsGraphOf (library k.0) k.1)
+KeepsGraph library remembered = IfSome remembered (λ k. IsGraphOf (library k.0) k.1)

@@ -135,7 +135,7 @@ pub(crate) fn edited_now<R: ReadFiles, C: UnitCheck, P: Answers>(
     requires texts { IfSome same (λ b. HaveTextsBut (R.library (R.files b.now.read)) (R.library (R.files read.now)) edited.now) }
     ensures renewable { IfOk result (λ found. IfSome found (λ edits. AreEdits C.meaning C.Text.header (P.table predefined.now) (R.library (R.files read.now)) cache.now.store edits.items)) }
     ensures clean { IfOk result (λ found. IfSome found (λ edits. IsCleanBut (R.library (R.files read.now)) (settled_at cache.now.store) (units_of edits.items))) }
-    ensures kept { IfOk result (λ found. IfSome found (λ _. IfSome same.entry (λ b. KeepsPartition (R.library (R.files read.now)) (results_of (settled_at cache.now.store)) b.now.main gave.now.compiled))) }
+    ensures partition { IfOk result (λ found. IfSome found (λ _. IfSome same.entry (λ b. KeepsPartition (R.library (R.files read.now)) (results_of (settled_at cache.now.store)) b.now.main gave.now.compiled))) }
 {
     order_is_for_builds();
     graphs_go_by_headers();

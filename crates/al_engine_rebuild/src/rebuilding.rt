@@ -106,7 +106,11 @@ fn renewed_units(edited: &Option<Vec<EditedUnit>>, is_renewal: bool) -> Option<&
     ensures { IfSome result (λ edits. IsTrue is_renewal × MatchOption edited.now ⊥ (λ e. e.items ≡ edits.now)) }
 {
     match edited {
-        Some(edits) => if is_renewal { Some(edits.as_slice()) } else { None },
+        Some(edits) => if is_renewal {
+            Some(edits.as_slice())
+        } else {
+            None
+        },
         None => None,
     }
 }
@@ -115,9 +119,7 @@ fn renewed_units(edited: &Option<Vec<EditedUnit>>, is_renewal: bool) -> Option<&
 fn are_sound(entries: &KeptEntries, edits: &[EditedUnit]) -> bool
     ensures { result ≡ list_all (λ e. is_sound (results_of (now_at entries.now) e.unit)) edits.now }
 {
-    edits
-        .iter()
-        .all(|edited| has_sound(entries, &edited.unit))
+    edits.iter().all(|edited| has_sound(entries, &edited.unit))
 }
 
 /// Whether some units alone have other entries than before, and these are without faults.
@@ -157,7 +159,7 @@ fn renewed_plan(
     requires coded { AreCoded (now_at entries.now) }
     requires clean { findings_of sources.now (results_of (now_at entries.now)) ≡ [] }
     requires others { IfSome unit (λ u. (w : UnitKey) → same_unit u.now w ≡ false → now_at entries.now w ≡ settled_at entries.now w) }
-    requires kept { IfSome known (λ _. IfSome unit (λ _. KeepsPartition sources.now (results_of (settled_at entries.now)) main.now before.now)) }
+    requires partition { IfSome known (λ _. IfSome unit (λ _. KeepsPartition sources.now (results_of (settled_at entries.now)) main.now before.now)) }
     ensures { IfOk result (λ found. IfSome found (IsPlanned sources.now (results_of (now_at entries.now)) main.now before.now)) }
 {
     let Some(_order) = known else {
@@ -186,7 +188,7 @@ fn plan_now(
     requires known { IfSome known (λ order. IsElaboration sources.now main.now (map key_of order.now)) }
     requires clean { MatchOption edits ⊥ (λ e. (u : UnitKey) → has_unit (units_of e.now) u ≡ true → is_sound (results_of (now_at entries.now) u) ≡ true) → findings_of sources.now (results_of (now_at entries.now)) ≡ [] }
     requires others { IfSome edits (λ e. (w : UnitKey) → has_unit (units_of e.now) w ≡ false → now_at entries.now w ≡ settled_at entries.now w) }
-    requires kept { IfSome known (λ _. IfSome edits (λ _. KeepsPartition sources.now (results_of (settled_at entries.now)) main.now before.now)) }
+    requires partition { IfSome known (λ _. IfSome edits (λ _. KeepsPartition sources.now (results_of (settled_at entries.now)) main.now before.now)) }
     ensures { IfOk result (IsPlanned sources.now (results_of (now_at entries.now)) main.now before.now) }
 {
     let clean = is_clean(entries, edits);
@@ -232,7 +234,7 @@ pub fn prepare<C: UnitCheck, P: Answers>(
     requires ready { AreReady (P.table predefined.now) cache.old.store }
     requires edited { IfSome edited.now (λ edits. AreEdits C.meaning C.Text.header (P.table predefined.now) sources.now cache.old.store edits.items) }
     requires clean { IfSome edited.now (λ edits. IsCleanBut sources.now (settled_at cache.old.store) (units_of edits.items)) }
-    requires kept { IfSome known (λ _. IfSome edited.now (λ _. KeepsPartition sources.now (results_of (settled_at cache.old.store)) main.now before.now)) }
+    requires partition { IfSome known (λ _. IfSome edited.now (λ _. KeepsPartition sources.now (results_of (settled_at cache.old.store)) main.now before.now)) }
     ensures prepared { IfOk result (λ p. IsPrepared C.meaning C.Text.header (P.table predefined.now) sources.now main.now before.now cache.old.store p.planned cache.new.store p.checked.items p.compared) }
     ensures counted { IfOk result (λ p. C.count cache.new.checker ≡ raised (C.count cache.old.checker) (length p.checked.items)) }
     ensures left { IsLeft cache.old.store cache.new.store }

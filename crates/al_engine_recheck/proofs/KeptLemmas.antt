@@ -12,7 +12,7 @@ use Rattle.al_engine_keep.specs.Moves.{Entries, left_by_last}
 use Rattle.al_engine_keep.specs.Staying.{is_there, or_else, staying}
 use Rattle.al_engine_recheck.specs.Rechecks.{will_be}
 use Rattle.al_engine_recheck.specs.UnitCache.{Kept}
-use Rattle.al_engine_recheck.proofs.ReadyLemmas.{entry-kept}
+use Rattle.al_engine_recheck.proofs.ReadyLemmas.{entry-held}
 
 -- what is so isn't otherwise
 pub clash : (b : Bool) → b ≡ true → not b ≡ true → ⊥
@@ -20,7 +20,7 @@ clash true is other = absurd (cc)
 clash false is other = absurd (cc)
 
 pub settled-is : (old new : Entries) → ((u : UnitKey) → state new u ≡ kept_state (settled_state (state old u))) → (u : UnitKey) → settled_at new u ≡ will_be old u
-settled-is old new ends u = ap (λ (s : State Stored). entry_of s.settled) (ends u) ∙ entry-kept (settled_state (state old u)).settled
+settled-is old new ends u = ap (λ (s : State Stored). entry_of s.settled) (ends u) ∙ entry-held (settled_state (state old u)).settled
 
 entry-base : (o : Option (Held Stored)) → entry_of (option_map base o) ≡ entry_of o
 entry-base None = refl

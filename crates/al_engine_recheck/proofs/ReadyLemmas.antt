@@ -39,9 +39,9 @@ quiet-end s = by s.leaves
     by true = refl
     by false = ap with_settled (sym (based_kept (or_settled s.made s.settled)))
 
-pub entry-kept : (o : Option (Held Stored)) → entry_of (option_map kept o) ≡ entry_of o
-entry-kept None = refl
-entry-kept (Some h) = refl
+pub entry-held : (o : Option (Held Stored)) → entry_of (option_map kept o) ≡ entry_of o
+entry-held None = refl
+entry-held (Some h) = refl
 
 first-settled : (m o : Option (Held Stored)) → entry_of (or_settled m o) ≡ first_of (entry_of m) (entry_of o)
 first-settled None o = refl
@@ -67,7 +67,7 @@ module _ (meaning : TextMeaning) (header : List ℕ → Header) (pre : Query →
       by true e = ap (λ (b : Bool). last_of (kept_state (settled_state (with_leaves s b)))) e ∙ sym (ap (λ (b : Bool). if b then first_of (entry_of s.made) (entry_of s.settled) else None) (unreached e))
       by false e =
           ap (λ (b : Bool). last_of (kept_state (settled_state (with_leaves s b)))) e
-          ∙ ap (λ (o : Option Stored). if s.is_reached then o else None) (entry-kept (or_settled s.made s.settled) ∙ first-settled s.made s.settled)
+          ∙ ap (λ (o : Option Stored). if s.is_reached then o else None) (entry-held (or_settled s.made s.settled) ∙ first-settled s.made s.settled)
 
   pub reached-now : (u : UnitKey) → before_at new u ≡ now_at mid u
   reached-now u = ap last_of (ended u) ∙ last-now (state mid u) (is.leaving.unreached u)

@@ -107,7 +107,7 @@ picks-one u (v ∷ us) once h = by (same_unit u v) refl h (λ k. picks-one u us 
         subst (λ (x : UnitKey). Picked (λ w. (same_unit w u || false) ≡ true) (x ∷ us) (u ∷ [])) one
         (taken (ap (λ (b : Bool). b || false) (same_unit-self u))
         (picks-none (λ w. (same_unit w u || false) ≡ true) us (λ w m n.
-            never w (turned-unit u w false (subst (λ (x : UnitKey). same_unit x w ≡ false) (sym one) (rest-apart v us once w m))) n)))
+        never w (turned-unit u w false (subst (λ (x : UnitKey). same_unit x w ≡ false) (sym one) (rest-apart v us once w m))) n)))
     by false e k later = left (λ n. never v (turned-unit u v false e) n) (later k)
 
 -- fewer than two edited units stand so in an order that has them

@@ -72,9 +72,7 @@ pub(crate) fn check_edited<C: UnitCheck, P: Answers>(
     let unit = &edited.unit;
     let was_sound = has_sound(entries, unit);
     let text = text_of(alloc, sources, unit)?;
-    check_anew(
-        alloc, checker, predefined, unit, text, entries, done,
-    )?;
+    check_anew(alloc, checker, predefined, unit, text, entries, done)?;
     Ok(is_unread(entries, edited, was_sound))
 }
 

@@ -94,14 +94,10 @@ fn walk<C: UnitCheck, P: Answers>(
 {
     let _edits = edits;
     for edited in row {
-        let is_unread = check_edited(
-            alloc, checker, predefined, sources, edited, entries, done,
-        )?;
+        let is_unread = check_edited(alloc, checker, predefined, sources, edited, entries, done)?;
         if !is_unread {
             let rest = units_after(order, &edited.unit);
-            refresh_rest(
-                alloc, checker, predefined, sources, rest, entries, done,
-            )?;
+            refresh_rest(alloc, checker, predefined, sources, rest, entries, done)?;
             return Ok(false);
         }
     }

@@ -21,13 +21,13 @@ use std::alloc::Global;
 
 /// What one unit answers now, and the predefined ones.
 #[derive(Drop)]
-struct Told<'a, P: Answers> {
+struct OneUnitAnswers<'a, P: Answers> {
     alloc: Global,
     predefined: &'a P,
     entry: Option<Entry>,
 }
 
-impl<P: Answers> Answers for Told<'_, P> {
+impl<P: Answers> Answers for OneUnitAnswers<'_, P> {
     ghost table = { λ t. present (P.table t.predefined.now) (λ u. option_map outcome_of t.entry) };
 
     fn ask(&self, query: &Query) -> Result<Answer, NoMemory> {
@@ -71,12 +71,12 @@ fn compare<P: Answers>(
     ensures base { (u : UnitKey) → base_state (state entries.new u) ≡ base_state (state entries.old u) }
 {
     let entry = shared(entries, unit)?;
-    let told = Told {
+    let answers = OneUnitAnswers {
         alloc,
         predefined,
         entry,
     };
-    let count = entries.mark(unit, &told)?;
+    let count = entries.mark(unit, &answers)?;
     *compared = raised_by(*compared, count);
     Ok(())
 }

@@ -21,6 +21,6 @@ without_return line = if unwrap_or (slice_get line (length line - 1)) 0 == 13 th
 abbrev pub first_line : List ℕ → List ℕ
 first_line text = without_return (take (end_of text) text)
 
--- the line of a number, from 1, without its end; empty behind the last one
+-- the line of a number, from 1, without its end; empty after the last one
 abbrev pub line_of : ℕ → List ℕ → List ℕ
 line_of number text = first_line (after_lines (number - 1) text)

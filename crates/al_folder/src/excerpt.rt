@@ -34,8 +34,8 @@ fn front_of(most: usize, bytes: &[u8]) -> &[u8]
     }
 }
 
-/// What is left behind so many bytes.
-fn behind(front: usize, line: &[u8]) -> &[u8]
+/// What is left after so many bytes.
+fn after(front: usize, line: &[u8]) -> &[u8]
     requires { front ≤ length line.now }
     ensures { result.now ≡ drop front line.now }
 {
@@ -61,7 +61,7 @@ fn emit_shown<K: Sink>(
     ensures faults { IsOk result → IsOk so_far × (K.faults writer.new ≡ K.faults writer.old) }
     ensures adds { Adds K.written K.faults K.waits writer.old writer.new so_far result (shown front line.now) }
 {
-    let rest = behind(front, line);
+    let rest = after(front, line);
     let so_far = emit(so_far, writer, where_left(front > 0, b"..."));
     let so_far = emit(so_far, writer, front_of(WIDTH, rest));
     emit(so_far, writer, where_left(rest.len() > WIDTH, b"..."))
@@ -103,7 +103,7 @@ fn emit_caret<K: Sink>(
     ensures faults { IsOk result → IsOk so_far × (K.faults writer.new ≡ K.faults writer.old) }
     ensures adds { Adds K.written K.faults K.waits writer.old writer.new so_far result (caret front place line.now) }
 {
-    let rest = behind(front, line);
+    let rest = after(front, line);
     let before = front_of(place.saturating_sub(front), rest);
     let so_far = emit(so_far, writer, where_left(front > 0, b"   "));
     let so_far = emit_blanks(so_far, writer, before);

@@ -61,7 +61,7 @@ fn first_line(text: &[u8]) -> &[u8]
     without_return(&text[..end_of(text)])
 }
 
-/// The line of a number, from 1, without its end; it is empty behind the last one.
+/// The line of a number, from 1, without its end; it is empty after the last one.
 pub fn line_at(number: u32, text: &[u8]) -> &[u8]
     ensures { result.now ≡ line_of number text.now }
 {

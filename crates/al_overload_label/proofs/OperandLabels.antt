@@ -17,7 +17,7 @@ more_from (suc k) l more = ap labels_after (more_from k l more)
 suc_positive : (k : ℕ) → (suc k == 0) ≡ false
 suc_positive k = grind (arith, nat_tests)
 
--- behind the first
+-- after the first
 nth_after : (k : ℕ) (l : Label) (more : Labels) → nth_label (suc k) (MoreLabels l more) ≡ nth_label k more
 nth_after k l more =
     let less : suc k - 1 ≡ k = omega arith in
@@ -35,6 +35,6 @@ operand_is_next k (NodeAs n root operands) = nth_is_next k operands
 pub next_is : (k : ℕ) (label : Label) (labels : Labels) (one : Option Label) → labels ≡ labels_from k (operand_labels label) → one ≡ next_label labels → one ≡ operand_label k label
 next_is k label labels one from is = is ∙ ap next_label from ∙ sym (operand_is_next k label)
 
--- and those behind it are from the next on
+-- and those after it are from the next on
 pub after_is : (k : ℕ) (ls labels new : Labels) → labels ≡ labels_from k ls → new ≡ labels_after labels → new ≡ labels_from (k + 1) ls
 after_is k ls labels new from is = is ∙ ap labels_after from ∙ ap (λ (j : ℕ). labels_from j ls) (sym (add-one k))

@@ -24,7 +24,7 @@ pub(crate) fn next_label(labels: &LabelledTerms) -> Option<&Labelled>
     }
 }
 
-/// Those of the operands behind it.
+/// Those of the operands after it.
 pub(crate) fn labels_after(labels: &LabelledTerms) -> &LabelledTerms
     ensures { labels_of result.now ≡ labels_after (labels_of labels.now) }
 {

@@ -1,5 +1,5 @@
 // Whether operands are of numbers alone (ARM 3.4.1(7)). Down a chain of operators what is found out of the whole is known of what stands at the left,
-// so that no link is gone through again for each that stands behind it.
+// so that no link is gone through again for each that stands after it.
 ghost use Rattle.std.specs.Prelude.{◌≡◌, ◌&&◌};
 ghost use Rattle.al_overload_heads.specs.Universal.{computes_two, is_universal};
 ghost use Rattle.al_overload_label.specs.Known.{IsKnown};

@@ -12,6 +12,6 @@ use Rattle.al_overload_put.specs.declared.text.Pieces.{Pieces}
 abbrev pub pieces_model : Pieces → Parts PieceTree
 pieces_model p = record { failure = p.failure; fault = p.fault; items = map piece_model p.items.items }
 
-abbrev pub performed_model : CallEffect → StatementFormTree
-performed_model (call_effect.Call call) = CallStatement (call_model call)
-performed_model (call_effect.Put pieces ends_line) = PutStatement (map piece_model pieces.items) ends_line
+abbrev pub call_effect_model : CallEffect → StatementFormTree
+call_effect_model (call_effect.Call call) = CallStatement (call_model call)
+call_effect_model (call_effect.Put pieces ends_line) = PutStatement (map piece_model pieces.items) ends_line

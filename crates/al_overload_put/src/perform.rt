@@ -5,7 +5,7 @@ ghost use Rattle.al_overload_choice.specs.Counts.{label_of};
 ghost use Rattle.al_base_fault.specs.Judging.{map_ok};
 ghost use Rattle.al_overload_term.specs.TermViews.{term_model};
 ghost use Rattle.al_overload_put.specs.Puts.{called, ends_line, call_effect, call_effect_by, call_effect_read, put_checked, visible_under};
-ghost use Rattle.al_overload_put.specs.Seen.{performed_model, pieces_model};
+ghost use Rattle.al_overload_put.specs.Seen.{call_effect_model, pieces_model};
 ghost use Rattle.al_view_typed.specs.ExpressionViews.{call_model};
 ghost use Rattle.al_view_typed.specs.StatementTrees.{StatementFormTree as forms};
 
@@ -86,7 +86,7 @@ fn ends_line(name: &[u8]) -> bool
 }
 
 fn put(name: &[u8], pieces: Pieces) -> CheckResult<CallEffect>
-    ensures { map_ok performed_model result ≡ put_checked name.now (pieces_model pieces) }
+    ensures { map_ok call_effect_model result ≡ put_checked name.now (pieces_model pieces) }
 {
     let Pieces {
         failure: _,
@@ -104,7 +104,7 @@ fn put(name: &[u8], pieces: Pieces) -> CheckResult<CallEffect>
 }
 
 fn call(call: CheckResult<TypedCall>) -> CheckResult<CallEffect>
-    ensures { map_ok performed_model result ≡ map_ok forms.CallStatement (map_ok call_model call) }
+    ensures { map_ok call_effect_model result ≡ map_ok forms.CallStatement (map_ok call_model call) }
 {
     match call {
         Ok(call) => Ok(CallEffect::Call(call)),
@@ -118,7 +118,7 @@ fn perform(
     label: &Labelled,
     subprogram: &SubprogramView,
 ) -> Result<CheckResult<CallEffect>, NoMemory>
-    ensures { IfOk result (λ call_effect. map_ok performed_model call_effect ≡ call_effect_by labeller.now.predefined labeller.now.own (term_model term.now) (label_of label.now) subprogram.now subprogram.now.call) }
+    ensures { IfOk result (λ call_effect. map_ok call_effect_model call_effect ≡ call_effect_by labeller.now.predefined labeller.now.own (term_model term.now) (label_of label.now) subprogram.now subprogram.now.call) }
 {
     match &subprogram.call {
         CallKind::Predefined => {
@@ -146,7 +146,7 @@ fn read_performed(
     term: &Term,
     label: &Labelled,
 ) -> Result<CheckResult<CallEffect>, NoMemory>
-    ensures { IfOk result (λ call_effect. map_ok performed_model call_effect ≡ call_effect_read labeller.now.predefined labeller.now.own (term_model term.now) (label_of label.now)) }
+    ensures { IfOk result (λ call_effect. map_ok call_effect_model call_effect ≡ call_effect_read labeller.now.predefined labeller.now.own (term_model term.now) (label_of label.now)) }
 {
     match called(&labeller.predefined.standard, term, label) {
         Some(subprogram) => perform(labeller, term, label, subprogram),
@@ -160,7 +160,7 @@ pub fn check_performed(
     labeller: &Labeller,
     term: &Term,
 ) -> Result<CheckResult<CallEffect>, NoMemory>
-    ensures { IfOk result (λ made. map_ok performed_model made ≡ call_effect labeller.now.predefined labeller.now.own (term_model term.now)) }
+    ensures { IfOk result (λ made. map_ok call_effect_model made ≡ call_effect labeller.now.predefined labeller.now.own (term_model term.now)) }
 {
     let context = Context::ProcedureCall;
     let (alloc, predefined) = (labeller.alloc, &labeller.predefined);

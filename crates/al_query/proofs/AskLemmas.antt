@@ -87,8 +87,8 @@ pub asks_of-both : (us vs : List UnitKey) (wanted : Log → Query → Bool) (old
 asks_of-both us vs wanted old mid new one two = asks_then (OfKnown (us ++ vs) wanted) old mid new (asks_of-left us vs wanted old mid one) (asks_of-right us vs wanted mid new two)
 
 -- more kinds of questions
-pub asks_of-wanted : (us : List UnitKey) (wanted wants : Log → Query → Bool) (old new : Log) → ((log : Log) (q : Query) → wanted log q ≡ true → wants log q ≡ true) → AsksOf us wanted old new → AsksOf us wants old new
-asks_of-wanted us wanted wants old new h = asks_wider (OfKnown us wanted) (OfKnown us wants) (λ log q m. (m.0, h log q m.1)) old new
+pub asks_of-wider : (us : List UnitKey) (wanted wants : Log → Query → Bool) (old new : Log) → ((log : Log) (q : Query) → wanted log q ≡ true → wants log q ≡ true) → AsksOf us wanted old new → AsksOf us wants old new
+asks_of-wider us wanted wants old new h = asks_wider (OfKnown us wanted) (OfKnown us wants) (λ log q m. (m.0, h log q m.1)) old new
 
 or-left : (b c : Bool) → b ≡ true → (b || c) ≡ true
 or-left true c h = refl

@@ -7,4 +7,4 @@ pub mod Queries
 pub mod QueryLaws
 pub mod Reads
 pub mod Recording
-pub mod Told
+pub mod AnsweredNames

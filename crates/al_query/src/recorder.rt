@@ -8,7 +8,7 @@ ghost use Rattle.al_query.specs.declared.answer.AnswerKind.{AnswerKind};
 ghost use Rattle.al_query.specs.Answers.{names_told};
 ghost use Rattle.al_query.specs.Known.{Learns};
 ghost use Rattle.al_query.specs.Reads.{Agrees, Agrees-prop, FromAnswers, logged, recorded};
-ghost use Rattle.al_query.specs.Told.{AreTold};
+ghost use Rattle.al_query.specs.AnsweredNames.{AreTold};
 
 use crate::answer::Answer;
 use crate::query::Query;

@@ -72,7 +72,7 @@ pub record IsToldStub (u : UnitKey) (h : Header) (i : UnitInterface) (stub : Stu
   pub inside : u.kind ≢ Decl
   pub named : Contains h.stubs stub.stub
   pub simple : is_simple stub.stub ≡ true
-  pub told : Contains (views_links (one_view (first_view (views_of (part_of i.parts (Stub stub.stub)) separate)))) (link Code stub.symbol)
+  pub answered : Contains (views_links (one_view (first_view (views_of (part_of i.parts (Stub stub.stub)) separate)))) (link Code stub.symbol)
 
 -- the text of the unit is that of its declaration: it is one, or a body where there is none (ARM 10.1.4(4))
 abbrev pub DeclaresItself : UnitKey → (Query → AnswerKind) → Type 0

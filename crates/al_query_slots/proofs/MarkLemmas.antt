@@ -86,7 +86,7 @@ module _ {E : Type 0} (log : E → List (Query × AnswerKind)) (t : Query → An
     -- a place that isn't of the unit
     pub other_marked : is_of u (answer_at log s r) ≡ false → IsMarked log t (λ p. is_of u (answer_at log s p) && same_place p r) s s
     other_marked out = record {
-      told = λ p e test at. absurd (never p (and_parts (is_of u (answer_at log s p)) (same_place p r) test));
+      answered = λ p e test at. absurd (never p (and_parts (is_of u (answer_at log s p)) (same_place p r) test));
       left = λ p test. refl;
     }
       where
@@ -98,15 +98,15 @@ module _ {E : Type 0} (log : E → List (Query × AnswerKind)) (t : Query → An
     -- an answer that has its mark already
     pub same_marked : (h : Held E) (d : Bool) → get s r.entry ≡ Some h → Differs t u (answer_in log (Some h) r.at) (Some d) → slice_get h.marks.now r.at ≡ Some d → IsMarked log t (λ p. is_of u (answer_at log s p) && same_place p r) s s
     same_marked h d there is mark = record {
-      told = λ p e test at. tells p e (and_parts (is_of u (answer_at log s p)) (same_place p r) test) at;
+      answered = λ p e test at. tells p e (and_parts (is_of u (answer_at log s p)) (same_place p r) test) at;
       left = λ p test. refl;
     }
       where
-        told : (e : Query × AnswerKind) → answer_at log s r ≡ Some e → (differs : Bool) × (mark_at s r ≡ Some differs) × Tells t e differs
-        told e at = (d, ap (λ (o : Option (Held E)). mark_in o r.at) there ∙ mark, is.1 e (sym (ap (λ (o : Option (Held E)). answer_in log o r.at) there) ∙ at))
+        answered : (e : Query × AnswerKind) → answer_at log s r ≡ Some e → (differs : Bool) × (mark_at s r ≡ Some differs) × Tells t e differs
+        answered e at = (d, ap (λ (o : Option (Held E)). mark_in o r.at) there ∙ mark, is.1 e (sym (ap (λ (o : Option (Held E)). answer_in log o r.at) there) ∙ at))
 
         tells : (p : Place) (e : Query × AnswerKind) → (is_of u (answer_at log s p) ≡ true) × (same_place p r ≡ true) → answer_at log s p ≡ Some e → (differs : Bool) × (mark_at s p ≡ Some differs) × Tells t e differs
-        tells p e parts at = subst (λ (x : Place). answer_at log s x ≡ Some e → (differs : Bool) × (mark_at s x ≡ Some differs) × Tells t e differs) (sym (place_one p r parts.1)) (told e) at
+        tells p e parts at = subst (λ (x : Place). answer_at log s x ≡ Some e → (differs : Bool) × (mark_at s x ≡ Some differs) × Tells t e differs) (sym (place_one p r parts.1)) (answered e) at
 
   module _ (s : Slab (Held E)) (h : Held E) (r : Place) (d : Bool) (sized : IsSized log s) (there : get s r.entry ≡ Some h) (is : Differs t u (answer_in log (Some h) r.at) (Some d)) where
     abbrev new : Slab (Held E)
@@ -128,8 +128,8 @@ module _ {E : Type 0} (log : E → List (Query × AnswerKind)) (t : Query → An
         let one : h ≡ g = cc in
         subst (λ (x : Held E). r.at < length x.marks.now) one room
 
-    told : (e : Query × AnswerKind) → answer_at log s r ≡ Some e → (differs : Bool) × (mark_at new r ≡ Some differs) × Tells t e differs
-    told e at = (d, ap (λ (o : Option (Held E)). mark_in o r.at) (get-written s r.entry h (with_mark h r.at d) there) ∙ get_same h.marks.now r.at d room, is.1 e (sym answer ∙ at))
+    answered : (e : Query × AnswerKind) → answer_at log s r ≡ Some e → (differs : Bool) × (mark_at new r ≡ Some differs) × Tells t e differs
+    answered e at = (d, ap (λ (o : Option (Held E)). mark_in o r.at) (get-written s r.entry h (with_mark h r.at d) there) ∙ get_same h.marks.now r.at d room, is.1 e (sym answer ∙ at))
 
     left : (p : Place) → (is_of u (answer_at log s p) && same_place p r) ≡ false → mark_at new p ≡ mark_at s p
     left p out = by (nat_eq p.entry r.entry) refl
@@ -153,12 +153,12 @@ module _ {E : Type 0} (log : E → List (Query × AnswerKind)) (t : Query → An
     -- an answer whose mark is set
     pub one_marked : IsMarked log t (λ p. is_of u (answer_at log s p) && same_place p r) s (with_value s r.entry (with_mark h r.at d))
     one_marked = record {
-      told = λ p e test at. tells p e (and_parts (is_of u (answer_at log s p)) (same_place p r) test) at;
+      answered = λ p e test at. tells p e (and_parts (is_of u (answer_at log s p)) (same_place p r) test) at;
       left = left;
     }
       where
         tells : (p : Place) (e : Query × AnswerKind) → (is_of u (answer_at log s p) ≡ true) × (same_place p r ≡ true) → answer_at log s p ≡ Some e → (differs : Bool) × (mark_at new p ≡ Some differs) × Tells t e differs
-        tells p e parts at = subst (λ (x : Place). answer_at log s x ≡ Some e → (differs : Bool) × (mark_at new x ≡ Some differs) × Tells t e differs) (sym (place_one p r parts.1)) (told e) at
+        tells p e parts at = subst (λ (x : Place). answer_at log s x ≡ Some e → (differs : Bool) × (mark_at new x ≡ Some differs) × Tells t e differs) (sym (place_one p r parts.1)) (answered e) at
 
   answers_same : (o k : Option (Held E)) (i : ℕ) → option_map base k ≡ option_map base o → answer_in log k i ≡ answer_in log o i
   answers_same None None i e = refl
@@ -191,14 +191,14 @@ module _ {E : Type 0} (log : E → List (Query × AnswerKind)) (t : Query → An
     -- some places, and then others
     both_marked : (one two all : Place → Bool) → IsMarked log t one old mid → IsMarked log t two mid new → ((p : Place) → all p ≡ (one p || two p)) → IsMarked log t all old new
     both_marked one two all first next both = record {
-      told = λ p e test at. told_by p e at (or_parts (one p) (two p) (sym (both p) ∙ test));
+      answered = λ p e test at. told_by p e at (or_parts (one p) (two p) (sym (both p) ∙ test));
       left = λ p test. let parts = or_neither (one p) (two p) (sym (both p) ∙ test) in next.left p parts.1 ∙ first.left p parts.0;
     }
       where
         told_by : (p : Place) (e : Query × AnswerKind) → answer_at log old p ≡ Some e → ((two p ≡ true) ⊎ ((two p ≡ false) × (one p ≡ true))) → (differs : Bool) × (mark_at new p ≡ Some differs) × Tells t e differs
-        told_by p e at (inl is) = next.told p e is (answer_kept p ∙ at)
+        told_by p e at (inl is) = next.answered p e is (answer_kept p ∙ at)
         told_by p e at (inr is) =
-            let f = first.told p e is.1 at in
+            let f = first.answered p e is.1 at in
             (f.0, next.left p is.0 ∙ f.1, f.2)
 
     -- one place more of a list
@@ -223,7 +223,7 @@ module _ {E : Type 0} (log : E → List (Query × AnswerKind)) (t : Query → An
   -- no place
   pub none_marked : (s : Slab (Held E)) → IsMarked log t (λ p. is_of u (answer_at log s p) && list_any (same_place p) []) s s
   none_marked s = record {
-    told = λ p e test at. absurd (true≢false (sym test ∙ and_no (is_of u (answer_at log s p))));
+    answered = λ p e test at. absurd (true≢false (sym test ∙ and_no (is_of u (answer_at log s p))));
     left = λ p test. refl;
   }
 
@@ -275,7 +275,7 @@ module _ {E : Type 0} (log : E → List (Query × AnswerKind)) where
 
     pub all_marked : (t : Query → AnswerKind) (after : Slab (Held E)) → IsMarked log t (λ p. is_of u (answer_at log slots p) && list_any (same_place p) places) slots after → IsMarked log t (λ p. is_of u (answer_at log slots p)) slots after
     all_marked t after m = record {
-      told = λ p e test at. m.told p e (yes p test) at;
+      answered = λ p e test at. m.answered p e (yes p test) at;
       left = λ p test. m.left p (out p test);
     }
       where

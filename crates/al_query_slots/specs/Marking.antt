@@ -50,7 +50,7 @@ module _ {E : Type 0} where
 
 -- of the places for which a test holds the marks of now say whether the answer differs from a table's; the others' are as before
 pub record IsMarked {E : Type 0} (log : E → List (Query × AnswerKind)) (t : Query → AnswerKind) (test : Place → Bool) (old new : Slab (Held E)) : Type 0 where
-  pub told : (p : Place) (e : Query × AnswerKind) → test p ≡ true → answer_at log old p ≡ Some e → (differs : Bool) × (mark_at new p ≡ Some differs) × Tells t e differs
+  pub answered : (p : Place) (e : Query × AnswerKind) → test p ≡ true → answer_at log old p ≡ Some e → (differs : Bool) × (mark_at new p ≡ Some differs) × Tells t e differs
   pub left : (p : Place) → test p ≡ false → mark_at new p ≡ mark_at old p
 
 -- each mark of a log says whether its answer differs from a table's

@@ -166,13 +166,13 @@ module _ {E : Type 0} where
       test : (i : ℕ) (e : Query × AnswerKind) (b : Bool) → slice_get (log h.entry) i ≡ Some e → same_unit (unit_of e.0) unit ≡ b → is_of unit (answer_at log s (place i)) ≡ b
       test i e b at is_ = ap (is_of unit) (answer i ∙ at) ∙ is_
 
-      told : (i : ℕ) (e : Query × AnswerKind) → slice_get (log h.entry) i ≡ Some e → same_unit (unit_of e.0) unit ≡ true → (differs : Bool) × (slice_get g.marks.now i ≡ Some differs) × Tells t e differs
-      told i e at of_it = let d = m.told (place i) e (test i e true at of_it) (answer i ∙ at) in (d.0, sym (mark i) ∙ d.1, d.2)
+      answered : (i : ℕ) (e : Query × AnswerKind) → slice_get (log h.entry) i ≡ Some e → same_unit (unit_of e.0) unit ≡ true → (differs : Bool) × (slice_get g.marks.now i ≡ Some differs) × Tells t e differs
+      answered i e at of_it = let d = m.answered (place i) e (test i e true at of_it) (answer i ∙ at) in (d.0, sym (mark i) ∙ d.1, d.2)
 
       pub compared-held : AreCompared t unit (log h.entry) h.marks.now g.marks.now
       compared-held = record {
         sized = (sized k g now).now ∙ ap (λ (x : Held E). length (log x.entry)) one;
-        told = told;
+        answered = answered;
         left = λ i e at out. sym (mark i) ∙ m.left (place i) (test i e false at out) ∙ before i;
       }
 

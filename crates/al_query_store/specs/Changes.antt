@@ -24,7 +24,7 @@ same_spot a b = same_unit a.unit b.unit && nat_eq a.at b.at
 -- before
 pub record AreCompared (t : Query → AnswerKind) (unit : UnitKey) (log : List (Query × AnswerKind)) (old new : List Bool) : Type 0 where
   pub sized : length new ≡ length log
-  pub told : (i : ℕ) (e : Query × AnswerKind) → slice_get log i ≡ Some e → same_unit (unit_of e.0) unit ≡ true → (differs : Bool) × (slice_get new i ≡ Some differs) × Tells t e differs
+  pub answered : (i : ℕ) (e : Query × AnswerKind) → slice_get log i ≡ Some e → same_unit (unit_of e.0) unit ≡ true → (differs : Bool) × (slice_get new i ≡ Some differs) × Tells t e differs
   pub left : (i : ℕ) (e : Query × AnswerKind) → slice_get log i ≡ Some e → same_unit (unit_of e.0) unit ≡ false → slice_get new i ≡ slice_get old i
 
 -- whether there is an answer, to a question of a unit for which a test holds

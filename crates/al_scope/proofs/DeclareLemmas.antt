@@ -14,7 +14,7 @@ use Rattle.al_query.specs.declared.answer.AnswerKind.{AnswerKind}
 use Rattle.al_scope.specs.declared.region.Region.{Region}
 use Rattle.al_scope.specs.PartialViews.{without_partial}
 use Rattle.al_scope.specs.Places.{Place, in_last, with_declared}
-use Rattle.al_scope.specs.Visible.{declared_by, found_in, here}
+use Rattle.al_scope.specs.Visible.{declared_by, found_in, innermost}
 use Rattle.al_scope.specs.VisibleSet.{AllOnce, Once, StaysOnce}
 use Rattle.al_scope.proofs.PartialLemmas.{once-pushed}
 use Rattle.al_scope.proofs.HidingLemmas.{append-assoc}
@@ -28,9 +28,9 @@ with_view-same (e ∷ es) name v = at (bytes_eq name e.0) refl (with_view-same e
     at true i more = ap (λ b. unwrap_or (cond b (Some (e.1 ++ v ∷ [])) (lookup (bytes_eq name) es)) []) i
     at false i more = ap (λ b. unwrap_or (cond b (Some e.1) (lookup (bytes_eq name) (with_view es name v))) []) i ∙ more
 
-same-front : (b : Bool) (here : List ViewKind) (one two : Option (List ViewKind)) → unwrap_or one [] ≡ unwrap_or two [] → unwrap_or (cond b (Some here) one) [] ≡ unwrap_or (cond b (Some here) two) []
-same-front true here one two h = refl
-same-front false here one two h = h
+same-front : (b : Bool) (innermost : List ViewKind) (one two : Option (List ViewKind)) → unwrap_or one [] ≡ unwrap_or two [] → unwrap_or (cond b (Some innermost) one) [] ≡ unwrap_or (cond b (Some innermost) two) []
+same-front true innermost one two h = refl
+same-front false innermost one two h = h
 
 -- those of another name stay
 with_view-other : (d : Declarations) (name other : List ℕ) (v : ViewKind) → bytes_eq other name ≡ false → views_of (with_view d name v) other ≡ views_of d other
@@ -61,10 +61,10 @@ once-region t m name other v r h one = at (bytes_eq other name) refl
         subst (λ (n : List ℕ). Once (found_in t m n (with_declared name v r)).views) (sym e) (once-named t m name v r h before)
     at false i = subst (λ (l : List ViewKind). Once (without_partial (flat_map (declared_by t m other) r.parts ++ l))) (sym (with_view-other r.declared name other v i)) one
 
-once-declared : (t : Query → AnswerKind) (m : Declarations) (name other : List ℕ) (v : ViewKind) (rs : List Region) → list_any (homographs v) (here t m name rs) ≡ false → AllOnce (map (found_in t m other) rs) → AllOnce (map (found_in t m other) (in_last (with_declared name v) rs))
+once-declared : (t : Query → AnswerKind) (m : Declarations) (name other : List ℕ) (v : ViewKind) (rs : List Region) → list_any (homographs v) (innermost t m name rs) ≡ false → AllOnce (map (found_in t m other) rs) → AllOnce (map (found_in t m other) (in_last (with_declared name v) rs))
 once-declared t m name other v [] h one = tt
 once-declared t m name other v (r ∷ []) h one = (once-region t m name other v r h one.0, tt)
 once-declared t m name other v (r ∷ q ∷ inner) h one = (one.0, once-declared t m name other v (q ∷ inner) h one.1)
 
-pub stays-declared : (t : Query → AnswerKind) (name : List ℕ) (v : ViewKind) (old : Place) (m : Declarations) (rs : List Region) → list_any (homographs v) (here t old.mentioned name old.regions) ≡ false → rs ≡ in_last (with_declared name v) old.regions → m ≡ old.mentioned → StaysOnce t old (record { mentioned = m; regions = rs })
+pub stays-declared : (t : Query → AnswerKind) (name : List ℕ) (v : ViewKind) (old : Place) (m : Declarations) (rs : List Region) → list_any (homographs v) (innermost t old.mentioned name old.regions) ≡ false → rs ≡ in_last (with_declared name v) old.regions → m ≡ old.mentioned → StaysOnce t old (record { mentioned = m; regions = rs })
 stays-declared t name v old m rs h regions mentioned other one = rw (regions, mentioned) (once-declared t old.mentioned name other v old.regions h one)

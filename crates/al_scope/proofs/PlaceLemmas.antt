@@ -11,7 +11,7 @@ use Rattle.al_scope.specs.declared.region.UnitPart.{UnitPart}
 use Rattle.al_view.specs.Named.{Declarations}
 use Rattle.al_scope.specs.Places.{in_last, inner_declared, inner_parts, is_region_of, place_of, uses_at, with_part}
 use Rattle.al_scope.specs.UseClauses.{EachOnce}
-use Rattle.al_scope.specs.Visible.{found_in, here}
+use Rattle.al_scope.specs.Visible.{found_in, innermost}
 
 pub in_last-is : (change : Region → Region) (xs : List Region) (n : ℕ) (d new : Region) → n + 1 ≡ length xs → new ≡ change (get_or xs n d) → set xs n new ≡ in_last change xs
 in_last-is change [] n d new h e = absurd (omega arith)
@@ -23,14 +23,14 @@ in_last-is change (x ∷ y ∷ ys) (suc n) d new h e =
     ap (λ (l : List Region). x ∷ l) (in_last-is change (y ∷ ys) n d new less e)
 
 -- what the innermost region has, the parts that it continues, and what is declared in it so far
-pub here-is : (t : Query → AnswerKind) (m : Declarations) (name : List ℕ) (xs : List Region) (n : ℕ) (d : Region) → n + 1 ≡ length xs → here t m name xs ≡ (found_in t m name (get_or xs n d)).views
-here-is t m name [] n d h = absurd (omega arith)
-here-is t m name (x ∷ []) zero d h = refl
-here-is t m name (x ∷ []) (suc n) d h = absurd (omega arith)
-here-is t m name (x ∷ y ∷ ys) zero d h = absurd (omega arith)
-here-is t m name (x ∷ y ∷ ys) (suc n) d h =
+pub innermost-is : (t : Query → AnswerKind) (m : Declarations) (name : List ℕ) (xs : List Region) (n : ℕ) (d : Region) → n + 1 ≡ length xs → innermost t m name xs ≡ (found_in t m name (get_or xs n d)).views
+innermost-is t m name [] n d h = absurd (omega arith)
+innermost-is t m name (x ∷ []) zero d h = refl
+innermost-is t m name (x ∷ []) (suc n) d h = absurd (omega arith)
+innermost-is t m name (x ∷ y ∷ ys) zero d h = absurd (omega arith)
+innermost-is t m name (x ∷ y ∷ ys) (suc n) d h =
     let less : n + 1 ≡ length (y ∷ ys) = omega arith in
-    here-is t m name (y ∷ ys) n d less
+    innermost-is t m name (y ∷ ys) n d less
 
 pub inner_parts-is : (xs : List Region) (n : ℕ) (d : Region) → n + 1 ≡ length xs → inner_parts xs ≡ (get_or xs n d).parts
 inner_parts-is [] n d h = absurd (omega arith)
@@ -57,13 +57,13 @@ drop_here xs i x within is = drop-cons xs i x within ∙ ap (λ (y : Region). y 
 
 pub place_found : (s : Symbol) (xs : List Region) (i : ℕ) (x : Region) (whole : ℕ) → i < length xs → x ≡ get_or xs i x → is_region_of s x ≡ true → i + place_of s (drop i xs) ≡ whole → i ≡ whole
 place_found s xs i x whole within is found known =
-    let here : place_of s (drop i xs) ≡ 0 = ap (place_of s) (drop_here xs i x within is) ∙ ap (λ (b : Bool). cond b 0 (suc (place_of s (drop (i + 1) xs)))) found in
-    omega (arith, here, known)
+    let innermost : place_of s (drop i xs) ≡ 0 = ap (place_of s) (drop_here xs i x within is) ∙ ap (λ (b : Bool). cond b 0 (suc (place_of s (drop (i + 1) xs)))) found in
+    omega (arith, innermost, known)
 
 pub place_passed : (s : Symbol) (xs : List Region) (i : ℕ) (x : Region) (whole : ℕ) → i < length xs → x ≡ get_or xs i x → is_region_of s x ≡ false → i + place_of s (drop i xs) ≡ whole → (i + 1) + place_of s (drop (i + 1) xs) ≡ whole
 place_passed s xs i x whole within is not known =
-    let here : place_of s (drop i xs) ≡ suc (place_of s (drop (i + 1) xs)) = ap (place_of s) (drop_here xs i x within is) ∙ ap (λ (b : Bool). cond b 0 (suc (place_of s (drop (i + 1) xs)))) not in
-    omega (arith, here, known)
+    let innermost : place_of s (drop i xs) ≡ suc (place_of s (drop (i + 1) xs)) = ap (place_of s) (drop_here xs i x within is) ∙ ap (λ (b : Bool). cond b 0 (suc (place_of s (drop (i + 1) xs)))) not in
+    omega (arith, innermost, known)
 
 pub no_place_left : (s : Symbol) (xs : List Region) (i whole : ℕ) → length xs ≤ i → i + place_of s (drop i xs) ≡ whole → i ≡ whole
 no_place_left s xs i whole past known =

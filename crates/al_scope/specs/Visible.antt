@@ -71,7 +71,7 @@ visible_at t name place =
     direct founds ++ use_visible founds (potential t place.mentioned name (uses_at place.regions))
 
 -- what the innermost region has of a name
-abbrev pub here : (Query → AnswerKind) → Declarations → List ℕ → List Region → List ViewKind
-here t m name [] = []
-here t m name (r ∷ []) = (found_in t m name r).views
-here t m name (r ∷ q ∷ inner) = here t m name (q ∷ inner)
+abbrev pub innermost : (Query → AnswerKind) → Declarations → List ℕ → List Region → List ViewKind
+innermost t m name [] = []
+innermost t m name (r ∷ []) = (found_in t m name r).views
+innermost t m name (r ∷ q ∷ inner) = innermost t m name (q ∷ inner)

@@ -13,7 +13,7 @@ ghost use Rattle.al_scope.specs.Expanded.{IsSelected, part_of, region_of, select
 ghost use Rattle.al_scope.specs.PartialViews.{some_incomplete};
 ghost use Rattle.al_scope.specs.Places.{encloses, entered, entered_construct, in_last, inner_declared, inner_parts, is_declared_round, part_units, place_of, place_units, uses_at, with_begun, with_declared, with_mentioned, with_part, with_use, with_use_type};
 ghost use Rattle.al_scope.specs.Searches.{searched_parts};
-ghost use Rattle.al_scope.specs.Visible.{declared_by, here, visible_at};
+ghost use Rattle.al_scope.specs.Visible.{declared_by, innermost, visible_at};
 ghost use Rattle.al_scope.specs.VisibleSet.{Has, IsVisible, KeepsOnce, StaysOnce};
 
 use crate::hiding::{Search, has_homograph};
@@ -269,7 +269,7 @@ impl Scope {
     ) -> Result<Views, NoMemory>
         requires { 0 < length self.now.regions }
         ensures asked { recorder.new.asked ≡ recorder.old.asked }
-        ensures answered { IfOk result (λ views. FromAnswers recorder.old.log recorder.new.log (λ t. views ≡ here t self.now.mentioned name.now self.now.regions)) }
+        ensures answered { IfOk result (λ views. FromAnswers recorder.old.log recorder.new.log (λ t. views ≡ innermost t self.now.mentioned name.now self.now.regions)) }
         ensures asks { IfOk result (λ _. AsksOf (part_units (inner_parts self.now.regions)) (by_name (name.now ∷ [])) recorder.old.log recorder.new.log) }
         ensures takes_none { inner_parts self.now.regions ≡ [] → views_of (inner_declared self.now.regions) name.now ≡ [] → is_ok result ≡ true }
     {
@@ -314,7 +314,7 @@ impl Scope {
     ) -> Result<bool, NoMemory>
         requires { 0 < length self.now.regions }
         ensures asked { recorder.new.asked ≡ recorder.old.asked }
-        ensures answered { IfOk result (λ has. FromAnswers recorder.old.log recorder.new.log (λ t. has ≡ list_any (homographs view.now) (here t self.now.mentioned name.now self.now.regions))) }
+        ensures answered { IfOk result (λ has. FromAnswers recorder.old.log recorder.new.log (λ t. has ≡ list_any (homographs view.now) (innermost t self.now.mentioned name.now self.now.regions))) }
         ensures asks { IfOk result (λ _. AsksOf (part_units (inner_parts self.now.regions)) (by_name (name.now ∷ [])) recorder.old.log recorder.new.log) }
         ensures takes_none { inner_parts self.now.regions ≡ [] → views_of (inner_declared self.now.regions) name.now ≡ [] → is_ok result ≡ true }
     {
@@ -332,7 +332,7 @@ impl Scope {
     ) -> Result<bool, NoMemory>
         requires { 0 < length self.old.regions }
         ensures asked { recorder.new.asked ≡ recorder.old.asked }
-        ensures answered { IfOk result (λ fits. FromAnswers recorder.old.log recorder.new.log (λ t. fits ≡ not (list_any (homographs view) (here t self.old.mentioned name.now self.old.regions)))) }
+        ensures answered { IfOk result (λ fits. FromAnswers recorder.old.log recorder.new.log (λ t. fits ≡ not (list_any (homographs view) (innermost t self.old.mentioned name.now self.old.regions)))) }
         ensures asks { IfOk result (λ _. AsksOf (part_units (inner_parts self.old.regions)) (by_name (name.now ∷ [])) recorder.old.log recorder.new.log) }
         ensures new { IfOk result (λ fits. self.new.regions ≡ (if fits then in_last (with_declared name.now view) self.old.regions else self.old.regions)) }
         ensures once { IfOk result (λ _. HoldsBy recorder.new.log (λ t. StaysOnce t self.old self.new)) }

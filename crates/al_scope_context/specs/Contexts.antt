@@ -13,7 +13,7 @@ use Rattle.al_query.specs.declared.answer.UseClause.{UseClause}
 use Rattle.al_query.specs.declared.query.Property.TheVariants.{Kind}
 use Rattle.al_query.specs.declared.query.Query.TheVariants.{Of}
 use Rattle.al_scope.specs.Places.{Place, entered, in_last, with_declared, with_mentioned}
-use Rattle.al_scope.specs.Visible.{here}
+use Rattle.al_scope.specs.Visible.{innermost}
 use Rattle.al_tree_syntax.specs.DeclarationTrees.{CompoundNameTree}
 use Rattle.al_tree_syntax.specs.UnitTrees.{ContextTree}
 use Rattle.al_tree_syntax.specs.UnitTrees.ContextTree.{WithClause, ContextUse, ContextPragma}
@@ -68,7 +68,7 @@ is_new_root name vs = has_none (parent_of name) && is_none vs
 
 -- a root unit is declared in the region of the clause, once
 abbrev pub rooted : Table → Option ViewKind → List ℕ → Place → Place
-rooted t view name place = declared_if (is_new_root name (here t place.mentioned name place.regions)) view name place
+rooted t view name place = declared_if (is_new_root name (innermost t place.mentioned name place.regions)) view name place
 
 abbrev pub with_unit : Table → Option ViewKind → List ℕ → Context → Context
 with_unit t view name c = record c { scope = rooted t view name (mentioned view name c.scope); packages = packaged view name c.packages }

@@ -35,7 +35,7 @@ hidden names v = recast (flat_map (partial_if_hidden names) (view_types v)) v
 -- ---- all that is declared, name by name
 
 abbrev pub with_hidden : List PrivateName → Declarations → List ℕ × List ViewKind → Declarations
-with_hidden names told named = fold (λ (d : Declarations) (v : ViewKind). with_view d named.0 (hidden names v)) told named.1
+with_hidden names answered named = fold (λ (d : Declarations) (v : ViewKind). with_view d named.0 (hidden names v)) answered named.1
 
 abbrev pub all_hidden : List PrivateName → Declarations → Declarations
 all_hidden names declared = fold (with_hidden names) [] declared

@@ -75,11 +75,11 @@ seen_as recasts t = option_map_or (λ (r : Recast). r.by.types) (recast_of recas
 abbrev pub with_type : List TypeView → TypeView → List TypeView
 with_type types t = if list_any (λ (of : TypeView). same_symbol of.symbol t.symbol) types then types else types ++ t ∷ []
 
-abbrev pub with_seen : List Recast → List TypeView → TypeView → List TypeView
-with_seen recasts types t = fold with_type types (seen_as recasts t)
+abbrev pub with_recast : List Recast → List TypeView → TypeView → List TypeView
+with_recast recasts types t = fold with_type types (seen_as recasts t)
 
 abbrev pub recast_types : List Recast → List TypeView → List TypeView
-recast_types recasts types = fold (with_seen recasts) [] types
+recast_types recasts types = fold (with_recast recasts) [] types
 
 -- the names of literals of a type or a subtype
 abbrev pub recast_literals : List Recast → Symbol → List (List ℕ) → List (List ℕ)

@@ -147,7 +147,7 @@ fn partials_of(alloc: Global, names: &[PrivateName], view: &View) -> Result<Seq<
 /// A declaration as a visible part tells it.
 #[tactic(auto, unfolding(crate::specs::Hidden::hidden))]
 pub fn hidden(alloc: Global, names: &[PrivateName], view: &View) -> Result<View, NoMemory>
-    ensures { IfOk result (λ told. told ≡ hidden names.now view.now) }
+    ensures { IfOk result (λ answered. answered ≡ hidden names.now view.now) }
 {
     let recasts = partials_of(alloc, names, view)?;
     recast(alloc, recasts.as_slice(), view)
@@ -157,15 +157,15 @@ pub fn hidden(alloc: Global, names: &[PrivateName], view: &View) -> Result<View,
 fn add_hidden(
     alloc: Global,
     names: &[PrivateName],
-    told: &mut Interface,
+    answered: &mut Interface,
     name: &[u8],
     views: &[View],
 ) -> Result<(), NoMemory>
-    ensures { OnOk result (told.new ≡ with_hidden names.now told.old (name.now, views.now)) }
+    ensures { OnOk result (answered.new ≡ with_hidden names.now answered.old (name.now, views.now)) }
 {
     for view in views {
         let view = hidden(alloc, names, view)?;
-        told.declare(name, view)?;
+        answered.declare(name, view)?;
     }
     Ok(())
 }
@@ -174,15 +174,15 @@ fn add_hidden(
 fn add_hidden_at(
     alloc: Global,
     names: &[PrivateName],
-    told: &mut Interface,
+    answered: &mut Interface,
     declared: &Interface,
     i: usize,
 ) -> Result<(), NoMemory>
     requires { i < length declared.now }
-    ensures { OnOk result ((named : List ℕ × List ViewKind) → slice_get declared.now i ≡ Some named → told.new ≡ with_hidden names.now told.old named) }
+    ensures { OnOk result ((named : List ℕ × List ViewKind) → slice_get declared.now i ≡ Some named → answered.new ≡ with_hidden names.now answered.old named) }
 {
     match declared.at(i) {
-        Some((name, views)) => add_hidden(alloc, names, told, name, views),
+        Some((name, views)) => add_hidden(alloc, names, answered, name, views),
         None => Ok(()),
     }
 }
@@ -192,13 +192,13 @@ fn all_hidden(
     names: &[PrivateName],
     declared: &Interface,
 ) -> Result<Interface, NoMemory>
-    ensures { IfOk result (λ told. told ≡ all_hidden names.now declared.now) }
+    ensures { IfOk result (λ answered. answered ≡ all_hidden names.now declared.now) }
 {
-    let mut told = Interface::new(alloc);
+    let mut answered = Interface::new(alloc);
     for i in 0..declared.len() {
-        add_hidden_at(alloc, names, &mut told, declared, i)?;
+        add_hidden_at(alloc, names, &mut answered, declared, i)?;
     }
-    Ok(told)
+    Ok(answered)
 }
 
 /// What a visible part declares, as it is told: of these private types their partial views alone.
@@ -207,14 +207,14 @@ pub fn hidden_in(
     names: &[PrivateName],
     declared: Interface,
 ) -> Result<Interface, NoMemory>
-    ensures { IfOk result (λ told. told ≡ hidden_in names.now declared) }
+    ensures { IfOk result (λ answered. answered ≡ hidden_in names.now declared) }
 {
     match names {
         [] => Ok(declared),
         [_, ..] => {
-            let told = all_hidden(alloc, names, &declared);
+            let answered = all_hidden(alloc, names, &declared);
             drop(declared);
-            told
+            answered
         }
     }
 }

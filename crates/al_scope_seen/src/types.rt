@@ -2,7 +2,7 @@
 ghost use Rattle.std.specs.Prelude.{◌≡◌, fold, IfOk, OnOk};
 ghost use Rattle.std.specs.List.{list_any};
 ghost use Rattle.al_view.specs.Symbols.{same_symbol};
-ghost use Rattle.al_scope_seen.specs.Recasts.{recast_literals, recast_types, with_seen, with_type};
+ghost use Rattle.al_scope_seen.specs.Recasts.{recast_literals, recast_types, with_recast, with_type};
 
 use crate::recast::{Recast, recast_of, recast_type};
 use al_base::NoMemory;
@@ -41,13 +41,13 @@ fn add_types(alloc: Global, types: &mut Seq<TypeView>, others: &[TypeView]) -> R
 }
 
 /// A type as it is seen.
-fn add_seen(
+fn add_recast(
     alloc: Global,
     recasts: &[Recast],
     types: &mut Seq<TypeView>,
     of: &TypeView,
 ) -> Result<(), NoMemory>
-    ensures { OnOk result (types.new ≡ with_seen recasts.now types.old of.now) }
+    ensures { OnOk result (types.new ≡ with_recast recasts.now types.old of.now) }
 {
     match recast_of(recasts, &of.symbol) {
         Some(recast) => add_types(alloc, types, recast.by.types.as_slice()),
@@ -68,7 +68,7 @@ pub(crate) fn recast_types(
 {
     let mut made = Seq::empty(alloc);
     for of in types.as_slice() {
-        add_seen(alloc, recasts, &mut made, of)?;
+        add_recast(alloc, recasts, &mut made, of)?;
     }
     let made = Types::new(alloc, made)?;
     Ok(made)

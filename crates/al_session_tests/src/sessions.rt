@@ -106,7 +106,7 @@ fn at_most_so_many_pulls(rt: HostRuntime) -> Result<(), Fail> {
     Ok(())
 }
 
-/// What stands behind the last of the commands that are allowed isn't read as one: here `quit` would be the fourth.
+/// What stands after the last of the commands that are allowed isn't read as one: here `quit` would be the fourth.
 #[test]
 fn the_last_command_ends_the_session(rt: HostRuntime) -> Result<(), Fail> {
     let (ended, replies, _) = within(rt.alloc(), HELLO_AND_QUIT, 9999, 3, 9999)?;
@@ -141,7 +141,7 @@ fn told_afterwards(
     Ok((checks, (found, order, image)))
 }
 
-/// The library that a session was given can be asked before it, behind it, and behind a second session that builds the same once more.
+/// The library that a session was given can be asked before it, after it, and after a second session that builds the same once more.
 #[test]
 fn the_library_is_asked_afterwards(rt: HostRuntime) -> Result<(), Fail> {
     let alloc = rt.alloc();
@@ -168,7 +168,7 @@ fn reached_by(
     Ok((engine.last_checked().len(), engine.compared() > 0))
 }
 
-/// A first build finds no stored answer, and one behind no edit compares none. Where the declaration of a package gets another name, it alone
+/// A first build finds no stored answer, and one after no edit compares none. Where the declaration of a package gets another name, it alone
 /// is checked; the client's stored answers to questions of it are compared, and are as they were.
 #[test]
 fn builds_compare_what_an_edit_reaches(rt: HostRuntime) -> Result<(), Fail> {

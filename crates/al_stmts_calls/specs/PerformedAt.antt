@@ -23,16 +23,16 @@ call_effect_of (PutStatement pieces ends_line) = Put pieces ends_line
 call_effect_of _ = Put [] false
 
 -- the next word after what a call hands over or puts
-abbrev pub performed_after : ℕ → CallEffect → ℕ
-performed_after word (Called call) = call_after word call
-performed_after word (Put pieces ends_line) = pieces_after word pieces
+abbrev pub call_effect_after : ℕ → CallEffect → ℕ
+call_effect_after word (Called call) = call_after word call
+call_effect_after word (Put pieces ends_line) = pieces_after word pieces
 
 abbrev pub call_effect_numbered : ℕ → CallEffect → CallEffect
 call_effect_numbered word (Called call) = Called (call_numbered word call)
 call_effect_numbered word (Put pieces ends_line) = Put (pieces_numbered word pieces) ends_line
 
 unfoldable pub call_effect_with_words : ℕ → Result CallEffect Fault → Worded CallEffect
-call_effect_with_words word (Ok x) = (performed_after word x, Ok (call_effect_numbered word x))
+call_effect_with_words word (Ok x) = (call_effect_after word x, Ok (call_effect_numbered word x))
 call_effect_with_words word (Err f) = (word, Err f)
 
 -- what a name alone does, without words: E401 and E404 of its names; else E402, E403, E405, E406, E604,

@@ -1,13 +1,13 @@
 // What a name alone does.
 ghost use Rattle.std.specs.Prelude.{◌≡◌, IfOk};
 ghost use Rattle.al_base_fault.specs.Judging.{next, map_ok, unless};
-ghost use Rattle.al_stmts_calls.specs.PerformedAt.{call_effect_at, performed_after, call_effect_numbered, call_effect_of, call_effect_with_words};
+ghost use Rattle.al_stmts_calls.specs.PerformedAt.{call_effect_at, call_effect_after, call_effect_numbered, call_effect_of, call_effect_with_words};
 ghost use Rattle.al_overload_prefixes.specs.TextsAt.{term_with_model};
 ghost use Rattle.al_overload_put.specs.Puts.{call_effect};
-ghost use Rattle.al_overload_put.specs.Seen.{performed_model as put_model};
+ghost use Rattle.al_overload_put.specs.Seen.{call_effect_model as put_model};
 ghost use Rattle.al_query.specs.Asked.{AsksOf, by_some_name};
 ghost use Rattle.al_query.specs.Reads.{FromAnswers};
-ghost use Rattle.al_stmts_text.specs.PerformedViews.{performed_model};
+ghost use Rattle.al_stmts_text.specs.PerformedViews.{call_effect_model};
 ghost use Rattle.al_tree.specs.ExpressionViews.{expression_model};
 ghost use Rattle.al_overload_values.specs.Surroundings.{site_model, site_units};
 
@@ -24,8 +24,8 @@ use al_stmts_text::CallEffect;
 use al_tree::Expression;
 
 fn number(call_effect: &mut CallEffect, word: u32) -> u32
-    ensures form { performed_model call_effect.new ≡ call_effect_numbered word (performed_model call_effect.old) }
-    ensures word { result ≡ performed_after word (performed_model call_effect.old) }
+    ensures form { call_effect_model call_effect.new ≡ call_effect_numbered word (call_effect_model call_effect.old) }
+    ensures word { result ≡ call_effect_after word (call_effect_model call_effect.old) }
 {
     match call_effect {
         CallEffect::Called(call) => number_call(call, word),
@@ -36,7 +36,7 @@ fn number(call_effect: &mut CallEffect, word: u32) -> u32
 /// Gives the temporaries of what is right their words, from this one on, and leaves the next one there.
 #[tactic(auto, unfolding(crate::specs::PerformedAt::call_effect_with_words))]
 fn take_words(checked: &mut CheckResult<CallEffect>, word: &mut u32)
-    ensures { (word.new, map_ok performed_model checked.new) ≡ call_effect_with_words word.old (map_ok performed_model checked.old) }
+    ensures { (word.new, map_ok call_effect_model checked.new) ≡ call_effect_with_words word.old (map_ok call_effect_model checked.old) }
 {
     match checked {
         Ok(call_effect) => {
@@ -47,7 +47,7 @@ fn take_words(checked: &mut CheckResult<CallEffect>, word: &mut u32)
 }
 
 fn call_effect_of(labelled: CheckResult<Labelled>) -> CheckResult<CallEffect>
-    ensures { map_ok performed_model result ≡ map_ok call_effect_of (map_ok put_model labelled) }
+    ensures { map_ok call_effect_model result ≡ map_ok call_effect_of (map_ok put_model labelled) }
 {
     match labelled {
         Ok(Labelled::Call(call)) => Ok(CallEffect::Called(call)),
@@ -83,7 +83,7 @@ pub fn call_effect_at<A: Answers>(
     recorder: &mut Recorder<A>,
 ) -> Result<CheckResult<CallEffect>, NoMemory>
     ensures asked { recorder.new.asked ≡ recorder.old.asked }
-    ensures answered { IfOk result (λ checked. FromAnswers recorder.old.log recorder.new.log (λ t. (word.new, map_ok performed_model checked) ≡ call_effect_at t (site_model site.now) (expression_model expression.now) word.old)) }
+    ensures answered { IfOk result (λ checked. FromAnswers recorder.old.log recorder.new.log (λ t. (word.new, map_ok call_effect_model checked) ≡ call_effect_at t (site_model site.now) (expression_model expression.now) word.old)) }
     ensures asks { IfOk result (λ _. AsksOf (site_units (site_model site.now)) by_some_name recorder.old.log recorder.new.log) }
 {
     let labeller = site.labeller;

@@ -6,6 +6,6 @@ use Rattle.al_stmts_text.specs.declared.analyzer.CallEffect.{CallEffect}
 use Rattle.al_stmts_text.specs.declared.analyzer.CallEffect.TheVariants as call_effect
 use Rattle.al_stmts_walk.specs.Readings.{CallEffect as PerformedTree, Called, Put}
 
-abbrev pub performed_model : CallEffect → PerformedTree
-performed_model (call_effect.Called call) = Called (call_model call)
-performed_model (call_effect.Put pieces ends_line) = Put (map piece_model pieces.items) ends_line
+abbrev pub call_effect_model : CallEffect → PerformedTree
+call_effect_model (call_effect.Called call) = Called (call_model call)
+call_effect_model (call_effect.Put pieces ends_line) = Put (map piece_model pieces.items) ends_line

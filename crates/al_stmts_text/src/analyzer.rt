@@ -37,7 +37,7 @@ pub trait Analyzer {
     ghost use Rattle.al_view_typed.specs.ExpressionViews.{typed_model};
     ghost use Rattle.al_view_typed.specs.StatementViews.{statement_model};
     ghost use Rattle.al_view_typed.specs.UnitTrees.{body_model};
-    ghost use Rattle.al_stmts_text.specs.PerformedViews.{performed_model};
+    ghost use Rattle.al_stmts_text.specs.PerformedViews.{call_effect_model};
     ghost use Rattle.al_stmts_walk.specs.Readings.{Reading, giving};
     ghost use Rattle.al_stmts_walk.specs.Views.{effects_model};
 
@@ -84,7 +84,7 @@ pub trait Analyzer {
     /// What a name alone does (ARM 6.4, 9.5.3).
     fn call_effect(&mut self, name: &Expression) -> Result<CheckResult<CallEffect>, NoMemory>
         ensures asked { asked self.new ≡ asked self.old }
-        ensures answered { IfOk result (λ checked. FromAnswers (log self.old) (log self.new) (λ t. (env self.new, map_ok performed_model checked) ≡ (reading t).call_effect (env self.old) (expression_model name.now))) };
+        ensures answered { IfOk result (λ checked. FromAnswers (log self.old) (log self.new) (λ t. (env self.new, map_ok call_effect_model checked) ≡ (reading t).call_effect (env self.old) (expression_model name.now))) };
 
     /// The value that the innermost function returns (ARM 6.5).
     fn result_value(&mut self, expression: &Expression) -> Result<CheckResult<Typed>, NoMemory>

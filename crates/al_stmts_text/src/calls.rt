@@ -5,7 +5,7 @@ ghost use Rattle.al_query.specs.Reads.{FromAnswers};
 ghost use Rattle.al_tree_syntax.specs.StatementTrees.StatementTree.{CallStatement};
 ghost use Rattle.al_tree.specs.ExpressionViews.{expression_model};
 ghost use Rattle.al_view_typed.specs.StatementViews.{statement_model};
-ghost use Rattle.al_stmts_text.specs.PerformedViews.{performed_model};
+ghost use Rattle.al_stmts_text.specs.PerformedViews.{call_effect_model};
 ghost use Rattle.al_stmts_walk.specs.Steps.{Enclosing};
 ghost use Rattle.al_stmts_walk.specs.Walking.{alone_at, call_effect, statement_walked};
 ghost use Rattle.al_stmts_walked.specs.WalkedViews.{one_model};
@@ -21,7 +21,7 @@ use al_view_typed::TypedStatement;
 
 /// What a name alone does, as a statement.
 fn performing(line: usize, done: CheckResult<CallEffect>) -> CheckResult<TypedStatement>
-    ensures { map_ok statement_model result ≡ call_effect line (map_ok performed_model done) }
+    ensures { map_ok statement_model result ≡ call_effect line (map_ok call_effect_model done) }
 {
     match done {
         Ok(CallEffect::Called(done)) => call(line, Ok(done)),

@@ -32,14 +32,14 @@ module _ (ready : List Task) (levels : EachAfter Descends ready) where
     | inr m ↦ one_task i j y x is there (omega arith)
   ]
 
-  not_behind : (i j : ℕ) (y x : Task) → Stands ready i y → Stands ready j x → level x < level y → i < j
-  not_behind i j y x is there higher = elim (cases_lt i j) [
+  not_after : (i j : ℕ) (y x : Task) → Stands ready i y → Stands ready j x → level x < level y → i < j
+  not_after i j y x is there higher = elim (cases_lt i j) [
     | inl m ↦ m
     | inr m ↦ let no : level y ≤ level x = falls j i x y there is m in absurd (omega arith)
   ]
 
   pub before : (i j : ℕ) (y x : Task) → Stands ready i y → Stands ready j x → IsAhead i y j x → i < j
-  before i j y x is there (inl higher) = not_behind i j y x is there higher
+  before i j y x is there (inl higher) = not_after i j y x is there higher
   before i j y x is there (inr same) = same.1
 
   pub ahead : (i j : ℕ) (y x : Task) → Stands ready i y → Stands ready j x → i < j → IsAhead i y j x

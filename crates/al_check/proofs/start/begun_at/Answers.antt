@@ -19,20 +19,20 @@ use Rattle.al_check.proofs.start.begun_at.Goals as goal
 pub returns-clause-unit_facts : goal.returns-clause-unit_facts
 unfolding unit_model
 returns-clause-unit_facts c =
-    let make = λ (unit : UnitKey) (needs : Bool) (line : ℕ) (names : List (List ℕ)) (withs : List UnitKey) (round : Option UnitKey × Option ViewKind). let unit_facts : UnitFacts = record { unit = unit; needs_body = needs; line = line; parent = round.0; withs = withs; view = round.1; private_types = names } in unit_facts in
+    let make = λ (unit : UnitKey) (needs : Bool) (line : ℕ) (names : List (List ℕ)) (withs : List UnitKey) (parent_view : Option UnitKey × Option ViewKind). let unit_facts : UnitFacts = record { unit = unit; needs_body = needs; line = line; parent = parent_view.0; withs = withs; view = parent_view.1; private_types = names } in unit_facts in
     let needs = (header_of (unit_model c.args.tree.now)).needs_body in
     let line = item_line (library_item_model c.args.tree.now.item) in
     let names = private_types (library_item_model c.args.tree.now.item) in
-    let round = c.into_parts-parts.result.2 in
+    let parent_view = c.into_parts-parts.result.2 in
     let withs = c.withs_apart-apart.result.1 in
     let unit = c.args.start.own.unit in
-    ap (λ (u : UnitKey). make u c.unit_needs_body-needs_body.result c.item_line-line.result c.new-private_types.result withs round) c.in_ok-unit.ensures
-    ∙ ap (λ (b : Bool). make unit b c.item_line-line.result c.new-private_types.result withs round) c.unit_needs_body-needs_body.ensures
-    ∙ ap (λ (l : ℕ). make unit needs l c.new-private_types.result withs round) c.item_line-line.ensures
-    ∙ ap (λ (n : List (List ℕ)). make unit needs line n withs round) (c.new-private_types.ensures ∙ c.in_ok-private_types.ensures)
-    ∙ ap (λ (apart : OwnText × List UnitKey). make unit needs line names apart.1 round) c.withs_apart-apart.ensures
-    ∙ ap (λ (text : OwnText × List UnitKey × List PrivateName). make unit needs line names text.0.withs round) c.into_parts-parts.ensures.text
-    ∙ ap (make unit needs line names c.args.start.own.withs) c.into_parts-parts.ensures.round
+    ap (λ (u : UnitKey). make u c.unit_needs_body-needs_body.result c.item_line-line.result c.new-private_types.result withs parent_view) c.in_ok-unit.ensures
+    ∙ ap (λ (b : Bool). make unit b c.item_line-line.result c.new-private_types.result withs parent_view) c.unit_needs_body-needs_body.ensures
+    ∙ ap (λ (l : ℕ). make unit needs l c.new-private_types.result withs parent_view) c.item_line-line.ensures
+    ∙ ap (λ (n : List (List ℕ)). make unit needs line n withs parent_view) (c.new-private_types.ensures ∙ c.in_ok-private_types.ensures)
+    ∙ ap (λ (apart : OwnText × List UnitKey). make unit needs line names apart.1 parent_view) c.withs_apart-apart.ensures
+    ∙ ap (λ (text : OwnText × List UnitKey × List PrivateName). make unit needs line names text.0.withs parent_view) c.into_parts-parts.ensures.text
+    ∙ ap (make unit needs line names c.args.start.own.withs) c.into_parts-parts.ensures.parent_view
 
 pub returns-clause-state : goal.returns-clause-state
 unfolding unit_model

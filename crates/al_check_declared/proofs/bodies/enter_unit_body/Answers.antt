@@ -4,7 +4,7 @@ use Rattle.al_check_here.specs.declared.state.AnalyzedHeading.{AnalyzedHeading}
 use Rattle.al_check_here.specs.declared.state.CheckState.{CheckState}
 use Rattle.al_scope_unit.specs.UnitPlaces.{private_regions}
 use Rattle.al_check_declared.specs.DeclarationsHere.{with_regions}
-use Rattle.al_check_declared.specs.EnteredHere.{heading_seen}
+use Rattle.al_check_declared.specs.EnteredHere.{visible_heading}
 use Rattle.al_check_declared.proofs.Composed.{on_ok}
 use Rattle.al_check_declared.proofs.bodies.enter_unit_body.Goals as goal
 
@@ -13,7 +13,7 @@ returns-then-is_nowhere-clause-answered g c t h =
     let s = c.args.state.now in
     let kept : CheckState = record s { pending = Some c.args.read } in
     let inner = with_regions kept (private_regions t s.unit.own s.env.scope.regions) in
-    (h, ap (λ (b : Bool). if b then kept else whole_entered inner (heading_seen t inner.env.scope c.args.read)) (sym c.if-is_nowhere.true ∙ c.is_nowhere.ensures))
+    (h, ap (λ (b : Bool). if b then kept else whole_entered inner (visible_heading t inner.env.scope c.args.read)) (sym c.if-is_nowhere.true ∙ c.is_nowhere.ensures))
 
 pub returns-clause-answered : goal.returns-clause-answered
 returns-clause-answered g c =
@@ -27,7 +27,7 @@ returns-clause-answered g c =
       opened.0,
       entered
           ∙ ap (λ (r : AnalyzedHeading). whole_entered c.open_ancestors.new.state r) seen.1
-          ∙ ap (λ (x : CheckState). whole_entered x (heading_seen t x.env.scope c.args.read)) opened.1
-          ∙ ap (λ (b : Bool). if b then kept else whole_entered inner (heading_seen t inner.env.scope c.args.read)) (sym c.if-is_nowhere.false ∙ c.is_nowhere.ensures),
+          ∙ ap (λ (x : CheckState). whole_entered x (visible_heading t x.env.scope c.args.read)) opened.1
+          ∙ ap (λ (b : Bool). if b then kept else whole_entered inner (visible_heading t inner.env.scope c.args.read)) (sym c.if-is_nowhere.false ∙ c.is_nowhere.ensures),
     ))
     c.enter_whole.ensures

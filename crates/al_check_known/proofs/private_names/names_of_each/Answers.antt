@@ -1,7 +1,7 @@
 use Rattle.std.proofs.Common.{◌≡◌, ◌∙◌, ◌++◌, ℕ, List, arith, take, refl, ap, sym}
 use Rattle.std.proofs.lemmas.List.{take_all}
 use Rattle.std.specs.List.{flat_map}
-use Rattle.al_query.proofs.ToldLemmas.{told-none}
+use Rattle.al_query.proofs.ToldLemmas.{names_answered-none}
 use Rattle.al_check_known.specs.PrivateNames.{names_of}
 use Rattle.al_check_known.proofs.Knowing.{asks-at, asks-both, asks-none, flat_map-more}
 use Rattle.al_check_known.proofs.private_names.names_of_each.Goals as goal
@@ -12,7 +12,7 @@ loop-unit-init g c = record {
   answered = λ t h. (h, c.new-names.ensures.items);
   asks = asks-none c.args.units.now c.args.recorder.now.log;
   others = λ h. h;
-  told = told-none c.args.recorder.now.log c.new-names.result.items c.new-names.ensures.items;
+  names_answered = names_answered-none c.args.recorder.now.log c.new-names.result.items c.new-names.ensures.items;
 }
 
 pub loop-unit-preserved : goal.loop-unit-preserved
@@ -28,7 +28,7 @@ loop-unit-preserved g c =
           (before.0, answered.1 ∙ ap (λ (l : List (List ℕ)). l ++ names_of t c.args.own.now unit) before.1 ∙ sym (flat_map-more (names_of t c.args.own.now) units n unit (omega arith) c.unit-item.is));
       asks = asks-both units c.args.recorder.now.log c.loop-unit.recorder.log c.add_names.new.recorder.log i.asks (asks-at units n unit c.loop-unit.recorder.log c.add_names.new.recorder.log (omega arith) c.unit-item.is c.in_ok-add_names.ensures.asks);
       others = λ h. c.in_ok-add_names.ensures.others (i.others h);
-      told = c.in_ok-add_names.ensures.told i.told;
+      names_answered = c.in_ok-add_names.ensures.names_answered i.names_answered;
     }
 
 pub returns-clause-answered : goal.returns-clause-answered

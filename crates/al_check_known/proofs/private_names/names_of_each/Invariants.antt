@@ -2,7 +2,7 @@ use Rattle.std.proofs.Common.{◌≡◌, take}
 use Rattle.std.specs.List.{flat_map}
 use Rattle.al_query.specs.Asked.{AsksOf, by_property}
 use Rattle.al_query.specs.Reads.{FromAnswers}
-use Rattle.al_query.specs.Told.{AreTold}
+use Rattle.al_query.specs.AnsweredNames.{AreTold}
 use Rattle.al_check_known.specs.PrivateNames.{names_of}
 use Rattle.al_check_known.specs.Starts.{OnlyOthers}
 use Rattle.al_check_known.proofs.private_names.names_of_each.Given as goal
@@ -13,5 +13,5 @@ invariant-loop-unit g l = record {
   answered : FromAnswers l.fn.recorder.log l.recorder.log (λ t. l.names.items ≡ flat_map (names_of t l.own) (take l.unit-index l.units));
   asks : AsksOf l.units by_property l.fn.recorder.log l.recorder.log;
   others : OnlyOthers l.own l.fn.recorder.log l.recorder.log;
-  told : AreTold l.recorder.log l.names.items;
+  names_answered : AreTold l.recorder.log l.names.items;
 }

@@ -1,7 +1,7 @@
 use Rattle.std.proofs.Common.{◌∙◌, ap, sym}
 use Rattle.al_base.specs.declared.unit_key.UnitKey.{UnitKey}
 use Rattle.al_query.specs.declared.query.Query.TheVariants.{Of}
-use Rattle.al_check_known.proofs.Knowing.{asked-other, nothing-named, nothing-told}
+use Rattle.al_check_known.proofs.Knowing.{asked-other, nothing-named, nothing-names_answered}
 use Rattle.al_check_known.proofs.question.ask_another.Goals as goal
 
 pub returns-clause-answered : goal.returns-clause-answered
@@ -13,5 +13,5 @@ returns-clause-answered g c t h =
 pub returns-then-is_unit-clause-named : goal.returns-then-is_unit-clause-named
 returns-then-is_unit-clause-named g c known u h = absurd (nothing-named c.in_ok-nothing.nothing u c.in_ok-nothing.ensures h)
 
-pub returns-then-is_unit-clause-told : goal.returns-then-is_unit-clause-told
-returns-then-is_unit-clause-told g c n h = absurd (nothing-told c.in_ok-nothing.nothing n c.in_ok-nothing.ensures h)
+pub returns-then-is_unit-clause-names_answered : goal.returns-then-is_unit-clause-names_answered
+returns-then-is_unit-clause-names_answered g c n h = absurd (nothing-names_answered c.in_ok-nothing.nothing n c.in_ok-nothing.ensures h)

@@ -30,7 +30,7 @@ returns-clause-bounds g c =
           same_bounds c.in_ok-unit.unit c.args.unit.now _ (g.F.UnitFinder.units c.args.unit.now head t) c.in_ok-names.names (insert_all bytes_eq words (g.F.UnitFinder.names c.args.unit.now head t)) c.in_ok-unit.ensures
           (c.in_ok-units.ensures ∙ knows.1) tells.1;
       own = c.in_ok-unit.ensures;
-      told = names.told;
+      names_answered = names.names_answered;
       asks = subst (λ (x : Log). AsksOf (named_by head) by_property x log) c.requires.log asks;
       others = names.others (known.others (subst (λ (x : Log). AsksOthers c.args.unit.now x) (sym c.requires.log) refl));
       known = subst (λ (us : List UnitKey). AreKnown (known_after (named_by head) log) us) (sym c.in_ok-units.ensures)

@@ -52,7 +52,7 @@ pub returns-clause-names : goal.returns-clause-names
 returns-clause-names g c =
     let are = c.in_ok-bounds.ensures.bounds in
     by_words c.in_ok-bounds.bounds c.args.unit.now (words_of c.args.text.now) _ c.bounds_of.new.recorder.log c.found_within.new.recorder.log c.concluded_within.new.recorder.log
-    are.own are.told are.asks c.in_ok-found.ensures.asks c.in_ok-checked.ensures.asks
+    are.own are.names_answered are.asks c.in_ok-found.ensures.asks c.in_ok-checked.ensures.asks
 
 pub concluded_within-requires : goal.concluded_within-requires
 concluded_within-requires g c t h = (c.in_ok-found.ensures.answered t h).1

@@ -9,7 +9,7 @@ use Rattle.al_check_within.proofs.checking.names_of.Goals as goal
 
 pub returns-clause-answered : goal.returns-clause-answered
 returns-clause-answered g c t h =
-    let tells = c.in_ok-told.ensures.answered t h in
+    let tells = c.in_ok-names_answered.ensures.answered t h in
     let words = words_of c.args.text.now in (
       tells.0,
       c.in_ok-names.ensures
@@ -17,11 +17,11 @@ returns-clause-answered g c t h =
           ∙ ap (λ (ns : List (List ℕ)). insert_all bytes_eq words ns) (c.as_slice.ensures.value ∙ tells.1),
     )
 
-pub returns-clause-told : goal.returns-clause-told
-returns-clause-told g c n h =
+pub returns-clause-names_answered : goal.returns-clause-names_answered
+returns-clause-names_answered g c n h =
     let words = words_of c.args.text.now in
-    let told = c.in_ok-told.told.items in
+    let names_answered = c.in_ok-names_answered.names_answered.items in
     let names = c.in_ok-names.ensures
     ∙ ap (λ (ws : List (List ℕ)). insert_all bytes_eq ws c.as_slice.result.now) c.in_ok-words.ensures
     ∙ ap (λ (ns : List (List ℕ)). insert_all bytes_eq words ns) c.as_slice.ensures.value in
-    words_or_told words told c.names_known.new.recorder.log c.in_ok-told.ensures.told n (among_all n words told (subst (λ (ns : List (List ℕ)). list_any (bytes_eq n) ns ≡ true) names h))
+    words_or_told words names_answered c.names_known.new.recorder.log c.in_ok-names_answered.ensures.names_answered n (among_all n words names_answered (subst (λ (ns : List (List ℕ)). list_any (bytes_eq n) ns ≡ true) names h))

@@ -22,9 +22,9 @@ pub returns-in-Faulty-clause-others : goal.returns-in-Faulty-clause-others
 returns-in-Faulty-clause-others g c h = h
 
 pub returns-in-Faulty-clause-promised : goal.returns-in-Faulty-clause-promised
-returns-in-Faulty-clause-promised g c told =
+returns-in-Faulty-clause-promised g c names_answered =
     let b = c.args.bounds.now in
-    c.faults_are_reported.ensures.faults b.unit c.args.recorder.now.log c.in-Faulty.faults (subst (λ (f : UnitVerdict). IsTold b.unit (verdict_of f)) c.in-Faulty.is told)
+    c.faults_are_reported.ensures.faults b.unit c.args.recorder.now.log c.in-Faulty.faults (subst (λ (f : UnitVerdict). IsTold b.unit (verdict_of f)) c.in-Faulty.is names_answered)
 
 pub returns-in-Faulty-clause-parts : goal.returns-in-Faulty-clause-parts
 returns-in-Faulty-clause-parts g c t a = tt
@@ -33,7 +33,7 @@ pub returns-in-Faulty-clause-names : goal.returns-in-Faulty-clause-names
 returns-in-Faulty-clause-names g c units h = faulty_names units c.in-Faulty.faults
 
 pub returns-clause-promised : goal.returns-clause-promised
-returns-clause-promised g c = IfOk-weaker c.sound_within.result _ _ (λ v e told. e) c.sound_within.ensures.promised
+returns-clause-promised g c = IfOk-weaker c.sound_within.result _ _ (λ v e names_answered. e) c.sound_within.ensures.promised
 
 pub returns-clause-names : goal.returns-clause-names
 returns-clause-names g c = IfOk-weaker c.sound_within.result _ _ (λ v e units h. e units (subst (λ (f : UnitVerdict). NamesWithin units (verdict_of f)) c.in-Sound.is h)) c.sound_within.ensures.names

@@ -4,7 +4,7 @@ use Rattle.al_decl_judged.specs.DefiningNames.{names_of}
 use Rattle.al_decl_judged.specs.declared.names.DefiningName.{DefiningName}
 use Rattle.al_base_fault.specs.Faults.{earlier}
 use Rattle.al_base_fault.specs.declared.fault.Fault.{Fault}
-use Rattle.al_query.proofs.AskLemmas.{asks_none, asks_of-wanted, asks_then, by_name-wider}
+use Rattle.al_query.proofs.AskLemmas.{asks_none, asks_of-wider, asks_then, by_name-wider}
 use Rattle.al_query.specs.Asked.{OfKnown, by_name}
 use Rattle.al_scope.specs.Places.{inner_parts, part_units}
 use Rattle.al_decl_here.specs.Declaring.{duplicate, duplicates}
@@ -33,7 +33,7 @@ loop-name-preserved g c =
           let before = i.answered t answered.0 in
           (before.0, folded (λ (found : Option Fault) (n : DefiningName). earlier found (duplicate t c.args.scope.now c.args.view.now n)) None c.loop-name.found c.earlier-found.result c.args.names.now c.loop-name.name-index c.name-item.result (omega arith) c.name-item.is before.1 (c.earlier-found.ensures ∙ ap (earlier c.loop-name.found) answered.1));
       asks = asks_then (OfKnown units (by_name all)) old mid new i.asks
-          (asks_of-wanted units (by_name (c.name-item.result.name ∷ [])) (by_name all) mid new
+          (asks_of-wider units (by_name (c.name-item.result.name ∷ [])) (by_name all) mid new
           (by_name-wider (c.name-item.result.name ∷ []) all (one_among c.args.names.now c.loop-name.name-index c.name-item.result (omega arith) c.name-item.is))
           c.in_ok-duplicate.ensures.asks);
     }

@@ -14,7 +14,7 @@ use Rattle.al_engine_graph.specs.Kept.{IsGraphOf}
 use Rattle.al_engine_graph.specs.declared.graph.UnitGraph.{UnitGraph}
 use Rattle.al_engine.specs.Graphs.{IsOrdered}
 use Rattle.al_engine.specs.States.{IsSettledBy}
-use Rattle.al_engine.proofs.Keeping.{kept-for}
+use Rattle.al_engine.proofs.Keeping.{partition-for}
 use Rattle.al_engine.proofs.Taken.{besides, first_of, graphs_of, of_last, second_of}
 use Rattle.al_engine.proofs.building.begin.Goals as goal
 
@@ -75,11 +75,11 @@ pub prepare-requires-clause-known : goal.prepare-requires-clause-known
 prepare-requires-clause-known g c =
     subst (λ (l : Library). IfSome c.order_now-order.result (λ order. IsElaboration l c.args.main.now (map key_of order.now))) (sym c.sources-sources.ensures) c.order_now-order.ensures.order
 
-pub prepare-requires-clause-kept : goal.prepare-requires-clause-kept
-prepare-requires-clause-kept g c =
+pub prepare-requires-clause-partition : goal.prepare-requires-clause-partition
+prepare-requires-clause-partition g c =
     let K : (Library → List ℕ → Type 0) = λ l m. KeepsPartition l (results_of (settled_at c.args.cache.now.store)) m c.args.gave.now.compiled in
     subst (λ (l : Library). IfSome c.order_now-order.result (λ _. IfSome c.in_ok-edits.edits (λ _. K l c.args.main.now))) (sym c.sources-sources.ensures)
-    (kept-for c.order_now-order.result c.in_ok-edits.edits c.alike-found.result.0 (λ b. b.now.main) c.args.main.now (K (g.R.ReadFiles.library (g.R.ReadFiles.files c.args.read.now))) c.order_now-order.ensures.main c.in_ok-edits.ensures.kept)
+    (partition-for c.order_now-order.result c.in_ok-edits.edits c.alike-found.result.0 (λ b. b.now.main) c.args.main.now (K (g.R.ReadFiles.library (g.R.ReadFiles.files c.args.read.now))) c.order_now-order.ensures.main c.in_ok-edits.ensures.partition)
 
 pub returns-clause-prepared : goal.returns-clause-prepared
 returns-clause-prepared g c =

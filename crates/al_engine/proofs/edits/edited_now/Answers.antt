@@ -87,8 +87,8 @@ returns-clause-clean g c =
     (λ es are. subst (λ (l : Library). IsCleanBut l entries (units_of es.items)) c.sources-sources.ensures
     (clean-but meaning header pre old build.now.main settled.before entries c.args.gave.now settled.rebuilt ordered new headers one (units_of es.items)))
 
-pub returns-clause-kept : goal.returns-clause-kept
-returns-clause-kept g c =
+pub returns-clause-partition : goal.returns-clause-partition
+returns-clause-partition g c =
     let meaning = g.C.UnitCheck.meaning in
     let header = g.C.Text.ReadText.header in
     let pre = g.P.Answers.table c.args.predefined.now in

@@ -10,9 +10,9 @@ renewed_plan-requires-clause-clean c = c.requires.clean (c.is_clean-clean.ensure
 pub renewed_plan-requires-clause-others : goal.renewed_plan-requires-clause-others
 renewed_plan-requires-clause-others c = others-alone (now_at c.args.entries.now) (settled_at c.args.entries.now) c.args.edits c.alone_in-unit.result c.alone_in-unit.ensures c.requires.others
 
-pub renewed_plan-requires-clause-kept : goal.renewed_plan-requires-clause-kept
-renewed_plan-requires-clause-kept c =
-    known-alone (KeepsPartition c.args.sources.now (results_of (settled_at c.args.entries.now)) c.args.main.now c.args.before.now) c.args.known c.args.edits c.alone_in-unit.result c.alone_in-unit.ensures c.requires.kept
+pub renewed_plan-requires-clause-partition : goal.renewed_plan-requires-clause-partition
+renewed_plan-requires-clause-partition c =
+    known-alone (KeepsPartition c.args.sources.now (results_of (settled_at c.args.entries.now)) c.args.main.now c.args.before.now) c.args.known c.args.edits c.alone_in-unit.result c.alone_in-unit.ensures c.requires.partition
 
 pub returns-in-Some : goal.returns-in-Some
 returns-in-Some c = rw c.in-Some.is at c.in_ok-found.ensures

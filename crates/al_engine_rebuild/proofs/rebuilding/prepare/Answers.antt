@@ -45,14 +45,14 @@ plan_now-requires-clause-others g c =
     subst (λ (e : Entries). IfSome found (λ edits. (w : UnitKey) → has_unit (units_of edits.now) w ≡ false → now_at e w ≡ settled_at e w)) (sym c.entries-entries.ensures)
     (others-left old new c.in_ok-given.ensures.left found renewed)
 
-pub plan_now-requires-clause-kept : goal.plan_now-requires-clause-kept
-plan_now-requires-clause-kept g c =
+pub plan_now-requires-clause-partition : goal.plan_now-requires-clause-partition
+plan_now-requires-clause-partition g c =
     let old = c.args.cache.now.store in
     let new = c.check_library.new.cache.store in
     let found = c.renewed_units-edits.result in
     subst (λ (e : Entries). IfSome c.args.known (λ _. IfSome found (λ _. KeepsPartition c.args.sources.now (results_of (settled_at e)) c.args.main.now c.args.before.now))) (sym c.entries-entries.ensures)
     (subst (λ (at : UnitKey → Option Stored). IfSome c.args.known (λ _. IfSome found (λ _. KeepsPartition c.args.sources.now (results_of at) c.args.main.now c.args.before.now))) (λ i u. sym (settled-left old new c.in_ok-given.ensures.left u) i)
-    (known-of c.args.edited.now c.in_ok-given.given.is_renewal (KeepsPartition c.args.sources.now (results_of (settled_at old)) c.args.main.now c.args.before.now) c.args.known found c.renewed_units-edits.ensures c.requires.kept))
+    (known-of c.args.edited.now c.in_ok-given.given.is_renewal (KeepsPartition c.args.sources.now (results_of (settled_at old)) c.args.main.now c.args.before.now) c.args.known found c.renewed_units-edits.ensures c.requires.partition))
 
 pub returns-clause-prepared : goal.returns-clause-prepared
 returns-clause-prepared g c =

@@ -438,4 +438,3 @@ returns-clause-left g c =
     let now = c.loop-edited.entries in
     let inv = c.loop-edited.invariant in
     (inv.walked has).left
-

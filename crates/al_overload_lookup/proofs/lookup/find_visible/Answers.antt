@@ -1,7 +1,7 @@
 use Rattle.std.proofs.Common.{[], ◌∷◌, List, ap, ◌∙◌}
 use Rattle.al_overload_keys.specs.declared.names.Names.{Names}
 use Rattle.al_overload_lookup.specs.Lookups.{with_views}
-use Rattle.al_query.proofs.AskLemmas.{asks_of-wanted, asks_then, by_name-some}
+use Rattle.al_query.proofs.AskLemmas.{asks_of-wider, asks_then, by_name-some}
 use Rattle.al_query.specs.Asked.{OfKnown, by_name, by_some_name}
 use Rattle.al_scope.specs.Places.{place_units}
 use Rattle.al_scope_seen.specs.Seen.{all_seen_at}
@@ -20,5 +20,5 @@ pub returns-clause-asks : goal.returns-clause-asks
 returns-clause-asks g c =
     let units = place_units c.args.scope.now in
     asks_then (OfKnown units by_some_name) c.args.recorder.now.log c.visible.new.recorder.log c.all_seen_at.new.recorder.log
-    (asks_of-wanted units (by_name (c.args.name.now ∷ [])) by_some_name c.args.recorder.now.log c.visible.new.recorder.log (by_name-some (c.args.name.now ∷ [])) c.in_ok-found.ensures.asks)
+    (asks_of-wider units (by_name (c.args.name.now ∷ [])) by_some_name c.args.recorder.now.log c.visible.new.recorder.log (by_name-some (c.args.name.now ∷ [])) c.in_ok-found.ensures.asks)
     c.in_ok-found-2.ensures.asks

@@ -3,7 +3,7 @@ use Rattle.std.specs.Option.{option_map}
 use Rattle.al_overload_lookup.proofs.Asked.{package-known, selected-among, within-among}
 use Rattle.al_scope_seen.proofs.Outcomes.{if_ok}
 use Rattle.al_overload_lookup.specs.Lookups.{asked_units, construct_of, selected_by, selected_in}
-use Rattle.al_query.proofs.AskLemmas.{asks_none, asks_of-left, asks_of-units, asks_of-wanted, asks_then, by_name-some}
+use Rattle.al_query.proofs.AskLemmas.{asks_none, asks_of-left, asks_of-units, asks_of-wider, asks_then, by_name-some}
 use Rattle.al_query.specs.Asked.{OfKnown, by_name, by_some_name}
 use Rattle.al_scope.specs.Expanded.{selected_parts, within_parts}
 use Rattle.al_scope.specs.Places.{part_units, place_units}
@@ -53,7 +53,7 @@ returns-in_ok-views-in-Some-2-clause-asks g c =
     let names = c.args.name.now ∷ [] in
     let units = asked_units place packages in
     asks_then (OfKnown units by_some_name) c.args.recorder.now.log c.selected.new.recorder.log c.all_seen_at.new.recorder.log
-    (asks_of-wanted units (by_name names) by_some_name c.args.recorder.now.log c.selected.new.recorder.log (by_name-some names)
+    (asks_of-wider units (by_name names) by_some_name c.args.recorder.now.log c.selected.new.recorder.log (by_name-some names)
     (asks_of-units (part_units (selected_parts symbol place)) units (by_name names) c.args.recorder.now.log c.selected.new.recorder.log
     (selected-among symbol place packages (package-known packages c.args.view.now symbol c.in-Some.ensures)) c.in_ok-views-in-Some.ensures.asks))
     (asks_of-left (place_units place) packages by_some_name c.selected.new.recorder.log c.all_seen_at.new.recorder.log c.in_ok-views-in-Some-2.ensures.asks)
@@ -68,7 +68,7 @@ returns-in_ok-views-in-Some-construct_of-clause-asks g c =
     if_ok c.seen_if_any.result _ _
     (λ found later.
     asks_then (OfKnown units by_some_name) c.args.recorder.now.log c.selected_within.new.recorder.log c.seen_if_any.new.recorder.log
-    (asks_of-wanted units (by_name names) by_some_name c.args.recorder.now.log c.selected_within.new.recorder.log (by_name-some names)
+    (asks_of-wider units (by_name names) by_some_name c.args.recorder.now.log c.selected_within.new.recorder.log (by_name-some names)
     (asks_of-units (part_units (within_parts symbol place)) units (by_name names) c.args.recorder.now.log c.selected_within.new.recorder.log (within-among symbol place packages) c.in_ok-views-in-Some-construct_of.ensures.asks))
     (asks_of-left (place_units place) packages by_some_name c.selected_within.new.recorder.log c.seen_if_any.new.recorder.log later))
     c.seen_if_any.ensures.asks

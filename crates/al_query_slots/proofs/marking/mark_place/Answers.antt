@@ -11,8 +11,8 @@ pub set_mark-requires : goal.set_mark-requires
 set_mark-requires g c =
     let h = c.in-Some.held.now in
     let r = c.args.place.now in
-    let told = subst (λ (o : Option Bool). Differs (g.A.Answers.table c.args.asked.now) c.args.unit.now (answer_in g.E.Logged.log (Some h) r.at) o) c.in-Some-2.is c.in_ok-differs.ensures in
-    room_there g.E.Logged.log (g.A.Answers.table c.args.asked.now) c.args.unit.now c.args.entries.now h r c.in-Some-2.differs c.requires.sized (sym c.in-Some.ensures) told
+    let answered = subst (λ (o : Option Bool). Differs (g.A.Answers.table c.args.asked.now) c.args.unit.now (answer_in g.E.Logged.log (Some h) r.at) o) c.in-Some-2.is c.in_ok-differs.ensures in
+    room_there g.E.Logged.log (g.A.Answers.table c.args.asked.now) c.args.unit.now c.args.entries.now h r c.in-Some-2.differs c.requires.sized (sym c.in-Some.ensures) answered
 
 pub returns-clause-sized : goal.returns-clause-sized
 returns-clause-sized g c =
@@ -41,6 +41,6 @@ returns-clause-marked g c =
     let h = c.in-Some.held.now in
     let r = c.args.place.now in
     let there = sym c.in-Some.ensures in
-    let told = subst (λ (o : Option Bool). Differs t u (answer_in log (Some h) r.at) o) c.in-Some-2.is c.in_ok-differs.ensures in
+    let answered = subst (λ (o : Option Bool). Differs t u (answer_in log (Some h) r.at) o) c.in-Some-2.is c.in_ok-differs.ensures in
     subst (λ (n : Slab (Held g.row.E.Denot)). IsMarked log t (λ p. is_of u (answer_at log s p) && same_place p r) s n) (sym (c.set_mark.ensures h there))
-    (one_marked log t u s h r c.in-Some-2.differs c.requires.sized there told)
+    (one_marked log t u s h r c.in-Some-2.differs c.requires.sized there answered)

@@ -8,6 +8,6 @@ use Rattle.al_scope_seen.proofs.hiding.add_hidden.Goals as goal
 
 pub loop-view-preserved : goal.loop-view-preserved
 loop-view-preserved c =
-    folded (λ (d : Declarations) (v : ViewKind). with_view d c.args.name.now (hidden c.args.names.now v)) c.args.told.now c.loop-view.told c.declare.new.self c.args.views.now c.loop-view.view-index c.view-item.result (omega arith) c.view-item.is
+    folded (λ (d : Declarations) (v : ViewKind). with_view d c.args.name.now (hidden c.args.names.now v)) c.args.answered.now c.loop-view.answered c.declare.new.self c.args.views.now c.loop-view.view-index c.view-item.result (omega arith) c.view-item.is
     c.loop-view.invariant
-    (c.in_ok-declare.ensures.ok ∙ ap (λ (v : ViewKind). with_view c.loop-view.told c.args.name.now v) c.in_ok-view.ensures)
+    (c.in_ok-declare.ensures.ok ∙ ap (λ (v : ViewKind). with_view c.loop-view.answered c.args.name.now v) c.in_ok-view.ensures)

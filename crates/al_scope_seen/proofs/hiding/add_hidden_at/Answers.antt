@@ -10,7 +10,7 @@ pub returns-in-Some : goal.returns-in-Some
 returns-in-Some c =
     on_ok c.add_hidden.result _ _
     (λ made named e.
-    made ∙ ap (λ (x : List ℕ × List ViewKind). with_hidden c.args.names.now c.args.told.now x) (one_value (c.in-Some.name.now, c.in-Some.views.now) named (slice_get c.args.declared.now c.args.i) c.in-Some.ensures e))
+    made ∙ ap (λ (x : List ℕ × List ViewKind). with_hidden c.args.names.now c.args.answered.now x) (one_value (c.in-Some.name.now, c.in-Some.views.now) named (slice_get c.args.declared.now c.args.i) c.in-Some.ensures e))
     c.add_hidden.ensures
 
 pub returns-in-None : goal.returns-in-None

@@ -5,4 +5,4 @@ use Rattle.al_scope_seen.proofs.hiding.all_hidden.Goals as goal
 
 pub loop-i-preserved : goal.loop-i-preserved
 loop-i-preserved c =
-    folded_at (with_hidden c.args.names.now) [] c.loop-i.told c.add_hidden_at.new.told c.args.declared.now c.loop-i.i ([], []) (omega arith) c.loop-i.invariant c.in_ok-add_hidden_at.ensures
+    folded_at (with_hidden c.args.names.now) [] c.loop-i.answered c.add_hidden_at.new.answered c.args.declared.now c.loop-i.i ([], []) (omega arith) c.loop-i.invariant c.in_ok-add_hidden_at.ensures

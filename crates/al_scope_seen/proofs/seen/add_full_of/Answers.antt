@@ -1,5 +1,5 @@
 use Rattle.std.proofs.Common.{◌++◌, [], ◌∷◌, List, ℕ, Option, ap, ◌∙◌}
-use Rattle.al_query.proofs.AskLemmas.{asks_of-units, asks_of-wanted, by_name-some}
+use Rattle.al_query.proofs.AskLemmas.{asks_of-units, asks_of-wider, by_name-some}
 use Rattle.al_query.specs.Asked.{by_name, by_some_name}
 use Rattle.al_scope.specs.Expanded.{unit_parts, within_unit}
 use Rattle.al_scope.specs.Places.{is_within, part_units, place_units}
@@ -31,6 +31,6 @@ returns-clause-asks g c =
     let names = c.as_slice.result.now ∷ [] in
     on_ok c.add_by.result _ _
     (λ new.
-    asks_of-wanted (place_units place) (by_name names) by_some_name c.args.recorder.now.log c.within_unit.new.recorder.log (by_name-some names)
+    asks_of-wider (place_units place) (by_name names) by_some_name c.args.recorder.now.log c.within_unit.new.recorder.log (by_name-some names)
     (asks_of-units (part_units (unit_parts s.unit place)) (place_units place) (by_name names) c.args.recorder.now.log c.within_unit.new.recorder.log (found-among (is_within s.unit) place) c.in_ok-views.ensures.asks))
     c.add_by.ensures

@@ -4,7 +4,7 @@ use Rattle.al_base_fault.specs.Judging.{map_ok}
 use Rattle.al_overload_keys.specs.Places.{first_place}
 use Rattle.al_tree.specs.ExpressionViews.{expression_model}
 use Rattle.al_stmts_walk.specs.Walking.{call_effect}
-use Rattle.al_stmts_text.specs.PerformedViews.{performed_model}
+use Rattle.al_stmts_text.specs.PerformedViews.{call_effect_model}
 use Rattle.al_stmts_text.proofs.MadeOfRead.{alone_by}
 use Rattle.al_stmts_text.proofs.calls.check_call.Goals as goal
 
@@ -13,5 +13,5 @@ returns-clause-answered g c = λ t h.
     let read = c.in_ok-done.ensures.answered t h in (
       read.0,
       λ enclosing. alone_by (call_effect (first_place (expression_model c.args.name.now)).line) _ _ _ _ read.1
-          (c.performing.ensures ∙ ap (λ (p : Place). call_effect p.line (map_ok performed_model c.in_ok-done.done)) c.first_place.ensures),
+          (c.performing.ensures ∙ ap (λ (p : Place). call_effect p.line (map_ok call_effect_model c.in_ok-done.done)) c.first_place.ensures),
     )

@@ -4,7 +4,7 @@ use Rattle.al_tree.specs.UnitViews.{unit_model}
 use Rattle.al_unit_header.specs.Units.{header_of}
 use Rattle.al_check_within.specs.Verdicts.{IsTold, NamesWithin, Verdict}
 use Rattle.al_check.proofs.Naming.{verdict_named}
-use Rattle.al_check.proofs.Told.{verdict_told}
+use Rattle.al_check.proofs.FromAnswers.{verdict_told}
 use Rattle.al_check.proofs.UnitResult.{if_both, if_ok}
 use Rattle.al_check.specs.Ada.{ada_verdict}
 use Rattle.al_check.proofs.finder.AdaFinderUnitFinder.find.Goals as goal

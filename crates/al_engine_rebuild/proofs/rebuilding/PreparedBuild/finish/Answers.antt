@@ -4,7 +4,7 @@ use Rattle.al_query_store.specs.Keyed.{State, entry_of, now_at, settled_at, sett
 use Rattle.al_entries.specs.Stored.{Stored}
 use Rattle.al_engine_refresh.specs.Builds.{results_of}
 use Rattle.al_engine_recheck.specs.Rechecks.{IsRechecked, setting_of}
-use Rattle.al_engine_recheck.proofs.ReadyLemmas.{entry-kept, ready-now, reached-now}
+use Rattle.al_engine_recheck.proofs.ReadyLemmas.{entry-held, ready-now, reached-now}
 use Rattle.al_engine_rebuild.specs.Rebuilds.{IsWithin}
 use Rattle.al_engine_rebuild.proofs.WithinLemmas.{within}
 use Rattle.al_engine_rebuild.proofs.rebuilding.PreparedBuild.finish.Goals as goal
@@ -21,7 +21,7 @@ returns-clause-rebuilt g c = λ header predefined lib main old left is.
         made = now_at mid;
         rechecked = subst (λ (us : List UnitKey). IsRechecked meaning header (setting_of header predefined lib) (settled_at old) (now_at mid) us) (sym c.new.ensures) now.rechecked;
         is_batch = c.in_ok-gave.ensures.batch lib (results_of (now_at mid)) main is.is_planned;
-        entries = λ u. ap (λ (s : State Stored). entry_of s.settled) (ended u) ∙ entry-kept (settled_state (state mid u)).settled ∙ now.staying u;
+        entries = λ u. ap (λ (s : State Stored). entry_of s.settled) (ended u) ∙ entry-held (settled_state (state mid u)).settled ∙ now.staying u;
       },
       record {
         reached = reached-now meaning header predefined lib old mid new units c.args.self.compared now ended;

@@ -4,9 +4,9 @@ use Rattle.al_view.specs.Named.{Declarations}
 use Rattle.al_scope.specs.declared.hiding.RegionEntry.{RegionEntry}
 use Rattle.al_scope.specs.declared.region.Region.{Region}
 use Rattle.al_scope.specs.Places.{Place, inner_declared, inner_parts}
-use Rattle.al_scope.specs.Visible.{found_in, here}
+use Rattle.al_scope.specs.Visible.{found_in, innermost}
 use Rattle.al_scope.proofs.PartLemmas.{parts-of, parts-units}
-use Rattle.al_scope.proofs.PlaceLemmas.{here-is, inner_declared-is, inner_parts-is}
+use Rattle.al_scope.proofs.PlaceLemmas.{innermost-is, inner_declared-is, inner_parts-is}
 use Rattle.al_scope.proofs.scope.Scope.declared_here.Goals as goal
 
 pub returns-clause-answered : goal.returns-clause-answered
@@ -15,9 +15,9 @@ returns-clause-answered g c t h =
     let regions = ap (λ (p : Place). p.regions) c.self.view_is in
     let some : 0 < length c.self.inside.regions.items = rw regions c.requires in
     let last : c.len-last.result - 1 + 1 ≡ length c.self.inside.regions.items = omega (arith, some, c.len-last.ensures, c.self.inside.regions.ok.0) in
-    let is = here-is t c.self.inside.mentioned c.args.name.now c.self.inside.regions.items (c.len-last.result - 1) c.index.result.now last in
+    let is = innermost-is t c.self.inside.mentioned c.args.name.now c.self.inside.regions.items (c.len-last.result - 1) c.index.result.now last in
     let found = answered.1 ∙ ap (found_in t c.self.inside.mentioned c.args.name.now) c.index.ensures in
-    (answered.0, ap (λ (f : RegionEntry). f.views) found ∙ sym is ∙ ap (λ (p : Place). here t p.mentioned c.args.name.now p.regions) c.self.view_is)
+    (answered.0, ap (λ (f : RegionEntry). f.views) found ∙ sym is ∙ ap (λ (p : Place). innermost t p.mentioned c.args.name.now p.regions) c.self.view_is)
 
 pub returns-clause-asks : goal.returns-clause-asks
 returns-clause-asks g c =

@@ -1,7 +1,7 @@
 use Rattle.std.proofs.Common.{List, ap, ◌∙◌}
 use Rattle.al_scope_seen.specs.Seen.{completions_seen_at}
 use Rattle.al_check_start.proofs.Steps.{if_ok}
-use Rattle.al_check_start.proofs.waiting.waiting_seen.Goals as goal
+use Rattle.al_check_start.proofs.waiting.visible_waiting.Goals as goal
 
 pub returns-clause-answered : goal.returns-clause-answered
 returns-clause-answered g c =

@@ -1,4 +1,4 @@
-use Rattle.al_check_start.proofs.unit.behind.Goals as goal
+use Rattle.al_check_start.proofs.unit.waiting_after.Goals as goal
 
 pub returns-in-Ok-clause-answered : goal.returns-in-Ok-clause-answered
 returns-in-Ok-clause-answered g c t h =
