@@ -206,7 +206,7 @@ module _ (meaning : Meaning) (s : Setting) (is_setting : IsSetting s) (main : Li
       let name = v.name ++ 46 ∷ stub.0.stub in
       let there = subunit_is_there v h stub.0.stub needed at told.named in
       let o = sound_unit (subunit name) there in
-      let left = left_to_subunit v i tree stub.0.stub (link Code stub.0.symbol) has told.inside told.simple told.told in
+      let left = left_to_subunit v i tree stub.0.stub (link Code stub.0.symbol) has told.inside told.simple told.answered in
       let defines = defined_inside o.tree o.interface (link Code stub.0.symbol) ((parts (subunit name) o.interface o.tree o.has).completes (link Code stub.0.symbol) left) in
       (subunit name, o.interface, o.tree, subunit_needed v h stub.0.stub needed at told.named there, o.has, subst (λ (y : LinkSymbol). Contains (unit_defines o.tree) y) (sym stub.2) defines)
 
