@@ -1,1 +1,2 @@
 mod FromAnswers
+mod Renewing

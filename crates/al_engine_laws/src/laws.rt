@@ -1,5 +1,6 @@
 //! Laws of libraries, as contracts of functions without code.
 ghost use Rattle.al_engine_laws.specs.Builds.{BuildsTellOneThing};
+ghost use Rattle.al_engine_laws.specs.Renewals.{RenewalsAreRechecked};
 
 use al_engine::ReadFiles;
 use al_engine_batch_laws::laws::reply_is_one;
@@ -13,3 +14,9 @@ pub fn builds_tell_one_thing<R: ReadFiles, C: UnitCheck, P: Answers>(predefined:
 {
     reply_is_one();
 }
+
+/// Where the entries are those that a build made, and since then the texts of some units alone were edited, new entries of these units are all
+/// that the next build makes: each for its text, with the answers that there are then, if nobody else is reached by it.
+pub fn renewals_are_rechecked()
+    ensures { RenewalsAreRechecked }
+{}
