@@ -1,13 +1,13 @@
 #!/usr/bin/env python3
 """gate.py sample FOLDER FILE: beside a run of `rt ci` in FOLDER, what each crate takes of the processors.
 
-    gate.py table LOG FILE [LOG ..]
+    gate.py table LOG FILE EARLIER [LOG ..]
                            makes the table of docs/GATE.md anew, by FILE and by what `tests/run` printed (each LOG), and tells the sums
 
 `sample` looks every four seconds at the provers that work in FOLDER, and writes FILE until it is ended: seconds of processor time by crate, of its
 proof with its tests, and of its wrong bodies that `rt ci` tries. What a prover takes after the last look at it is lost, some two seconds each.
-The table keeps its column of an earlier run; the pace is told by the crates in PACE, and beside it
-by all crates that both runs saw.
+The table keeps its column of an earlier run. The pace is that of the run of 2026-11-27, told by crates of the tree of that day (THEN): EARLIER is
+what `sample` wrote beside a run of `rt ci` over that tree on the machine of now. Beside it stands how many times as long all crates took as in the table's earlier run.
 """
 import collections
 import json
@@ -21,7 +21,9 @@ ROOT = pathlib.Path(__file__).resolve().parent.parent
 TICKS = os.sysconf("SC_CLK_TCK")
 TRIED = re.compile(r"must-fail (\w+)/\S+\.edit: refused")
 TOGETHER = re.compile(r"^wrong bodies of (\w+): (\d+) of \d+ refused, (\d+) checks, (\d+) seconds", re.MULTILINE)
-PACE = ("al_lex", "al_machine")
+# The tree of the run of 2026-11-27, and the seconds of processor time that this run took for two of its crates.
+TREE = "7079d479"
+THEN = {"al_lex": 71, "al_machine": 133}
 HEAD = "| Crate | Proofs and tests | Before | Wrong bodies | Their seconds |"
 
 
@@ -80,7 +82,7 @@ def table(log, sums, earlier):
     return "\n".join(lines) + "\n"
 
 
-def make_table(log, sums):
+def make_table(log, sums, then):
     path = ROOT / "docs" / "GATE.md"
     page = path.read_text()
     earlier, bodies = before(page), tried(log)
@@ -88,19 +90,23 @@ def make_table(log, sums):
     proofs, wrong = (sum(it[at] for it in sums.values()) for at in (0, 1))
     wrong += sum(seconds for _, seconds in bodies.values())
     print(f"{len(sums)} crates: proofs and tests {proofs:,.0f} s, {sum(count for count, _ in bodies.values())} wrong bodies {wrong:,.0f} s")
+    took = ", ".join(f"{name} {then[name][0]:.0f} s for {seconds}" for name, seconds in THEN.items())
     both = [it for it in sums if earlier.get(it, "-") not in ("-", "0")]
-    for what, crates in ((" and ".join(PACE), PACE), ("all crates", both)):
-        pace = sum(sums[it][0] for it in crates) / sum(int(earlier[it]) for it in crates)
-        print(f"by {what} {pace:.2f} times the earlier run: at that pace {proofs / pace:,.0f} s and {wrong / pace:,.0f} s")
+    paces = {
+        f"by the tree of {TREE} ({took})": sum(then[it][0] for it in THEN) / sum(THEN.values()),
+        "by all crates of the table": sum(sums[it][0] for it in both) / sum(int(earlier[it]) for it in both),
+    }
+    for what, pace in paces.items():
+        print(f"{what} {pace:.2f} times as long: at that pace {proofs / pace:,.0f} s and {wrong / pace:,.0f} s")
     print(*re.findall(r"^\d+ passed, \d+ failed$", log, re.MULTILINE)[-1:])
 
 
 def main(words):
     if len(words) == 3 and words[0] == "sample":
         sample(pathlib.Path(words[1]).resolve(), pathlib.Path(words[2]))
-    elif len(words) >= 3 and words[0] == "table":
-        logs = [pathlib.Path(it).read_text(errors="replace") for it in [words[1], *words[3:]]]
-        make_table("\n".join(logs), json.loads(pathlib.Path(words[2]).read_text()))
+    elif len(words) >= 4 and words[0] == "table":
+        logs = [pathlib.Path(it).read_text(errors="replace") for it in [words[1], *words[4:]]]
+        make_table("\n".join(logs), *(json.loads(pathlib.Path(it).read_text()) for it in words[2:4]))
     else:
         print(__doc__, end="", file=sys.stderr)
         return 2
