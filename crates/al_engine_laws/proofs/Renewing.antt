@@ -1,5 +1,5 @@
 -- New entries of the edited units, under the answers that there are with them, are what a build makes where they reach nobody else.
-use Rattle.std.proofs.Common.{◌≡◌, ◌⊎◌, ◌×◌, inl, inr, ℕ, ◌<◌, Bool, true, false, ◌&&◌, ◌||◌, List, [], ◌∷◌, Option, Some, None, is_some, tt, refl, sym, ap, subst, ◌∙◌, if◌then◌else◌}
+use Rattle.std.proofs.Common.{◌≡◌, inl, inr, ℕ, Bool, true, false, ◌&&◌, List, [], ◌∷◌, Option, Some, None, is_some, refl, sym, ap, subst, ◌∙◌, if◌then◌else◌}
 use Rattle.std.specs.List.{list_all}
 use Rattle.std.specs.Option.{option_map}
 use Rattle.std.proofs.lemmas.Bool.{true≢false}
@@ -25,7 +25,6 @@ use Rattle.al_engine_refresh.proofs.OrderSteps.{in-rest}
 use Rattle.al_engine_recheck.specs.Edits.{IsRenewable}
 use Rattle.al_engine_recheck.specs.Rechecks.{HasOrder, IsRechecked, setting_of}
 use Rattle.al_engine_recheck.proofs.OrderLemmas.{faultless-after}
-use Rattle.al_engine_recheck.proofs.Skipping.{edited-not, edited-some, faultless-some, in-order, none-faulty, none-out, sound-some}
 use Rattle.al_engine_laws.specs.Renewals.{AreListed, AreRenewed, RenewalsAreRechecked}
 
 -- those of a list that are among some units
@@ -34,15 +33,14 @@ picked_of units [] = []
 picked_of units (u ∷ us) = if has_unit units u then u ∷ picked_of units us else picked_of units us
 
 picked-are : (P : UnitKey → Type 0) (units us : List UnitKey) → ((u : UnitKey) → has_unit us u ≡ true → has_unit units u ≡ true → P u) → ((u : UnitKey) → has_unit us u ≡ true → has_unit units u ≡ false → P u → ⊥) → Picked P us (picked_of units us)
+unfolding picked_of
 picked-are P units [] each never = no_units
-picked-are P units (v ∷ us) each never = by (has_unit units v) refl
+picked-are P units (v ∷ us) each never =
+    by (has_unit units v) refl (picked-are P units us (λ w h m. each w (in-rest v us w h) m) (λ w h m. never w (in-rest v us w h) m))
   where
-    rest : Picked P us (picked_of units us)
-    rest = picked-are P units us (λ w h m. each w (in-rest v us w h) m) (λ w h m. never w (in-rest v us w h) m)
-
-    by : (b : Bool) → has_unit units v ≡ b → Picked P (v ∷ us) (if b then v ∷ picked_of units us else picked_of units us)
-    by true m = taken (each v (has_unit-first v us) m) rest
-    by false m = left (never v (has_unit-first v us) m) rest
+    by : (b : Bool) → has_unit units v ≡ b → Picked P us (picked_of units us) → Picked P (v ∷ us) (if b then v ∷ picked_of units us else picked_of units us)
+    by true m rest = taken (each v (has_unit-first v us) m) rest
+    by false m rest = left (never v (has_unit-first v us) m) rest
 
 module _ (meaning : TextMeaning) (header : List ℕ → Header) (pre : Query → AnswerKind) (lib : Library) (entries made : UnitKey → Option Stored) (order units : List UnitKey) (has : HasOrder header pre lib order) (was : IsRenewable meaning header pre lib entries units) (now : AreRenewed meaning header pre lib entries units made) where
   abbrev s0 : Setting
@@ -69,15 +67,26 @@ module _ (meaning : TextMeaning) (header : List ℕ → Header) (pre : Query →
       ap (λ (b : Bool). fl w && b) (now.reached w t)
       ∙ sym (λ i. was.alone.faultless (key_of w) i && list_all (λ (k : Key). is_sound (f0 (unit_named k))) (was.alone.dependences (key_of w) i))
 
+  -- who had an entry was reached
+  reached-before : (u : UnitKey) → is_some (entries u) ≡ true → is_reached s0 f0 u ≡ true
+  reached-before u some = by (is_reached s0 f0 u) refl
+    where
+      by : (b : Bool) → is_reached s0 f0 u ≡ b → is_reached s0 f0 u ≡ true
+      by true r = r
+      by false r = absurd (true≢false (sym some ∙ ap is_some (was.rechecked.unreached u r)))
+
+  -- an edited unit had an entry, and breaks no rule
+  had-entry : (u : UnitKey) → has_unit units u ≡ true → is_some (entries u) ≡ true
+  had-entry u m = let e = was.alone.edited u m in ap is_some e.1
+
   faultless : (u : UnitKey) → has_unit units u ≡ true → fl u ≡ true
-  faultless u m = faultless-some meaning header pre lib order units entries has was u (edited-some meaning header pre lib order units entries has was u m)
+  faultless u m =
+      sym (was.alone.faultless (key_of u)) ∙ (both (is_faultless was.old (key_of u)) (has_sound_dependences was.old f0 u) (reached-before u (had-entry u m))).0
 
   -- an edited unit is reached
   reached-edited : (u : UnitKey) → has_unit units u ≡ true → is_reached s1 f u ≡ true
   reached-edited u m =
-      let t = faultless u m in
-      ap (λ (b : Bool). b && has_sound_dependences lib f u) t ∙ now.reached u t
-      ∙ sound-some meaning header pre lib order units entries has was u (edited-some meaning header pre lib order units entries has was u m)
+      reached-now u (faultless u m) ∙ reached-before u (had-entry u m)
 
   law : AllKeepLaw meaning header made
   law u e k = by (has_unit units u) refl
@@ -92,14 +101,14 @@ module _ (meaning : TextMeaning) (header : List ℕ → Header) (pre : Query →
     where
       by : (b : Bool) → has_unit units u ≡ b → made u ≡ None
       by true m = absurd (true≢false (sym (faultless u m) ∙ t))
-      by false m = now.renewal.others u m ∙ none-faulty meaning header pre lib order units entries has was u t
+      by false m = now.renewal.others u m ∙ was.rechecked.unreached u (ap (λ (b : Bool). b && has_sound_dependences was.old f0 u) (was.alone.faultless (key_of u) ∙ t))
 
   none-outside : (u : UnitKey) → has_unit order u ≡ false → made u ≡ None
-  none-outside u out = by (has_unit units u) refl
+  none-outside u out = by (fl u) refl
     where
-      by : (b : Bool) → has_unit units u ≡ b → made u ≡ None
-      by true m = absurd (true≢false (sym (in-order meaning header pre lib order units entries has was u (edited-some meaning header pre lib order units entries has was u m)) ∙ out))
-      by false m = now.renewal.others u m ∙ none-out meaning header pre lib order units entries has was u out
+      by : (b : Bool) → fl u ≡ b → made u ≡ None
+      by true t = absurd (true≢false (sym (has.1.whole u t) ∙ out))
+      by false t = none u t
 
   -- the entry of an edited unit
   valid-edited : (u : UnitKey) (o : Option Stored) → made u ≡ o → has_unit units u ≡ true → Valid meaning header lib fl pre is made f u
@@ -139,7 +148,9 @@ module _ (meaning : TextMeaning) (header : List ℕ → Header) (pre : Query →
 
     -- an edited unit needs a check, and no other one does
     needs : (u : UnitKey) → has_unit units u ≡ true → NeedsCheck s1 entries (text_of lib) g u
-    needs u m = (sym (alike u) ∙ reached-edited u m, edited-not meaning header pre lib order units entries has was u m (table s1 g))
+    needs u m =
+        let e = was.alone.edited u m in
+        (sym (alike u) ∙ reached-edited u m, (λ c. e.2 (subst (λ (o : Option Stored). HasCurrent o (text_of lib u) (table s1 g)) e.1 c).0))
 
     needs-none : (u : UnitKey) → fl u ≡ true → has_unit units u ≡ false → NeedsCheck s1 entries (text_of lib) g u → ⊥
     needs-none u t m n = by (valid-under u (valid u t))
