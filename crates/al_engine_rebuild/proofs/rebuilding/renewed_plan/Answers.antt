@@ -11,7 +11,7 @@ renewed-requires-clause-others c =
     let e = c.args.entries.now in
     subst (λ (o : Option (Bor UnitKey)). IfSome o (λ u. (w : UnitKey) → same_unit u.now w ≡ false → now_at e w ≡ settled_at e w)) c.in-Some-unit.is c.requires.others
 
-pub renewed-requires-clause-partition : goal.renewed-requires-clause-partition
-renewed-requires-clause-partition c =
+pub renewed-requires-clause-kept : goal.renewed-requires-clause-kept
+renewed-requires-clause-kept c =
     let K : Type 0 = KeepsPartition c.args.sources.now (results_of (settled_at c.args.entries.now)) c.args.main.now c.args.before.now in
     subst (λ (o : Option (Bor UnitKey)). IfSome o (λ _. K)) c.in-Some-unit.is (subst (λ (o : Option (Bor (List UnitKey))). IfSome o (λ _. IfSome c.args.unit (λ _. K))) c.in-Some.is c.requires.partition)
