@@ -1,20 +1,10 @@
 -- What agreeing with a log says of a question in it.
-use Rattle.std.proofs.Common.{◌≡◌, List, [], ◌∷◌, ◌++◌, Bool, true, false, cond, Some, None, Result, Ok, IfOk, refl, sym, ◌∙◌, ap, subst}
-use Rattle.indexmap.specs.IndexMap.{insert_entry}
+use Rattle.std.proofs.Common.{◌≡◌, List, [], ◌∷◌, ◌++◌, Bool, true, false, cond, Some, Result, Ok, IfOk, refl, sym, ◌∙◌, ap, subst}
 use Rattle.al_query.specs.declared.query.Query.{Query}
 use Rattle.al_query.specs.declared.answer.AnswerKind.{AnswerKind}
 use Rattle.al_query.specs.Queries.{same_query}
 use Rattle.al_query.specs.Reads.{Agrees, recorded}
 use Rattle.al_query.specs.QueryLaws.{same_query-one}
-
--- a question that the log lacks goes last
-pub insert_entry-last : (log : List (Query × AnswerKind)) (q : Query) (a : AnswerKind) → recorded log q ≡ None → insert_entry same_query log q a ≡ log ++ (q, a) ∷ []
-insert_entry-last [] q a h = refl
-insert_entry-last (e ∷ es) q a h = at (same_query q e.0) h (insert_entry-last es q a)
-  where
-    at : (b : Bool) → cond b (Some e.1) (recorded es q) ≡ None → (recorded es q ≡ None → insert_entry same_query es q a ≡ es ++ (q, a) ∷ []) → cond b ((e.0, a) ∷ es) (e ∷ insert_entry same_query es q a) ≡ e ∷ (es ++ (q, a) ∷ [])
-    at true h rest = absurd (cc)
-    at false h rest = ap (λ (l : List (Query × AnswerKind)). e ∷ l) (rest h)
 
 -- a table that agrees with a log gives a recorded question its recorded answer
 pub agrees-recorded : (t : Query → AnswerKind) (log : List (Query × AnswerKind)) (q : Query) (a : AnswerKind) → Agrees t log → recorded log q ≡ Some a → t q ≡ a

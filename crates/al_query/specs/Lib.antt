@@ -3,6 +3,7 @@ pub mod Asked
 pub mod BodyLaws
 pub mod Hashing
 pub mod Known
+pub mod Places
 pub mod Queries
 pub mod QueryLaws
 pub mod Reads

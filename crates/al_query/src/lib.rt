@@ -2,6 +2,7 @@
 #![tactic(auto)]
 
 mod answer;
+mod indexed_log;
 mod key;
 pub mod laws;
 mod query;

@@ -1,20 +1,20 @@
 // The recorder of questions.
-ghost use Rattle.std.specs.Prelude.{◌≡◌, ◌&&◌, ◌||◌, List, [], ◌∷◌, ◌++◌, IfOk, OnErr, None, true, is_ok, length, slice_get, if◌then◌else◌};
-ghost use Rattle.std.specs.Option.{option_copied, option_map};
+ghost use Rattle.std.specs.Prelude.{◌≡◌, [], IfOk, OnErr, is_ok, length, slice_get};
+ghost use Rattle.std.specs.Option.{option_map};
 ghost use Rattle.al_base.specs.declared.unit_key.UnitKey.{UnitKey};
 ghost use Rattle.al_base_shortage.specs.Counts.{counted};
 ghost use Rattle.al_query.specs.declared.query.Query.{Query};
 ghost use Rattle.al_query.specs.declared.answer.AnswerKind.{AnswerKind};
 ghost use Rattle.al_query.specs.Answers.{names_told};
 ghost use Rattle.al_query.specs.Known.{Learns};
-ghost use Rattle.al_query.specs.Reads.{Agrees, Agrees-prop, FromAnswers, logged, recorded};
+ghost use Rattle.al_query.specs.Reads.{Agrees, Agrees-prop, FromAnswers, logged};
 ghost use Rattle.al_query.specs.AnsweredNames.{AreTold};
 
 use crate::answer::Answer;
+use crate::indexed_log::IndexedLog;
 use crate::query::Query;
 use al_base::NoMemory;
 use al_base_shortage::AllocFailures;
-use indexmap::IndexMap;
 use std::alloc::Global;
 use std::marker::Model;
 
@@ -29,9 +29,9 @@ pub trait Answers {
         ensures { IfOk result (λ answer. answer ≡ table self.now query.now) };
 }
 
-/// Each question that was asked, once, with its answer, in the order of asking. A question is found without a walk.
+/// Each question that was asked, once, with its answer, in the order of asking.
 pub struct ReadLog {
-    answers: IndexMap<Query, Answer>,
+    answers: Vec<(Query, Answer)>,
 }
 
 impl Drop for ReadLog {
@@ -47,7 +47,7 @@ impl Model for ReadLog {
 
     ghost Value = { List (Query × AnswerKind) };
 
-    ghost view = { λ l. l.answers.entries };
+    ghost view = { λ l. l.answers.items };
 }
 
 impl ReadLog {
@@ -56,7 +56,7 @@ impl ReadLog {
         ensures { result ≡ [] }
     {
         ReadLog {
-            answers: IndexMap::new(alloc),
+            answers: Vec::new(alloc),
         }
     }
 
@@ -71,23 +71,8 @@ impl ReadLog {
     pub fn at(&self, i: usize) -> Option<(&Query, &Answer)>
         ensures { option_map (λ read. (read.0.now, read.1.now)) result ≡ slice_get self.now i }
     {
-        self.answers.get_index(i)
-    }
-
-    /// The recorded answer to a question.
-    pub fn find(&self, query: &Query) -> Option<&Answer>
-        ensures { option_copied result ≡ recorded self.now query.now }
-    {
-        self.answers.get(query)
-    }
-
-    /// Appends a question that the log lacks.
-    fn push(&mut self, query: Query, answer: Answer) -> Result<(), NoMemory>
-        requires { recorded self.old query ≡ None }
-        ensures { self.new ≡ (if is_ok result then self.old ++ (query, answer) ∷ [] else self.old) }
-    {
-        self.answers.insert(query, answer)?;
-        Ok(())
+        let (query, answer) = self.answers.get(i)?;
+        Some((query, answer))
     }
 }
 
@@ -95,7 +80,7 @@ impl ReadLog {
 pub struct Recorder<A: Answers> {
     alloc: Global,
     asked: A,
-    log: ReadLog,
+    log: IndexedLog,
     failures: AllocFailures,
 }
 
@@ -132,7 +117,7 @@ impl<A: Answers> Recorder<A> {
         Recorder {
             alloc,
             asked,
-            log: ReadLog::new(alloc),
+            log: IndexedLog::new(alloc),
             failures: AllocFailures::new(),
         }
     }
@@ -157,7 +142,7 @@ impl<A: Answers> Recorder<A> {
         let answer = self.failures.of(self.asked.ask(query))?;
         let kept = self.failures.of(answer.share())?;
         let query = self.failures.of(query.copy(self.alloc))?;
-        self.failures.of(self.log.push(query, kept))?;
+        self.failures.of(self.log.push(self.alloc, query, kept))?;
         Ok(answer)
     }
 
@@ -189,6 +174,8 @@ impl<A: Answers> Recorder<A> {
             failures: _,
         } = self;
         drop(asked);
-        log
+        ReadLog {
+            answers: log.into_answers(),
+        }
     }
 }

@@ -9,14 +9,13 @@ ghost use Rattle.al_query_readers.specs.Reads.{any_has, has, same_place};
 use crate::place::Place;
 use al_base::NoMemory;
 use al_query::Query;
-use indexmap::IndexMap;
 use std::alloc::Global;
-use std::collections::BTreeSet;
+use std::collections::{BTreeSet, HashMap};
 use std::marker::Model;
 
 /// Questions, each with the places of its answers.
 pub struct Questions {
-    by_query: IndexMap<Query, BTreeSet<Place>>,
+    by_query: HashMap<Query, BTreeSet<Place>>,
 }
 
 impl Drop for Questions {
@@ -42,7 +41,7 @@ impl Questions {
         ensures { result ≡ [] }
     {
         Questions {
-            by_query: IndexMap::new(alloc),
+            by_query: HashMap::new(alloc),
         }
     }
 

@@ -1,4 +1,4 @@
 pub mod HomographLemmas
-pub mod InterfaceLemmas
+pub mod PlaceLemmas
 pub mod SameLemmas
 pub mod SymbolLemmas

@@ -2,6 +2,7 @@ pub mod Homographs
 pub mod Interfaces
 pub mod Named
 pub mod Operators
+pub mod Places
 pub mod Symbols
 pub mod Types
 pub mod ViewSymbols
