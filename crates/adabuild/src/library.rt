@@ -13,7 +13,7 @@ use al_check_text::laws::headers_are_read;
 use al_engine::Engine;
 use al_engine_batch::Compiled;
 use al_engine_files::AdaFiles;
-use al_query_check::UnitCheck;
+use al_query_outcome::UnitCheck;
 use al_query_predefined::PredefinedUnits;
 use al_query_predefined::laws::units_are_predefined;
 use std::alloc::Global;

@@ -9,8 +9,7 @@ use al_base::{Name, NoMemory, UnitKey};
 use al_folder_told::{Ending, RunEnd, ending_of};
 use al_link_image::{Image, ImageObject};
 use al_machine::Exception;
-use al_tasks::World;
-use al_tasks_world::Status;
+use al_tasks::{Status, World};
 use std::alloc::Global;
 
 // How many steps a part of a run has at most.

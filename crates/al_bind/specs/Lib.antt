@@ -1,8 +1,10 @@
-pub mod Elaboration
-pub mod Missing
-pub mod Faults
-pub mod Numbers
-pub mod Steps
-pub mod Parts
 pub mod Binding
+pub mod Bound
+pub mod Elaboration
+pub mod Faults
 pub mod Laws
+pub mod Missing
+pub mod Numbers
+pub mod Obeys
+pub mod Parts
+pub mod Steps

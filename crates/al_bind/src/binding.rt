@@ -17,7 +17,6 @@ use al_unit_graph::Sources;
 use std::alloc::Global;
 
 /// An item that comes after another one, and why.
-#[derive(Debug)]
 pub struct Line {
     pub after: UnitKey,
     pub before: UnitKey,
@@ -35,7 +34,6 @@ impl Drop for Line {
 }
 
 /// Why a partition has no elaboration order.
-#[derive(Debug)]
 pub enum BindFault {
     /// Something is missing.
     Lacks(MissingItem),

@@ -8,7 +8,6 @@ use al_unit_graph::Sources;
 use std::alloc::Global;
 
 /// What a partition lacks.
-#[derive(Debug)]
 pub enum MissingItem {
     /// The main unit is no procedure without parameters (ARM 10.2(7)).
     Main,

@@ -6,6 +6,7 @@ mod edges;
 mod lacking;
 pub mod laws;
 mod missing;
+pub mod order_laws;
 mod parts;
 mod places;
 

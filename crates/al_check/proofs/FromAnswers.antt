@@ -21,10 +21,10 @@ use Rattle.al_query.specs.Reads.{Table}
 use Rattle.al_scope_context.specs.Contexts.{context_at}
 use Rattle.al_scope_context.specs.declared.context.Context.{Context}
 use Rattle.al_query_outcome.specs.ReadsLaw.{is_check_code, is_fault_of}
-use Rattle.al_stmts_walk.specs.Steps.{Inside}
+use Rattle.al_stmts_walked.specs.Steps.{Inside}
 use Rattle.al_check_promises.proofs.Kept.{own_fault}
-use Rattle.al_check_within.specs.Verdicts.{IsTold, Verdict}
-use Rattle.al_check_within.specs.Verdicts.Verdict.{Wrong}
+use Rattle.al_check_bounded.specs.Verdicts.{IsTold, Verdict}
+use Rattle.al_check_bounded.specs.Verdicts.Verdict.{Wrong}
 use Rattle.al_check_here.specs.Ends.{ends_told}
 use Rattle.al_check_start.specs.UnitsAt.{completed_at, name_fault, start_after, start_with, unit_at}
 use Rattle.al_check_start.specs.declared.unit.UnitStart.{UnitStart}

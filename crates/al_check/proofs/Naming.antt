@@ -33,8 +33,8 @@ use Rattle.al_query_outcome.specs.declared.interface.Parts.{Parts}
 use Rattle.al_query_outcome.specs.declared.interface.Properties.{Properties}
 use Rattle.al_query_outcome.proofs.Members.{Each, contains-has, each-append}
 use Rattle.al_base_graph.proofs.Members as member
-use Rattle.al_stmts_walk.specs.Steps.{Inside}
-use Rattle.al_check_within.specs.Verdicts.{NamesWithin, Verdict}
+use Rattle.al_stmts_walked.specs.Steps.{Inside}
+use Rattle.al_check_bounded.specs.Verdicts.{NamesWithin, Verdict}
 use Rattle.al_check_here.specs.Ends.{ends_told}
 use Rattle.al_check_start.specs.UnitsAt.{completed_at, name_fault, start_after, start_with, unit_at}
 use Rattle.al_check_start.specs.declared.unit.UnitStart.{UnitStart}

@@ -2,8 +2,8 @@
 use Rattle.std.proofs.Common.{◌≡◌, Result, Ok, Err, subst, ◌∙◌}
 use Rattle.std.specs.Prelude.{IfOk}
 use Rattle.al_query.specs.Reads.{Agrees, Log, Table, FromAnswers}
-use Rattle.al_check_within.specs.Verdicts.{Verdict, verdict_of}
-use Rattle.al_check_within.specs.declared.finding.UnitResult.{UnitResult}
+use Rattle.al_check_bounded.specs.Verdicts.{Verdict, verdict_of}
+use Rattle.al_check_bounded.specs.declared.finding.UnitResult.{UnitResult}
 
 pub if_ok : {X E : Type 0} (r : Result X E) (P Q : X → Type 0) → ((x : X) → P x → Q x) → IfOk r P → IfOk r Q
 if_ok (Ok x) P Q f h = f x h

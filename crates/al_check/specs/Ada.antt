@@ -11,10 +11,10 @@ use Rattle.al_base_faults.specs.declared.fault_list.FaultList.{FaultList}
 use Rattle.al_scope_seen.specs.declared.hiding.PrivateName.{PrivateName}
 use Rattle.al_scope_unit.specs.declared.own.OwnText.{OwnText}
 use Rattle.al_view.specs.Named.{Declarations}
-use Rattle.al_stmts_walk.specs.Steps.{Inside}
-use Rattle.al_stmts_walk.specs.Units.{unit_walked}
-use Rattle.al_check_within.specs.Verdicts.{Verdict}
-use Rattle.al_check_within.specs.Verdicts.Verdict.{Wrong}
+use Rattle.al_stmts_walked.specs.Steps.{Inside}
+use Rattle.al_stmts_walked.specs.Units.{unit_walked}
+use Rattle.al_check_bounded.specs.Verdicts.{Verdict}
+use Rattle.al_check_bounded.specs.Verdicts.Verdict.{Wrong}
 use Rattle.al_check_known.specs.PrivateNames.{names_known}
 use Rattle.al_check_known.specs.Starts.{units_known}
 use Rattle.al_check_start.specs.UnitsAt.{unit_at}

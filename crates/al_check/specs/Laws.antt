@@ -7,7 +7,7 @@ use Rattle.al_base_fault.specs.declared.fault.Fault.{Fault}
 use Rattle.al_base_faults.specs.FaultLists.{all_faults}
 use Rattle.al_view_typed.specs.UnitTrees.{UnitTree}
 use Rattle.al_query_outcome.specs.declared.interface.UnitInterface.{UnitInterface}
-use Rattle.al_check_within.specs.Verdicts.Verdict.{Wrong, Right}
+use Rattle.al_check_bounded.specs.Verdicts.Verdict.{Wrong, Right}
 use Rattle.al_check_start.specs.UnitsAt.{unit_at}
 use Rattle.al_check_start.specs.declared.unit.UnitStart.{UnitStart}
 use Rattle.al_check_made.specs.Made.{fault_in, faults_in}

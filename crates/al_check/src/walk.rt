@@ -2,21 +2,21 @@
 ghost use Rattle.std.specs.Prelude.{◌≡◌, IfOk};
 ghost use Rattle.al_tree.specs.UnitViews.{library_item_model, unit_model};
 ghost use Rattle.al_query.specs.Reads.{Agrees, FromAnswers};
-ghost use Rattle.al_stmts_walk.specs.Units.{unit_walked};
+ghost use Rattle.al_stmts_walked.specs.Units.{unit_walked};
 ghost use Rattle.al_stmts_walked.specs.WalkedViews.{inside_model};
-ghost use Rattle.al_check_within.specs.Verdicts.{verdict_of};
+ghost use Rattle.al_check_bounded.specs.Verdicts.{verdict_of};
 ghost use Rattle.al_check_here.specs.Ends.{ends_of};
 ghost use Rattle.al_check_reading.specs.Ada.{ada};
 ghost use Rattle.al_check.specs.Ada.{ended_after, ended_text, item_walked_with, private_part_found, round_of};
 
 use crate::start::{Begun, begun_at};
 use al_base::NoMemory;
+use al_check_bounded::{UnitResult, UnitVerdict};
 use al_check_here::{CheckState, Ends, into_ends, into_private_part};
 use al_check_made::{EndedText, UnitFacts, found_after};
 use al_check_reading::AdaAnalyzer;
 use al_check_start::UnitStart;
 use al_check_walk::check_unit;
-use al_check_within::{UnitResult, UnitVerdict};
 use al_query::{Answers, Recorder};
 use al_stmts_walked::WalkedInside;
 use al_tree::{CompilationUnit, LibraryItem};

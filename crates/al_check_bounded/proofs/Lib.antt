@@ -1,1 +1,13 @@
+pub mod BoundLemmas
+pub mod Bounding
+pub mod BoundsNameLemmas
+pub mod Grounds
+pub mod Joined
+pub mod LeftLemmas
+pub mod NameLemmas
+pub mod Naming
 pub mod Reading
+pub mod Shown
+pub mod UnitLemmas
+pub mod WereShown
+pub mod WordLemmas

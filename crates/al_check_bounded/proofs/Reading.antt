@@ -12,9 +12,9 @@ use Rattle.al_query_outcome.specs.Results.{Outcome, Faulty}
 use Rattle.al_check_promises.specs.Laws.{NotYetIsReported, Promised}
 use Rattle.al_check_promises.specs.SelfChecks.{not_checked}
 use Rattle.al_check_text.specs.Texts.{HeadersAreRead, UnitsAreRead, header_in, unit_in}
-use Rattle.al_check_within.specs.Verdicts.{Verdict}
-use Rattle.al_check_within.specs.Within.{IsChecked, meaning_within}
-use Rattle.al_check_within.proofs.Naming.{faulty_names}
+use Rattle.al_check_bounded.specs.Verdicts.{Verdict}
+use Rattle.al_check_bounded.specs.Within.{IsChecked, meaning_within}
+use Rattle.al_check_bounded.proofs.Naming.{faulty_names}
 use Rattle.al_check_bounded.specs.Meanings.{meaning_if_unit, text_meaning}
 
 -- the check of a unit with these bytes is that of its text

@@ -7,8 +7,8 @@ use Rattle.al_query.specs.Reads.{Table}
 use Rattle.al_query_outcome.specs.Results.{Outcome, Faulty}
 use Rattle.al_check_promises.specs.SelfChecks.{not_checked}
 use Rattle.al_check_text.specs.Texts.{unit_in}
-use Rattle.al_check_within.specs.Verdicts.{Verdict}
-use Rattle.al_check_within.specs.Within.{meaning_within}
+use Rattle.al_check_bounded.specs.Verdicts.{Verdict}
+use Rattle.al_check_bounded.specs.Within.{meaning_within}
 
 abbrev pub meaning_if_unit : (UnitKey → Header → Table → List UnitKey) → (UnitKey → Header → Table → List (List ℕ)) → (UnitKey → List ℕ → CompilationUnitTree → Table → Verdict) → UnitKey → List ℕ → Option CompilationUnitTree → Table → Outcome
 meaning_if_unit units names verdict unit text (Some tree) t = meaning_within units names verdict unit text tree t

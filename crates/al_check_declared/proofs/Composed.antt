@@ -5,7 +5,7 @@ use Rattle.al_check_here.specs.Standings.{with_here}
 use Rattle.al_check_here.specs.declared.state.CheckState.{CheckState}
 use Rattle.al_decl_judged.specs.Declaring.{DeclaredTree}
 use Rattle.al_decl_judged.specs.declared.progress.Progress.{Progress}
-use Rattle.al_decl_here.specs.declared.env.Environment.{Environment}
+use Rattle.al_decl.specs.declared.env.Environment.{Environment}
 use Rattle.al_base_fault.specs.declared.fault.Fault.{Fault}
 use Rattle.al_query.specs.declared.answer.Completion.{Completion}
 use Rattle.al_scope.specs.Places.{Place}

@@ -1,7 +1,7 @@
 -- Declarations where the check of a unit stands (ARM 3.1, 6.1, 8.4), by a table of answers.
 use Rattle.std.specs.Prelude.{ℕ, Bool, ◌&&◌, List, [], ◌∷◌, Option, Some, None, Result, Ok, Err, if◌then◌else◌}
 use Rattle.std.specs.Option.{option_map_or}
-use Rattle.al_stmts_walk.specs.Walking.{first_line}
+use Rattle.al_stmts_walked.specs.Walking.{first_line}
 use Rattle.al_check_here.specs.Faulty.{effect_settled, ended}
 use Rattle.al_check_here.specs.PartsHere.{with_uses}
 use Rattle.al_check_here.specs.Stacks.{is_bare}
@@ -10,11 +10,11 @@ use Rattle.al_check_here.specs.declared.state.CheckState.{CheckState}
 use Rattle.al_decl_ada.specs.AdaPartReading.{parts_read}
 use Rattle.al_check_declared.specs.Nowhere.{not_yet_fault}
 use Rattle.al_base.specs.declared.unit_key.UnitKind.TheVariants.{Decl}
-use Rattle.al_decl_body.specs.Regions.{in_regions}
-use Rattle.al_decl_item.specs.Items.{object_checked, subtype_item_checked, type_checked}
-use Rattle.al_decl_subprogram.specs.Placing.{subprogram_checked}
+use Rattle.al_decl.specs.Regions.{in_regions}
+use Rattle.al_decl.specs.Items.{object_checked, subtype_item_checked, type_checked}
+use Rattle.al_decl.specs.Placing.{subprogram_checked}
 use Rattle.al_base_fault.specs.declared.fault.Fault.{Fault}
-use Rattle.al_decl_reader.specs.PartReadings.{PartReading}
+use Rattle.al_decl.specs.PartReadings.{PartReading}
 use Rattle.al_query.specs.Reads.{Table}
 use Rattle.al_query.specs.declared.answer.UseClause.{UseClause}
 use Rattle.al_scope.specs.declared.region.Region.{Region}
@@ -30,7 +30,7 @@ use Rattle.al_view.specs.Types.{layout_words}
 use Rattle.al_view.specs.declared.part.Part.TheVariants as part
 use Rattle.al_view.specs.declared.types.TypeView.{TypeView}
 use Rattle.al_view.specs.declared.view.ViewKind.{ViewKind}
-use Rattle.al_stmts_walk.specs.Readings.{Read}
+use Rattle.al_stmts_walked.specs.Readings.{Read}
 
 -- what reads the parts of declarations there
 abbrev pub parts_here : Table → CheckState → PartReading

@@ -11,19 +11,19 @@ use Rattle.al_check_objects.specs.OpenObjects.{barrier_fault_here, object_opened
 use Rattle.al_decl_completes.specs.CompletingFound.{completing_found}
 use Rattle.al_decl_completion.specs.declared.specification.BodyHead.{BodyHead}
 use Rattle.al_decl_completion.specs.declared.specification.BodyHead.TheVariants as heads
-use Rattle.al_decl_here.specs.declared.env.Environment.{Environment}
+use Rattle.al_decl.specs.declared.env.Environment.{Environment}
 use Rattle.al_decl_judged.specs.declared.names.DefiningName.{DefiningName}
-use Rattle.al_decl_names.specs.Defining.{defined}
+use Rattle.al_decl.specs.Defining.{defined}
 use Rattle.al_decl_profile.specs.Profiles.{specification_of}
 use Rattle.al_decl_profile.specs.declared.heading.Heading.{Heading}
 use Rattle.al_decl_protected.specs.Bodies.{Named, named_body}
 use Rattle.al_decl_protected.specs.Objects.{protected_checked}
 use Rattle.al_decl_protected.specs.Operations.{bare_head}
 use Rattle.al_decl_protected.specs.Tasks.{task_checked}
-use Rattle.al_decl_subprogram.specs.Placing.{body_placed, has_right_marks, head_duplicate}
+use Rattle.al_decl.specs.Placing.{body_placed, has_right_marks, head_duplicate}
 use Rattle.al_query.specs.Reads.{Table}
-use Rattle.al_stmts_walk.specs.Readings.{Read}
-use Rattle.al_stmts_walk.specs.Walking.{first_line}
+use Rattle.al_stmts_walked.specs.Readings.{Read}
+use Rattle.al_stmts_walked.specs.Walking.{first_line}
 use Rattle.al_tree_grammar.specs.Grammar.{Label}
 use Rattle.al_tree_syntax.specs.DeclarationTrees.{ProtectedTree, SpecificationTree, TaskTree}
 use Rattle.al_tree_syntax.specs.ExpressionTrees.{ExpressionTree}

@@ -3,7 +3,7 @@ ghost use Rattle.std.specs.Prelude.{◌≡◌, ◌<◌, length, IfOk};
 ghost use Rattle.al_base_fault.specs.Judging.{map_ok};
 ghost use Rattle.al_query.specs.Reads.{FromAnswers};
 ghost use Rattle.al_tree.specs.DeclarationViews.{specification_model};
-ghost use Rattle.al_stmts_walk.specs.Views.{effects_model};
+ghost use Rattle.al_stmts_walked.specs.Views.{effects_model};
 ghost use Rattle.al_check_declared.specs.HeadsHere.{head_of, nested_head, stub_here, stub_of, stub_wrong};
 ghost use Rattle.al_check_declared.specs.ObjectsHere.{inner_head, operation_head, operation_of};
 

@@ -1,7 +1,7 @@
 // Heads of bodies and stubs, as a table of answers tells them (ARM 6.3, 10.1.3).
 ghost use Rattle.std.specs.Prelude.{◌≡◌, ◌<◌, length, IfOk, OnOk};
 ghost use Rattle.al_decl.specs.Checking.{at_place};
-ghost use Rattle.al_decl_subprogram.specs.Bodies.{placed_model};
+ghost use Rattle.al_decl.specs.Bodies.{placed_model};
 ghost use Rattle.al_base_fault.specs.Judging.{map_ok};
 ghost use Rattle.al_query.specs.Reads.{FromAnswers};
 ghost use Rattle.al_tree.specs.DeclarationViews.{specification_model};
@@ -11,11 +11,9 @@ ghost use Rattle.al_check_declared.specs.ObjectsHere.{operation_at};
 use al_base::NoMemory;
 use al_base_fault::{CheckResult, Fault};
 use al_check_here::CheckState;
+use al_decl::{Environment, PlacedBody, has_right_marks, heading_at, place_body};
 use al_decl_ada::AdaPartAnalyzer;
-use al_decl_headings::heading_at;
-use al_decl_here::Environment;
 use al_decl_profile::Heading;
-use al_decl_subprogram::{PlacedBody, has_right_marks, place_body};
 use al_query::{Answers, Recorder};
 use al_tree::Specification;
 use al_view_predefined::StandardTypes;

@@ -2,13 +2,13 @@
 ghost use Rattle.std.specs.Prelude.{◌≡◌, Ok, map, option_map, IfOk, OnOk};
 ghost use Rattle.al_check_here.specs.Faulty.{effect_list};
 ghost use Rattle.al_decl.specs.Checking.{at_place};
-ghost use Rattle.al_decl_subprogram.specs.Bodies.{placed_model};
+ghost use Rattle.al_decl.specs.Bodies.{placed_model};
 ghost use Rattle.al_decl_judged.specs.Declaring.{declared_model};
 ghost use Rattle.al_base_fault.specs.Judging.{map_ok};
 ghost use Rattle.al_decl_profile.specs.Bodies.{new_body_model};
 ghost use Rattle.al_decl_profile.specs.Subprograms.{joined_waiting};
 ghost use Rattle.al_view_typed.specs.DeclarationTrees.{declaration_model};
-ghost use Rattle.al_stmts_walk.specs.Views.{effects_model};
+ghost use Rattle.al_stmts_walked.specs.Views.{effects_model};
 ghost use Rattle.al_check_declared.specs.DeclarationsHere.{faulty_here, no_place, pragma_settled, uses_settled};
 ghost use Rattle.al_check_declared.specs.HeadsHere.{head_settled, stub_kept, stub_settled, with_head};
 ghost use Rattle.al_check_declared.specs.ObjectsHere.{named_settled, object_settled, operation_settled, view_symbol};
@@ -23,10 +23,10 @@ use al_check_here::{
     AnalyzedHeading, BodyRole, CheckState, add_stub, add_uses, effect_list, end_list,
 };
 use al_check_objects::open_object;
+use al_decl::PlacedBody;
 use al_decl_judged::{Declared, DefiningName};
 use al_decl_profile::{Heading, NewBody};
 use al_decl_protected::{NamedBody, bare_head};
-use al_decl_subprogram::PlacedBody;
 use al_decl_type::Declaration;
 use al_query::UseClause;
 use al_scope::Scope;

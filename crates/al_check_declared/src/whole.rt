@@ -3,7 +3,7 @@ ghost use Rattle.std.specs.Prelude.{◌≡◌, IfOk, OnOk};
 ghost use Rattle.al_base_fault.specs.Judging.{map_ok};
 ghost use Rattle.al_query.specs.Reads.{FromAnswers};
 ghost use Rattle.al_tree.specs.DeclarationViews.{specification_model};
-ghost use Rattle.al_stmts_walk.specs.Views.{effects_model};
+ghost use Rattle.al_stmts_walked.specs.Views.{effects_model};
 ghost use Rattle.al_check_declared.specs.HeadsHere.{heading_here};
 ghost use Rattle.al_check_declared.specs.WholeHere.{undotted, whole_declared, whole_head, whole_head_of, whole_of};
 

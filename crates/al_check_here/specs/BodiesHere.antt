@@ -1,13 +1,13 @@
 -- Bodies at a place (ARM 6.3, 6.5, 8.1, 9.1, 9.5.1, 9.5.2).
 use Rattle.std.specs.Prelude.{ℕ, ◌-◌, List, [], ◌∷◌, ◌++◌, fold, Option, Some, None, Result, Ok, Err, if◌then◌else◌}
 use Rattle.std.specs.List.{filter_map}
-use Rattle.al_decl_body.specs.Regions.{outside_of, set_aside, subprogram_entered, taken_back, with_formals_declared}
-use Rattle.al_decl_body.specs.declared.block.Outside.{Outside}
-use Rattle.al_decl_body.specs.declared.body.OuterFrame.{OuterFrame}
+use Rattle.al_decl.specs.Regions.{outside_of, set_aside, subprogram_entered, taken_back, with_formals_declared}
+use Rattle.al_decl.specs.declared.block.Outside.{Outside}
+use Rattle.al_decl.specs.declared.subprogram_body.OuterFrame.{OuterFrame}
 use Rattle.al_decl_type.specs.Objects.{is_input}
 use Rattle.al_decl_type.specs.Types.{words_of}
 use Rattle.al_decl_type.specs.WordCounts.{place_after}
-use Rattle.al_decl_here.specs.declared.env.Environment.{Environment}
+use Rattle.al_decl.specs.declared.env.Environment.{Environment}
 use Rattle.al_base_fault.specs.declared.fault.Fault.{Fault}
 use Rattle.al_stmts_loops.specs.declared.returns.EnclosingBody.{EnclosingBody}
 use Rattle.al_stmts_loops.specs.declared.returns.EnclosingBody.TheVariants as bodies
@@ -17,7 +17,7 @@ use Rattle.al_decl_profile.specs.declared.frame.NewFormal.{NewFormal}
 use Rattle.al_decl_profile.specs.declared.heading.Heading.{Heading}
 use Rattle.al_decl_profile.specs.declared.heading.ReturnedPart.{ReturnedPart}
 use Rattle.al_decl_profile.specs.declared.heading.ReturnedPart.TheVariants.{NoValue, Value}
-use Rattle.al_stmts_walk.specs.declared.extent.BodyExtent.{BodyExtent}
+use Rattle.al_stmts_walked.specs.declared.extent.BodyExtent.{BodyExtent}
 use Rattle.al_view_typed.specs.DeclarationTrees.{DeclarationTree}
 use Rattle.al_view_typed.specs.StatementTrees.{StatementTree}
 use Rattle.al_view_typed.specs.UnitTrees.{BodyTree, ElaborationTree}

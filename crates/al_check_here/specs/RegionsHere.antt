@@ -1,14 +1,14 @@
 -- Loops and blocks at a place (ARM 5.5, 5.6, 8.1).
 use Rattle.std.specs.Prelude.{ℕ, true, List, [], ◌∷◌, ◌++◌, Option, Some, None, unwrap_or, if◌then◌else◌}
-use Rattle.al_decl_body.specs.Regions.{block_entered, outside_of, taken_back}
-use Rattle.al_decl_body.specs.declared.block.Outside.{Outside}
+use Rattle.al_decl.specs.Regions.{block_entered, outside_of, taken_back}
+use Rattle.al_decl.specs.declared.block.Outside.{Outside}
 use Rattle.al_decl_type.specs.Objects.{object_view}
 use Rattle.al_decl_type.specs.TypeDeclarations.{declared_as}
 use Rattle.al_decl_type.specs.declared.declaration.Declaration.{Declaration}
 use Rattle.al_decl_judged.specs.Progressing.{with_counted}
-use Rattle.al_decl_here.specs.Declaring.{begun_one, with_declarations}
-use Rattle.al_decl_here.specs.declared.env.Environment.{Environment}
-use Rattle.al_decl_names.specs.Defining.{defined}
+use Rattle.al_decl.specs.Declaring.{begun_one, with_declarations}
+use Rattle.al_decl.specs.declared.env.Environment.{Environment}
+use Rattle.al_decl.specs.Defining.{defined}
 use Rattle.al_tree_grammar.specs.Grammar.{Label}
 use Rattle.al_scope.specs.Places.{Place}
 use Rattle.al_stmts.specs.LoopForms.{RangeTree, parameter_bounds}

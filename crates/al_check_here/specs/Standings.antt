@@ -5,7 +5,7 @@ use Rattle.al_base.specs.declared.unit_key.UnitKind.{UnitKind}
 use Rattle.al_base.specs.declared.unit_key.UnitKind.TheVariants.{Decl, Body, Sub}
 use Rattle.al_decl_type.specs.WordCounts.{after_frame}
 use Rattle.al_decl_judged.specs.declared.progress.Progress.{Progress}
-use Rattle.al_decl_here.specs.declared.env.Environment.{Environment}
+use Rattle.al_decl.specs.declared.env.Environment.{Environment}
 use Rattle.al_query.specs.declared.answer.Completion.{Completion}
 use Rattle.al_scope.specs.Places.{Place}
 use Rattle.al_decl_profile.specs.Frames.{from_word}

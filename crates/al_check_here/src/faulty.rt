@@ -3,14 +3,14 @@ ghost use Rattle.std.specs.Prelude.{◌≡◌, option_map, IfOk, OnOk};
 ghost use Rattle.al_decl.specs.Checking.{at_place};
 ghost use Rattle.al_base_fault.specs.Judging.{map_ok};
 ghost use Rattle.al_view_typed.specs.DeclarationTrees.{declaration_model};
-ghost use Rattle.al_stmts_walk.specs.Views.{effects_model};
+ghost use Rattle.al_stmts_walked.specs.Views.{effects_model};
 ghost use Rattle.al_check_here.specs.Faulty.{effect_list, effect_settled, ended, nothing_taken, nowhere};
 
 use crate::state::CheckState;
 use al_base::{NoMemory, UnitKey};
 use al_base_fault::CheckResult;
+use al_decl::Environment;
 use al_decl_completion::Uncompleted;
-use al_decl_here::Environment;
 use al_decl_judged::Progress;
 use al_decl_type::{Homonyms, Words};
 use al_scope::Scope;

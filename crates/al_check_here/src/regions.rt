@@ -1,16 +1,14 @@
 // Loops and blocks at a place.
 ghost use Rattle.std.specs.Prelude.{◌≡◌, ◌<◌, ◌∷◌, [], Some, length, IfOk, OnOk};
-ghost use Rattle.al_decl_here.specs.Declaring.{with_declarations};
-ghost use Rattle.al_decl_names.specs.Defining.{defined};
+ghost use Rattle.al_decl.specs.Declaring.{with_declarations};
+ghost use Rattle.al_decl.specs.Defining.{defined};
 ghost use Rattle.al_stmts.specs.LoopForms.{parameter_bounds, range_model};
 ghost use Rattle.al_tree.specs.Lexemes.{identifier_label};
 ghost use Rattle.al_check_here.specs.RegionsHere.{in_block, in_loop, left_to, out_of_block, parameter_declaration, parameter_declared, parameter_subtype, region_left, with_begun, with_found, with_parameter};
 
 use crate::state::{CheckState, LoopType};
 use al_base::{Name, NoMemory};
-use al_decl_body::{Outside, take_back};
-use al_decl_here::{Environment, begin_one};
-use al_decl_names::defining_name;
+use al_decl::{Environment, Outside, begin_one, defining_name, take_back};
 use al_decl_type::{Declaration, object_view};
 use al_scope::Scope;
 use al_stmts::{LoopRange, LoopWords, parameter_bounds};
@@ -33,7 +31,7 @@ pub fn enter_block(alloc: Global, state: &mut CheckState) -> Result<(), NoMemory
     ensures entered { OnOk result (state.new ≡ in_block state.old) }
     ensures inside { OnOk result (0 < length state.new.env.scope.regions) }
 {
-    let outside = al_decl_body::enter_block(alloc, &mut state.env)?;
+    let outside = al_decl::enter_block(alloc, &mut state.env)?;
     state.blocks.push(outside)?;
     Ok(())
 }

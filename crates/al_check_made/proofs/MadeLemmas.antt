@@ -13,8 +13,8 @@ use Rattle.al_stmts_walked.specs.WalkedViews.{inside_model}
 use Rattle.al_stmts_walked.specs.declared.inside.WalkedInside.{WalkedInside}
 use Rattle.al_query_outcome.specs.Tables.{interface_of}
 use Rattle.al_check_promises.specs.SelfChecks.{not_checked}
-use Rattle.al_check_within.specs.Verdicts.{Verdict, sound_of}
-use Rattle.al_check_within.specs.Verdicts.Verdict.{Wrong, Right}
+use Rattle.al_check_bounded.specs.Verdicts.{Verdict, sound_of}
+use Rattle.al_check_bounded.specs.Verdicts.Verdict.{Wrong, Right}
 use Rattle.al_check_made.specs.Ended.{viewed, walked_unit}
 use Rattle.al_check_made.specs.Made.{finding_of, made, or_not_yet, unless_wrong}
 use Rattle.al_check_made.specs.declared.after.EndedText.{EndedText}

@@ -15,8 +15,8 @@ use Rattle.al_view_typed.specs.StatementViews.{statement_model}
 use Rattle.al_view_typed.specs.UnitTrees.{ElaborationTree, UnitTree, body_model}
 use Rattle.al_query_outcome.specs.Tables.{interface_of}
 use Rattle.al_check_promises.specs.SelfChecks.{not_checked}
-use Rattle.al_check_within.specs.Verdicts.{Verdict}
-use Rattle.al_check_within.specs.Verdicts.Verdict.{Wrong, Right}
+use Rattle.al_check_bounded.specs.Verdicts.{Verdict}
+use Rattle.al_check_bounded.specs.Verdicts.Verdict.{Wrong, Right}
 use Rattle.al_check_made.specs.declared.made.WalkedUnit.{WalkedUnit}
 
 -- a fault in the unit's own file

@@ -1,8 +1,8 @@
 // What is found in the text of a unit after its end.
 ghost use Rattle.std.specs.Prelude.{◌≡◌, Some, IfOk};
 ghost use Rattle.al_stmts_walked.specs.WalkedViews.{inside_model};
-ghost use Rattle.al_check_within.specs.Verdicts.{verdict_of};
-ghost use Rattle.al_check_within.specs.Verdicts.Verdict.{Wrong};
+ghost use Rattle.al_check_bounded.specs.Verdicts.{verdict_of};
+ghost use Rattle.al_check_bounded.specs.Verdicts.Verdict.{Wrong};
 ghost use Rattle.al_check_made.specs.Made.{faults_in, or_not_yet};
 ghost use Rattle.al_check_made.specs.Ended.{ended, viewed, walked_unit};
 
@@ -10,7 +10,7 @@ use crate::faults::wrong_or_not_yet;
 use crate::made::{WalkedUnit, finding_of};
 use crate::said::{SaidUnit, own_view};
 use al_base::{Name, NoMemory, UnitKey};
-use al_check_within::UnitVerdict;
+use al_check_bounded::UnitVerdict;
 use al_decl_judged::Progress;
 use al_decl_type::Declaration;
 use al_query::{Completion, UseInPart};

@@ -3,14 +3,14 @@ ghost use Rattle.std.specs.Prelude.{◌≡◌, [], None, Some, IfOk, if◌then�
 ghost use Rattle.al_base.specs.declared.diagnostic.Diagnostic.{Diagnostic};
 ghost use Rattle.al_base.specs.declared.unit_key.UnitKind.TheVariants.{Sub};
 ghost use Rattle.al_view.specs.Symbols.{same_kind};
-ghost use Rattle.al_check_within.specs.Verdicts.{sound_of, verdict_of};
+ghost use Rattle.al_check_bounded.specs.Verdicts.{sound_of, verdict_of};
 ghost use Rattle.al_check_made.specs.Made.{finding_of, made, unless_wrong};
 
 use crate::faults::faults_in;
 use al_base::{Diagnostic, NoMemory, UnitKey, UnitKind};
 use al_base_faults::FaultList;
+use al_check_bounded::UnitVerdict;
 use al_check_promises::SoundUnit;
-use al_check_within::UnitVerdict;
 use al_query_outcome::{Parts, Properties};
 use al_view::Seq;
 use al_view_typed::{

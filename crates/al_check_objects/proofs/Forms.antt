@@ -9,8 +9,8 @@ use Rattle.al_check_here.specs.RegionsHere.{region_left}
 use Rattle.al_check_objects.specs.Laws.{standing_in}
 use Rattle.al_check_objects.specs.ObjectRegions.{component_view, entered_alone, has_form, is_first_object, is_object, region_entered, with_component, with_operation}
 use Rattle.al_check_objects.specs.OpenObjects.{entered_anew, renewed_by}
-use Rattle.al_decl_here.specs.Declaring.{with_declaration}
-use Rattle.al_decl_here.specs.declared.env.Environment.{Environment}
+use Rattle.al_decl.specs.Declaring.{with_declaration}
+use Rattle.al_decl.specs.declared.env.Environment.{Environment}
 use Rattle.al_decl_type.specs.TypeDeclarations.{declared_as}
 use Rattle.al_scope.specs.Places.{Place, in_last, inner_declared, with_declared}
 use Rattle.al_scope.specs.declared.region.Region.{Region}

@@ -2,7 +2,7 @@
 use Rattle.std.specs.Prelude.{◌≡◌, Bool, Some}
 use Rattle.al_check_objects.specs.ObjectRegions.{region_entered}
 use Rattle.al_check_objects.specs.OpenObjects.{entered_anew, renewed_by}
-use Rattle.al_decl_here.specs.declared.env.Environment.{Environment}
+use Rattle.al_decl.specs.declared.env.Environment.{Environment}
 use Rattle.al_view.specs.declared.view.ProtectedView.{ProtectedView}
 
 -- a place in the region of an object that was entered at that place in one of its forms; what waits there and what was taken since may be anything

@@ -2,9 +2,9 @@
 use mathlib.Core.Bool.{beq}
 use Rattle.std.specs.Prelude.{ℕ, Bool, false, not, List, [], ◌∷◌, ◌++◌, None, fold}
 use Rattle.al_check_here.specs.Stacks.{is_bare}
-use Rattle.al_decl_body.specs.Regions.{in_regions}
-use Rattle.al_decl_here.specs.Declaring.{with_declaration}
-use Rattle.al_decl_here.specs.declared.env.Environment.{Environment}
+use Rattle.al_decl.specs.Regions.{in_regions}
+use Rattle.al_decl.specs.Declaring.{with_declaration}
+use Rattle.al_decl.specs.declared.env.Environment.{Environment}
 use Rattle.al_decl_type.specs.TypeDeclarations.{declared_as}
 use Rattle.al_decl_type.specs.WordCounts.{place_after}
 use Rattle.al_overload_picks.specs.Types.{words_in}

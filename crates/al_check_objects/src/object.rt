@@ -1,7 +1,7 @@
 // Protected bodies are entered and left.
 ghost use Rattle.std.specs.Prelude.{◌≡◌, Some, map, IfOk, OnOk};
 ghost use Rattle.al_check_objects.specs.OpenObjects.{barrier_fault_here, entered_anew, fault_by, in_object, inside, is_of_object, object_left, object_opened, opened_object, out_of_object, renewed, renewed_by, renewed_in};
-ghost use Rattle.al_decl_body.specs.Regions.{outside_of};
+ghost use Rattle.al_decl.specs.Regions.{outside_of};
 ghost use Rattle.al_overload_readings.specs.Operations.{protected_of};
 ghost use Rattle.al_tree.specs.ExpressionViews.{expression_model};
 ghost use Rattle.al_tree.specs.StatementViews.{operation_bodies_of, operation_body_model};
@@ -12,8 +12,7 @@ use crate::region::{enter_region, has_form};
 use al_base::NoMemory;
 use al_base_fault::Fault;
 use al_check_here::{AnalyzedHeading, BodyRole, CheckState, OpenObject, leave_region, leave_to};
-use al_decl_body::{Outside, set_aside};
-use al_decl_here::Environment;
+use al_decl::{Environment, Outside, set_aside};
 use al_decl_profile::is_function;
 use al_decl_protected::operations_waiting;
 use al_overload_readings::protected_of;

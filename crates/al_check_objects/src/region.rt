@@ -4,7 +4,7 @@ ghost use Rattle.al_check_objects.specs.ObjectRegions.{component_view, entered_a
 
 use al_base::{Name, NoMemory};
 use al_check_here::declare_alone;
-use al_decl_here::Environment;
+use al_decl::Environment;
 use al_decl_type::Declaration;
 use al_overload_picks::words_in;
 use al_overload_readings::copied_subprogram;

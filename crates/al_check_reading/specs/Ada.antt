@@ -18,7 +18,7 @@ use Rattle.al_query.specs.Reads.{Table}
 use Rattle.al_stmts_right_choices.specs.ChoicesTest.{choices_right}
 use Rattle.al_tree_syntax.specs.DeclarationTrees.{SpecificationTree}
 use Rattle.al_view_typed.specs.DeclarationTrees.{DeclarationTree}
-use Rattle.al_stmts_walk.specs.Readings.{Read, Reading}
+use Rattle.al_stmts_walked.specs.Readings.{Read, Reading}
 use Rattle.al_check_declared.specs.DeclarationsHere.{declared_here, nested_declared, no_place}
 use Rattle.al_check_declared.specs.EnteredHere.{body_here, private_here}
 use Rattle.al_check_declared.specs.HeadsHere.{stub_here}

@@ -5,7 +5,7 @@ use Rattle.al_stmts_choices.specs.declared.choice.Choice.{Choice}
 use Rattle.al_base_fault.specs.Judging.{map_ok}
 use Rattle.al_base_fault.specs.declared.fault.Fault.{Fault}
 use Rattle.al_overload_label.specs.Ranges.{FoundTree}
-use Rattle.al_stmts_calls.specs.PerformedAt.{call_effect_at}
+use Rattle.al_stmts_ranges.specs.PerformedAt.{call_effect_at}
 use Rattle.al_query.specs.Reads.{Table}
 use Rattle.al_stmts_ranges.specs.ChoicesAt.{all_values, selected_at, whole_at}
 use Rattle.al_stmts_ranges.specs.LoopsAt.{FoundRangeTree, loop_range_at}
@@ -19,7 +19,7 @@ use Rattle.al_overload_values.specs.ValuesAt.{condition_at, moment_at, result_at
 use Rattle.al_overload_values.specs.Words.{Worded}
 use Rattle.al_view.specs.declared.types.Bounds.{Bounds}
 use Rattle.al_view.specs.declared.view.SubtypeView.{SubtypeView}
-use Rattle.al_stmts_walk.specs.Readings.{CallEffect, Read}
+use Rattle.al_stmts_walked.specs.Readings.{CallEffect, Read}
 use Rattle.al_check_here.specs.Stacks.{innermost}
 use Rattle.al_check_here.specs.Standings.{at_word, word_of}
 use Rattle.al_check_here.specs.declared.state.OpenBody.{OpenBody}

@@ -20,7 +20,7 @@ use al_stmts::{LoopRange, LoopWords, ReturnContext};
 use al_stmts_choices::{Choice, Selector};
 use al_stmts_right_choices::are_right;
 use al_stmts_text::{Analyzer, CallEffect};
-use al_stmts_walk::BodyExtent;
+use al_stmts_walked::BodyExtent;
 use al_tree::{
     Choice as ChoiceOfText, CommonDeclaration, DiscreteRange, Expression, Identifier,
     OperationBody, ProtectedDefinition, Specification, TaskDeclaration,

@@ -20,7 +20,7 @@ use al_overload_values::{
     Site, condition_at, moment_at, result_at, selector_at, source_at, target_at,
 };
 use al_query::{Answers, Recorder};
-use al_stmts_calls::call_effect_at;
+use al_stmts_ranges::call_effect_at;
 use al_stmts_text::CallEffect;
 use al_tree::Expression;
 use al_view::SubtypeView;

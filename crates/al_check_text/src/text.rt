@@ -7,7 +7,7 @@ ghost use Rattle.al_check_text.specs.Texts.{unit_in};
 
 use crate::read_unit::{ReadUnit, unit_in};
 use al_base::NoMemory;
-use al_query_check::ReadText;
+use al_query_outcome::ReadText;
 use std::alloc::Global;
 use std::marker::Model;
 use std::rc::Rc;

@@ -7,11 +7,11 @@ use Rattle.al_tree.specs.DeclarationViews.{declaration_model}
 use Rattle.al_tree.specs.declared.declaration.Declaration.{Declaration}
 use Rattle.al_stmts_text.proofs.Folds.{part_again}
 use Rattle.al_stmts_text.proofs.Made.{none_before}
-use Rattle.al_stmts_walk.specs.Readings.{Reading, giving}
-use Rattle.al_stmts_walk.specs.Steps.{Inside, Part, ended_by, no_part, parts_joined}
-use Rattle.al_stmts_walk.specs.Units.{enclosing_package, declaration_walked, declarations_walked, package_body_walked, package_inside, parts_completed, parts_walked, private_walked}
-use Rattle.al_stmts_walk.specs.Walking.{closed, end_of_compound, inside_after, items_walked, part_after, statements_walked}
-use Rattle.al_stmts_walk.proofs.Behind.{last_part}
+use Rattle.al_stmts_walked.specs.Readings.{Reading, giving}
+use Rattle.al_stmts_walked.specs.Steps.{Inside, Part, ended_by, no_part, parts_joined}
+use Rattle.al_stmts_walked.specs.Units.{enclosing_package, declaration_walked, declarations_walked, package_body_walked, package_inside, parts_completed, parts_walked, private_walked}
+use Rattle.al_stmts_walked.specs.Walking.{closed, end_of_compound, inside_after, items_walked, part_after, statements_walked}
+use Rattle.al_stmts_walked.proofs.Behind.{last_part}
 use Rattle.al_stmts_text.proofs.Loops.{stops}
 use Rattle.al_stmts_text.proofs.Read.{goes_on, made_of}
 

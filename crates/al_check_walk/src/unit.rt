@@ -5,9 +5,9 @@ ghost use Rattle.al_tree.specs.DeclarationViews.{compound_model, declaration_mod
 ghost use Rattle.al_tree.specs.Lexemes.{place_label};
 ghost use Rattle.al_tree.specs.StatementViews.{compound_end_model};
 ghost use Rattle.al_tree.specs.UnitViews.{library_item_model, package_body_model, package_model, package_statements_model, private_part_model};
-ghost use Rattle.al_stmts_walk.specs.Steps.{ended_by};
-ghost use Rattle.al_stmts_walk.specs.Units.{declaration_walked, declarations_walked, package_body_walked, package_inside, package_walked, parts_completed, parts_walked, private_walked, unit_walked};
-ghost use Rattle.al_stmts_walk.specs.Walking.{end_of_compound, part_after};
+ghost use Rattle.al_stmts_walked.specs.Steps.{ended_by};
+ghost use Rattle.al_stmts_walked.specs.Units.{declaration_walked, declarations_walked, package_body_walked, package_inside, package_walked, parts_completed, parts_walked, private_walked, unit_walked};
+ghost use Rattle.al_stmts_walked.specs.Walking.{end_of_compound, part_after};
 ghost use Rattle.al_stmts_walked.specs.WalkedViews.{inside_model, part_model};
 
 use al_base::{NoMemory, Place};

@@ -5,15 +5,15 @@ use Rattle.al_decl_judged.specs.DefiningNames.{names_of}
 use Rattle.al_decl_judged.specs.Objects.{new_objects, objects_declared, objects_fault, placed_objects}
 use Rattle.al_decl_judged.specs.Progressing.{with_all_counted}
 use Rattle.al_decl_judged.specs.declared.new_object.ObjectType.{ObjectType}
-use Rattle.al_decl_here.specs.Declaring.{begun, duplicates}
+use Rattle.al_decl.specs.Declaring.{begun, duplicates}
 use Rattle.al_decl_judged.specs.Rules.{optional}
 use Rattle.al_decl_judged.specs.declared.names.DefiningName.{DefiningName}
 use Rattle.al_decl_judged.specs.declared.new_object.NewObject.{NewObject}
 use Rattle.al_decl_judged.specs.declared.progress.Progress.{Progress}
-use Rattle.al_decl_here.specs.declared.env.Environment.{Environment}
+use Rattle.al_decl.specs.declared.env.Environment.{Environment}
 use Rattle.al_base_fault.specs.Judging.{both, next, map_ok, unless}
 use Rattle.al_base_fault.specs.declared.fault.Fault.{Fault}
-use Rattle.al_decl_reader.specs.PartReadings.{PartReading}
+use Rattle.al_decl.specs.PartReadings.{PartReading}
 use Rattle.al_scope.specs.Places.{Place}
 use Rattle.al_query.specs.Reads.{Table}
 use Rattle.al_tree_syntax.specs.DeclarationTrees.{ObjectTypeTree}

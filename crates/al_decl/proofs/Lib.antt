@@ -1,2 +1,9 @@
 pub mod Chains
+pub mod Folds
+pub mod FormalLists
 pub mod Gathered
+pub mod Innermost
+pub mod Lists
+pub mod Named
+pub mod Outcomes
+pub mod Waiting

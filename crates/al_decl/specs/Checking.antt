@@ -4,9 +4,9 @@ use Rattle.al_decl_judged.specs.Declaring.{DeclaredTree}
 use Rattle.al_decl_judged.specs.declared.names.DefiningName.{DefiningName}
 use Rattle.al_decl_judged.specs.declared.names.TypeName.{TypeName}
 use Rattle.al_decl_judged.specs.declared.progress.Progress.{Progress}
-use Rattle.al_decl_here.specs.Declaring.{begun, begun_one, with_declarations}
-use Rattle.al_decl_here.specs.TypeNames.{type_begun}
-use Rattle.al_decl_here.specs.declared.env.Environment.{Environment}
+use Rattle.al_decl.specs.Declaring.{begun, begun_one, with_declarations}
+use Rattle.al_decl.specs.TypeNames.{type_begun}
+use Rattle.al_decl.specs.declared.env.Environment.{Environment}
 use Rattle.al_base_fault.specs.Judging.{map_ok}
 use Rattle.al_base_fault.specs.declared.fault.Fault.{Fault}
 use Rattle.al_scope.specs.Places.{Place}

@@ -14,13 +14,13 @@ use Rattle.al_decl_judged.specs.declared.new_object.NewObject.{NewObject}
 use Rattle.al_decl_judged.specs.declared.new_object.ObjectType.{ObjectType}
 use Rattle.al_decl_judged.specs.declared.new_object.ObjectType.TheVariants as object_types
 use Rattle.al_decl_judged.specs.declared.progress.Progress.{Progress}
-use Rattle.al_decl_here.specs.Declaring.{begun, begun_one, duplicate, duplicates}
-use Rattle.al_decl_here.specs.TypeNames.{enumeration_duplicate, type_begun, type_duplicate}
-use Rattle.al_decl_here.specs.declared.env.Environment.{Environment}
+use Rattle.al_decl.specs.Declaring.{begun, begun_one, duplicate, duplicates}
+use Rattle.al_decl.specs.TypeNames.{enumeration_duplicate, type_begun, type_duplicate}
+use Rattle.al_decl.specs.declared.env.Environment.{Environment}
 use Rattle.al_decl_type.specs.declared.subtype.StaticRange.{StaticRange}
 use Rattle.al_base_fault.specs.Judging.{both, next, map_ok}
 use Rattle.al_base_fault.specs.declared.fault.Fault.{Fault}
-use Rattle.al_decl_reader.specs.PartReadings.{PartReading}
+use Rattle.al_decl.specs.PartReadings.{PartReading}
 use Rattle.al_query.specs.declared.answer.AnswerKind.{AnswerKind}
 use Rattle.al_query.specs.declared.query.Query.{Query}
 use Rattle.al_scope.specs.Places.{Place}

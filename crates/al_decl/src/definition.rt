@@ -10,14 +10,13 @@ ghost use Rattle.al_view_typed.specs.DeclarationTrees.{declaration_model};
 ghost use Rattle.al_view_typed.specs.ExpressionViews.{typed_model};
 
 use crate::ending::finish;
+use crate::{Environment, PartAnalyzer, begin_type, enumeration_duplicate, type_duplicate};
 use al_base::NoMemory;
 use al_base_fault::{CheckResult, Fault, both};
-use al_decl_here::{Environment, begin_type, enumeration_duplicate, type_duplicate};
 use al_decl_judged::{
     DefiningName, TypeName, declare_array, declare_enumeration, declare_integer, declare_private,
     declare_record, static_range,
 };
-use al_decl_reader::PartAnalyzer;
 use al_decl_type::{Part, StaticRange};
 use al_query::{Answers, Recorder};
 use al_scope::Scope;

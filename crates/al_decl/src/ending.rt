@@ -5,10 +5,10 @@ ghost use Rattle.al_decl_judged.specs.Declaring.{declared_model, joined};
 ghost use Rattle.al_base_fault.specs.Judging.{map_ok};
 ghost use Rattle.al_view_typed.specs.DeclarationTrees.{declaration_model};
 
+use crate::Environment;
 use crate::slots::take_slots;
 use al_base::NoMemory;
 use al_base_fault::CheckResult;
-use al_decl_here::Environment;
 use al_decl_judged::Declared;
 use al_view_typed::TypedDeclaration;
 

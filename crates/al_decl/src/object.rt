@@ -16,13 +16,12 @@ ghost use Rattle.al_view_typed.specs.ExpressionViews.{typed_model};
 
 use crate::definition::array_parts;
 use crate::ending::finish;
+use crate::{Environment, PartAnalyzer, begin, fixed_duplicates};
 use al_base::NoMemory;
 use al_base_fault::{CheckResult, Fault, both};
-use al_decl_here::{Environment, begin, fixed_duplicates};
 use al_decl_judged::{
     Declared, DefiningName, NewObject, ObjectType, Progress, declare_objects, new_objects,
 };
-use al_decl_reader::PartAnalyzer;
 use al_query::{Answers, Recorder};
 use al_scope::Scope;
 use al_tree::{Expression, ObjectType as ObjectTypeText};

@@ -11,11 +11,10 @@ ghost use Rattle.al_view_typed.specs.DeclarationTrees.{declaration_model};
 ghost use Rattle.al_view_typed.specs.ExpressionViews.{typed_model};
 
 use crate::ending::finish;
+use crate::{Environment, PartAnalyzer, begin, begin_one, fixed_duplicate, fixed_duplicates};
 use al_base::NoMemory;
 use al_base_fault::CheckResult;
-use al_decl_here::{Environment, begin, begin_one, fixed_duplicate, fixed_duplicates};
 use al_decl_judged::{DefiningName, declare_numbers, declare_subtype, static_of};
-use al_decl_reader::PartAnalyzer;
 use al_query::{Answers, Recorder};
 use al_scope::Scope;
 use al_tree::{Expression, SubtypeIndication};

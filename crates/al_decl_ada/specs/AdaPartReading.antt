@@ -5,13 +5,13 @@ use Rattle.al_overload_heads.specs.Parts.{nominal}
 use Rattle.al_overload_heads.specs.declared.everywhere.Predefined.{Predefined}
 use Rattle.al_base_fault.specs.declared.fault.Fault.{Fault}
 use Rattle.al_overload.specs.declared.context.Context.TheVariants as contexts
-use Rattle.al_decl_reader.specs.PartReadings.{PartReading}
+use Rattle.al_decl.specs.PartReadings.{PartReading}
 use Rattle.al_query.specs.Reads.{Table}
 use Rattle.al_scope.specs.Places.{Place}
-use Rattle.al_decl_subtypes.specs.SubtypesAt.{index_at, indication_at}
+use Rattle.al_decl_ada.specs.SubtypesAt.{index_at, indication_at}
 use Rattle.al_tree_syntax.specs.ExpressionTrees.{ExpressionTree}
-use Rattle.al_overload_terms_at.specs.CompoundNames.{name_text}
-use Rattle.al_overload_terms_at.specs.TermsAt.{mark_at}
+use Rattle.al_overload_prefixes.specs.CompoundNames.{name_text}
+use Rattle.al_overload_prefixes.specs.TermsAt.{mark_at}
 use Rattle.al_overload_types.specs.Leaves.{mark_type}
 use Rattle.al_view_typed.specs.ExpressionTrees.{TypedTree}
 use Rattle.al_overload_values.specs.Surroundings.{Surroundings}

@@ -1,1 +1,3 @@
 pub mod AdaPartReading
+pub mod Complete
+pub mod SubtypesAt

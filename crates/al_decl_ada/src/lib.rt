@@ -2,7 +2,14 @@
 //! 3.5.4, 3.6).
 #![tactic(auto)]
 
+mod complete;
+mod constraint;
+mod index;
+mod indication;
 mod parts;
 mod value;
 
+pub use constraint::{bound_context, static_at};
+pub use index::index_at;
+pub use indication::indication_at;
 pub use parts::AdaPartAnalyzer;

@@ -2,12 +2,12 @@
 ghost use Rattle.al_decl_ada.specs.AdaPartReading.{parts_read};
 
 use crate::value::{bound_at, initial_at, number_at, priority_at};
+use crate::{index_at, indication_at};
 use al_base::{NoMemory, UnitKey};
 use al_base_fault::CheckResult;
-use al_decl_reader::PartAnalyzer;
-use al_decl_subtypes::{index_at, indication_at};
+use al_decl::PartAnalyzer;
 use al_overload_nodes::Labeller;
-use al_overload_terms_at::name_mark_at;
+use al_overload_prefixes::name_mark_at;
 use al_overload_values::Site;
 use al_query::{Answers, Recorder};
 use al_scope::Scope;

@@ -2,8 +2,8 @@
 use Rattle.std.proofs.Common.{◌≡◌, Bool, List, [], ◌∷◌, ◌++◌, Result, Ok, ap, ◌∙◌}
 use Rattle.al_base_fault.specs.declared.fault.Fault.{Fault}
 use Rattle.al_decl.specs.Checking.{with_progress}
-use Rattle.al_decl_here.specs.Declaring.{in_innermost}
-use Rattle.al_decl_here.specs.declared.env.Environment.{Environment}
+use Rattle.al_decl.specs.Declaring.{in_innermost}
+use Rattle.al_decl.specs.declared.env.Environment.{Environment}
 use Rattle.al_decl_judged.specs.Progressing.{symbol_of, with_counted}
 use Rattle.al_decl_judged.specs.declared.progress.Progress.{Progress}
 use Rattle.al_decl_profile.specs.declared.heading.Heading.{Heading}

@@ -1,7 +1,7 @@
 -- The body of what is named alone that completes nothing.
 use Rattle.std.proofs.Common.{◌≡◌, ℕ, Option, None, Result, Err, sym, ap, ◌∙◌}
 use Rattle.al_base_fault.specs.declared.fault.Fault.{Fault}
-use Rattle.al_decl_here.specs.declared.env.Environment.{Environment}
+use Rattle.al_decl.specs.declared.env.Environment.{Environment}
 use Rattle.al_view.specs.declared.view.ViewKind.{ViewKind}
 use Rattle.al_decl_protected.specs.Bodies.{Named, body_by}
 

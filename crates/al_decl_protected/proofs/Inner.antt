@@ -1,9 +1,9 @@
 -- What round a region stands stays.
 use Rattle.std.proofs.Common.{◌≡◌, List, [], ◌∷◌, ◌++◌, refl, ap, ◌∙◌, subst, sym}
 use Rattle.al_decl_judged.specs.declared.names.DefiningName.{DefiningName}
-use Rattle.al_decl_here.proofs.Innermost.{begun-inner, visible-inner}
-use Rattle.al_decl_here.specs.Declaring.{begun, in_innermost}
-use Rattle.al_decl_here.specs.Inner.{made_visible}
+use Rattle.al_decl.proofs.Innermost.{begun-inner, visible-inner}
+use Rattle.al_decl.specs.Declaring.{begun, in_innermost}
+use Rattle.al_decl.specs.Inner.{made_visible}
 use Rattle.al_scope.specs.Places.{Place, in_last}
 use Rattle.al_scope.specs.declared.region.Region.{Region}
 use Rattle.al_decl_protected.specs.Checks.{IsInner, StaysInner}

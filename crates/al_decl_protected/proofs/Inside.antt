@@ -2,9 +2,9 @@
 use Rattle.std.proofs.Common.{◌≡◌, List, Result, Ok, Err, refl, ap, ◌∙◌}
 use Rattle.al_base_fault.specs.Judging.{map_ok, next}
 use Rattle.al_base_fault.specs.declared.fault.Fault.{Fault}
-use Rattle.al_decl_here.specs.declared.env.Environment.{Environment}
+use Rattle.al_decl.specs.declared.env.Environment.{Environment}
 use Rattle.al_decl_judged.specs.declared.progress.Progress.{Progress}
-use Rattle.al_decl_reader.specs.PartReadings.{PartReading}
+use Rattle.al_decl.specs.PartReadings.{PartReading}
 use Rattle.al_query.specs.Reads.{Table}
 use Rattle.al_tree_syntax.specs.DeclarationTrees.{ProtectedTree}
 use Rattle.al_view.specs.declared.symbol.Symbol.{Symbol}

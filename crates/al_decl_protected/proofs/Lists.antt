@@ -3,8 +3,8 @@ use Rattle.std.proofs.Common.{◌≡◌, ℕ, ◌+◌, ◌<◌, ◌≤◌, List,
 use Rattle.std.proofs.lemmas.List.{at_drop_all, at_drop_more}
 use Rattle.al_base_fault.specs.Judging.{next}
 use Rattle.al_base_fault.specs.declared.fault.Fault.{Fault}
-use Rattle.al_decl_here.specs.declared.env.Environment.{Environment}
-use Rattle.al_decl_reader.specs.PartReadings.{PartReading}
+use Rattle.al_decl.specs.declared.env.Environment.{Environment}
+use Rattle.al_decl.specs.PartReadings.{PartReading}
 use Rattle.al_query.specs.Reads.{Table}
 use Rattle.al_scope.specs.Places.{Place}
 use Rattle.al_tree.specs.DeclarationViews.{protected_component_model, protected_operation_model}

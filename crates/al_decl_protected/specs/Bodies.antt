@@ -10,10 +10,10 @@ use Rattle.al_decl_completion.specs.Completing.{is_entry}
 use Rattle.al_decl_completion.specs.Uncompleted.{with_declared}
 use Rattle.al_decl_completion.specs.declared.specification.BodyHead.{BodyHead}
 use Rattle.al_decl_completion.specs.declared.specification.BodyHead.TheVariants as heads
-use Rattle.al_decl_here.specs.Declaring.{duplicate}
-use Rattle.al_decl_here.specs.declared.env.Environment.{Environment}
+use Rattle.al_decl.specs.Declaring.{duplicate}
+use Rattle.al_decl.specs.declared.env.Environment.{Environment}
 use Rattle.al_decl_judged.specs.declared.names.DefiningName.{DefiningName}
-use Rattle.al_decl_subprogram.specs.Placing.{head_duplicate, with_awaiting}
+use Rattle.al_decl.specs.Placing.{head_duplicate, with_awaiting}
 use Rattle.al_query.specs.Reads.{Table}
 use Rattle.al_query.specs.declared.answer.Completion.{Completion}
 use Rattle.al_view.specs.declared.view.ObjectPlace.TheVariants.{Static}

@@ -2,12 +2,12 @@
 use Rattle.std.specs.Prelude.{ℕ, List, [], ◌∷◌, ◌++◌, map, fold, Option, Some, None, Result, Ok, Err}
 use Rattle.al_base_fault.specs.Judging.{both, map_ok, next, unless}
 use Rattle.al_base_fault.specs.declared.fault.Fault.{Fault}
-use Rattle.al_decl_here.specs.Declaring.{begun}
-use Rattle.al_decl_here.specs.Inner.{made_visible}
+use Rattle.al_decl.specs.Declaring.{begun}
+use Rattle.al_decl.specs.Inner.{made_visible}
 use Rattle.al_decl_judged.specs.declared.names.DefiningName.{DefiningName}
-use Rattle.al_decl_names.specs.Defining.{defining_names}
-use Rattle.al_decl_reader.specs.PartReadings.{PartReading}
-use Rattle.al_decl_record.specs.Components.{names_fault}
+use Rattle.al_decl.specs.Defining.{defining_names}
+use Rattle.al_decl.specs.PartReadings.{PartReading}
+use Rattle.al_decl.specs.Components.{names_fault}
 use Rattle.al_decl_type.specs.TypeLists.{joined}
 use Rattle.al_decl_type.specs.Types.{words_of}
 use Rattle.al_decl_type.specs.WordCounts.{place_after}

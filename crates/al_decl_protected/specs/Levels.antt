@@ -13,13 +13,13 @@ use Rattle.al_tree_syntax.specs.DeclarationTrees.{AspectTree}
 use Rattle.al_view.specs.declared.types.StaticValue.{StaticValue}
 use Rattle.al_view.specs.declared.view.ViewKind.TheVariants.{OfComponent}
 use Rattle.al_view_typed.specs.ExpressionTrees.{TypedTree}
-use Rattle.al_decl_here.specs.Declaring.{begun_one, duplicate}
-use Rattle.al_decl_here.specs.declared.env.Environment.{Environment}
+use Rattle.al_decl.specs.Declaring.{begun_one, duplicate}
+use Rattle.al_decl.specs.declared.env.Environment.{Environment}
 use Rattle.al_decl_judged.specs.Progressing.{is_library_level}
 use Rattle.al_decl_judged.specs.StaticPieces.{place_label, static_of}
 use Rattle.al_decl_judged.specs.declared.names.DefiningName.{DefiningName}
 use Rattle.al_decl_judged.specs.declared.progress.Progress.{Progress}
-use Rattle.al_decl_reader.specs.PartReadings.{PartReading}
+use Rattle.al_decl.specs.PartReadings.{PartReading}
 
 -- ---- levels
 

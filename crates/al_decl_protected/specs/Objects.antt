@@ -4,13 +4,13 @@ use Rattle.al_base.specs.declared.place.Place.{Place as TextPlace}
 use Rattle.al_base_fault.specs.Judging.{map_ok, next, unless}
 use Rattle.al_base_fault.specs.declared.fault.Fault.{Fault}
 use Rattle.al_decl.specs.Checking.{inside_one, with_progress, with_scope}
-use Rattle.al_decl_here.specs.Inner.{in_region}
-use Rattle.al_decl_here.specs.declared.env.Environment.{Environment}
+use Rattle.al_decl.specs.Inner.{in_region}
+use Rattle.al_decl.specs.declared.env.Environment.{Environment}
 use Rattle.al_decl_judged.specs.Progressing.{after_protected, symbol_of, with_counted}
 use Rattle.al_decl_judged.specs.declared.names.DefiningName.{DefiningName}
 use Rattle.al_decl_judged.specs.declared.progress.Progress.{Progress}
-use Rattle.al_decl_names.specs.Defining.{defined}
-use Rattle.al_decl_reader.specs.PartReadings.{PartReading}
+use Rattle.al_decl.specs.Defining.{defined}
+use Rattle.al_decl.specs.PartReadings.{PartReading}
 use Rattle.al_overload_keys.specs.Places.{place_of}
 use Rattle.al_query.specs.Reads.{Table}
 use Rattle.al_stmts_loops.specs.Ends.{end_fault}

@@ -2,9 +2,9 @@
 use Rattle.std.specs.Prelude.{ℕ, List, [], ◌∷◌, Option, Some}
 use Rattle.al_decl.specs.Checking.{after}
 use Rattle.al_decl_completion.specs.Uncompleted.{with_declared}
-use Rattle.al_decl_here.specs.declared.env.Environment.{Environment}
+use Rattle.al_decl.specs.declared.env.Environment.{Environment}
 use Rattle.al_decl_judged.specs.Declaring.{DeclaredTree}
-use Rattle.al_decl_subprogram.specs.Placing.{with_awaiting}
+use Rattle.al_decl.specs.Placing.{with_awaiting}
 use Rattle.al_decl_type.specs.TypeDeclarations.{declared_as}
 use Rattle.al_view.specs.declared.view.ViewKind.{ViewKind}
 use Rattle.al_view_typed.specs.DeclarationTrees.{DeclarationTree}

@@ -1,8 +1,8 @@
 // Components of a protected object where they are declared (ARM 9.4).
 ghost use Rattle.std.specs.Prelude.{◌≡◌, ◌<◌, ◌++◌, length, map, option_map, IfOk, OnOk, Some};
 ghost use Rattle.al_base_fault.specs.Judging.{both, map_ok, unless};
-ghost use Rattle.al_decl_here.specs.Declaring.{begun};
-ghost use Rattle.al_decl_here.specs.Inner.{made_visible};
+ghost use Rattle.al_decl.specs.Declaring.{begun};
+ghost use Rattle.al_decl.specs.Inner.{made_visible};
 ghost use Rattle.al_decl_protected.specs.Checks.{StaysInner, so_far};
 ghost use Rattle.al_decl_protected.specs.Components.{after_component, component, component_checked, component_named, components_checked, initial_read, no_components, parts_read, places_from, private_model, value_at, with_components, with_value, word_after};
 ghost use Rattle.al_decl_type.specs.Types.{words_of};
@@ -14,11 +14,8 @@ ghost use Rattle.al_view_typed.specs.ExpressionViews.{typed_model};
 
 use al_base::{Name, NoMemory};
 use al_base_fault::{CheckResult, Fault, both, unless};
-use al_decl_here::{begin, make_visible};
+use al_decl::{PartAnalyzer, begin, defining_names, make_visible, names_fault};
 use al_decl_judged::DefiningName;
-use al_decl_names::defining_names;
-use al_decl_reader::PartAnalyzer;
-use al_decl_record::names_fault;
 use al_decl_type::{add_types, words_of};
 use al_query::{Answers, Recorder};
 use al_scope::Scope;

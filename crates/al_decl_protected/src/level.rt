@@ -9,9 +9,8 @@ ghost use Rattle.al_view_typed.specs.ExpressionViews.{typed_model};
 
 use al_base::{NoMemory, Place};
 use al_base_fault::{CheckResult, CheckRule, Fault, earlier, unless};
-use al_decl_here::{Environment, begin_one, fixed_duplicate};
+use al_decl::{Environment, PartAnalyzer, begin_one, fixed_duplicate};
 use al_decl_judged::{DefiningName, Progress, place_label, static_of};
-use al_decl_reader::PartAnalyzer;
 use al_query::{Answers, Recorder};
 use al_scope::Scope;
 use al_tree::Aspect;

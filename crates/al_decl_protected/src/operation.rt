@@ -4,8 +4,8 @@ ghost use Rattle.std.specs.List.{list_any};
 ghost use Rattle.al_decl.specs.Checking.{with_progress, with_scope};
 ghost use Rattle.al_decl_completion.specs.Completing.{is_entry};
 ghost use Rattle.al_decl_judged.specs.Progressing.{symbol_of, with_counted};
-ghost use Rattle.al_decl_names.specs.Defining.{defined};
-ghost use Rattle.al_decl_here.specs.Declaring.{in_innermost};
+ghost use Rattle.al_decl.specs.Defining.{defined};
+ghost use Rattle.al_decl.specs.Declaring.{in_innermost};
 ghost use Rattle.al_decl_protected.specs.Checks.{StaysInner, listed};
 ghost use Rattle.al_decl_protected.specs.Operations.{bare_head, call_of, is_entry_tree, operation_added, operation_checked, operation_fault, operation_head, operation_headed, operation_of, operation_view, operations_checked, second_entry, with_operation};
 ghost use Rattle.al_query.specs.Reads.{FromAnswers};
@@ -17,13 +17,9 @@ ghost use Rattle.al_view.specs.declared.view.ViewKind.TheVariants.{OfSubprogram}
 
 use al_base::{Name, NoMemory, Place};
 use al_base_fault::{CheckResult, CheckRule, Fault, earlier};
-use al_decl_headings::heading_at;
-use al_decl_here::Environment;
+use al_decl::{Environment, PartAnalyzer, defining_name, head_duplicate, heading_at};
 use al_decl_judged::DefiningName;
-use al_decl_names::defining_name;
 use al_decl_profile::{Heading, ReturnedPart, heading_fault, profile_of, profile_types};
-use al_decl_reader::PartAnalyzer;
-use al_decl_subprogram::head_duplicate;
 use al_query::{Answers, Recorder};
 use al_scope::Scope;
 use al_tree::{Identifier, ProtectedOperation};

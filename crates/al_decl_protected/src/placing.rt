@@ -5,8 +5,7 @@ ghost use Rattle.al_decl_judged.specs.Declaring.{declared_model};
 ghost use Rattle.al_view_typed.specs.DeclarationTrees.{declaration_model};
 
 use al_base::{Name, NoMemory};
-use al_decl::finish_right;
-use al_decl_here::Environment;
+use al_decl::{Environment, finish_right};
 use al_decl_judged::Declared;
 use al_decl_type::Declaration;
 use al_view::{Seq, View};

@@ -7,7 +7,7 @@ use Rattle.al_query.specs.declared.query.Query.{Query}
 use Rattle.al_query_store.specs.Keyed.{SameStates, settled_at}
 use Rattle.al_entries.specs.EntryLaw.{TextMeaning}
 use Rattle.al_engine_keep.specs.Moves.{Entries}
-use Rattle.al_engine_setting.specs.Settings.{ArePredefined}
+use Rattle.al_engine_refresh.specs.Settings.{ArePredefined}
 use Rattle.al_engine_refresh.specs.Builds.{raised}
 use Rattle.al_engine_recheck.specs.Rechecks.{setting_of}
 use Rattle.al_engine_recheck.specs.UnitCache.{Kept}

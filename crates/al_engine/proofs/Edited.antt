@@ -44,7 +44,7 @@ use Rattle.al_engine_batch.specs.declared.compiled.Compiled.TheVariants.{Faulty,
 use Rattle.al_engine_rebuild.specs.Rebuilds.{IsRebuilt}
 use Rattle.al_engine_rebuild.specs.Renewed.{IsCleanBut}
 use Rattle.al_engine_rebuild.specs.declared.rebuilding.Rebuilt.{Rebuilt}
-use Rattle.al_engine_reported.specs.Gave.{order_of}
+use Rattle.al_engine_batch.specs.Gave.{order_of}
 use Rattle.al_engine.specs.Edits.{AreEditedIn, HoldsAlone, IsEdited, IsEntered}
 use Rattle.al_engine.proofs.Clean.{none-again, none-else, none-left, none-right}
 

@@ -24,7 +24,7 @@ use Rattle.al_engine_batch.specs.declared.compiled.Compiled.TheVariants.{Faulty,
 use Rattle.al_engine_batch.specs.declared.compiled.Program.{Program}
 use Rattle.al_engine_rebuild.specs.Rebuilds.{IsRebuilt}
 use Rattle.al_engine_rebuild.specs.declared.rebuilding.Rebuilt.{Rebuilt}
-use Rattle.al_engine_reported.specs.Gave.{order_of}
+use Rattle.al_engine_batch.specs.Gave.{order_of}
 use Rattle.al_engine.proofs.Edited.{all-made}
 
 -- the parts of an item go by what the units are

@@ -1,9 +1,11 @@
 mod Again
-mod Taken
+mod BuiltLemmas
 mod Clean
 mod Edited
+mod FromAnswers
 mod Keeping
-mod Readings
 mod Obsolete
+mod Readings
+mod Renewing
 mod SameLemmas
-mod BuiltLemmas
+mod Taken

@@ -15,7 +15,7 @@ use Rattle.std.specs.Option.{option_map}
 use Rattle.al_engine_graph.specs.Graphs.{HaveOneGraph, HaveSameHeaders}
 use Rattle.al_engine_graph.specs.Kept.{IsGraphOf}
 use Rattle.al_engine_graph.specs.declared.graph.UnitGraph.{UnitGraph}
-use Rattle.al_engine_reported.specs.Gave.{order_of}
+use Rattle.al_engine_batch.specs.Gave.{order_of}
 use Rattle.al_engine.specs.Graphs.{IsOrdered}
 
 -- a build that was found to be the last one is as that one is

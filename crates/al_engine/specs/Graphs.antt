@@ -8,7 +8,7 @@ use Rattle.al_bind.specs.Binding.{IsElaboration}
 use Rattle.al_engine_batch.specs.declared.compiled.Compiled.{Compiled}
 use Rattle.al_engine_graph.specs.Kept.{IsGraphOf}
 use Rattle.al_engine_graph.specs.declared.graph.UnitGraph.{UnitGraph}
-use Rattle.al_engine_reported.specs.Gave.{order_of}
+use Rattle.al_engine_batch.specs.Gave.{order_of}
 
 -- an order that compiling gave is one of elaboration
 abbrev pub IsOrdered : Library → List ℕ → Compiled → Type 0

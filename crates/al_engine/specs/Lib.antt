@@ -1,7 +1,9 @@
-pub mod Graphs
-pub mod Edits
-pub mod Readings
-pub mod States
 pub mod Builds
+pub mod Edits
+pub mod Graphs
+pub mod LawBuilds
+pub mod Readings
+pub mod Renewals
 pub mod Reports
 pub mod Runs
+pub mod States

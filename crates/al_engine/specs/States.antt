@@ -8,7 +8,7 @@ use Rattle.al_unit_graph.specs.Traces.{AreReadAlike}
 use Rattle.al_unit_order.specs.Read.{AreHeaded, NameParentBodies}
 use Rattle.al_query.specs.declared.answer.AnswerKind.{AnswerKind}
 use Rattle.al_query.specs.declared.query.Query.{Query}
-use Rattle.al_engine_setting.specs.Settings.{ArePredefined}
+use Rattle.al_engine_refresh.specs.Settings.{ArePredefined}
 use Rattle.al_entries.specs.EntryLaw.{TextMeaning}
 use Rattle.al_entries.specs.Stored.{Stored}
 use Rattle.al_engine_recheck.specs.UnitCache.{Kept}

@@ -5,9 +5,9 @@ ghost use Rattle.al_base.specs.Files.{with_file, without_file, with_renamed, put
 ghost use Rattle.al_unit_obsolete.specs.Units.{unit_model, units_of};
 ghost use Rattle.al_query_store.specs.Keyed.{SameStates, settled_at};
 ghost use Rattle.al_entries.specs.EntryLaw.{AllKeepLaw};
-ghost use Rattle.al_engine_setting.specs.Settings.{ArePredefined};
-ghost use Rattle.al_engine_reported.specs.Answers.{answer_of};
-ghost use Rattle.al_engine_reported.specs.Gave.{order_of, program_of};
+ghost use Rattle.al_engine_refresh.specs.Settings.{ArePredefined};
+ghost use Rattle.al_engine_batch.specs.Answers.{answer_of};
+ghost use Rattle.al_engine_batch.specs.Gave.{order_of, program_of};
 ghost use Rattle.al_engine.specs.States.{AreReadFor, IsBuiltRight, IsOfNow, compared_last, last_checked, patched_last};
 ghost use Rattle.al_engine.specs.Builds.{IsBuild};
 ghost use Rattle.al_engine.specs.Reports.{found_last, gave_last, obsolete_refusal, obsolete_since, reported};
@@ -18,13 +18,14 @@ use crate::last_build::LastBuild;
 use crate::read_files::ReadFiles;
 use crate::reading::{alone_now, read, read_now, read_twice};
 use al_base::{Diagnostic, Files, Name, NoMemory, Refusal, UnitKey};
-use al_engine_batch::{Compiled, Program};
+use al_engine_batch::{
+    BuildAnswer, Compiled, Program, answer_of, diagnostics_of, order_of, program_of,
+};
 use al_engine_rebuild::Rebuilt;
 use al_engine_recheck::UnitCache;
-use al_engine_reported::{BuildAnswer, answer_of, diagnostics_of, order_of, program_of};
 use al_query::Answers;
-use al_query_check::UnitCheck;
-use al_tasks_run::{RunReport, run};
+use al_query_outcome::UnitCheck;
+use al_tasks::{RunReport, run};
 use al_unit_obsolete::units;
 use al_view::Seq;
 use std::alloc::Global;

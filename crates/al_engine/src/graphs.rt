@@ -10,10 +10,10 @@ ghost use Rattle.al_engine.specs.Graphs.{IsOrdered};
 use crate::last_build::LastBuild;
 use crate::read_files::ReadFiles;
 use al_base::{NoMemory, UnitKey};
+use al_engine_batch::order_of;
 use al_engine_graph::laws::graphs_go_by_headers;
 use al_engine_graph::{Edited, UnitGraph};
 use al_engine_rebuild::Rebuilt;
-use al_engine_reported::order_of;
 use std::alloc::Global;
 use std::rc::Rc;
 

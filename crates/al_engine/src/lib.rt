@@ -7,9 +7,10 @@ mod edits;
 mod engine;
 mod graphs;
 mod last_build;
+pub mod laws;
 mod read_files;
 mod reading;
 
-pub use al_engine_reported::BuildAnswer;
+pub use al_engine_batch::BuildAnswer;
 pub use engine::Engine;
 pub use read_files::ReadFiles;

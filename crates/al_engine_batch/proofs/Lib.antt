@@ -1,4 +1,5 @@
+pub mod ExchangeLemmas
 pub mod LinkLemmas
+mod Names
 pub mod PatchLemmas
 pub mod RenewLemmas
-pub mod ExchangeLemmas

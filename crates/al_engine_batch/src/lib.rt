@@ -3,7 +3,9 @@
 //! the one of before.
 #![tactic(auto)]
 
+mod answer;
 mod compiled;
+mod gave;
 mod linking;
 mod names;
 mod objects;
@@ -11,7 +13,9 @@ mod planned;
 mod planning;
 mod renewing;
 
+pub use answer::{BuildAnswer, answer_of};
 pub use compiled::{Compiled, Program};
+pub use gave::{diagnostics_of, files_reported, order_of, program_of};
 pub use linking::link;
 pub use planned::{Partition, Planned, Renewal};
 pub use planning::plan;

@@ -1,2 +1,3 @@
-mod OfTexts
 mod EditedFile
+pub mod Headed
+mod OfTexts

@@ -4,7 +4,7 @@ use Rattle.std.specs.List.{Contains}
 use Rattle.al_base.specs.Files.{Texts}
 use Rattle.al_unit_graph.specs.Headers.{Header, Library}
 use Rattle.al_unit.specs.Libraries.{library_of, source_of, texts_of}
-use Rattle.al_unit_headers.specs.Headed.{ReadsHeaders}
+use Rattle.al_engine_files.specs.Headed.{ReadsHeaders}
 use Rattle.al_engine_graph.specs.Graphs.{contents_at}
 use Rattle.al_engine_graph.specs.Texts.{may_differ, text_in}
 use Rattle.al_engine_graph.specs.declared.alike.Edited.{Edited}

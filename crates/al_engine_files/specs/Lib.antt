@@ -1,1 +1,2 @@
 pub mod AdaFiles
+pub mod Headed

@@ -2,6 +2,7 @@
 ghost use Rattle.al_unit.specs.Libraries.{library_of};
 ghost use Rattle.al_engine_files.specs.AdaFiles.{FilesAreRead};
 
+use crate::laws::texts_are_headed;
 use crate::renewing::sources_renewed;
 use crate::sources::{sources_after, sources_again};
 use al_base::{Files, NoMemory};
@@ -9,7 +10,6 @@ use al_engine::ReadFiles;
 use al_engine_graph::Edited;
 use al_unit::texts_are_read_alike;
 use al_unit_graph::Sources;
-use al_unit_headers::laws::texts_are_headed;
 use std::alloc::Global;
 use std::marker::Model;
 

@@ -3,6 +3,7 @@
 #![tactic(auto)]
 
 mod files;
+pub mod laws;
 mod renewing;
 mod sources;
 

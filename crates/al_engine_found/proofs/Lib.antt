@@ -1,1 +1,3 @@
+mod Ascending
 pub mod FoundLemmas
+mod Sorting

@@ -3,5 +3,6 @@
 
 mod files;
 mod finding;
+pub mod laws;
 
 pub use files::findings_of;

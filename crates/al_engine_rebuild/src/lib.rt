@@ -2,7 +2,12 @@
 //! image is linked in the place of the last one.
 #![tactic(auto)]
 
+pub mod batch_laws;
+pub mod closed_laws;
+pub mod code_symbols_laws;
 pub mod laws;
+pub mod link_closed_laws;
+pub mod link_needed_laws;
 mod rebuilding;
 
 pub use rebuilding::{PreparedBuild, Rebuilt, prepare};

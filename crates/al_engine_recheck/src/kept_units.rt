@@ -15,7 +15,7 @@ use crate::renewing::{has_text, update};
 use al_base::{NoMemory, UnitKey};
 use al_engine_keep::KeptEntries;
 use al_query::Answers;
-use al_query_check::UnitCheck;
+use al_query_outcome::UnitCheck;
 use al_unit_graph::Sources;
 use std::alloc::Global;
 use std::marker::Model;

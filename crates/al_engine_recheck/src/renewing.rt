@@ -20,7 +20,7 @@ use al_base::{NoMemory, UnitKey};
 use al_engine_keep::KeptEntries;
 use al_engine_refresh::{Done, begun, check_anew, has_sound, text_of};
 use al_query::Answers;
-use al_query_check::UnitCheck;
+use al_query_outcome::UnitCheck;
 use al_unit_graph::Sources;
 use std::alloc::Global;
 

@@ -1,4 +1,5 @@
 pub mod BuildLemmas
+pub mod BuildOrder
 pub mod Comparing
 pub mod Decided
 pub mod Following
@@ -10,5 +11,6 @@ pub mod LoopLemmas
 pub mod Moves
 pub mod OrderSteps
 pub mod RefreshLemmas
+pub mod Settings
 pub mod SteadyLemmas
 pub mod Turning

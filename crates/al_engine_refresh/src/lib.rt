@@ -1,8 +1,10 @@
 //! Checks the units of a library again that an edit reaches, and uses what was kept of the others.
 #![tactic(auto)]
 
+pub mod laws;
 mod leaving;
 mod moving;
+pub mod order_laws;
 mod present;
 mod refreshed;
 mod unit;

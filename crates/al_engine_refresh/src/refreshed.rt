@@ -19,7 +19,7 @@ use crate::unit::{Done, refresh_unit};
 use al_base::{NoMemory, UnitKey};
 use al_engine_keep::KeptEntries;
 use al_query::Answers;
-use al_query_check::UnitCheck;
+use al_query_outcome::UnitCheck;
 use al_unit_graph::Sources;
 use al_view::Seq;
 use std::alloc::Global;

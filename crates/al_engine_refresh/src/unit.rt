@@ -22,7 +22,7 @@ use al_base::{NoMemory, UnitKey};
 use al_engine_keep::KeptEntries;
 use al_entries::Entry;
 use al_query::{Answers, Recorder};
-use al_query_check::{ReadText, UnitCheck};
+use al_query_outcome::{ReadText, UnitCheck};
 use al_query_slots::Held;
 use al_query_slots::laws::marks_are_tests;
 use al_unit_graph::Sources;

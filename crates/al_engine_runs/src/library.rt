@@ -6,7 +6,7 @@ use crate::printed::{push_counts, push_gave, push_keys, push_ran};
 use al_base::{NoMemory, Refusal, UnitKey};
 use al_engine::Engine;
 use al_engine_toy::{Packages, Toy};
-use al_tasks_run::RunReport;
+use al_tasks::RunReport;
 use std::alloc::Global;
 
 /// A library, and the allocator of what it tells.

@@ -3,7 +3,7 @@ use al_base::{Diagnostic, NoMemory, UnitKey, UnitKind};
 use al_bind::{BindFault, Line, MissingItem, Reason};
 use al_engine_batch::Compiled;
 use al_machine::Exception;
-use al_tasks_run::{RunEnd, RunReport};
+use al_tasks::{RunEnd, RunReport};
 use std::alloc::Global;
 
 fn push_number(alloc: Global, text: &mut Vec<u8>, number: u64) -> Result<(), NoMemory> {

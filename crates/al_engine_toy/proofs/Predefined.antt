@@ -12,7 +12,7 @@ use Rattle.al_query.specs.declared.query.Property.TheVariants as property
 use Rattle.al_query.specs.declared.query.Query.{Query}
 use Rattle.al_query.specs.declared.query.Query.TheVariants.{Named, Of}
 use Rattle.al_query_outcome.specs.ReadsLaw.{answer_uses}
-use Rattle.al_engine_setting.specs.Settings.{ArePredefined}
+use Rattle.al_engine_refresh.specs.Settings.{ArePredefined}
 use Rattle.al_engine_toy.specs.Outcomes.{own_symbol, predefined_answer}
 
 closed : (q : Query) → has_unit predefined_units (unit_of q) ≡ true → list_all (has_unit predefined_units) (units_named (predefined_answer q)) ≡ true

@@ -20,8 +20,7 @@ use crate::text::ToyText;
 use al_base::{Name, NoMemory, UnitKey, UnitKind};
 use al_base_shortage::one_more;
 use al_query::{Answer, Answers, Completion, Property, Query, Recorder};
-use al_query_check::UnitCheck;
-use al_query_outcome::Checked;
+use al_query_outcome::{Checked, UnitCheck};
 use al_view::{copied_unit, is_unit};
 use std::alloc::Global;
 

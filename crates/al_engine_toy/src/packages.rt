@@ -1,6 +1,6 @@
 // What the predefined units answer.
 ghost use Rattle.std.specs.Prelude.{◌≡◌, IfOk};
-ghost use Rattle.al_engine_setting.specs.Settings.{ArePredefined};
+ghost use Rattle.al_engine_refresh.specs.Settings.{ArePredefined};
 ghost use Rattle.al_engine_toy.specs.Outcomes.{own_symbol, predefined_answer};
 ghost use Rattle.al_query.specs.declared.answer.AnswerKind.TheVariants as answers;
 ghost use Rattle.al_view.specs.declared.view.ViewKind.TheVariants.{OfPackage};

@@ -2,7 +2,7 @@
 ghost use Rattle.std.specs.Prelude.{◌≡◌};
 
 use al_base::NoMemory;
-use al_query_check::ReadText;
+use al_query_outcome::ReadText;
 use std::alloc::Global;
 use std::marker::Model;
 use std::rc::Rc;

@@ -3,6 +3,7 @@
 #![tactic(auto)]
 
 mod bases;
+pub mod defined_laws;
 mod exchanging;
 mod image;
 mod kept;

@@ -1,3 +1,5 @@
+pub mod Composed
+pub mod Compounds
 pub mod Faults
-pub mod Seen
 pub mod Marks
+pub mod Seen

@@ -1,4 +1,6 @@
+pub mod CompoundNames
 pub mod Prefixes
+pub mod Steps
+pub mod TermsAt
 pub mod Texts
 pub mod TextsAt
-pub mod Steps

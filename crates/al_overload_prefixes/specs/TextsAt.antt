@@ -21,7 +21,7 @@ use Rattle.al_overload_term.specs.Terms.{TermTree}
 use Rattle.al_overload_term.specs.TermViews.{term_model}
 use Rattle.al_overload_term.specs.declared.term.Term.{Term}
 use Rattle.al_overload_terms.specs.Texts.{one_range, read, term_of}
-use Rattle.al_overload_terms_at.specs.TermsAt.{denotations_at}
+use Rattle.al_overload_prefixes.specs.TermsAt.{denotations_at}
 use Rattle.al_view.specs.declared.symbol.Symbol.{Symbol}
 use Rattle.al_view.specs.declared.view.SubtypeView.{SubtypeView}
 

@@ -2,8 +2,12 @@
 #![tactic(auto)]
 
 mod at;
+mod compound;
 mod fault;
 mod mark;
 mod text;
+mod text_at;
 
 pub use at::{bounds_with_at, context_with_at, range_with_at, read_with_at};
+pub use compound::name_mark_at;
+pub use text_at::{mark_at, term_at};

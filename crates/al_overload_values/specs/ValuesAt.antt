@@ -16,7 +16,7 @@ use Rattle.al_query.specs.Reads.{Table}
 use Rattle.al_tree_syntax.specs.DeclarationTrees.{RangeTree}
 use Rattle.al_tree_syntax.specs.ExpressionTrees.{ExpressionTree}
 use Rattle.al_overload_term.specs.Terms.{TermTree}
-use Rattle.al_overload_terms_at.specs.TermsAt.{term_at}
+use Rattle.al_overload_prefixes.specs.TermsAt.{term_at}
 use Rattle.al_overload_types.specs.Leaves.{mark_type}
 use Rattle.al_view_typed.specs.ExpressionTrees.{TypedTree}
 use Rattle.al_overload_values.specs.Surroundings.{Surroundings}

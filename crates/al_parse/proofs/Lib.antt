@@ -1,1 +1,4 @@
+pub mod Clear
+pub mod Rooms
+pub mod Stubs
 pub mod Texts

@@ -4,9 +4,9 @@ ghost use Rattle.al_tree.specs.Lexemes.{lexemes};
 ghost use Rattle.al_tree.specs.UnitViews.{unit_model};
 ghost use Rattle.al_parse.specs.Faults.{FaultOf, IsTreeOf, Refuses};
 
+use crate::compilation_unit;
 use al_lex::Token;
 use al_parse_expr::Stop;
-use al_parse_unit::compilation_unit;
 use al_tree::CompilationUnit;
 use std::alloc::Global;
 
@@ -14,14 +14,14 @@ use std::alloc::Global;
 const MOST_OPEN: u32 = 64;
 
 /// The place of a syntax fault.
-#[derive(Clone, Copy, Debug, PartialEq, Eq)]
+#[derive(Clone, Copy)]
 pub struct SyntaxFault {
     /// How many tokens are before the first that can't stand where it stands; all of them, where the text ends too soon.
     pub at: usize,
 }
 
 /// Why tokens have no tree.
-#[derive(Debug, Drop)]
+#[derive(Drop)]
 pub enum ParseError {
     Syntax(SyntaxFault),
     /// Memory was wanted and not given.

@@ -1,3 +1,4 @@
+pub mod Checkers
 pub mod Defines
 pub mod Equations
 pub mod Excluded

@@ -24,7 +24,7 @@ use Rattle.al_query_outcome.specs.Defines.{interface_uses}
 use Rattle.al_query_outcome.specs.ReadsLaw.{answer_uses, outcome_units}
 use Rattle.al_query_outcome.specs.Results.{Sound}
 use Rattle.al_query_outcome.specs.Tables.{answer_of}
-use Rattle.al_engine_setting.specs.Settings.{ArePredefined}
+use Rattle.al_engine_refresh.specs.Settings.{ArePredefined}
 use Rattle.al_query_predefined.specs.PredefinedUnits.{answer_with, declared_by, interface_in, package_of, packages, predefined_answer}
 use Rattle.al_query_predefined.specs.declared.package.Package.{Package}
 

@@ -16,8 +16,8 @@ use Rattle.al_overload_readings.specs.Readings.{wrong_kind}
 use Rattle.al_scope.specs.Places.{Place}
 use Rattle.al_scope.specs.declared.region.Region.{Region}
 use Rattle.al_tree_syntax.specs.DeclarationTrees.{CompoundNameTree, CompoundNamesTree, UseTree}
-use Rattle.al_overload_terms_at.specs.CompoundNames.{name_text}
-use Rattle.al_overload_terms_at.specs.TermsAt.{mark_at}
+use Rattle.al_overload_prefixes.specs.CompoundNames.{name_text}
+use Rattle.al_overload_prefixes.specs.TermsAt.{mark_at}
 use Rattle.al_scope_unit.specs.UnitPlaces.{with_clauses}
 use Rattle.al_view.specs.declared.view.SubtypeView.{SubtypeView}
 use Rattle.al_view.specs.declared.view.ViewKind.{ViewKind}

@@ -8,7 +8,7 @@ ghost use Rattle.al_scope_uses.specs.UsesAt.{added, opened_at, opened_from, pack
 use crate::opened_package::package_at;
 use al_base::{NoMemory, UnitKey};
 use al_base_fault::{CheckResult, Fault};
-use al_overload_terms_at::name_mark_at;
+use al_overload_prefixes::name_mark_at;
 use al_query::{Answers, Recorder, UseClause};
 use al_scope::Scope;
 use al_scope_unit::use_each;

@@ -1,1 +1,5 @@
+mod Building
+mod FromAnswers
+mod Headers
+mod Obeyed
 mod Reports

@@ -14,13 +14,13 @@ use Rattle.al_unit.specs.Libraries.{library_of}
 use Rattle.al_unit.proofs.LibraryLemmas.{names_of-library_of}
 use Rattle.al_entries.specs.EntryLaw.{TextMeaning}
 use Rattle.al_engine_found.specs.Found.{findings_of}
-use Rattle.al_engine_found_laws.specs.Ascending.{FindingsAscend}
+use Rattle.al_engine_found.specs.Ascending.{FindingsAscend}
 use Rattle.al_engine_batch.specs.declared.compiled.Compiled.{Compiled}
 use Rattle.al_engine_batch.specs.declared.compiled.Compiled.TheVariants as compiled
 use Rattle.al_session_served.specs.Builds as adds
 use Rattle.al_query_predefined.specs.PredefinedUnits.{predefined_answer}
-use Rattle.al_session_engine.specs.Meanings.{Compiles, CompilesTo}
-use Rattle.al_session_engine.specs.Results.{fault_result, result_of}
+use Rattle.al_session.specs.EngineMeanings.{Compiles, CompilesTo}
+use Rattle.al_session.specs.Results.{fault_result, result_of}
 
 no_findings : (fault : BindFault) (findings : List Finding) → fault_result fault ≡ adds.Faulty findings → ⊥
 no_findings (Lacks Main) findings is = cc

@@ -2,14 +2,14 @@
 ghost use Rattle.std.specs.Prelude.{◌≡◌, IfOk};
 ghost use Rattle.al_session_served.specs.Library.{empty};
 
+use crate::Served;
 use al_base::NoMemory;
 use al_check_text::AdaText;
 use al_check_text::laws::headers_are_read;
 use al_engine_files::AdaFiles;
-use al_query_check::UnitCheck;
+use al_query_outcome::UnitCheck;
 use al_query_predefined::PredefinedUnits;
 use al_query_predefined::laws::units_are_predefined;
-use al_session_engine::Served;
 use std::alloc::Global;
 
 /// A library of Ada units over a checker: its files, what is kept of its units, and its last build.

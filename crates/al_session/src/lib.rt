@@ -5,7 +5,11 @@
 mod engine;
 mod laws;
 mod memory;
+pub mod order_laws;
+mod outcomes;
+mod served;
 mod serving;
+pub mod text_laws;
 mod whole;
 
 pub use al_session_served::{Ended, MAX_COMMANDS, MAX_PULLS};
@@ -15,5 +19,6 @@ pub use laws::{
     builds_are_right, builds_are_settled, reports_ascend, sessions_are_one, sessions_are_ordered,
 };
 pub use memory::serve_bytes;
+pub use served::Served;
 pub use serving::{serve, serve_within};
 pub use whole::session;

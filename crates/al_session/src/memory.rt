@@ -5,7 +5,7 @@ ghost use Rattle.al_session_served.specs.Serving.{ServesBytes, StopsReadingBytes
 ghost use Rattle.al_session.specs.Meanings.{library_meaning};
 
 use crate::engine::Engine;
-use al_query_check::UnitCheck;
+use al_query_outcome::UnitCheck;
 use al_session_stream::Device;
 use std::alloc::Global;
 

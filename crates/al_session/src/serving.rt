@@ -7,7 +7,7 @@ ghost use Rattle.al_session_served.specs.Serving.{Serves, StopsReading, StopsWri
 ghost use Rattle.al_session.specs.Meanings.{library_meaning};
 
 use crate::engine::Engine;
-use al_query_check::UnitCheck;
+use al_query_outcome::UnitCheck;
 use al_session_served::{Ended, MAX_COMMANDS, MAX_PULLS};
 use al_session_stream::{Device, Sink, Source};
 use std::alloc::Global;

@@ -11,7 +11,7 @@ use crate::engine::new_engine;
 use crate::serving::serve;
 use al_base::NoMemory;
 use al_check_text::AdaText;
-use al_query_check::UnitCheck;
+use al_query_outcome::UnitCheck;
 use al_session_served::{Ended, MAX_COMMANDS, MAX_PULLS};
 use al_session_stream::{Device, Sink, Source};
 use std::alloc::Global;

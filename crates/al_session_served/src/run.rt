@@ -2,7 +2,7 @@
 use al_base::UnitKey;
 
 /// What a program can raise (ARM 11.1).
-#[derive(Clone, Copy, Debug, PartialEq, Eq)]
+#[derive(Clone, Copy)]
 pub enum Exception {
     Constraint,
     Program,
@@ -10,7 +10,7 @@ pub enum Exception {
 }
 
 /// How a run ended.
-#[derive(Debug, Drop, PartialEq, Eq)]
+#[derive(Drop)]
 pub enum RunEnd {
     /// The main program and all tasks are complete.
     Finished,
@@ -29,7 +29,7 @@ pub enum RunEnd {
 }
 
 /// What a run put out, and how it ended.
-#[derive(Debug, Drop)]
+#[derive(Drop)]
 pub struct RunReport {
     pub output: Vec<u8>,
     pub ended: RunEnd,

@@ -1,7 +1,7 @@
 // What a report speaks of.
 
 /// Which part of the last build a report prints.
-#[derive(Clone, Copy, Debug, PartialEq, Eq)]
+#[derive(Clone, Copy)]
 pub enum ReportKind {
     Diagnostics,
     Order,

@@ -20,13 +20,13 @@ use Rattle.al_overload_picks.specs.Types.{positions_in, range_in}
 use Rattle.al_overload_prefixes.specs.TextsAt.{With, read_with_at}
 use Rattle.al_query.specs.Reads.{Table}
 use Rattle.al_overload_readings.specs.Readings.{ReadTree, range_read, valued}
-use Rattle.al_decl_subtypes.specs.SubtypesAt.{discrete_names, static_at}
+use Rattle.al_decl_ada.specs.SubtypesAt.{discrete_names, static_at}
 use Rattle.al_tree_syntax.specs.DeclarationTrees.{DiscreteRangeTree, DiscreteRangeTree as ranges, RangeTree}
 use Rattle.al_tree_syntax.specs.StatementTrees.{ChoiceTree}
 use Rattle.al_tree_syntax.specs.StatementTrees.ChoiceTree.{OthersChoice, RangeChoice}
 use Rattle.al_tree_syntax.specs.ExpressionTrees.{ExpressionTree}
 use Rattle.al_overload_term.specs.Terms.{TermTree}
-use Rattle.al_overload_terms_at.specs.TermsAt.{mark_at}
+use Rattle.al_overload_prefixes.specs.TermsAt.{mark_at}
 use Rattle.al_view_typed.specs.ExpressionTrees.{TypedTree}
 use Rattle.al_overload_values.specs.Surroundings.{Surroundings}
 use Rattle.al_overload_values.specs.ValuesAt.{selector_judged_at}

@@ -1,2 +1,3 @@
-pub mod LoopsAt
 pub mod ChoicesAt
+pub mod LoopsAt
+pub mod PerformedAt

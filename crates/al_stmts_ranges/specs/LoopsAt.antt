@@ -16,7 +16,7 @@ use Rattle.al_stmts.specs.LoopForms.{RangeTree, range_of_mark, range_model}
 use Rattle.al_tree_syntax.specs.DeclarationTrees.{DiscreteRangeTree, DiscreteRangeTree as ranges}
 use Rattle.al_overload_term.specs.Terms.{TermTree}
 use Rattle.al_overload_term.specs.declared.term.Term.{Term}
-use Rattle.al_overload_terms_at.specs.TermsAt.{mark_at}
+use Rattle.al_overload_prefixes.specs.TermsAt.{mark_at}
 use Rattle.al_overload_types.specs.Leaves.{mark_type}
 use Rattle.al_overload_values.specs.Surroundings.{Surroundings}
 use Rattle.al_overload_values.specs.ValuesAt.{pair_judged_at}

@@ -3,8 +3,10 @@
 
 mod choice;
 mod loop_range;
+mod perform;
 mod selected;
 
 pub use choice::choice_at;
 pub use loop_range::{FoundRange, loop_range_at};
+pub use perform::call_effect_at;
 pub use selected::{all_values, selected_at, whole_at};

@@ -13,8 +13,8 @@ use Rattle.al_tree.specs.declared.statement.Alternative.{Alternative, out-Altern
 use Rattle.al_tree.specs.declared.statement.Choice.{Choice}
 use Rattle.al_view_typed.specs.ExpressionTrees.{TypedTree}
 use Rattle.al_stmts_returns.proofs.Layers.{alternative_layers}
-use Rattle.al_stmts_walk.specs.Readings.{Reading, giving}
-use Rattle.al_stmts_walk.specs.Walking.{all_choices, choices_walked, more_choices, right_choices}
+use Rattle.al_stmts_walked.specs.Readings.{Reading, giving}
+use Rattle.al_stmts_walked.specs.Walking.{all_choices, choices_walked, more_choices, right_choices}
 use Rattle.al_stmts_text.proofs.Read.{goes_on}
 use Rattle.al_stmts_text.specs.Chosen.{choices_of, with_chosen}
 

@@ -7,8 +7,8 @@ ghost use Rattle.al_tree.specs.ExpressionViews.{expression_model};
 ghost use Rattle.al_view_typed.specs.ExpressionViews.{typed_model};
 ghost use Rattle.al_view_typed.specs.StatementViews.{statement_model};
 ghost use Rattle.al_stmts.specs.Simple.{target_of, target_model};
-ghost use Rattle.al_stmts_walk.specs.Steps.{Enclosing};
-ghost use Rattle.al_stmts_walk.specs.Walking.{alone_at, assigned_at, statement_walked};
+ghost use Rattle.al_stmts_walked.specs.Steps.{Enclosing};
+ghost use Rattle.al_stmts_walked.specs.Walking.{alone_at, assigned_at, statement_walked};
 ghost use Rattle.al_stmts_walked.specs.WalkedViews.{one_model};
 
 use crate::analyzer::Analyzer;

@@ -6,8 +6,8 @@ ghost use Rattle.al_tree_syntax.specs.StatementTrees.StatementTree.{CallStatemen
 ghost use Rattle.al_tree.specs.ExpressionViews.{expression_model};
 ghost use Rattle.al_view_typed.specs.StatementViews.{statement_model};
 ghost use Rattle.al_stmts_text.specs.PerformedViews.{call_effect_model};
-ghost use Rattle.al_stmts_walk.specs.Steps.{Enclosing};
-ghost use Rattle.al_stmts_walk.specs.Walking.{alone_at, call_effect, statement_walked};
+ghost use Rattle.al_stmts_walked.specs.Steps.{Enclosing};
+ghost use Rattle.al_stmts_walked.specs.Walking.{alone_at, call_effect, statement_walked};
 ghost use Rattle.al_stmts_walked.specs.WalkedViews.{one_model};
 
 use crate::analyzer::{Analyzer, CallEffect};

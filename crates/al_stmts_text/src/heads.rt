@@ -10,8 +10,8 @@ ghost use Rattle.al_tree.specs.StatementViews.{alternative_model, alternatives_o
 ghost use Rattle.al_view_typed.specs.ExpressionViews.{typed_model};
 ghost use Rattle.al_view_typed.specs.StatementViews.{scheme_model};
 ghost use Rattle.al_stmts_text.specs.Chosen.{chosen_right};
-ghost use Rattle.al_stmts_walk.specs.Readings.{giving};
-ghost use Rattle.al_stmts_walk.specs.Walking.{case_after, case_head, for_head, loop_words, parameter_declared, while_walked};
+ghost use Rattle.al_stmts_walked.specs.Readings.{giving};
+ghost use Rattle.al_stmts_walked.specs.Walking.{case_after, case_head, for_head, loop_words, parameter_declared, while_walked};
 ghost use Rattle.al_stmts_walked.specs.WalkedViews.{choosing_model};
 
 use crate::analyzer::Analyzer;

@@ -9,8 +9,8 @@ ghost use Rattle.al_view_typed.specs.ExpressionViews.{typed_model};
 ghost use Rattle.al_view_typed.specs.StatementTrees.{StatementFormTree as forms};
 ghost use Rattle.al_view_typed.specs.StatementTrees.StatementTree.{Numbered};
 ghost use Rattle.al_view_typed.specs.StatementViews.{statement_model};
-ghost use Rattle.al_stmts_walk.specs.Steps.{alone_of, Enclosing};
-ghost use Rattle.al_stmts_walk.specs.Walking.{statement_walked, maybe_condition, alone_at};
+ghost use Rattle.al_stmts_walked.specs.Steps.{alone_of, Enclosing};
+ghost use Rattle.al_stmts_walked.specs.Walking.{statement_walked, maybe_condition, alone_at};
 ghost use Rattle.al_stmts_walked.specs.WalkedViews.{one_model};
 
 use crate::analyzer::Analyzer;

@@ -2,9 +2,9 @@
 ghost use Rattle.std.specs.Prelude.{◌≡◌, IfOk, OnOk};
 ghost use Rattle.al_query.specs.Reads.{FromAnswers};
 ghost use Rattle.al_tree.specs.Lexemes.{place_label};
-ghost use Rattle.al_stmts_walk.specs.Steps.{block_of, broken_by};
-ghost use Rattle.al_stmts_walk.specs.Units.{parts_completed};
-ghost use Rattle.al_stmts_walk.specs.Walking.{closed, region_left};
+ghost use Rattle.al_stmts_walked.specs.Steps.{block_of, broken_by};
+ghost use Rattle.al_stmts_walked.specs.Units.{parts_completed};
+ghost use Rattle.al_stmts_walked.specs.Walking.{closed, region_left};
 ghost use Rattle.al_stmts_walked.specs.WalkedViews.{inside_model, one_model, part_model};
 
 use crate::analyzer::Analyzer;

@@ -10,7 +10,7 @@ ghost use Rattle.al_tree.specs.Lexemes.{place_label};
 ghost use Rattle.al_view_typed.specs.StatementViews.{statement_model};
 ghost use Rattle.al_stmts.specs.Simple.{returned};
 ghost use Rattle.al_stmts_loops.specs.Exits.{EnclosingLoops};
-ghost use Rattle.al_stmts_walk.specs.Walking.{alone_at, is_function, result_at, return_walked, statement_walked};
+ghost use Rattle.al_stmts_walked.specs.Walking.{alone_at, is_function, result_at, return_walked, statement_walked};
 ghost use Rattle.al_stmts_walked.specs.WalkedViews.{one_model};
 
 use crate::analyzer::Analyzer;

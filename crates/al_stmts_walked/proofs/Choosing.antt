@@ -2,7 +2,7 @@
 use Rattle.std.proofs.Common.{◌≡◌, ◌<◌, ◌≤◌, ℕ, suc, zero, ◌+◌, List, [], ◌∷◌, length, drop, refl, arith, add-one, sym, ◌∙◌, ap}
 use Rattle.std.specs.Prelude.{Option, Some, None, slice_get}
 use Rattle.al_stmts_choices.specs.declared.choice.Choice.{Choice}
-use Rattle.al_stmts_walk.specs.Steps.{next_choices, rest_of}
+use Rattle.al_stmts_walked.specs.Steps.{next_choices, rest_of}
 
 abbrev chosen_at : Option (List Choice) → List Choice
 chosen_at None = []

@@ -3,7 +3,7 @@ use Rattle.std.proofs.Common.{◌≡◌, ℕ, List, [], ◌∷◌, map, refl}
 use Rattle.std.specs.Prelude.{fold}
 use Rattle.al_tree.specs.Lexemes.{identifier_label}
 use Rattle.al_tree.specs.declared.names.Identifier.{Identifier}
-use Rattle.al_stmts_walk.specs.Walking.{dotted}
+use Rattle.al_stmts_walked.specs.Walking.{dotted}
 use Rattle.al_stmts_walked.specs.Spelled.{with_selector}
 
 spelled : (s : List ℕ) (line col : ℕ) (xs : List Identifier) → fold with_selector s xs ≡ dotted (record { text = s; line = line; col = col }) (map identifier_label xs)

@@ -3,7 +3,7 @@ use Rattle.std.proofs.Common.{◌≡◌, List, ◌++◌, Result, Ok, Err, refl, 
 use Rattle.std.specs.Prelude.{IfOk, OnOk}
 use Rattle.al_stmts.specs.Checking.{Checked, all_checked, checked_after, one_checked}
 use Rattle.al_view_typed.specs.UnitTrees.{BodyTree}
-use Rattle.al_stmts_walk.specs.Steps.{Walked, joined, nothing}
+use Rattle.al_stmts_walked.specs.Steps.{Walked, joined, nothing}
 
 abbrev pub walked : Checked → List BodyTree → Walked
 walked checked bodies = record { checked = checked; bodies = bodies }

@@ -1,3 +1,4 @@
+pub mod Behind
 pub mod Choosing
 pub mod Dotted
 pub mod Joined

@@ -7,8 +7,8 @@ use Rattle.al_view_typed.specs.UnitTrees.{body_model}
 use Rattle.al_stmts.specs.Branches.{branches_checked}
 use Rattle.al_stmts.specs.Cases.{alternatives_checked}
 use Rattle.al_stmts.specs.Checking.{all_checked, one_checked}
-use Rattle.al_stmts_walk.specs.Steps.{Branching, Choosing, Inside, Part, Walked}
-use Rattle.al_stmts_walk.specs.Views.{effects_model}
+use Rattle.al_stmts_walked.specs.Steps.{Branching, Choosing, Inside, Part, Walked}
+use Rattle.al_stmts_walked.specs.Views.{effects_model}
 use Rattle.al_stmts_walked.specs.declared.alternatives.WalkedAlternatives.{WalkedAlternatives}
 use Rattle.al_stmts_walked.specs.declared.branches.WalkedBranches.{WalkedBranches}
 use Rattle.al_stmts_walked.specs.declared.inside.WalkedInside.{WalkedInside}

@@ -4,7 +4,7 @@ ghost use Rattle.al_base_fault.specs.Judging.{map_ok};
 ghost use Rattle.al_stmts.specs.Cases.{chosen_by, selected};
 ghost use Rattle.al_view_typed.specs.ExpressionViews.{typed_model};
 ghost use Rattle.al_stmts_walked.specs.WalkedViews.{all_model, choosing_model, one_model};
-ghost use Rattle.al_stmts_walk.specs.Steps.{case_of, choosing, next_choices, one_alternative, rest_of};
+ghost use Rattle.al_stmts_walked.specs.Steps.{case_of, choosing, next_choices, one_alternative, rest_of};
 
 use crate::bodies::append;
 use crate::statements::{WalkedStatement, WalkedStatements};
@@ -38,7 +38,7 @@ fn after(next: usize, choices: &[Seq<Choice>]) -> usize
 
 impl WalkedAlternatives {
     /// No alternative yet, after a selector and the choices of all alternatives, which are right for it or not.
-    #[tactic(auto, unfolding(crate::specs::WalkedViews::choosing_model, al_stmts_walk::specs::Steps::choosing))]
+    #[tactic(auto, unfolding(crate::specs::WalkedViews::choosing_model, crate::specs::Steps::choosing))]
     pub fn new(
         alloc: Global,
         place: Place,
@@ -83,7 +83,7 @@ impl WalkedAlternatives {
     }
 
     /// The alternative that stands after, by its statements.
-    #[tactic(auto, unfolding(crate::specs::WalkedViews::all_model, crate::specs::WalkedViews::choosing_model, al_stmts_walk::specs::Steps::one_alternative))]
+    #[tactic(auto, unfolding(crate::specs::WalkedViews::all_model, crate::specs::WalkedViews::choosing_model, crate::specs::Steps::one_alternative))]
     pub fn add(&mut self, alloc: Global, inner: WalkedStatements) -> Result<(), NoMemory>
         ensures { OnOk result (choosing_model self.new ≡ one_alternative (choosing_model self.old) (all_model inner)) }
     {
@@ -95,7 +95,7 @@ impl WalkedAlternatives {
     }
 
     /// The whole statement.
-    #[tactic(auto, unfolding(crate::specs::WalkedViews::one_model, crate::specs::WalkedViews::choosing_model, al_stmts_walk::specs::Steps::case_of))]
+    #[tactic(auto, unfolding(crate::specs::WalkedViews::one_model, crate::specs::WalkedViews::choosing_model, crate::specs::Steps::case_of))]
     pub fn finish(self, alloc: Global, line: usize) -> Result<WalkedStatement, NoMemory>
         ensures { IfOk result (λ one. one_model one ≡ case_of line (choosing_model self)) }
     {

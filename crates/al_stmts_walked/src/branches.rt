@@ -3,7 +3,7 @@ ghost use Rattle.std.specs.Prelude.{◌≡◌, IfOk, OnOk, is_some};
 ghost use Rattle.al_base_fault.specs.Judging.{map_ok};
 ghost use Rattle.al_view_typed.specs.ExpressionViews.{typed_model};
 ghost use Rattle.al_stmts_walked.specs.WalkedViews.{all_model, branching_model, one_model};
-ghost use Rattle.al_stmts_walk.specs.Steps.{if_of, no_branching, one_branch, one_otherwise};
+ghost use Rattle.al_stmts_walked.specs.Steps.{if_of, no_branching, one_branch, one_otherwise};
 
 use crate::bodies::append;
 use crate::statements::{WalkedStatement, WalkedStatements};
@@ -30,7 +30,7 @@ impl Drop for WalkedBranches {
 
 impl WalkedBranches {
     /// No branch yet. It takes no memory.
-    #[tactic(auto, unfolding(crate::specs::WalkedViews::branching_model, al_stmts_walk::specs::Steps::no_branching))]
+    #[tactic(auto, unfolding(crate::specs::WalkedViews::branching_model, crate::specs::Steps::no_branching))]
     pub fn new(alloc: Global) -> Self
         ensures { branching_model result ≡ no_branching }
     {
@@ -48,7 +48,7 @@ impl WalkedBranches {
     }
 
     /// The branch that stands after, with the line of its `if` or `elsif`.
-    #[tactic(auto, unfolding(crate::specs::WalkedViews::all_model, crate::specs::WalkedViews::branching_model, al_stmts_walk::specs::Steps::one_branch))]
+    #[tactic(auto, unfolding(crate::specs::WalkedViews::all_model, crate::specs::WalkedViews::branching_model, crate::specs::Steps::one_branch))]
     pub fn add(
         &mut self,
         line: usize,
@@ -63,7 +63,7 @@ impl WalkedBranches {
     }
 
     /// The statements after `else`.
-    #[tactic(auto, unfolding(crate::specs::WalkedViews::all_model, crate::specs::WalkedViews::branching_model, al_stmts_walk::specs::Steps::one_otherwise))]
+    #[tactic(auto, unfolding(crate::specs::WalkedViews::all_model, crate::specs::WalkedViews::branching_model, crate::specs::Steps::one_otherwise))]
     pub fn add_otherwise(&mut self, inner: WalkedStatements) -> Result<(), NoMemory>
         ensures { OnOk result (branching_model self.new ≡ one_otherwise (branching_model self.old) (all_model inner)) }
     {
@@ -73,7 +73,7 @@ impl WalkedBranches {
     }
 
     /// The whole statement.
-    #[tactic(auto, unfolding(crate::specs::WalkedViews::one_model, crate::specs::WalkedViews::branching_model, al_stmts_walk::specs::Steps::if_of))]
+    #[tactic(auto, unfolding(crate::specs::WalkedViews::one_model, crate::specs::WalkedViews::branching_model, crate::specs::Steps::if_of))]
     pub fn finish(self, alloc: Global, line: usize) -> Result<WalkedStatement, NoMemory>
         ensures { IfOk result (λ one. one_model one ≡ if_of line (branching_model self)) }
     {

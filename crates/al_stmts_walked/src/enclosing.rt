@@ -6,7 +6,7 @@ ghost use Rattle.al_stmts.specs.Simple.{exited};
 ghost use Rattle.al_tree.specs.Lexemes.{identifier_label};
 ghost use Rattle.al_view_typed.specs.ExpressionViews.{typed_model};
 ghost use Rattle.al_view_typed.specs.StatementViews.{statement_model};
-ghost use Rattle.al_stmts_walk.specs.Steps.{in_body, in_loop, name_of};
+ghost use Rattle.al_stmts_walked.specs.Steps.{in_body, in_loop, name_of};
 
 use al_base::{Name, NoMemory, Place};
 use al_base_fault::CheckResult;
@@ -35,7 +35,7 @@ impl Drop for Enclosing {
 }
 
 impl Model for Enclosing {
-    ghost use Rattle.al_stmts_walk.specs.Steps as steps;
+    ghost use Rattle.al_stmts_walked.specs.Steps as steps;
 
     ghost Value = { steps.Enclosing };
 

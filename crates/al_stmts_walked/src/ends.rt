@@ -3,9 +3,9 @@ ghost use Rattle.std.specs.Prelude.{◌≡◌, IfOk, OnOk, Some, fold, map, opti
 ghost use Rattle.al_stmts_loops.specs.Ends.{end_fault};
 ghost use Rattle.al_tree.specs.DeclarationViews.{compound_model};
 ghost use Rattle.al_tree.specs.Lexemes.{identifier_label};
-ghost use Rattle.al_stmts_walk.specs.Steps.{name_of};
+ghost use Rattle.al_stmts_walked.specs.Steps.{name_of};
 ghost use Rattle.al_stmts_walked.specs.Spelled.{with_selector};
-ghost use Rattle.al_stmts_walk.specs.Walking.{dotted, end_of, end_of_compound};
+ghost use Rattle.al_stmts_walked.specs.Walking.{dotted, end_of, end_of_compound};
 
 use al_base::NoMemory;
 use al_base_fault::Fault;

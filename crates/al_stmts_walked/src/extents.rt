@@ -1,13 +1,13 @@
 // Where loops, blocks and bodies begin and end.
 ghost use Rattle.std.specs.Prelude.{◌≡◌, IfOk, option_map};
-ghost use Rattle.al_stmts_walk.specs.Walking.{first_line, named_extent, named_line, specified_name, subprogram_extent};
+ghost use Rattle.al_stmts_walked.specs.Walking.{first_line, named_extent, named_line, specified_name, subprogram_extent};
 ghost use Rattle.al_tree.specs.DeclarationViews.{compound_model, specification_model};
 ghost use Rattle.al_tree.specs.Lexemes.{identifier_label, place_label};
 ghost use Rattle.al_tree.specs.StatementViews.{compound_end_model, named_end_model};
 
+use crate::BodyExtent;
 use crate::ends::{end_of_compound, end_of_named};
 use al_base::{NoMemory, Place};
-use al_stmts_walk::BodyExtent;
 use al_tree::{CompoundEnd, CompoundName, Identifier, NamedEnd, Specification};
 use std::alloc::Global;
 

@@ -1,6 +1,6 @@
 // Declarations with the statements after them.
 ghost use Rattle.std.specs.Prelude.{◌≡◌, IfOk};
-ghost use Rattle.al_stmts_walk.specs.Steps.{block_of, ended_by};
+ghost use Rattle.al_stmts_walked.specs.Steps.{block_of, ended_by};
 ghost use Rattle.al_stmts_walked.specs.WalkedViews.{inside_model, one_model};
 
 use crate::statements::WalkedStatement;
@@ -22,7 +22,7 @@ pub struct WalkedInside {
 
 impl WalkedInside {
     /// A block, with the fault of the name at its end (ARM 5.6).
-    #[tactic(auto, unfolding(crate::specs::WalkedViews::inside_model, crate::specs::WalkedViews::one_model, al_stmts_walk::specs::Steps::block_of))]
+    #[tactic(auto, unfolding(crate::specs::WalkedViews::inside_model, crate::specs::WalkedViews::one_model, crate::specs::Steps::block_of))]
     pub fn into_block(
         self,
         alloc: Global,
@@ -43,7 +43,7 @@ impl WalkedInside {
     }
 
     /// The fault of the name at the end of a unit.
-    #[tactic(auto, unfolding(crate::specs::WalkedViews::inside_model, al_stmts_walk::specs::Steps::ended_by))]
+    #[tactic(auto, unfolding(crate::specs::WalkedViews::inside_model, crate::specs::Steps::ended_by))]
     pub fn end(&mut self, fault: Option<Fault>)
         ensures { inside_model self.new ≡ ended_by (inside_model self.old) fault }
     {

@@ -4,8 +4,8 @@ ghost use Rattle.al_base_faults.specs.FaultLists.{followed};
 ghost use Rattle.al_base_fault.specs.Judging.{map_ok};
 ghost use Rattle.al_view_typed.specs.StatementViews.{statement_model};
 ghost use Rattle.al_view_typed.specs.UnitTrees.{body_model};
-ghost use Rattle.al_stmts_walk.specs.Steps.{body_faults, closed_by, inside_of, no_part, nothing, object_of, part_of, parts_joined};
-ghost use Rattle.al_stmts_walk.specs.Views.{effects_model};
+ghost use Rattle.al_stmts_walked.specs.Steps.{body_faults, closed_by, inside_of, no_part, nothing, object_of, part_of, parts_joined};
+ghost use Rattle.al_stmts_walked.specs.Views.{effects_model};
 ghost use Rattle.al_stmts_walked.specs.WalkedViews.{all_model, inside_model, part_model};
 
 use crate::bodies::append;
@@ -80,7 +80,7 @@ fn add_ends(
 
 impl WalkedPart {
     /// No declaration yet. It takes no memory.
-    #[tactic(auto, unfolding(crate::specs::WalkedViews::part_model, al_stmts_walk::specs::Steps::no_part))]
+    #[tactic(auto, unfolding(crate::specs::WalkedViews::part_model, crate::specs::Steps::no_part))]
     pub fn new(alloc: Global) -> Self
         ensures { part_model result ≡ no_part }
     {
@@ -92,7 +92,7 @@ impl WalkedPart {
     }
 
     /// A declaration by what it does where it stands, or by its fault, which ends the list. It takes no memory.
-    #[tactic(auto, unfolding(crate::specs::WalkedViews::part_model, al_stmts_walk::specs::Steps::part_of))]
+    #[tactic(auto, unfolding(crate::specs::WalkedViews::part_model, crate::specs::Steps::part_of))]
     pub fn declared(alloc: Global, checked: CheckResult<Vec<TypedDeclaration>>) -> Self
         ensures { part_model result ≡ part_of (map_ok effects_model checked) }
     {
@@ -119,7 +119,7 @@ impl WalkedPart {
     }
 
     /// The declarations that stand after.
-    #[tactic(auto, unfolding(crate::specs::WalkedViews::part_model, al_stmts_walk::specs::Steps::parts_joined))]
+    #[tactic(auto, unfolding(crate::specs::WalkedViews::part_model, crate::specs::Steps::parts_joined))]
     pub fn add(&mut self, one: WalkedPart) -> Result<(), NoMemory>
         ensures { OnOk result (part_model self.new ≡ parts_joined (part_model self.old) (part_model one)) }
     {
@@ -134,7 +134,7 @@ impl WalkedPart {
     }
 
     /// What is wrong at the end of the part.
-    #[tactic(auto, unfolding(crate::specs::WalkedViews::part_model, al_stmts_walk::specs::Steps::closed_by))]
+    #[tactic(auto, unfolding(crate::specs::WalkedViews::part_model, crate::specs::Steps::closed_by))]
     pub fn close(&mut self, fault: Option<Fault>)
         ensures { part_model self.new ≡ closed_by (part_model self.old) fault }
     {
@@ -142,7 +142,7 @@ impl WalkedPart {
     }
 
     /// With the statements that stand after.
-    #[tactic(auto, unfolding(crate::specs::WalkedViews::all_model, crate::specs::WalkedViews::inside_model, crate::specs::WalkedViews::part_model, al_stmts_walk::specs::Steps::inside_of))]
+    #[tactic(auto, unfolding(crate::specs::WalkedViews::all_model, crate::specs::WalkedViews::inside_model, crate::specs::WalkedViews::part_model, crate::specs::Steps::inside_of))]
     pub fn with_statements(self, inner: WalkedStatements) -> Result<WalkedInside, NoMemory>
         ensures { IfOk result (λ inside. inside_model inside ≡ inside_of (part_model self) (all_model inner)) }
     {
@@ -221,7 +221,7 @@ impl WalkedPart {
 
     /// A protected body by what it does where it stands, by the bodies of its operations, and by what is wrong with the name at its end
     /// (ARM 9.4).
-    #[tactic(auto, unfolding(crate::specs::WalkedViews::part_model, al_stmts_walk::specs::Steps::object_of))]
+    #[tactic(auto, unfolding(crate::specs::WalkedViews::part_model, crate::specs::Steps::object_of))]
     pub fn into_object(self, effects: Vec<TypedDeclaration>, end: Option<Fault>) -> Self
         ensures { part_model result ≡ object_of (effects_model effects) end (part_model self) }
     {

@@ -3,7 +3,7 @@ ghost use Rattle.std.specs.Prelude.{◌≡◌, IfOk, OnOk, is_some};
 ghost use Rattle.al_base_fault.specs.Judging.{map_ok};
 ghost use Rattle.al_view_typed.specs.StatementViews.{scheme_model, statement_model};
 ghost use Rattle.al_stmts_walked.specs.WalkedViews.{all_model, one_model};
-ghost use Rattle.al_stmts_walk.specs.Steps.{alone_of, block_of, broken_by, inside_of, joined, loop_of, no_part, nothing};
+ghost use Rattle.al_stmts_walked.specs.Steps.{alone_of, block_of, broken_by, inside_of, joined, loop_of, no_part, nothing};
 
 use crate::bodies::append;
 use crate::part::WalkedPart;
@@ -30,7 +30,7 @@ pub struct WalkedStatements {
 
 impl WalkedStatement {
     /// A statement with nothing inside it.
-    #[tactic(auto, unfolding(crate::specs::WalkedViews::one_model, al_stmts_walk::specs::Steps::alone_of))]
+    #[tactic(auto, unfolding(crate::specs::WalkedViews::one_model, crate::specs::Steps::alone_of))]
     pub fn alone(alloc: Global, checked: CheckResult<TypedStatement>) -> Result<Self, NoMemory>
         ensures { IfOk result (λ one. one_model one ≡ alone_of (map_ok statement_model checked)) }
     {
@@ -40,7 +40,7 @@ impl WalkedStatement {
     }
 
     /// A statement that ends with the fault of a declaration inside it. It takes no memory.
-    #[tactic(auto, unfolding(crate::specs::WalkedViews::one_model, al_stmts_walk::specs::Steps::broken_by))]
+    #[tactic(auto, unfolding(crate::specs::WalkedViews::one_model, crate::specs::Steps::broken_by))]
     pub fn broken_by(alloc: Global, fault: Fault) -> Self
         ensures { one_model result ≡ broken_by fault }
     {
@@ -52,7 +52,7 @@ impl WalkedStatement {
 
 impl WalkedStatements {
     /// No statement yet. It takes no memory.
-    #[tactic(auto, unfolding(crate::specs::WalkedViews::all_model, al_stmts_walk::specs::Steps::nothing))]
+    #[tactic(auto, unfolding(crate::specs::WalkedViews::all_model, crate::specs::Steps::nothing))]
     pub fn new(alloc: Global) -> Self
         ensures { all_model result ≡ nothing }
     {

@@ -1,8 +1,8 @@
 -- Where tasks are put.
 use Rattle.std.proofs.Common.{◌≡◌, ℕ, suc, List, [], ◌∷◌, Bool, true, false, not, cond, nat_le, nat_lt, refl, ap}
 use Rattle.std.specs.Prelude.{insert}
-use Rattle.al_tasks_world.specs.Task.{Task}
-use Rattle.al_tasks_world.specs.World.{at_head, at_tail, by_number}
+use Rattle.al_tasks.specs.Task.{Task}
+use Rattle.al_tasks.specs.World.{at_head, at_tail, by_number}
 use Rattle.al_tasks.specs.Queues.{first_place}
 
 -- a task at a place of a list that is one longer

@@ -3,9 +3,9 @@ use Rattle.std.specs.Prelude.{ℕ, suc, Bool, if◌then◌else◌, List, [], ◌
 use Rattle.al_machine.specs.declared.regions.Entered.{Entered}
 use Rattle.al_tasks.specs.declared.queues.Wanted.{Wanted}
 use Rattle.al_tasks.specs.declared.queues.Wanted.TheVariants as wanted
-use Rattle.al_tasks_world.specs.declared.event.Pause.{Pause}
-use Rattle.al_tasks_world.specs.Task.{Task, is_created, is_activating, is_due, is_waiting}
-use Rattle.al_tasks_world.specs.World.{outside}
+use Rattle.al_tasks.specs.declared.event.Pause.{Pause}
+use Rattle.al_tasks.specs.Task.{Task, is_created, is_activating, is_due, is_waiting}
+use Rattle.al_tasks.specs.World.{outside}
 
 -- the place of the first task that passes the test, or after all
 abbrev pub first_place : (Task → Bool) → List Task → ℕ

@@ -4,8 +4,8 @@ ghost use Rattle.std.specs.Prelude.{◌≡◌, ◌+◌, ◌<◌, ◌≤◌, ◌^
 ghost use Rattle.al_machine.specs.Machine.{IsWithin, machine};
 ghost use Rattle.al_machine.specs.Stack.{pushed};
 ghost use Rattle.al_machine.specs.declared.operation.TaskInstruction.TheVariants as kind;
-ghost use Rattle.al_tasks_world.specs.Exclusion.{size};
-ghost use Rattle.al_tasks_world.specs.World as world;
+ghost use Rattle.al_tasks.specs.Exclusion.{size};
+ghost use Rattle.al_tasks.specs.World as world;
 ghost use Rattle.al_tasks.specs.Seen.{seen, running, HasRoom, HasPlaces, Becomes};
 ghost use Rattle.al_tasks.specs.Acts.{at_place, acted, turned};
 
@@ -15,9 +15,9 @@ use crate::queues::{
 };
 use crate::state::State;
 use crate::tasks::Task;
+use crate::{Ending, Pause};
 use al_base::NoMemory;
 use al_machine::{Exception, Trap, clear, copy, is_entered, push};
-use al_tasks_world::{Ending, Pause};
 
 /// The task goes on, as the first one.
 pub(crate) fn go_on(state: &mut State, task: Task)
@@ -58,7 +58,7 @@ fn pause(state: &mut State, mut task: Task, why: Pause)
 }
 
 /// A task is created, which begins at a place.
-#[tactic(auto, unfolding(al_tasks_world::specs::World::handled))]
+#[tactic(auto, unfolding(crate::specs::World::handled))]
 pub(crate) fn create(
     program: &Program,
     state: &mut State,
@@ -85,7 +85,7 @@ pub(crate) fn create(
 }
 
 /// The created tasks become ready, and the environment waits for their activations.
-#[tactic(auto, unfolding(al_tasks_world::specs::World::handled))]
+#[tactic(auto, unfolding(crate::specs::World::handled))]
 pub(crate) fn go(program: &Program, state: &mut State, mut task: Task, next: usize)
     requires { HasRoom state.old }
     ensures { seen state.new ≡ acted program.now kind.Go next task state.old }
@@ -104,7 +104,7 @@ pub(crate) fn go(program: &Program, state: &mut State, mut task: Task, next: usi
 }
 
 /// The task's activation ends; the last one makes the environment ready.
-#[tactic(auto, unfolding(al_tasks_world::specs::World::handled))]
+#[tactic(auto, unfolding(crate::specs::World::handled))]
 pub(crate) fn begin(program: &Program, state: &mut State, mut task: Task, next: usize)
     requires { HasRoom state.old }
     ensures { seen state.new ≡ acted program.now kind.Begun next task state.old }
@@ -123,7 +123,7 @@ pub(crate) fn begin(program: &Program, state: &mut State, mut task: Task, next: 
 }
 
 /// The task ends; the program does where all its tasks have.
-#[tactic(auto, unfolding(al_tasks_world::specs::World::handled))]
+#[tactic(auto, unfolding(crate::specs::World::handled))]
 pub(crate) fn finish(program: &Program, state: &mut State, mut task: Task, next: usize)
     requires { HasRoom state.old }
     ensures { seen state.new ≡ acted program.now kind.Done next task state.old }
@@ -161,7 +161,7 @@ pub(crate) fn push_word(
 }
 
 /// Pushes the clock.
-#[tactic(auto, unfolding(al_tasks_world::specs::World::handled))]
+#[tactic(auto, unfolding(crate::specs::World::handled))]
 pub(crate) fn push_clock(program: &Program, state: &mut State, task: Task, next: usize)
     requires room { HasRoom state.old }
     requires within { IsWithin (machine state.old.memory.items task.registers) }
@@ -172,7 +172,7 @@ pub(crate) fn push_clock(program: &Program, state: &mut State, task: Task, next:
 }
 
 /// Delays the task until the moment on top of its stack; where that isn't later than now, it goes to the tail of its level.
-#[tactic(auto, unfolding(al_tasks_world::specs::World::handled))]
+#[tactic(auto, unfolding(crate::specs::World::handled))]
 pub(crate) fn sleep(program: &Program, state: &mut State, mut task: Task, next: usize)
     requires room { HasRoom state.old }
     requires within { IsWithin (machine state.old.memory.items task.registers) }
@@ -226,7 +226,7 @@ pub(crate) fn enter(
 }
 
 /// Enters a protected object to call its entry.
-#[tactic(auto, unfolding(al_tasks_world::specs::World::handled))]
+#[tactic(auto, unfolding(crate::specs::World::handled))]
 pub(crate) fn enter_entry(
     program: &Program,
     state: &mut State,
@@ -249,7 +249,7 @@ pub(crate) fn enter_entry(
 }
 
 /// Leaves the object that was entered last.
-#[tactic(auto, unfolding(al_tasks_world::specs::World::handled))]
+#[tactic(auto, unfolding(crate::specs::World::handled))]
 pub(crate) fn leave(program: &Program, state: &mut State, mut task: Task, next: usize)
     requires { HasRoom state.old }
     ensures { seen state.new ≡ acted program.now kind.Leave next task state.old }
@@ -263,7 +263,7 @@ pub(crate) fn leave(program: &Program, state: &mut State, mut task: Task, next: 
 }
 
 /// Pushes whether a caller waits at the entry of an object.
-#[tactic(auto, unfolding(al_tasks_world::specs::World::handled))]
+#[tactic(auto, unfolding(crate::specs::World::handled))]
 pub(crate) fn push_waiting(
     program: &Program,
     state: &mut State,
@@ -283,7 +283,7 @@ pub(crate) fn push_waiting(
 }
 
 /// The waiting caller becomes ready.
-#[tactic(auto, unfolding(al_tasks_world::specs::World::handled))]
+#[tactic(auto, unfolding(crate::specs::World::handled))]
 pub(crate) fn wake(program: &Program, state: &mut State, mut task: Task, object: u32, next: usize)
     requires { HasRoom state.old }
     ensures { seen state.new ≡ acted program.now (kind.Wake object) next task state.old }
@@ -300,7 +300,7 @@ pub(crate) fn wake(program: &Program, state: &mut State, mut task: Task, object:
 }
 
 /// Leaves the object, which is the only one that the task is inside, and waits at its entry.
-#[tactic(auto, using(crate::proofs::ActLemmas::blocks_none, crate::proofs::ActLemmas::blocks_other, crate::proofs::ActLemmas::blocks_called, crate::proofs::ActLemmas::blocks_waits, crate::proofs::ActLemmas::left_at), unfolding(al_tasks_world::specs::World::handled))]
+#[tactic(auto, using(crate::proofs::ActLemmas::blocks_none, crate::proofs::ActLemmas::blocks_other, crate::proofs::ActLemmas::blocks_called, crate::proofs::ActLemmas::blocks_waits, crate::proofs::ActLemmas::left_at), unfolding(crate::specs::World::handled))]
 pub(crate) fn block(program: &Program, state: &mut State, mut task: Task, object: u32, next: usize)
     requires { HasRoom state.old }
     ensures { seen state.new ≡ acted program.now (kind.Block object) next task state.old }
@@ -320,7 +320,7 @@ pub(crate) fn block(program: &Program, state: &mut State, mut task: Task, object
 }
 
 /// Gives words of a protected object their first values.
-#[tactic(auto, unfolding(al_tasks_world::specs::World::handled))]
+#[tactic(auto, unfolding(crate::specs::World::handled))]
 pub(crate) fn seed(
     program: &Program,
     state: &mut State,

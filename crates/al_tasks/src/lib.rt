@@ -2,12 +2,19 @@
 #![tactic(auto)]
 
 mod acts;
+mod event;
 mod events;
+mod laws;
+pub mod levels_laws;
 mod program;
 mod queues;
+mod running;
 mod runs;
 mod state;
 mod tasks;
 mod world;
 
+pub use event::{Ending, Event, Pause, Status};
+pub use laws::{exclusion, runs_are_events};
+pub use running::{RunEnd, RunReport, run};
 pub use world::World;

@@ -1,12 +1,12 @@
 // Lists of tasks: the ready ones in the order of their dispatch, and the others by number.
 ghost use Rattle.std.specs.Prelude.{◌≡◌, ◌+◌, ◌<◌, ◌≤◌, ◌≡◌, nat_le, nat_lt, not, insert, vec_len, vec_capacity, length};
 ghost use Rattle.std.specs.List.{list_any, list_all};
-ghost use Rattle.al_tasks_world.specs.Task.{is_waiting, is_ended, is_delayed};
-ghost use Rattle.al_tasks_world.specs.World.{at_head, at_tail, by_number, passing, failing, all_at_tail};
+ghost use Rattle.al_tasks.specs.Task.{is_waiting, is_ended, is_delayed};
+ghost use Rattle.al_tasks.specs.World.{at_head, at_tail, by_number, passing, failing, all_at_tail};
 ghost use Rattle.al_tasks.specs.Queues.{first_place, is_wanted};
 
+use crate::Pause;
 use crate::tasks::Task;
-use al_tasks_world::Pause;
 
 /// Which of the tasks that aren't ready become so.
 #[derive(Clone, Copy)]

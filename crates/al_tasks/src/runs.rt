@@ -1,9 +1,9 @@
 // Runs: which events come, and what becomes of the program.
 ghost use Rattle.std.specs.Prelude.{[], ◌≡◌, ◌<◌, ◌≤◌, ◌+◌, ◌^◌, ℕ, OnOk, OnErr, IfOk};
-ghost use Rattle.al_tasks_world.specs.Exclusion.{IsLaidOut};
-ghost use Rattle.al_tasks_world.specs.Fits.{Fits};
-ghost use Rattle.al_tasks_world.specs.Runs.{status_of, chosen, since_after, ran};
-ghost use Rattle.al_tasks_world.specs.declared.event.Status.TheVariants.{Going};
+ghost use Rattle.al_tasks.specs.Exclusion.{IsLaidOut};
+ghost use Rattle.al_tasks.specs.Fits.{Fits};
+ghost use Rattle.al_tasks.specs.Runs.{status_of, chosen, since_after, ran};
+ghost use Rattle.al_tasks.specs.declared.event.Status.TheVariants.{Going};
 ghost use Rattle.al_tasks.specs.Bursts.{WorksOn, went, later, ticks_in, left_in};
 ghost use Rattle.al_tasks.specs.Seen.{seen};
 
@@ -11,8 +11,8 @@ use crate::events::{next_clock, step};
 use crate::program::Program;
 use crate::queues::has_delayed;
 use crate::state::State;
+use crate::{Ending, Event, Status};
 use al_base::NoMemory;
-use al_tasks_world::{Ending, Event, Status};
 
 /// What becomes of a running program.
 pub(crate) fn status_of(state: &State) -> Status

@@ -1,6 +1,6 @@
 // A running program.
+use crate::Ending;
 use crate::tasks::Task;
-use al_tasks_world::Ending;
 use std::alloc::Global;
 
 /// A running program: memory; the ready tasks in the order of their dispatch, and the others by number; how many tasks are created,

@@ -2,17 +2,17 @@
 ghost use Rattle.std.specs.Prelude.{◌≡◌, ◌<◌, ◌≤◌, ◌^◌, length, OnOk, OnErr, IsTrue, ◌↔◌};
 ghost use Rattle.al_machine.specs.Machine.{machine, IsWithin};
 ghost use Rattle.al_machine.specs.Table.{exec as executed};
-ghost use Rattle.al_tasks_world.specs.World.{inside, is_inside_nothing};
+ghost use Rattle.al_tasks.specs.World.{inside, is_inside_nothing};
 ghost use Rattle.al_tasks.specs.Queues.{left_by, sole_of};
 ghost use Rattle.al_tasks.specs.Partitions.{new_task};
 ghost use Rattle.al_machine.specs.Bursts.{IsFree};
 ghost use Rattle.al_tasks.specs.Bursts.{CarriesOn};
 ghost use Rattle.al_tasks.specs.Turns.{turn_of};
 
+use crate::Pause;
 use al_base::NoMemory;
 use al_link_image::Region;
 use al_machine::{Bursts, Code, Entered, Flow, Instruction, Registers, Trap, carry_on, exec};
-use al_tasks_world::Pause;
 use std::alloc::Global;
 use std::marker::Model;
 
@@ -31,7 +31,7 @@ pub(crate) struct Task {
 }
 
 impl Model for Task {
-    ghost use Rattle.al_tasks_world.specs.Task.{Task as Seen};
+    ghost use Rattle.al_tasks.specs.Task.{Task as Seen};
 
     ghost Value = { Seen };
 

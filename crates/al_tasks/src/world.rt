@@ -1,7 +1,7 @@
 // A running program, for its users.
 ghost use Rattle.std.specs.Prelude.{◌≡◌, ◌∷◌, OnOk, OnErr, IfOk, [], ℕ, ◌<◌, ◌^◌, pos, replicate};
-ghost use Rattle.al_tasks_world.specs.World.{load};
-ghost use Rattle.al_tasks_world.specs.Runs.{status_of};
+ghost use Rattle.al_tasks.specs.World.{load};
+ghost use Rattle.al_tasks.specs.Runs.{status_of};
 ghost use Rattle.al_tasks.specs.Partitions.{loaded, stepped, ran_on, environment};
 ghost use Rattle.al_tasks.specs.Seen.{seen};
 
@@ -10,9 +10,9 @@ use crate::program::Program;
 use crate::runs::{run_events, status_of};
 use crate::state::State;
 use crate::tasks::Task;
+use crate::{Event, Status};
 use al_base::NoMemory;
 use al_link_image::Image;
-use al_tasks_world::{Event, Status};
 use std::alloc::Global;
 use std::marker::Model;
 
@@ -37,7 +37,7 @@ impl Model for World {
     ghost Value = { Partition };
 
     ghost use Rattle.al_tasks.specs.Seen.{seen};
-    ghost use Rattle.al_tasks_world.specs.Fits.{Fits};
+    ghost use Rattle.al_tasks.specs.Fits.{Fits};
 
     ghost view = { λ w. record { program = w.program; world = seen w.state } };
 

@@ -2,7 +2,7 @@ use Rattle.std.proofs.Common.{ℕ, List, ap, ◌∙◌}
 use Rattle.al_check_here.specs.Faulty.{effect_settled}
 use Rattle.al_decl_ada.specs.AdaPartReading.{parts_read}
 use Rattle.al_base.specs.declared.unit_key.UnitKey.{UnitKey}
-use Rattle.al_decl_subprogram.specs.Placing.{subprogram_checked}
+use Rattle.al_decl.specs.Placing.{subprogram_checked}
 use Rattle.al_tree.specs.DeclarationViews.{specification_model}
 use Rattle.al_check_declared.proofs.Composed.{effect_same, if_ok}
 use Rattle.al_check_declared.proofs.declarations.nested_subprogram.Goals as goal

@@ -2,7 +2,7 @@ use Rattle.std.proofs.Common.{List, ap, ◌∙◌}
 use Rattle.al_check_here.specs.Faulty.{effect_settled}
 use Rattle.al_decl_ada.specs.AdaPartReading.{parts_read}
 use Rattle.al_base.specs.declared.unit_key.UnitKey.{UnitKey}
-use Rattle.al_decl_item.specs.Items.{subtype_item_checked}
+use Rattle.al_decl.specs.Items.{subtype_item_checked}
 use Rattle.al_tree.specs.DeclarationViews.{subtype_model}
 use Rattle.al_check_declared.proofs.Composed.{effect_same, if_ok}
 use Rattle.al_check_declared.proofs.declarations.subtype.Goals as goal

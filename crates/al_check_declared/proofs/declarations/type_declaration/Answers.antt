@@ -2,7 +2,7 @@ use Rattle.std.proofs.Common.{ℕ, List, Option, ap, ◌∙◌}
 use Rattle.al_check_here.specs.Faulty.{effect_settled}
 use Rattle.al_decl_ada.specs.AdaPartReading.{parts_read}
 use Rattle.al_base.specs.declared.unit_key.UnitKey.{UnitKey}
-use Rattle.al_decl_item.specs.Items.{type_checked}
+use Rattle.al_decl.specs.Items.{type_checked}
 use Rattle.al_tree.specs.DeclarationViews.{type_model}
 use Rattle.al_check_declared.specs.DeclarationsHere.{private_words}
 use Rattle.al_check_declared.proofs.Composed.{effect_same, if_ok}

@@ -1,6 +1,6 @@
 use Rattle.std.proofs.Common.{List, Result, ap, ◌∙◌}
 use Rattle.al_base.specs.declared.unit_key.UnitKey.{UnitKey}
-use Rattle.al_decl_body.specs.Regions.{in_regions}
+use Rattle.al_decl.specs.Regions.{in_regions}
 use Rattle.al_base_fault.specs.declared.fault.Fault.{Fault}
 use Rattle.al_query.specs.declared.answer.UseClause.{UseClause}
 use Rattle.al_scope.specs.Places.{Place}

@@ -2,7 +2,7 @@ use Rattle.std.proofs.Common.{List, ap, ◌∙◌}
 use Rattle.al_check_here.specs.Standings.{with_here}
 use Rattle.al_decl_ada.specs.AdaPartReading.{parts_read}
 use Rattle.al_base.specs.declared.unit_key.UnitKey.{UnitKey}
-use Rattle.al_decl_headings.specs.Heads.{heading_read}
+use Rattle.al_decl.specs.Heads.{heading_read}
 use Rattle.al_scope.specs.Places.{Place}
 use Rattle.al_tree.specs.DeclarationViews.{specification_model}
 use Rattle.al_check_declared.proofs.Composed.{if_ok, on_ok}

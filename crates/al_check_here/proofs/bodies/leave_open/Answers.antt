@@ -1,8 +1,8 @@
 use Rattle.std.proofs.Common.{ap, ◌∙◌}
 use Rattle.al_decl_judged.specs.declared.progress.Progress.{Progress}
-use Rattle.al_decl_here.specs.declared.env.Environment.{Environment}
-use Rattle.al_decl_body.specs.declared.block.Outside.{Outside}
-use Rattle.al_decl_body.specs.Regions.{taken_back}
+use Rattle.al_decl.specs.declared.env.Environment.{Environment}
+use Rattle.al_decl.specs.declared.block.Outside.{Outside}
+use Rattle.al_decl.specs.Regions.{taken_back}
 use Rattle.al_check_here.specs.BodiesHere.{left_to}
 use Rattle.al_check_here.specs.Standings.{with_here}
 use Rattle.al_check_here.specs.declared.state.CheckState.{CheckState}

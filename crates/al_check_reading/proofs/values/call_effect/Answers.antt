@@ -1,6 +1,6 @@
 use Rattle.std.proofs.Common.{ℕ, ap, ◌∙◌}
 use Rattle.al_tree.specs.ExpressionViews.{expression_model}
-use Rattle.al_stmts_calls.specs.PerformedAt.{call_effect_at}
+use Rattle.al_stmts_ranges.specs.PerformedAt.{call_effect_at}
 use Rattle.al_overload_values.specs.Surroundings.{Surroundings}
 use Rattle.al_check_reading.specs.ValuesHere.{surroundings}
 use Rattle.al_check_reading.proofs.Composed.{worded-is}

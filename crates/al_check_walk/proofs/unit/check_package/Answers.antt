@@ -1,7 +1,7 @@
 use Rattle.std.proofs.Common.{ap, ◌∙◌}
 use Rattle.al_tree.specs.UnitViews.{package_model}
-use Rattle.al_stmts_walk.specs.Steps.{Inside, Part, ended_by, inside_of, nothing}
-use Rattle.al_stmts_walk.specs.Walking.{end_of_compound}
+use Rattle.al_stmts_walked.specs.Steps.{Inside, Part, ended_by, inside_of, nothing}
+use Rattle.al_stmts_walked.specs.Walking.{end_of_compound}
 use Rattle.al_stmts_text.proofs.Read.{if_ok, made_of}
 use Rattle.al_check_walk.proofs.unit.check_package.Goals as goal
 

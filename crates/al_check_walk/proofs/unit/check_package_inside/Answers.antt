@@ -1,4 +1,4 @@
-use Rattle.al_stmts_walk.specs.Steps.{Part, inside_of, nothing}
+use Rattle.al_stmts_walked.specs.Steps.{Part, inside_of, nothing}
 use Rattle.al_stmts_text.proofs.Read.{if_ok, made_of}
 use Rattle.al_check_walk.proofs.unit.check_package_inside.Goals as goal
 

@@ -1,6 +1,6 @@
 use Rattle.std.proofs.Common.{Option, Result, ap, ◌∙◌}
 use Rattle.al_decl_judged.specs.TypeKinds.{array_declared}
-use Rattle.al_decl_here.specs.TypeNames.{type_begun, type_duplicate}
+use Rattle.al_decl.specs.TypeNames.{type_begun, type_duplicate}
 use Rattle.al_base_fault.specs.declared.fault.Fault.{Fault}
 use Rattle.al_scope.specs.Places.{Place}
 use Rattle.al_tree.specs.DeclarationViews.{array_model}

@@ -1,6 +1,6 @@
 use Rattle.std.proofs.Common.{ap, ◌∙◌}
 use Rattle.std.specs.Prelude.{option_map}
-use Rattle.al_decl_here.specs.declared.env.Environment.{Environment}
+use Rattle.al_decl.specs.declared.env.Environment.{Environment}
 use Rattle.al_tree.specs.DeclarationViews.{object_type_model}
 use Rattle.al_tree.specs.ExpressionViews.{expression_model}
 use Rattle.al_decl.specs.Checking.{with_progress, with_scope}

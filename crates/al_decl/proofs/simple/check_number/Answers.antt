@@ -1,8 +1,8 @@
 use Rattle.std.proofs.Common.{List, Option, Result, ap, sym, ◌∙◌}
 use Rattle.al_decl_judged.specs.Numbers.{numbers_declared}
 use Rattle.al_decl_judged.specs.StaticPieces.{static_of}
-use Rattle.al_decl_here.specs.declared.env.Environment.{Environment}
-use Rattle.al_decl_here.specs.Declaring.{duplicates}
+use Rattle.al_decl.specs.declared.env.Environment.{Environment}
+use Rattle.al_decl.specs.Declaring.{duplicates}
 use Rattle.al_view.specs.declared.view.ViewKind.TheVariants.{OfComponent}
 use Rattle.al_base_fault.specs.Judging.{next}
 use Rattle.al_base_fault.specs.declared.fault.Fault.{Fault}

@@ -1,6 +1,6 @@
 use Rattle.std.proofs.Common.{Option, Result, ap, ◌∙◌}
 use Rattle.al_decl_judged.specs.Subtypes.{subtype_declared}
-use Rattle.al_decl_here.specs.Declaring.{duplicate}
+use Rattle.al_decl.specs.Declaring.{duplicate}
 use Rattle.al_view.specs.declared.view.ViewKind.TheVariants.{OfComponent}
 use Rattle.al_base_fault.specs.declared.fault.Fault.{Fault}
 use Rattle.al_scope.specs.Places.{Place}

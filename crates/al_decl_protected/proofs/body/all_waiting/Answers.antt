@@ -1,5 +1,5 @@
 use Rattle.std.proofs.Common.{[], arith}
-use Rattle.al_decl_here.proofs.Folds.{folded}
+use Rattle.al_decl.proofs.Folds.{folded}
 use Rattle.al_decl_protected.specs.Bodies.{with_operation}
 use Rattle.al_decl_protected.proofs.body.all_waiting.Goals as goal
 

@@ -1,6 +1,6 @@
 use Rattle.std.proofs.Common.{ℕ, List, ap, ◌∙◌}
 use Rattle.al_decl_profile.specs.declared.heading.Heading.{Heading}
-use Rattle.al_decl_subprogram.specs.Placing.{head_duplicate}
+use Rattle.al_decl.specs.Placing.{head_duplicate}
 use Rattle.al_decl_protected.specs.Operations.{bare_head}
 use Rattle.al_decl_protected.proofs.Outcomes.{if_ok}
 use Rattle.al_decl_protected.proofs.body.entry_duplicate.Goals as goal

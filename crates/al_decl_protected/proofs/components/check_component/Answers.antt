@@ -1,8 +1,8 @@
 use Rattle.std.proofs.Common.{◌≡◌, List, ap, ◌∙◌}
 use Rattle.al_decl_judged.specs.declared.names.DefiningName.{DefiningName}
-use Rattle.al_decl_here.specs.Declaring.{begun}
-use Rattle.al_decl_here.specs.Inner.{made_visible}
-use Rattle.al_decl_names.specs.Defining.{defining_names}
+use Rattle.al_decl.specs.Declaring.{begun}
+use Rattle.al_decl.specs.Inner.{made_visible}
+use Rattle.al_decl.specs.Defining.{defining_names}
 use Rattle.al_tree.specs.DeclarationViews.{protected_component_model}
 use Rattle.al_decl_protected.specs.Components.{component_named, private_model}
 use Rattle.al_decl_protected.proofs.Outcomes.{if_ok, on_ok}

@@ -1,5 +1,5 @@
 use Rattle.std.proofs.Common.{refl, sym, ap, ◌∙◌, arith}
-use Rattle.al_decl_names.specs.Defining.{defining_names}
+use Rattle.al_decl.specs.Defining.{defining_names}
 use Rattle.al_tree.specs.DeclarationViews.{protected_component_model}
 use Rattle.al_decl_protected.specs.Checks.{so_far}
 use Rattle.al_decl_protected.specs.Components.{private_model}

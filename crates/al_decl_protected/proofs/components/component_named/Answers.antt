@@ -2,8 +2,8 @@ use Rattle.std.proofs.Common.{Option, Result, ap, ◌∙◌}
 use Rattle.std.specs.Prelude.{option_map}
 use Rattle.al_base_fault.specs.Judging.{map_ok, unless}
 use Rattle.al_base_fault.specs.declared.fault.Fault.{Fault}
-use Rattle.al_decl_here.specs.Inner.{made_visible}
-use Rattle.al_decl_record.specs.Components.{names_fault}
+use Rattle.al_decl.specs.Inner.{made_visible}
+use Rattle.al_decl.specs.Components.{names_fault}
 use Rattle.al_scope.specs.Places.{Place}
 use Rattle.al_tree.specs.DeclarationViews.{protected_component_model}
 use Rattle.al_view.specs.declared.view.SubtypeView.{SubtypeView}

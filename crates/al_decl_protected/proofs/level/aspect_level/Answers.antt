@@ -1,7 +1,7 @@
 use Rattle.std.proofs.Common.{ℕ, Bool, Result, Err, if◌then◌else◌, sym, ap, ◌∙◌}
 use Rattle.al_base_fault.specs.Judging.{next}
 use Rattle.al_base_fault.specs.declared.fault.Fault.{Fault}
-use Rattle.al_decl_reader.specs.PartReadings.{PartReading}
+use Rattle.al_decl.specs.PartReadings.{PartReading}
 use Rattle.al_scope.specs.Places.{Place}
 use Rattle.al_tree.specs.DeclarationViews.{aspect_model}
 use Rattle.al_tree_syntax.specs.DeclarationTrees.{AspectTree}

@@ -1,7 +1,7 @@
 use Rattle.std.proofs.Common.{Option, ap, ◌∙◌}
 use Rattle.al_base_fault.specs.Faults.{earlier}
 use Rattle.al_base_fault.specs.declared.fault.Fault.{Fault}
-use Rattle.al_decl_here.specs.Declaring.{duplicate}
+use Rattle.al_decl.specs.Declaring.{duplicate}
 use Rattle.al_view.specs.declared.view.ViewKind.TheVariants.{OfComponent}
 use Rattle.al_decl_protected.proofs.level.name_fault.Goals as goal
 

@@ -1,6 +1,6 @@
 use Rattle.std.proofs.Common.{[], refl, subst, sym, ap, ◌∙◌}
 use Rattle.al_decl.specs.Checking.{with_progress, with_scope}
-use Rattle.al_decl_here.specs.declared.env.Environment.{Environment}
+use Rattle.al_decl.specs.declared.env.Environment.{Environment}
 use Rattle.al_scope.specs.Places.{Place, entered}
 use Rattle.al_tree.specs.DeclarationViews.{protected_model}
 use Rattle.al_view.specs.Named.{Declarations}

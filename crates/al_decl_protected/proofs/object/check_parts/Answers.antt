@@ -1,5 +1,5 @@
 use Rattle.std.proofs.Common.{List, map, sym, ap, ◌∙◌}
-use Rattle.al_decl_here.specs.declared.env.Environment.{Environment}
+use Rattle.al_decl.specs.declared.env.Environment.{Environment}
 use Rattle.al_tree.specs.DeclarationViews.{protected_model, protected_operation_model}
 use Rattle.al_tree.specs.declared.declaration.ProtectedOperation.{ProtectedOperation}
 use Rattle.al_decl_protected.specs.Checks.{listed, parts_model}

@@ -1,7 +1,7 @@
 use Rattle.std.proofs.Common.{Result, sym, ap, ◌∙◌}
 use Rattle.al_base_fault.specs.Judging.{map_ok, next}
 use Rattle.al_base_fault.specs.declared.fault.Fault.{Fault}
-use Rattle.al_decl_here.specs.declared.env.Environment.{Environment}
+use Rattle.al_decl.specs.declared.env.Environment.{Environment}
 use Rattle.al_decl_judged.specs.declared.progress.Progress.{Progress}
 use Rattle.al_tree.specs.DeclarationViews.{protected_model}
 use Rattle.al_decl_protected.specs.Checks.{parts_model}

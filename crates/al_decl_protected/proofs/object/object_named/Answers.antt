@@ -2,7 +2,7 @@ use Rattle.std.proofs.Common.{ℕ, Result, ap, ◌∙◌}
 use Rattle.al_base_fault.specs.Judging.{next}
 use Rattle.al_base_fault.specs.declared.fault.Fault.{Fault}
 use Rattle.al_decl.specs.Checking.{inside_one}
-use Rattle.al_decl_here.specs.declared.env.Environment.{Environment}
+use Rattle.al_decl.specs.declared.env.Environment.{Environment}
 use Rattle.al_tree.specs.DeclarationViews.{protected_model}
 use Rattle.al_decl_protected.specs.Levels.{level_named}
 use Rattle.al_decl_protected.specs.Objects.{object_leveled}

@@ -1,6 +1,6 @@
 use Rattle.std.proofs.Common.{sym, ap, ◌∙◌}
 use Rattle.al_decl.specs.Checking.{with_scope}
-use Rattle.al_decl_here.specs.Inner.{in_region}
+use Rattle.al_decl.specs.Inner.{in_region}
 use Rattle.al_tree.specs.DeclarationViews.{protected_model}
 use Rattle.al_decl_protected.specs.Checks.{left_inside, parts_model}
 use Rattle.al_decl_protected.specs.Objects.{InsideTree, inside_after}

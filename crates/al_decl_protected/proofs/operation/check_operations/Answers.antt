@@ -1,6 +1,6 @@
 use Rattle.std.proofs.Common.{refl, sym, ap, ◌∙◌, arith}
 use Rattle.al_decl.specs.Checking.{with_progress, with_scope}
-use Rattle.al_decl_here.specs.declared.env.Environment.{Environment}
+use Rattle.al_decl.specs.declared.env.Environment.{Environment}
 use Rattle.al_decl_protected.specs.Checks.{listed}
 use Rattle.al_decl_protected.proofs.Inner.{stays_then, stays_there}
 use Rattle.al_decl_protected.proofs.Lists.{operations_end, operations_more, operations_stop}

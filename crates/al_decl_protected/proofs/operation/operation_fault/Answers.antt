@@ -1,7 +1,7 @@
 use Rattle.std.proofs.Common.{Option, ap, ◌∙◌}
 use Rattle.al_base_fault.specs.Faults.{earlier}
 use Rattle.al_base_fault.specs.declared.fault.Fault.{Fault}
-use Rattle.al_decl_subprogram.specs.Placing.{head_duplicate}
+use Rattle.al_decl.specs.Placing.{head_duplicate}
 use Rattle.al_decl_protected.specs.Operations.{second_entry}
 use Rattle.al_decl_protected.proofs.operation.operation_fault.Goals as goal
 

@@ -1,7 +1,7 @@
 use Rattle.std.proofs.Common.{ℕ, ap, ◌∙◌}
 use Rattle.al_base_fault.specs.Judging.{map_ok}
 use Rattle.al_decl.specs.Checking.{inside_one}
-use Rattle.al_decl_here.specs.declared.env.Environment.{Environment}
+use Rattle.al_decl.specs.declared.env.Environment.{Environment}
 use Rattle.al_tree.specs.DeclarationViews.{task_model}
 use Rattle.al_decl_protected.specs.Levels.{level_named}
 use Rattle.al_decl_protected.specs.Tasks.{task_placed}

@@ -7,7 +7,7 @@ use Rattle.al_overload_prefixes.proofs.Seen.{both_model}
 use Rattle.al_overload_prefixes.specs.TextsAt.{With, joined, term_with_at, term_with_model}
 use Rattle.al_overload_term.specs.Terms.{TermTree}
 use Rattle.al_overload_term.specs.declared.term.Term.{Term}
-use Rattle.al_overload_terms_at.proofs.Composed.{asks_more}
+use Rattle.al_overload_prefixes.proofs.Composed.{asks_more}
 use Rattle.al_tree.specs.ExpressionViews.{expression_model}
 use Rattle.al_overload_prefixes.proofs.at.bounds_with_at.Goals as goal
 

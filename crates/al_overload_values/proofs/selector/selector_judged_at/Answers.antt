@@ -4,7 +4,7 @@ use Rattle.al_base_fault.specs.declared.fault.Fault.{Fault}
 use Rattle.al_overload_label.specs.Ranges.{selector_checked}
 use Rattle.al_overload_prefixes.specs.TextsAt.{With}
 use Rattle.al_overload_term.specs.Terms.{TermTree}
-use Rattle.al_overload_terms_at.proofs.Composed.{if_ok}
+use Rattle.al_overload_prefixes.proofs.Composed.{if_ok}
 use Rattle.al_overload_values.proofs.selector.selector_judged_at.Goals as goal
 
 pub returns-clause-answered : goal.returns-clause-answered

@@ -3,7 +3,7 @@ use Rattle.al_decl_type.specs.declared.subtype.StaticRange.{StaticRange}
 use Rattle.al_base_fault.specs.Judging.{both}
 use Rattle.al_base_fault.specs.declared.fault.Fault.{Fault}
 use Rattle.al_stmts_ranges.specs.ChoicesAt.{static_choice}
-use Rattle.al_overload_terms_at.proofs.Composed.{asks_more}
+use Rattle.al_overload_prefixes.proofs.Composed.{asks_more}
 use Rattle.al_tree.specs.DeclarationViews.{range_model}
 use Rattle.al_overload_values.specs.Surroundings.{site_model, site_units}
 use Rattle.al_view.specs.declared.view.SubtypeView.{SubtypeView}

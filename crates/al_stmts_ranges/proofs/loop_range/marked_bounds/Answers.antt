@@ -8,8 +8,8 @@ use Rattle.al_stmts_ranges.proofs.Seen.{seen_both}
 use Rattle.al_overload_prefixes.specs.TextsAt.{With, terms_with_model}
 use Rattle.al_overload_term.specs.Terms.{TermTree}
 use Rattle.al_overload_term.specs.declared.term.Term.{Term}
-use Rattle.al_overload_terms_at.proofs.Composed.{asks_more}
-use Rattle.al_overload_terms_at.specs.TermsAt.{mark_at}
+use Rattle.al_overload_prefixes.proofs.Composed.{asks_more}
+use Rattle.al_overload_prefixes.specs.TermsAt.{mark_at}
 use Rattle.al_tree.specs.ExpressionViews.{expression_model}
 use Rattle.al_overload_values.specs.Surroundings.{site_model, site_units}
 use Rattle.al_view.specs.declared.types.Bounds.{Bounds}

@@ -1,4 +1,4 @@
-use Rattle.al_stmts_walk.specs.Views.{effects_model}
+use Rattle.al_stmts_walked.specs.Views.{effects_model}
 use Rattle.al_stmts_walked.specs.WalkedViews.{inside_model}
 use Rattle.al_stmts_text.proofs.BodySteps.{ended}
 use Rattle.al_stmts_text.proofs.Read.{if_ok}

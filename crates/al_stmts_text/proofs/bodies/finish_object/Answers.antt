@@ -1,4 +1,4 @@
-use Rattle.al_stmts_walk.specs.Views.{effects_model}
+use Rattle.al_stmts_walked.specs.Views.{effects_model}
 use Rattle.al_stmts_walked.specs.WalkedViews.{part_model}
 use Rattle.al_stmts_text.proofs.BodySteps.{object_made}
 use Rattle.al_stmts_text.proofs.bodies.finish_object.Goals as goal

@@ -1,4 +1,4 @@
-use Rattle.al_stmts_walk.specs.Steps.{closed_by}
+use Rattle.al_stmts_walked.specs.Steps.{closed_by}
 use Rattle.al_stmts_walked.specs.WalkedViews.{part_model}
 use Rattle.al_stmts_text.proofs.Read.{made_of}
 use Rattle.al_stmts_text.proofs.regions.complete_parts.Goals as goal

@@ -12,9 +12,9 @@ use Rattle.al_tree.specs.declared.statement.SubprogramBody.{out-SubprogramBody}
 use Rattle.al_tree.specs.StatementViews.{item_model, items_of, named_end_model, statements_model}
 use Rattle.al_view_typed.specs.StatementTrees.{SchemeTree}
 use Rattle.al_view_typed.specs.StatementViews.{scheme_model}
-use Rattle.al_stmts_walk.specs.Steps.{Enclosing, Walked, block_of, in_loop, inside_of, loop_of, no_part}
-use Rattle.al_stmts_walk.specs.Views.{effects_model}
-use Rattle.al_stmts_walk.specs.Walking.{end_of, for_walked, loop_walked, named_line, region_left, statements_walked}
+use Rattle.al_stmts_walked.specs.Steps.{Enclosing, Walked, block_of, in_loop, inside_of, loop_of, no_part}
+use Rattle.al_stmts_walked.specs.Views.{effects_model}
+use Rattle.al_stmts_walked.specs.Walking.{end_of, for_walked, loop_walked, named_line, region_left, statements_walked}
 use Rattle.al_stmts_walked.specs.WalkedViews.{all_model, branching_model, choosing_model, part_model}
 use Rattle.al_stmts_text.proofs.Folds.{alternative_added, alternative_step, alternatives_folded, alternatives_stop, branch_added, branch_step, branches_folded, branches_stop, item_added, item_step, items_folded, items_stop, operation_added, operation_step, operations_folded, operations_stop, statement_added, statement_step, statements_folded, statements_stop}
 use Rattle.al_stmts_text.proofs.Made.{alternative_made, alternatives_all, after_made, after_stops, body_read, branch_made, branches_all, case_made, entered_made, entry_read, handled_made, if_made, inside_made, object_read, object_refused, opened_made, otherwise_made, part_made, statements_made, task_read}

@@ -1,9 +1,9 @@
 use Rattle.std.proofs.Common.{◌≡◌, ◌∙◌, ◌==◌, ap, sym, true, Some, arith}
 use Rattle.std.proofs.lemmas.Bool.Decides.{nat_tests}
 use Rattle.std.specs.List.{list_any}
-use Rattle.al_tasks_world.specs.declared.event.Pause.TheVariants.{Waiting}
-use Rattle.al_tasks_world.specs.Task.{Task, is_waiting}
-use Rattle.al_tasks_world.specs.World.{handled, pauses}
+use Rattle.al_tasks.specs.declared.event.Pause.TheVariants.{Waiting}
+use Rattle.al_tasks.specs.Task.{Task, is_waiting}
+use Rattle.al_tasks.specs.World.{handled, pauses}
 use Rattle.al_tasks.specs.Queues.{sole_of}
 use Rattle.al_tasks.specs.Seen.{running}
 use Rattle.al_tasks.specs.Acts.{at_place}

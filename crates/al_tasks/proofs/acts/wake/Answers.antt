@@ -1,8 +1,8 @@
 use Rattle.std.proofs.Common.{◌≡◌, ◌∙◌, ap, sym, false}
 use Rattle.std.specs.Prelude.{slice_get}
 use Rattle.std.specs.List.{list_any}
-use Rattle.al_tasks_world.specs.Task.{is_waiting}
-use Rattle.al_tasks_world.specs.World.{handled}
+use Rattle.al_tasks.specs.Task.{is_waiting}
+use Rattle.al_tasks.specs.World.{handled}
 use Rattle.al_tasks.specs.Seen.{running}
 use Rattle.al_tasks.specs.Acts.{at_place}
 use Rattle.al_tasks.proofs.ActLemmas.{wakes_nobody}

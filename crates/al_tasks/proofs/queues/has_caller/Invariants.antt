@@ -1,6 +1,6 @@
 use Rattle.std.proofs.Common.{◌≡◌, drop}
 use Rattle.std.specs.List.{list_any}
-use Rattle.al_tasks_world.specs.Task.{is_waiting}
+use Rattle.al_tasks.specs.Task.{is_waiting}
 use Rattle.al_tasks.proofs.queues.has_caller.Given as goal
 
 abbrev pub invariant-loop-task : goal.invariant-loop-task

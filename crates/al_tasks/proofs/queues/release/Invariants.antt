@@ -1,5 +1,5 @@
 use Rattle.std.proofs.Common.{◌≡◌, ◌+◌, ◌-◌, ◌≤◌, ◌++◌, take, drop, vec_len, vec_capacity}
-use Rattle.al_tasks_world.specs.World.{passing, failing, all_at_tail}
+use Rattle.al_tasks.specs.World.{passing, failing, all_at_tail}
 use Rattle.al_tasks.specs.Queues.{is_wanted}
 use Rattle.al_tasks.proofs.queues.release.Given as goal
 

@@ -1,5 +1,5 @@
 use Rattle.std.proofs.Common.{◌≡◌, ◌∙◌, ◌+◌, ◌<◌, ◌≤◌, ℕ, suc, true, false, ap, sym, arith}
-use Rattle.al_tasks_world.specs.Runs.{is_going, ran}
+use Rattle.al_tasks.specs.Runs.{is_going, ran}
 use Rattle.al_tasks.specs.Seen.{seen}
 use Rattle.al_tasks.specs.Bursts.{Moment, goes, went}
 use Rattle.al_tasks.proofs.ActLemmas.{on_err}

@@ -1,5 +1,5 @@
 use Rattle.std.proofs.Common.{◌≡◌, ◌≤◌, ◌-◌}
-use Rattle.al_tasks_world.specs.Fits.{Fits}
+use Rattle.al_tasks.specs.Fits.{Fits}
 use Rattle.al_tasks.specs.Seen.{seen}
 use Rattle.al_tasks.specs.Bursts.{went}
 use Rattle.al_tasks.proofs.runs.run_events.Given as goal

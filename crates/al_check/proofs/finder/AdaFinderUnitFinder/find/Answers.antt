@@ -2,7 +2,7 @@ use Rattle.std.proofs.Common.{subst, sym}
 use Rattle.al_query_outcome.specs.ReadsLaw.{named_by}
 use Rattle.al_tree.specs.UnitViews.{unit_model}
 use Rattle.al_unit_header.specs.Units.{header_of}
-use Rattle.al_check_within.specs.Verdicts.{IsTold, NamesWithin, Verdict}
+use Rattle.al_check_bounded.specs.Verdicts.{IsTold, NamesWithin, Verdict}
 use Rattle.al_check.proofs.Naming.{verdict_named}
 use Rattle.al_check.proofs.FromAnswers.{verdict_told}
 use Rattle.al_check.proofs.UnitResult.{if_both, if_ok}

@@ -1,5 +1,5 @@
 use Rattle.std.proofs.Common.{inr, refl, ap, ◌∙◌}
-use Rattle.al_tasks_run.specs.Runs.{run_of}
+use Rattle.al_tasks.specs.WorldRuns.{run_of}
 use Rattle.al_engine.proofs.engine.Engine.run.Goals as goal
 
 pub returns-in-Err-run : goal.returns-in-Err-run

@@ -1,5 +1,5 @@
 use Rattle.std.proofs.Common.{ap, ◌∙◌}
-use Rattle.al_stmts_walk.specs.Steps.{Part, block_of, inside_of}
+use Rattle.al_stmts_walked.specs.Steps.{Part, block_of, inside_of}
 use Rattle.al_stmts_walked.proofs.Joined.{if_ok}
 use Rattle.al_stmts_walked.specs.WalkedViews.{all_model}
 use Rattle.al_stmts_walked.proofs.statements.WalkedStatements.into_block.Goals as goal

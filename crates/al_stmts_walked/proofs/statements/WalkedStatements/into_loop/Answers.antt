@@ -1,4 +1,4 @@
-use Rattle.al_stmts_walk.specs.Steps.{loop_of}
+use Rattle.al_stmts_walked.specs.Steps.{loop_of}
 use Rattle.al_stmts_walked.proofs.Joined.{walked_by}
 use Rattle.al_stmts_walked.specs.WalkedViews.{all_model, one_model}
 use Rattle.al_stmts_walked.proofs.statements.WalkedStatements.into_loop.Goals as goal

@@ -3,10 +3,10 @@ use Rattle.al_instr.specs.declared.lines.LineEntry.{LineEntry}
 use Rattle.al_instr.specs.Lines.{rise}
 use Rattle.al_link_image.specs.declared.parts.Region.{Region}
 use Rattle.al_machine.specs.declared.code.Step.{Step}
-use Rattle.al_tasks_world.specs.Exclusion.{IsLaidOut}
-use Rattle.al_tasks_world.specs.Task.{Program}
-use Rattle.al_tasks_world.specs.Programs.{program_of}
-use Rattle.al_tasks_world.proofs.RunLemmas.{laid_out, lines_rise}
+use Rattle.al_tasks.specs.Exclusion.{IsLaidOut}
+use Rattle.al_tasks.specs.Task.{Program}
+use Rattle.al_tasks.specs.WorldPrograms.{program_of}
+use Rattle.al_tasks.proofs.WorldRunLemmas.{laid_out, lines_rise}
 use Rattle.al_tasks.proofs.program.Program.new.Goals as goal
 
 -- what is laid out is so with any code and units

@@ -2,7 +2,7 @@ use Rattle.std.proofs.Common.{◌≡◌, subst, refl, List, Some}
 use Rattle.al_machine.specs.declared.regions.Entered.{Entered}
 use Rattle.al_machine.specs.Machine.{machine}
 use Rattle.al_machine.specs.Bursts.{At, at_place, carried}
-use Rattle.al_tasks_world.specs.Task.{Task}
+use Rattle.al_tasks.specs.Task.{Task}
 use Rattle.al_tasks.specs.Bursts.{CarriesOn}
 use Rattle.al_tasks.proofs.tasks.Task.carry_on.Goals as goal
 

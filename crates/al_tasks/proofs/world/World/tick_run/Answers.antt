@@ -1,6 +1,6 @@
 use Rattle.std.proofs.Common.{◌≡◌, ◌∙◌, ◌<◌, ℕ, ap}
-use Rattle.al_tasks_world.specs.Task.{World}
-use Rattle.al_tasks_world.specs.Runs.{ran}
+use Rattle.al_tasks.specs.Task.{World}
+use Rattle.al_tasks.specs.Runs.{ran}
 use Rattle.al_tasks.specs.Seen.{seen}
 use Rattle.al_tasks.specs.Partitions.{Partition, ran_on}
 use Rattle.al_tasks.proofs.ActLemmas.{on_err_map}

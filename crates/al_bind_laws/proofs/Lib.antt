@@ -1,4 +1,0 @@
-pub mod Orders
-pub mod Cycles
-pub mod Bound
-pub mod Obeys

@@ -1,4 +1,0 @@
-pub mod Joined
-pub mod NameLemmas
-pub mod Shown
-pub mod UnitLemmas

@@ -1,5 +1,0 @@
-use Rattle.al_check_asked.proofs.Shown.{answered}
-use Rattle.al_check_asked.proofs.laws.shown_views_are_answered.Goals as goal
-
-pub returns : goal.returns
-returns c = answered

@@ -1,2 +1,0 @@
-pub mod BoundLemmas
-pub mod NameLemmas

@@ -1,7 +1,0 @@
-use Rattle.al_check_bounds.specs.Bounding.{bounded}
-use Rattle.al_check_within.proofs.checking.found_within.Goals as goal
-
-pub returns-clause-found : goal.returns-clause-found
-returns-clause-found g c t h =
-    let answered = c.in_ok-replay.ensures.answered t h in
-    (answered.0, c.in_ok-found.ensures.answered (bounded c.args.bounds.now t) answered.1)

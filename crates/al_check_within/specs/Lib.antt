@@ -1,4 +1,0 @@
-pub mod Verdicts
-pub mod Within
-pub mod Segments
-pub mod LeftHere

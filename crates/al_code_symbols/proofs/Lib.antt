@@ -1,6 +1,0 @@
-mod Used
-mod UsedExpressions
-mod UsedStatements
-mod UsedBodies
-mod Defined
-mod Objects

@@ -1,2 +1,0 @@
-pub mod FormalLists
-pub mod Outcomes

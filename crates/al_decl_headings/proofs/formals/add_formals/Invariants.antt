@@ -1,6 +1,0 @@
-use Rattle.std.proofs.Common.{◌≡◌, ◌++◌, map, take}
-use Rattle.al_decl_headings.specs.Formals.{formal_part}
-use Rattle.al_decl_headings.proofs.formals.add_formals.Given as goal
-
-abbrev pub invariant-loop-name : goal.invariant-loop-name
-invariant-loop-name l = l.formals ≡ l.fn.formals ++ map (formal_part l.mode l.of) (take l.name-index l.names)

@@ -1,2 +1,0 @@
-pub mod Formals
-pub mod Heads

@@ -1,4 +1,0 @@
-use Rattle.al_decl_here.proofs.homograph.fixed_duplicate.Goals as goal
-
-pub returns-clause-answered : goal.returns-clause-answered
-returns-clause-answered g c = rw c.in_ok-view.ensures at c.duplicate.ensures.answered

@@ -1,4 +1,0 @@
-pub mod Declaring
-pub mod Inner
-pub mod Laws
-pub mod TypeNames

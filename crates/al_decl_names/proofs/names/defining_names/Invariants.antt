@@ -1,7 +1,0 @@
-use Rattle.std.proofs.Common.{◌≡◌, ◌∷◌, map, take}
-use Rattle.al_decl_names.specs.Defining.{defined}
-use Rattle.al_tree.specs.Lexemes.{identifier_label}
-use Rattle.al_decl_names.proofs.names.defining_names.Given as goal
-
-abbrev pub invariant-loop-identifier : goal.invariant-loop-identifier
-invariant-loop-identifier l = l.names ≡ defined (identifier_label l.fn.identifiers.first) ∷ map defined (map identifier_label (take l.identifier-index l.identifiers.others.items))

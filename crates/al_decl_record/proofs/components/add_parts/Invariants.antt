@@ -1,6 +1,0 @@
-use Rattle.std.proofs.Common.{◌≡◌, ◌++◌, map, take}
-use Rattle.al_decl_record.specs.Components.{part}
-use Rattle.al_decl_record.proofs.components.add_parts.Given as goal
-
-abbrev pub invariant-loop-name : goal.invariant-loop-name
-invariant-loop-name l = l.parts ≡ l.fn.parts ++ map (part l.of) (take l.name-index l.names)

@@ -1,3 +1,0 @@
-pub mod Components
-pub mod Founds
-pub mod Records

@@ -1,0 +1,5 @@
+use Rattle.al_engine.proofs.Renewing.{renewals_are_rechecked}
+use Rattle.al_engine.proofs.laws.renewals_are_rechecked.Goals as goal
+
+pub returns : goal.returns
+returns c = renewals_are_rechecked

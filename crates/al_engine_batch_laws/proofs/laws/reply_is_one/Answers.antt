@@ -1,5 +1,0 @@
-use Rattle.al_engine_batch_laws.proofs.Replies.{reply_is_one}
-use Rattle.al_engine_batch_laws.proofs.laws.reply_is_one.Goals as goal
-
-pub returns : goal.returns
-returns c = reply_is_one

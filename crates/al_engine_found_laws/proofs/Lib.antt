@@ -1,2 +1,0 @@
-mod Sorting
-mod Ascending

@@ -1,2 +1,0 @@
-mod FromAnswers
-mod Renewing

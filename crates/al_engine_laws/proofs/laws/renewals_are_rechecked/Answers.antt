@@ -1,5 +1,0 @@
-use Rattle.al_engine_laws.proofs.Renewing.{renewals_are_rechecked}
-use Rattle.al_engine_laws.proofs.laws.renewals_are_rechecked.Goals as goal
-
-pub returns : goal.returns
-returns c = renewals_are_rechecked

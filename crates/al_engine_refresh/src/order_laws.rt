@@ -1,0 +1,18 @@
+//! Laws of the order of builds, as contracts of functions without code.
+ghost use Rattle.std.specs.Prelude.{ℕ, List, map};
+ghost use Rattle.al_base.specs.Batch.{key_of};
+ghost use Rattle.al_base.specs.declared.unit_key.UnitKey.{UnitKey};
+ghost use Rattle.al_query.specs.declared.answer.AnswerKind.{AnswerKind};
+ghost use Rattle.al_query.specs.declared.query.Query.{Query};
+ghost use Rattle.al_unit_graph.specs.Headers.{Header, Library};
+ghost use Rattle.al_query_outcome.specs.Equations.{IsSetting};
+ghost use Rattle.al_engine_refresh.specs.Builds.{IsOrder, setting};
+ghost use Rattle.al_unit_order.specs.Reached.{IsDependenceOrder, is_faultless};
+ghost use Rattle.al_unit_order.specs.Read.{AreHeaded, NameParentBodies};
+ghost use Rattle.al_engine_refresh.specs.Settings.{ArePredefined};
+
+/// A library whose files have the headers that are read in their texts is a setting for a build, by any order of dependence of its units
+/// that break no rule of the graph, and the order is one that the build may take.
+pub fn order_is_for_builds()
+    ensures { (header : List ℕ → Header) (lib : Library) (predefined : Query → AnswerKind) (order : List UnitKey) → AreHeaded header lib → NameParentBodies lib → ArePredefined predefined → IsDependenceOrder lib (map key_of order) → let s = setting header lib (λ u. is_faultless lib (key_of u)) predefined in (is : IsSetting s) × IsOrder s is.rank order }
+{}

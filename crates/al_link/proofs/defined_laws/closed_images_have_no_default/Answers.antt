@@ -1,0 +1,5 @@
+use Rattle.al_link.proofs.Places.{no_default}
+use Rattle.al_link.proofs.defined_laws.closed_images_have_no_default.Goals as goal
+
+pub returns : goal.returns
+returns c = no_default

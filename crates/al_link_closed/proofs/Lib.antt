@@ -1,3 +1,0 @@
-pub mod SubunitNames
-pub mod Completing
-pub mod MainDefined

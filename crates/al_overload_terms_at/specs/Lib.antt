@@ -1,2 +1,0 @@
-pub mod TermsAt
-pub mod CompoundNames

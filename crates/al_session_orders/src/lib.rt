@@ -1,4 +1,0 @@
-//! Orders of elaboration in sessions.
-#![tactic(auto)]
-
-pub mod laws;

@@ -1,5 +1,0 @@
-use Rattle.al_tasks_world.proofs.RunLemmas.{ran_events}
-use Rattle.al_tasks_world.proofs.laws.runs_are_events.Goals as goal
-
-pub returns : goal.returns
-returns c p steps n since w = ran_events p steps n since w

@@ -1,6 +1,0 @@
-pub mod Task
-pub mod World
-pub mod Exclusion
-pub mod Runs
-pub mod Programs
-pub mod Fits

@@ -1,5 +1,0 @@
-use Rattle.al_unit_headers.proofs.Headed.{texts_are_headed}
-use Rattle.al_unit_headers.proofs.laws.texts_are_headed.Goals as goal
-
-pub returns : goal.returns
-returns c = texts_are_headed
