@@ -7,7 +7,7 @@ pub mod LeftLemmas
 pub mod NameLemmas
 pub mod Naming
 pub mod Reading
-pub mod Shown
+pub mod ShownBy
 pub mod UnitLemmas
 pub mod WereShown
 pub mod WordLemmas

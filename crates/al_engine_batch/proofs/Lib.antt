@@ -1,5 +1,5 @@
+mod FileNames
 pub mod ExchangeLemmas
 pub mod LinkLemmas
-mod Names
 pub mod PatchLemmas
 pub mod RenewLemmas

@@ -1,6 +1,6 @@
 //! What compiling the files of a library gives for a main unit, where the outcomes of its units are known: what is wrong; or what the
 //! partition lacks; or its order of elaboration, and its image. It takes two calls: what is to be linked, and its image in the place of
-//! the one of before.
+//! the one of before. And what is told of a build by what it gave.
 #![tactic(auto)]
 
 mod answer;

@@ -1,5 +1,5 @@
 //! The linker: the image of a partition, with the objects of its units one after the other and the places of their symbols filled
-//! in.
+//! in. Where its units are closed none of them is looked up in vain.
 #![tactic(auto)]
 
 mod bases;

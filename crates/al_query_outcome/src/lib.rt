@@ -1,4 +1,4 @@
-//! What the check of a unit gives, what the unit answers to others then, and the laws of whoever checks units one by one.
+//! The contract of every checker of units: what the check of a unit gives, what the unit answers to others then, and the laws of whoever checks units one by one.
 #![tactic(auto)]
 
 mod check;

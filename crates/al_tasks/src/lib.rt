@@ -1,4 +1,5 @@
-//! The machine of whole programs: tasks and protected objects, one event at a time.
+//! The machine of whole programs: tasks and protected objects, one event at a time, with exclusion by priorities alone; and runs of
+//! images from their start.
 #![tactic(auto)]
 
 mod acts;

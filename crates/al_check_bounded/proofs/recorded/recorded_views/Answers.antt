@@ -1,7 +1,7 @@
 use Rattle.std.proofs.Common.{List, ◌++◌, ◌∙◌, ap, subst, sym}
 use Rattle.al_view.specs.declared.view.ViewKind.{ViewKind}
 use Rattle.al_check_bounded.specs.Questions.{AreShown, recorded_views}
-use Rattle.al_check_bounded.proofs.Shown.{shown}
+use Rattle.al_check_bounded.proofs.ShownBy.{shown}
 use Rattle.al_check_bounded.proofs.recorded.recorded_views.Goals as goal
 
 pub returns : goal.returns

@@ -4,7 +4,7 @@ use Rattle.std.specs.List.{fold}
 use Rattle.std.specs.BTreeSet.{insert_key}
 use Rattle.al_base.specs.Files.{name_cmp}
 use Rattle.al_unit_graph.specs.Orders.{names_model}
-use Rattle.al_engine_batch.proofs.Names.{names_more}
+use Rattle.al_engine_batch.proofs.FileNames.{names_more}
 use Rattle.al_engine_batch.proofs.gave.files_of.Goals as goal
 
 pub loop-d-preserved : goal.loop-d-preserved
