@@ -15,12 +15,12 @@ INTO = {
     "al_unit_faults": "al_unit_order al_unit_obsolete",
     "al_query_store": "al_query_readers al_query_slots",
     "al_engine_refresh": "al_engine_keep al_engine_found",
-    "al_engine_rebuild": "al_engine_graph al_engine_recheck al_engine_batch al_link_placed",
-    "al_check_start": "al_check_known al_check_made al_check_walk",
-    "al_check_declared": "al_check_here al_check_objects",
-    "al_check": "al_check_reading",
+    "al_engine": "al_engine_graph al_engine_recheck al_engine_batch al_engine_rebuild al_link_placed",
+    "al_engine_files": "al_query_predefined",
+    "al_check_start": "al_check_known al_check_walk",
+    "al_check_declared": "al_check_objects",
     "al_check_promises": "al_view_used",
-    "al_stmts": "al_stmts_choices al_stmts_loops al_stmts_returns",
+    "al_stmts": "al_stmts_choices al_stmts_loops al_stmts_returns al_stmts_walked",
     "al_overload": "al_overload_choice al_overload_name al_overload_picks",
     "al_overload_nodes": "al_overload_types",
     "al_overload_lookup": "al_overload_keys",
@@ -29,9 +29,9 @@ INTO = {
     "al_overload_heads": "al_overload_term",
     "al_decl_judged": "al_decl_type",
     "al_decl_profile": "al_decl_completion",
-    "al_scope_unit": "al_scope_seen",
+    "al_scope": "al_scope_unit al_scope_seen",
     "al_scope_context": "al_scope_uses",
-    "al_code_expr": "al_code_output",
+    "al_code": "al_code_output al_code_expr",
     "al_folder": "al_folder_told",
 }
 # Names for what two crates of one group have under one name; others are told by the crate that they come from.
@@ -43,7 +43,6 @@ MODULES = {
     ("al_decl_type", "subtype"): "subtype_views",
     ("al_unit_obsolete", "listing"): "obsolete",
     ("al_overload_picks", "types"): "picked_types",
-    ("al_check_here", "bodies"): "bodies_here",
 }
 DEFINITIONS = {("al_overload_picks", "Types"): "PickedTypes"}
 LEMMAS = {("al_unit_order", "OrderLemmas"): "UnitOrderLemmas", ("al_decl_type", "TypeLemmas"): "TypeDeclarationLemmas"}
@@ -194,6 +193,8 @@ def rewrite(crates, names):
             new = LOGIC.sub(names.logic, old) if file.suffix == ".antt" else names.text(old, crate.name)
             if file.suffix == ".rt":
                 new = plain(joined(new), crate.name)
+            if crate.name == "al_decl":
+                new = re.sub(r"\bparts_behind\b", "parts_of_both", new)
             if new != old:
                 file.write_text(new)
 
@@ -249,7 +250,9 @@ def merge(crates, names, whole):
         shutil.rmtree(crates / part)
     uses = collections.defaultdict(set)
     for name, what in exports:
-        uses[name] |= set(items(what))
+        # what was another crate's stands in the crate itself now
+        if name != "crate":
+            uses[name] |= set(items(what))
     lines = [*head, "", *(f"{kind} {name};" for kind, name in sorted(mods, key=lambda it: it[1])), ""]
     lines += [f"pub use {name}::{{{', '.join(sorted(what))}}};" for name, what in sorted(uses.items())]
     (crate / "src/lib.rt").write_text("\n".join(lines) + "\n")
@@ -270,17 +273,17 @@ def ordered(top):
     for name, below in needs.items():
         for it in below:
             above[it].append(name)
-    ways = {}
+    ways, seconds = {}, collections.Counter()
+    for name, taken in re.findall(r"^\| `(\w+)` \| (\d+) \|", (top / "docs/GATE.md").read_text(), re.MULTILINE):
+        seconds[GROUP.get(name, name)] += int(taken)
 
     def way(name):
         if name not in ways:
-            size = sum(it.stat().st_size for it in (top / "crates" / name).glob("src/*.rt"))
-            ways[name] = size + max((way(it) for it in above[name]), default=0)
+            ways[name] = seconds[name] + 1 + max((way(it) for it in above[name]), default=0)
         return ways[name]
 
     order = sorted(needs, key=lambda it: -way(it))
-    place = {name: at for at, name in enumerate(order)}
-    text = [f"{name}: {' '.join(sorted(needs[name], key=lambda it: place.get(it, len(place))))}".rstrip() for name in order]
+    text = [f"{name}: {' '.join(needs[name])}".rstrip() for name in order]
     (top / "crates.txt").write_text("\n".join([*(it for it in lines if it.startswith("#")), *text]) + "\n")
 
 
