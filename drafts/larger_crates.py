@@ -3,7 +3,7 @@
 
 Files move, paths in sources, definitions, proofs and wrong bodies follow, and crates.txt has its lines so that each crate stands behind those that it
 needs, the one with the longest way to the end first. Then `rt fmt` in each changed crate, `python3 tests/wrong_bodies.py apply`, and docs by hand
-(map.md, PROVED.md, and names in prose). It was tried on the text that it stands beside: the front end passes for adabuild, adalib and al_engine_runs.
+(map.md, PROVED.md, and names in prose). It was tried on the text that it stands beside: the front end passes for adabuild.
 """
 import collections
 import pathlib
