@@ -2,7 +2,7 @@
 use Rattle.std.specs.Prelude.{◌≡◌, ℕ, List, is_some, IsErr}
 use Rattle.std.specs.List.{filter}
 use Rattle.al_base.specs.Files.{Texts, text_of}
-use Rattle.al_engine_batch.specs.Gave.{program_of}
+use Rattle.al_engine.specs.Gave.{program_of}
 use Rattle.al_engine.specs.Reports.{reported}
 use Rattle.al_engine.specs.States.{Held, IsOfNow}
 

@@ -1,6 +1,6 @@
 // One build, and what is done with the program.
 ghost use Rattle.std.specs.Prelude.{◌≡◌, IfOk, OnOk};
-ghost use Rattle.al_folder_told.specs.declared.status.Ending.TheVariants.{NotBuilt};
+ghost use Rattle.al_folder.specs.declared.status.Ending.TheVariants.{NotBuilt};
 ghost use Rattle.adabuild.specs.Sources.{GaveNone, Holds, IsBuiltFrom};
 
 use crate::failure::Failure;
@@ -11,8 +11,8 @@ use crate::request::Request;
 use crate::running::run_image;
 use crate::screen::Screen;
 use crate::telling::{print_parts, tell_build};
-use al_engine_batch::Program;
-use al_folder_told::Ending;
+use al_engine::Program;
+use al_folder::Ending;
 use std::rt::Files;
 
 /// What is done with a program that was built.

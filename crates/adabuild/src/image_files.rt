@@ -3,7 +3,7 @@ use crate::failure::Failure;
 use crate::request::LoadRequest;
 use crate::running::run_image;
 use crate::screen::Screen;
-use al_folder_told::Ending;
+use al_folder::Ending;
 use al_link_image::{Image, LinkFault};
 use std::alloc::Global;
 use std::io;

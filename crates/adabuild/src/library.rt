@@ -10,12 +10,10 @@ use al_base::{Files, NoMemory, Refusal};
 use al_check::{AdaCheck, ada_check};
 use al_check_text::AdaText;
 use al_check_text::laws::headers_are_read;
-use al_engine::Engine;
-use al_engine_batch::Compiled;
-use al_engine_files::AdaFiles;
+use al_engine::{Compiled, Engine};
+use al_engine_files::query_predefined_laws::units_are_predefined;
+use al_engine_files::{AdaFiles, PredefinedUnits};
 use al_query_outcome::UnitCheck;
-use al_query_predefined::PredefinedUnits;
-use al_query_predefined::laws::units_are_predefined;
 use std::alloc::Global;
 
 /// A library of Ada units.

@@ -25,7 +25,7 @@ use crate::image_files::load;
 use crate::request::{Asked, HELP, USAGE, read_words};
 use crate::screen::Screen;
 use crate::watching::watch;
-use al_folder_told::{Ending, exit_code};
+use al_folder::{Ending, exit_code};
 use std::alloc::Global;
 use std::io;
 use std::process::ExitCode;

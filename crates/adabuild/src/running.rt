@@ -6,7 +6,7 @@ use crate::request::Pace;
 use crate::screen::Screen;
 use crate::telling::tell_end;
 use al_base::{Name, NoMemory, UnitKey};
-use al_folder_told::{Ending, RunEnd, ending_of};
+use al_folder::{Ending, RunEnd, ending_of};
 use al_link_image::{Image, ImageObject};
 use al_machine::Exception;
 use al_tasks::{Status, World};

@@ -5,8 +5,8 @@ use crate::reading::Sources;
 use crate::screen::Screen;
 use al_base::{Diagnostic, UnitKey};
 use al_bind::{BindFault, Line, MissingItem};
-use al_engine_batch::Compiled;
-use al_folder_told::{
+use al_engine::Compiled;
+use al_folder::{
     ImageChange, RunEnd, emit_cycle, emit_diagnostics, emit_end, emit_no_body, emit_no_main,
     emit_no_subunit, emit_parts, emit_progress, emit_too_large,
 };

@@ -10,7 +10,7 @@ use crate::request::Request;
 use crate::screen::Screen;
 use crate::telling::{print_parts, tell_progress};
 use al_base::{Refusal, UnitKey};
-use al_folder_told::{Ending, ImageChange, WatchWord, image_change, watch_word};
+use al_folder::{Ending, ImageChange, WatchWord, image_change, watch_word};
 use std::alloc::Global;
 use std::rt::{Clock, Files};
 use std::time::Instant;

@@ -3,7 +3,6 @@ use crate::name::Name;
 use crate::place::Place;
 
 /// One line of what a build says of the files.
-#[derive(Debug)]
 pub struct Diagnostic {
     /// The name of the file.
     pub file: Name,

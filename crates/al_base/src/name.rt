@@ -14,7 +14,6 @@ use std::hash::{Hash, Hasher};
 use std::marker::Model;
 
 /// The bytes of a name: a unit's in lower case, with dots between its identifiers, or a file's.
-#[derive(Debug)]
 pub struct Name {
     bytes: Vec<u8>,
 }

@@ -1,14 +1,14 @@
 // Where something stands in a text.
 
 /// A line and a column, both from 1. A column counts bytes (ARM 2.2 leaves the count of lines to the implementation).
-#[derive(Clone, Copy, Debug, PartialEq, Eq, PartialOrd, Ord)]
+#[derive(Clone, Copy, PartialEq, Eq, PartialOrd, Ord)]
 pub struct Place {
     pub line: u32,
     pub col: u32,
 }
 
 /// A piece of a text.
-#[derive(Clone, Copy, Debug, PartialEq, Eq)]
+#[derive(Clone, Copy)]
 pub struct Span {
     /// How many bytes of the text stand before it.
     pub start: u32,

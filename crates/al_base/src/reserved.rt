@@ -6,7 +6,7 @@ ghost use Rattle.al_base.specs.ReservedWords.{spelling, reserved_words, reserved
 ghost use Rattle.al_base.specs.declared.reserved.ReservedWord.{ReservedWord};
 
 /// The reserved words (ARM 2.9), by the alphabet.
-#[derive(Clone, Copy, Debug, PartialEq, Eq, PartialOrd, Ord)]
+#[derive(Clone, Copy)]
 pub enum ReservedWord {
     Abort,
     Abs,

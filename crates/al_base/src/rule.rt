@@ -4,7 +4,7 @@ ghost use Rattle.al_base.specs.Rules.{message_of, number_of, rule_of};
 ghost use Rattle.al_base.specs.declared.rule.Rule.{Rule};
 
 /// The rules that a diagnostic can say are broken, by their numbers.
-#[derive(Clone, Copy, PartialEq, Eq)]
+#[derive(Clone, Copy)]
 pub enum Rule {
     /// No lexeme begins there.
     IllegalCharacter,

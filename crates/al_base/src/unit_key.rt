@@ -2,7 +2,7 @@
 use crate::name::Name;
 
 /// Which part of a program unit a file holds (ARM 10.1.1, 10.1.3).
-#[derive(Clone, Copy, Debug, PartialEq, Eq, PartialOrd, Ord, Hash)]
+#[derive(Clone, Copy, PartialEq, Eq, PartialOrd, Ord, Hash)]
 pub enum UnitKind {
     /// A library declaration.
     Decl,
@@ -13,7 +13,7 @@ pub enum UnitKind {
 }
 
 /// A unit of a library: its full name in lower case, and which part it is. Units are ordered by name, then by part.
-#[derive(Debug, Drop, PartialEq, Eq, PartialOrd, Ord, Hash)]
+#[derive(Drop, PartialEq, Eq, PartialOrd, Ord, Hash)]
 pub struct UnitKey {
     pub name: Name,
     pub kind: UnitKind,

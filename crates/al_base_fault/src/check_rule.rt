@@ -6,7 +6,7 @@ use al_base::Rule;
 
 /// The rules that the check of a unit can find broken, by their numbers; those of lexical and syntax faults and of the graph of units
 /// aren't among them.
-#[derive(Clone, Copy, Debug)]
+#[derive(Clone, Copy)]
 pub enum CheckRule {
     /// A homograph in the same region (ARM 8.3(26)).
     Duplicate,

@@ -6,7 +6,7 @@ use crate::check_rule::CheckRule;
 use al_base::Place;
 
 /// A rule that is broken, and where.
-#[derive(Clone, Copy, Debug)]
+#[derive(Clone, Copy)]
 pub struct Fault {
     pub place: Place,
     pub rule: CheckRule,

@@ -10,7 +10,7 @@ use al_base_graph::Graph;
 use std::alloc::{AllocError, Global};
 
 /// Why an item comes after another one. The first reason is `Depends`.
-#[derive(Clone, Copy, Debug)]
+#[derive(Clone, Copy)]
 pub enum Reason {
     Depends,
     Elaborate,
@@ -18,7 +18,7 @@ pub enum Reason {
 }
 
 /// An item of one node, which comes after an item of another node. Items are told by their places in the order of keys.
-#[derive(Clone, Copy, Debug)]
+#[derive(Clone, Copy)]
 pub struct Edge {
     pub after: usize,
     pub before: usize,

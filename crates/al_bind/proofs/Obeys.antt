@@ -7,8 +7,8 @@ use Rattle.al_unit_graph.specs.Headers.{Header, Library}
 use Rattle.al_unit_graph.specs.Library.{unit_at}
 use Rattle.al_unit_graph.specs.Needed.Needed.{dependence}
 use Rattle.al_unit_graph.proofs.BoolLemmas.{both}
-use Rattle.al_unit_order.specs.Read.{NameParentBodies}
-use Rattle.al_unit_order.proofs.SoundUnits.{completed, stands_at}
+use Rattle.al_unit_faults.specs.Read.{NameParentBodies}
+use Rattle.al_unit_faults.proofs.SoundUnits.{completed, stands_at}
 use Rattle.al_bind.specs.Elaboration.{IsItem, is_pair, node_of}
 use Rattle.al_bind.proofs.LawLemmas.{whole_items_obey}
 use Rattle.al_bind.specs.Obeys.{OrderObeys}

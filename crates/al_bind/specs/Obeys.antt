@@ -3,7 +3,7 @@ use Rattle.std.specs.Prelude.{ℕ, List}
 use Rattle.al_base.specs.Batch.{Key}
 use Rattle.al_base_order.specs.declared.edge.Reason.{Reason}
 use Rattle.al_unit_graph.specs.Headers.{Library}
-use Rattle.al_unit_order.specs.Read.{NameParentBodies}
+use Rattle.al_unit_faults.specs.Read.{NameParentBodies}
 use Rattle.al_bind.specs.Binding.{IsElaboration}
 use Rattle.al_bind.specs.Elaboration.{Carries}
 use Rattle.al_bind.specs.Laws.{StandsBefore}

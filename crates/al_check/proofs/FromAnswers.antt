@@ -21,7 +21,7 @@ use Rattle.al_query.specs.Reads.{Table}
 use Rattle.al_scope_context.specs.Contexts.{context_at}
 use Rattle.al_scope_context.specs.declared.context.Context.{Context}
 use Rattle.al_query_outcome.specs.ReadsLaw.{is_check_code, is_fault_of}
-use Rattle.al_stmts_walked.specs.Steps.{Inside}
+use Rattle.al_stmts.specs.Steps.{Inside}
 use Rattle.al_check_promises.proofs.Kept.{own_fault}
 use Rattle.al_check_bounded.specs.Verdicts.{IsTold, Verdict}
 use Rattle.al_check_bounded.specs.Verdicts.Verdict.{Wrong}

@@ -26,14 +26,14 @@ use Rattle.al_query.specs.declared.query.Query.TheVariants.{Of}
 use Rattle.al_scope_context.specs.ContextPragmas.{context_pragma_fault, full_name}
 use Rattle.al_scope_context.specs.Contexts.{context_at, context_start, unit_mentioned, with_item, with_items, with_uses, withed}
 use Rattle.al_scope_context.specs.declared.context.Context.{Context}
-use Rattle.al_scope_uses.specs.UsesAt.{uses_at}
+use Rattle.al_scope_context.specs.UsesAt.{uses_at}
 use Rattle.al_query_outcome.specs.ReadsLaw.{named_by, outcome_units, own_names, property_answers, subunit}
 use Rattle.al_query_outcome.specs.Tables.{interface_of}
 use Rattle.al_query_outcome.specs.declared.interface.Parts.{Parts}
 use Rattle.al_query_outcome.specs.declared.interface.Properties.{Properties}
 use Rattle.al_query_outcome.proofs.Members.{Each, contains-has, each-append}
 use Rattle.al_base_graph.proofs.Members as member
-use Rattle.al_stmts_walked.specs.Steps.{Inside}
+use Rattle.al_stmts.specs.Steps.{Inside}
 use Rattle.al_check_bounded.specs.Verdicts.{NamesWithin, Verdict}
 use Rattle.al_check_here.specs.Ends.{ends_told}
 use Rattle.al_check_start.specs.UnitsAt.{completed_at, name_fault, start_after, start_with, unit_at}

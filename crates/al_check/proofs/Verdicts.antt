@@ -9,7 +9,7 @@ use Rattle.al_base_faults.specs.FaultLists.{all_faults}
 use Rattle.al_view_typed.specs.UnitTrees.{UnitTree}
 use Rattle.al_view.specs.declared.view.ViewKind.{ViewKind}
 use Rattle.al_query_outcome.specs.declared.interface.UnitInterface.{UnitInterface}
-use Rattle.al_stmts_walked.specs.Steps.{Inside}
+use Rattle.al_stmts.specs.Steps.{Inside}
 use Rattle.al_check_bounded.specs.Verdicts.{Verdict}
 use Rattle.al_check_bounded.specs.Verdicts.Verdict.{Wrong, Right}
 use Rattle.al_check_here.specs.Ends.{ends_told}

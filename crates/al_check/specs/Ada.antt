@@ -8,15 +8,15 @@ use Rattle.al_unit_graph.specs.Headers.{Header}
 use Rattle.al_query.specs.Reads.{Table}
 use Rattle.al_base_fault.specs.declared.fault.Fault.{Fault}
 use Rattle.al_base_faults.specs.declared.fault_list.FaultList.{FaultList}
-use Rattle.al_scope_seen.specs.declared.hiding.PrivateName.{PrivateName}
-use Rattle.al_scope_unit.specs.declared.own.OwnText.{OwnText}
+use Rattle.al_scope.specs.declared.seen_hiding.PrivateName.{PrivateName}
+use Rattle.al_scope.specs.declared.own.OwnText.{OwnText}
 use Rattle.al_view.specs.Named.{Declarations}
-use Rattle.al_stmts_walked.specs.Steps.{Inside}
-use Rattle.al_stmts_walked.specs.Units.{unit_walked}
+use Rattle.al_stmts.specs.Steps.{Inside}
+use Rattle.al_stmts.specs.Units.{unit_walked}
 use Rattle.al_check_bounded.specs.Verdicts.{Verdict}
 use Rattle.al_check_bounded.specs.Verdicts.Verdict.{Wrong}
-use Rattle.al_check_known.specs.PrivateNames.{names_known}
-use Rattle.al_check_known.specs.Starts.{units_known}
+use Rattle.al_check_start.specs.PrivateNames.{names_known}
+use Rattle.al_check_start.specs.Starts.{units_known}
 use Rattle.al_check_start.specs.UnitsAt.{unit_at}
 use Rattle.al_check_start.specs.declared.unit.UnitStart.{UnitStart}
 use Rattle.al_check_here.specs.Ends.{ends_of, ends_told}

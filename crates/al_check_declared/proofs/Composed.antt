@@ -19,7 +19,7 @@ use Rattle.al_check_here.specs.BodiesHere.{nested_entered}
 use Rattle.al_check_here.specs.declared.state.AnalyzedHeading.{AnalyzedHeading}
 use Rattle.al_check_here.specs.declared.state.BodyRole.{BodyRole}
 use Rattle.al_check_here.specs.declared.state.OpenObject.{OpenObject}
-use Rattle.al_check_objects.specs.OpenObjects.{is_of_object, renewed_in}
+use Rattle.al_check_declared.specs.OpenObjects.{is_of_object, renewed_in}
 use Rattle.al_decl_profile.specs.Headings.{is_function}
 use Rattle.al_check_declared.specs.EnteredHere.{nested_body}
 use Rattle.al_decl.specs.Checking.{at_place}

@@ -1,1 +1,3 @@
 pub mod Composed
+pub mod Firsts
+pub mod Forms

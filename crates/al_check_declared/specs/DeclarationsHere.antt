@@ -1,7 +1,7 @@
 -- Declarations where the check of a unit stands (ARM 3.1, 6.1, 8.4), by a table of answers.
 use Rattle.std.specs.Prelude.{ℕ, Bool, ◌&&◌, List, [], ◌∷◌, Option, Some, None, Result, Ok, Err, if◌then◌else◌}
 use Rattle.std.specs.Option.{option_map_or}
-use Rattle.al_stmts_walked.specs.Walking.{first_line}
+use Rattle.al_stmts.specs.Walking.{first_line}
 use Rattle.al_check_here.specs.Faulty.{effect_settled, ended}
 use Rattle.al_check_here.specs.PartsHere.{with_uses}
 use Rattle.al_check_here.specs.Stacks.{is_bare}
@@ -21,8 +21,8 @@ use Rattle.al_scope.specs.declared.region.Region.{Region}
 use Rattle.al_tree_syntax.specs.DeclarationTrees.{CommonTree, SpecificationTree}
 use Rattle.al_tree_syntax.specs.DeclarationTrees.CommonTree.{ObjectDeclaration, TypeDeclaration, SubtypeDeclaration, UseClause as UseItem, PragmaItem}
 use Rattle.al_view_typed.specs.DeclarationTrees.{DeclarationTree}
-use Rattle.al_scope_uses.specs.Pragmas.{pragma_fault}
-use Rattle.al_scope_uses.specs.UsesAt.{used_in, uses_at}
+use Rattle.al_scope_context.specs.Pragmas.{pragma_fault}
+use Rattle.al_scope_context.specs.UsesAt.{used_in, uses_at}
 use Rattle.al_scope.specs.PartialViews.{declared_type}
 use Rattle.al_view.specs.Interfaces.{views_of}
 use Rattle.al_view.specs.Symbols.{same_kind, same_part}
@@ -30,7 +30,7 @@ use Rattle.al_view.specs.Types.{layout_words}
 use Rattle.al_view.specs.declared.part.Part.TheVariants as part
 use Rattle.al_view.specs.declared.types.TypeView.{TypeView}
 use Rattle.al_view.specs.declared.view.ViewKind.{ViewKind}
-use Rattle.al_stmts_walked.specs.Readings.{Read}
+use Rattle.al_stmts.specs.Readings.{Read}
 
 -- what reads the parts of declarations there
 abbrev pub parts_here : Table → CheckState → PartReading

@@ -5,14 +5,14 @@ use Rattle.al_check_here.specs.PartsHere.{private_begun}
 use Rattle.al_check_here.specs.Standings.{is_nowhere, is_whole}
 use Rattle.al_check_here.specs.declared.state.AnalyzedHeading.{AnalyzedHeading}
 use Rattle.al_check_here.specs.declared.state.CheckState.{CheckState}
-use Rattle.al_check_objects.specs.OpenObjects.{is_of_object, renewed}
+use Rattle.al_check_declared.specs.OpenObjects.{is_of_object, renewed}
 use Rattle.al_base_fault.specs.Judging.{map_ok}
 use Rattle.al_decl_profile.specs.declared.heading.ReturnedPart.{ReturnedPart}
 use Rattle.al_decl_profile.specs.declared.heading.ReturnedPart.TheVariants.{NoValue, Value}
-use Rattle.al_scope_seen.specs.Seen.{subtype_seen_at}
+use Rattle.al_scope.specs.Seen.{subtype_seen_at}
 use Rattle.al_query.specs.Reads.{Table}
 use Rattle.al_scope.specs.Places.{Place}
-use Rattle.al_scope_unit.specs.UnitPlaces.{private_regions}
+use Rattle.al_scope.specs.UnitPlaces.{private_regions}
 use Rattle.al_check_declared.specs.DeclarationsHere.{with_regions}
 
 -- from here on the private parts of the ancestors are seen (ARM 8.2(5))

@@ -1,6 +1,6 @@
 -- Heads of bodies and stubs where the check of a unit stands (ARM 6.3, 10.1.3), by a table of answers.
 use Rattle.std.specs.Prelude.{ℕ, true, List, Option, Some, None, Result, Ok, Err, is_some}
-use Rattle.al_stmts_walked.specs.Walking.{first_line}
+use Rattle.al_stmts.specs.Walking.{first_line}
 use Rattle.al_check_here.specs.Ends.{stub_names}
 use Rattle.al_check_here.specs.Faulty.{effect_list}
 use Rattle.al_check_here.specs.PartsHere.{with_stub}
@@ -9,7 +9,7 @@ use Rattle.al_check_here.specs.declared.state.BodyRole.{BodyRole}
 use Rattle.al_check_here.specs.declared.state.BodyRole.TheVariants as roles
 use Rattle.al_check_here.specs.declared.state.CheckState.{CheckState}
 use Rattle.al_decl_completes.specs.CompletingFound.{completing_found}
-use Rattle.al_decl_completion.specs.LoneBodies.{stub_fault}
+use Rattle.al_decl_profile.specs.LoneBodies.{stub_fault}
 use Rattle.al_decl.specs.Placing.{body_placed, head_duplicate}
 use Rattle.al_decl.specs.declared.env.Environment.{Environment}
 use Rattle.al_decl.specs.Heads.{heading_read}
@@ -20,7 +20,7 @@ use Rattle.al_decl_profile.specs.declared.heading.Heading.{Heading}
 use Rattle.al_tree_syntax.specs.DeclarationTrees.{SpecificationTree}
 use Rattle.al_view_typed.specs.DeclarationTrees.{DeclarationTree}
 use Rattle.al_view.specs.declared.symbol.Symbol.{Symbol}
-use Rattle.al_stmts_walked.specs.Readings.{Read}
+use Rattle.al_stmts.specs.Readings.{Read}
 use Rattle.al_check_declared.specs.DeclarationsHere.{faulty_here, parts_here}
 
 -- what stands before the `is` of a body, or is a subprogram's declaration

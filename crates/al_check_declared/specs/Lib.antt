@@ -1,6 +1,10 @@
-pub mod Nowhere
+pub mod Barriers
 pub mod DeclarationsHere
-pub mod HeadsHere
-pub mod WholeHere
 pub mod EnteredHere
+pub mod HeadsHere
+pub mod Laws
+pub mod Nowhere
+pub mod ObjectRegions
 pub mod ObjectsHere
+pub mod OpenObjects
+pub mod WholeHere

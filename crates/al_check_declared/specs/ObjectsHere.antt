@@ -7,10 +7,10 @@ use Rattle.al_check_here.specs.Standings.{is_operation, with_here}
 use Rattle.al_check_here.specs.declared.state.BodyRole.{BodyRole}
 use Rattle.al_check_here.specs.declared.state.BodyRole.TheVariants as roles
 use Rattle.al_check_here.specs.declared.state.CheckState.{CheckState}
-use Rattle.al_check_objects.specs.OpenObjects.{barrier_fault_here, object_opened}
+use Rattle.al_check_declared.specs.OpenObjects.{barrier_fault_here, object_opened}
 use Rattle.al_decl_completes.specs.CompletingFound.{completing_found}
-use Rattle.al_decl_completion.specs.declared.specification.BodyHead.{BodyHead}
-use Rattle.al_decl_completion.specs.declared.specification.BodyHead.TheVariants as heads
+use Rattle.al_decl_profile.specs.declared.specification.BodyHead.{BodyHead}
+use Rattle.al_decl_profile.specs.declared.specification.BodyHead.TheVariants as heads
 use Rattle.al_decl.specs.declared.env.Environment.{Environment}
 use Rattle.al_decl_judged.specs.declared.names.DefiningName.{DefiningName}
 use Rattle.al_decl.specs.Defining.{defined}
@@ -22,8 +22,8 @@ use Rattle.al_decl_protected.specs.Operations.{bare_head}
 use Rattle.al_decl_protected.specs.Tasks.{task_checked}
 use Rattle.al_decl.specs.Placing.{body_placed, has_right_marks, head_duplicate}
 use Rattle.al_query.specs.Reads.{Table}
-use Rattle.al_stmts_walked.specs.Readings.{Read}
-use Rattle.al_stmts_walked.specs.Walking.{first_line}
+use Rattle.al_stmts.specs.Readings.{Read}
+use Rattle.al_stmts.specs.Walking.{first_line}
 use Rattle.al_tree_grammar.specs.Grammar.{Label}
 use Rattle.al_tree_syntax.specs.DeclarationTrees.{ProtectedTree, SpecificationTree, TaskTree}
 use Rattle.al_tree_syntax.specs.ExpressionTrees.{ExpressionTree}

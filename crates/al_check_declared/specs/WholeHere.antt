@@ -1,12 +1,12 @@
 -- A unit that is one subprogram (ARM 10.1.1, 10.1.3): its declaration, and the head of its body, which completes its declaration or its stub.
 use Rattle.std.specs.Prelude.{ℕ, false, List, fold, Some, None, Result, Ok, Err}
-use Rattle.al_stmts_walked.specs.Walking.{first_line}
+use Rattle.al_stmts.specs.Walking.{first_line}
 use Rattle.al_check_here.specs.Faulty.{effect_list}
 use Rattle.al_check_here.specs.Standings.{with_here}
 use Rattle.al_check_here.specs.declared.state.BodyRole.TheVariants as roles
 use Rattle.al_check_here.specs.declared.state.CheckState.{CheckState}
 use Rattle.al_decl_completes.specs.CompletingFound.{unit_completing}
-use Rattle.al_decl_type.specs.declared.declaration.Declaration.{Declaration}
+use Rattle.al_decl_judged.specs.declared.declaration.Declaration.{Declaration}
 use Rattle.al_decl_judged.specs.Declaring.{DeclaredTree}
 use Rattle.al_decl_judged.specs.declared.progress.Progress.{Progress}
 use Rattle.al_decl.specs.declared.env.Environment.{Environment}
@@ -21,7 +21,7 @@ use Rattle.al_decl_profile.specs.declared.heading.Heading.{Heading}
 use Rattle.al_tree_syntax.specs.DeclarationTrees.{SpecificationTree}
 use Rattle.al_view_typed.specs.DeclarationTrees.{DeclarationTree}
 use Rattle.al_view.specs.declared.symbol.Symbol.{Symbol}
-use Rattle.al_stmts_walked.specs.Readings.{Read}
+use Rattle.al_stmts.specs.Readings.{Read}
 use Rattle.al_check_declared.specs.DeclarationsHere.{faulty_here}
 use Rattle.al_check_declared.specs.HeadsHere.{heading_here}
 

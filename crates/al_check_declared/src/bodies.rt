@@ -1,21 +1,19 @@
 // Bodies and private parts are entered (ARM 6.3, 7.1, 8.2).
 ghost use Rattle.std.specs.Prelude.{◌≡◌, ◌<◌, length, IfOk, OnOk};
 ghost use Rattle.al_base_fault.specs.Judging.{map_ok};
-ghost use Rattle.al_scope_seen.specs.Seen.{subtype_seen_at};
+ghost use Rattle.al_scope.specs.Seen.{subtype_seen_at};
 ghost use Rattle.al_query.specs.Reads.{FromAnswers};
-ghost use Rattle.al_scope_unit.specs.UnitPlaces.{private_regions};
+ghost use Rattle.al_scope.specs.UnitPlaces.{private_regions};
 ghost use Rattle.al_check_declared.specs.DeclarationsHere.{with_regions};
 ghost use Rattle.al_check_declared.specs.EnteredHere.{body_here, visible_heading, nested_body, opened, private_here, read_entered, renewed_for, visible_result, whole_body};
 
+use crate::{is_of_object, renew_region};
 use al_base::NoMemory;
 use al_base_fault::CheckResult;
 use al_check_here::{AnalyzedHeading, CheckState, begin_private, enter_nested, enter_whole};
-use al_check_objects::{is_of_object, renew_region};
 use al_decl_profile::ReturnedPart;
 use al_query::{Answers, Recorder};
-use al_scope::Scope;
-use al_scope_seen::subtype_seen_at;
-use al_scope_unit::enter_private_part;
+use al_scope::{Scope, enter_private_part, subtype_seen_at};
 use al_view::SubtypeView;
 use std::alloc::Global;
 use std::mem;

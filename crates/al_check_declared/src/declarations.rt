@@ -6,9 +6,9 @@ ghost use Rattle.al_decl.specs.Items.{object_checked, subtype_item_checked, type
 ghost use Rattle.al_base_fault.specs.Judging.{map_ok};
 ghost use Rattle.al_query.specs.Reads.{FromAnswers};
 ghost use Rattle.al_tree.specs.DeclarationViews.{common_model, object_model, pragma_model, specification_model, subtype_model, type_model, use_model};
-ghost use Rattle.al_scope_uses.specs.Pragmas.{pragma_fault};
-ghost use Rattle.al_scope_uses.specs.UsesAt.{uses_at};
-ghost use Rattle.al_stmts_walked.specs.Views.{effects_model};
+ghost use Rattle.al_scope_context.specs.Pragmas.{pragma_fault};
+ghost use Rattle.al_scope_context.specs.UsesAt.{uses_at};
+ghost use Rattle.al_stmts.specs.Views.{effects_model};
 ghost use Rattle.al_check_declared.specs.DeclarationsHere.{declared_here, is_at_head, nested_declared, open_declared, package_name, parts_here, pragma_settled, private_words, type_words, uses_read};
 
 use crate::settled::{Effects, no_place, settle_pragma, settle_uses};
@@ -18,8 +18,8 @@ use al_decl::{check_object_item, check_subprogram, check_subtype_item, check_typ
 use al_decl_ada::AdaPartAnalyzer;
 use al_query::{Answers, Recorder};
 use al_scope::declared_type;
-use al_scope_uses::{pragma_fault, use_at};
-use al_stmts_walked::first_line;
+use al_scope_context::{pragma_fault, use_at};
+use al_stmts::first_line;
 use al_tree::{
     CommonDeclaration, ObjectDeclaration, Pragma, Specification, SubtypeDeclaration,
     TypeDeclaration, UseClause,

@@ -3,7 +3,7 @@ ghost use Rattle.std.specs.Prelude.{◌≡◌, ◌<◌, length, IfOk};
 ghost use Rattle.al_base_fault.specs.Judging.{map_ok};
 ghost use Rattle.al_query.specs.Reads.{FromAnswers};
 ghost use Rattle.al_tree.specs.DeclarationViews.{specification_model};
-ghost use Rattle.al_stmts_walked.specs.Views.{effects_model};
+ghost use Rattle.al_stmts.specs.Views.{effects_model};
 ghost use Rattle.al_check_declared.specs.HeadsHere.{head_of, nested_head, stub_here, stub_of, stub_wrong};
 ghost use Rattle.al_check_declared.specs.ObjectsHere.{inner_head, operation_head, operation_of};
 
@@ -12,10 +12,9 @@ use crate::settled::{Effects, settle_head, settle_operation, settle_stub};
 use al_base::NoMemory;
 use al_base_fault::Fault;
 use al_check_here::{CheckState, stub_names};
-use al_decl_completion::stub_fault;
-use al_decl_profile::Heading;
+use al_decl_profile::{Heading, stub_fault};
 use al_query::{Answers, Recorder};
-use al_stmts_walked::first_line;
+use al_stmts::first_line;
 use al_tree::Specification;
 
 /// What is wrong with a stub that may not stand there.

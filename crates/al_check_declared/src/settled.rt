@@ -8,7 +8,7 @@ ghost use Rattle.al_base_fault.specs.Judging.{map_ok};
 ghost use Rattle.al_decl_profile.specs.Bodies.{new_body_model};
 ghost use Rattle.al_decl_profile.specs.Subprograms.{joined_waiting};
 ghost use Rattle.al_view_typed.specs.DeclarationTrees.{declaration_model};
-ghost use Rattle.al_stmts_walked.specs.Views.{effects_model};
+ghost use Rattle.al_stmts.specs.Views.{effects_model};
 ghost use Rattle.al_check_declared.specs.DeclarationsHere.{faulty_here, no_place, pragma_settled, uses_settled};
 ghost use Rattle.al_check_declared.specs.HeadsHere.{head_settled, stub_kept, stub_settled, with_head};
 ghost use Rattle.al_check_declared.specs.ObjectsHere.{named_settled, object_settled, operation_settled, view_symbol};
@@ -17,17 +17,16 @@ ghost use Rattle.al_tree.specs.StatementViews.{operation_bodies_of, operation_bo
 ghost use Rattle.al_check_declared.specs.WholeHere.{own_mentioned, own_settled, whole_kept, whole_settled, with_own};
 
 use crate::nowhere::not_yet_fault;
+use crate::open_object;
 use al_base::{Name, NoMemory};
 use al_base_fault::{CheckResult, Fault};
 use al_check_here::{
     AnalyzedHeading, BodyRole, CheckState, add_stub, add_uses, effect_list, end_list,
 };
-use al_check_objects::open_object;
 use al_decl::PlacedBody;
-use al_decl_judged::{Declared, DefiningName};
+use al_decl_judged::{Declaration, Declared, DefiningName};
 use al_decl_profile::{Heading, NewBody};
 use al_decl_protected::{NamedBody, bare_head};
-use al_decl_type::Declaration;
 use al_query::UseClause;
 use al_scope::Scope;
 use al_tree::OperationBody;

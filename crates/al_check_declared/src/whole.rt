@@ -3,7 +3,7 @@ ghost use Rattle.std.specs.Prelude.{◌≡◌, IfOk, OnOk};
 ghost use Rattle.al_base_fault.specs.Judging.{map_ok};
 ghost use Rattle.al_query.specs.Reads.{FromAnswers};
 ghost use Rattle.al_tree.specs.DeclarationViews.{specification_model};
-ghost use Rattle.al_stmts_walked.specs.Views.{effects_model};
+ghost use Rattle.al_stmts.specs.Views.{effects_model};
 ghost use Rattle.al_check_declared.specs.HeadsHere.{heading_here};
 ghost use Rattle.al_check_declared.specs.WholeHere.{undotted, whole_declared, whole_head, whole_head_of, whole_of};
 
@@ -14,7 +14,7 @@ use al_check_here::CheckState;
 use al_decl_completes::unit_completing;
 use al_decl_profile::{Heading, declare_body, declare_subprogram};
 use al_query::{Answers, Recorder};
-use al_stmts_walked::first_line;
+use al_stmts::first_line;
 use al_tree::Specification;
 
 /// The head of a unit, whose name may have dots.

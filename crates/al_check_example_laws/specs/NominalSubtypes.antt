@@ -11,9 +11,9 @@ use Rattle.al_view_typed.specs.StatementTrees.StatementFormTree.{AssignmentState
 use Rattle.al_view_typed.specs.StatementTrees.StatementTree.{Numbered}
 use Rattle.al_view_typed.specs.declared.label.Labels.{Labels}
 use Rattle.al_base_fault.specs.Judging.{next}
-use Rattle.al_stmts_choices.specs.Choosing.{AreRight}
-use Rattle.al_stmts_choices.specs.declared.choice.Choice.{Choice}
-use Rattle.al_stmts_choices.specs.declared.choice.Choice.TheVariants.{Range}
+use Rattle.al_stmts.specs.Choosing.{AreRight}
+use Rattle.al_stmts.specs.declared.choice.Choice.{Choice}
+use Rattle.al_stmts.specs.declared.choice.Choice.TheVariants.{Range}
 use Rattle.al_stmts.specs.Cases.{held_against}
 use Rattle.al_stmts.specs.Simple.{assigned, target_of}
 

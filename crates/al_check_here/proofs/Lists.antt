@@ -5,8 +5,8 @@ use Rattle.std.proofs.lemmas.List.{length-append}
 use Rattle.al_scope.specs.Places.{Place}
 use Rattle.al_scope.specs.declared.region.Region.{Region}
 use Rattle.al_view.specs.Named.{Declarations}
-pub use Rattle.al_scope_seen.proofs.Lists.{folded, folded_at, mapped, no_value, one_value}
-pub use Rattle.al_scope_seen.proofs.Outcomes.{if_ok, on_ok}
+pub use Rattle.al_scope.proofs.Lists.{folded, folded_at, mapped, no_value, one_value}
+pub use Rattle.al_scope.proofs.Outcomes.{if_ok, on_ok}
 
 -- what stands before the last element
 pub before_last : {A : Type 0} (xs ys : List A) (x : A) → xs ≡ ys ++ x ∷ [] → ys ≡ take (length xs - 1) xs

@@ -4,20 +4,20 @@ use Rattle.std.specs.List.{filter_map}
 use Rattle.al_decl.specs.Regions.{outside_of, set_aside, subprogram_entered, taken_back, with_formals_declared}
 use Rattle.al_decl.specs.declared.block.Outside.{Outside}
 use Rattle.al_decl.specs.declared.subprogram_body.OuterFrame.{OuterFrame}
-use Rattle.al_decl_type.specs.Objects.{is_input}
-use Rattle.al_decl_type.specs.Types.{words_of}
-use Rattle.al_decl_type.specs.WordCounts.{place_after}
+use Rattle.al_decl_judged.specs.TypeObjects.{is_input}
+use Rattle.al_decl_judged.specs.Types.{words_of}
+use Rattle.al_decl_judged.specs.WordCounts.{place_after}
 use Rattle.al_decl.specs.declared.env.Environment.{Environment}
 use Rattle.al_base_fault.specs.declared.fault.Fault.{Fault}
-use Rattle.al_stmts_loops.specs.declared.returns.EnclosingBody.{EnclosingBody}
-use Rattle.al_stmts_loops.specs.declared.returns.EnclosingBody.TheVariants as bodies
+use Rattle.al_stmts.specs.declared.returns.EnclosingBody.{EnclosingBody}
+use Rattle.al_stmts.specs.declared.returns.EnclosingBody.TheVariants as bodies
 use Rattle.al_stmts.specs.declared.simple.ReturnContext.{ReturnContext}
 use Rattle.al_decl_profile.specs.Frames.{entered, formal_words, left_body, new_formal}
 use Rattle.al_decl_profile.specs.declared.frame.NewFormal.{NewFormal}
 use Rattle.al_decl_profile.specs.declared.heading.Heading.{Heading}
 use Rattle.al_decl_profile.specs.declared.heading.ReturnedPart.{ReturnedPart}
 use Rattle.al_decl_profile.specs.declared.heading.ReturnedPart.TheVariants.{NoValue, Value}
-use Rattle.al_stmts_walked.specs.declared.extent.BodyExtent.{BodyExtent}
+use Rattle.al_stmts.specs.declared.extent.BodyExtent.{BodyExtent}
 use Rattle.al_view_typed.specs.DeclarationTrees.{DeclarationTree}
 use Rattle.al_view_typed.specs.StatementTrees.{StatementTree}
 use Rattle.al_view_typed.specs.UnitTrees.{BodyTree, ElaborationTree}

@@ -6,9 +6,9 @@ use Rattle.al_query.specs.declared.answer.UseInPart.{UseInPart}
 use Rattle.al_view.specs.Named.{Declarations}
 use Rattle.al_view.specs.declared.part.Part.{Part}
 use Rattle.al_view.specs.declared.part.Part.TheVariants as part
-use Rattle.al_decl_type.specs.declared.declaration.Declaration.{Declaration}
-use Rattle.al_scope_seen.specs.Hidden.{hidden, hidden_in}
-use Rattle.al_scope_seen.specs.declared.hiding.PrivateName.{PrivateName}
+use Rattle.al_decl_judged.specs.declared.declaration.Declaration.{Declaration}
+use Rattle.al_scope.specs.Hidden.{hidden, hidden_in}
+use Rattle.al_scope.specs.declared.seen_hiding.PrivateName.{PrivateName}
 use Rattle.al_check_here.specs.declared.ends.Ends.{Ends}
 use Rattle.al_check_here.specs.declared.state.CheckState.{CheckState}
 use Rattle.al_check_here.specs.declared.state.UseHere.{UseHere}

@@ -2,9 +2,9 @@
 use Rattle.std.specs.Prelude.{ℕ, true, List, [], ◌∷◌, ◌++◌, Option, Some, None, unwrap_or, if◌then◌else◌}
 use Rattle.al_decl.specs.Regions.{block_entered, outside_of, taken_back}
 use Rattle.al_decl.specs.declared.block.Outside.{Outside}
-use Rattle.al_decl_type.specs.Objects.{object_view}
-use Rattle.al_decl_type.specs.TypeDeclarations.{declared_as}
-use Rattle.al_decl_type.specs.declared.declaration.Declaration.{Declaration}
+use Rattle.al_decl_judged.specs.TypeObjects.{object_view}
+use Rattle.al_decl_judged.specs.TypeDeclarations.{declared_as}
+use Rattle.al_decl_judged.specs.declared.declaration.Declaration.{Declaration}
 use Rattle.al_decl_judged.specs.Progressing.{with_counted}
 use Rattle.al_decl.specs.Declaring.{begun_one, with_declarations}
 use Rattle.al_decl.specs.declared.env.Environment.{Environment}

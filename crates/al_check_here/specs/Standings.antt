@@ -3,13 +3,13 @@ use Rattle.std.specs.Prelude.{ℕ, Bool, not, ◌&&◌, ◌==◌, List, [], Opti
 use Rattle.al_base.specs.declared.unit_key.UnitKey.{UnitKey}
 use Rattle.al_base.specs.declared.unit_key.UnitKind.{UnitKind}
 use Rattle.al_base.specs.declared.unit_key.UnitKind.TheVariants.{Decl, Body, Sub}
-use Rattle.al_decl_type.specs.WordCounts.{after_frame}
+use Rattle.al_decl_judged.specs.WordCounts.{after_frame}
 use Rattle.al_decl_judged.specs.declared.progress.Progress.{Progress}
 use Rattle.al_decl.specs.declared.env.Environment.{Environment}
 use Rattle.al_query.specs.declared.answer.Completion.{Completion}
 use Rattle.al_scope.specs.Places.{Place}
 use Rattle.al_decl_profile.specs.Frames.{from_word}
-use Rattle.al_scope_unit.specs.declared.own.OwnText.{OwnText}
+use Rattle.al_scope.specs.declared.own.OwnText.{OwnText}
 use Rattle.al_view.specs.declared.part.Part.{Part}
 use Rattle.al_view.specs.declared.part.Part.TheVariants as part
 use Rattle.al_check_here.specs.Stacks.{is_bare}

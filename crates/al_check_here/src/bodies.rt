@@ -1,9 +1,9 @@
 // Bodies of subprograms at a place.
 ghost use Rattle.std.specs.Prelude.{◌≡◌, ◌<◌, Some, None, length, map, IfOk, OnOk};
-ghost use Rattle.al_decl_type.specs.Objects.{is_input};
+ghost use Rattle.al_decl_judged.specs.TypeObjects.{is_input};
 ghost use Rattle.al_view_typed.specs.StatementViews.{statement_model};
 ghost use Rattle.al_view_typed.specs.UnitTrees.{body_model, elaboration_model};
-ghost use Rattle.al_stmts_walked.specs.Views.{effects_model};
+ghost use Rattle.al_stmts.specs.Views.{effects_model};
 ghost use Rattle.al_check_here.specs.BodiesHere.{body_opened, copied_words, frame_words, labelled, labelled_body, left_open, nested_entered, out_of_body, own_region_left, result_subtype, return_context, returns_in, role_context, whole_entered, with_body, with_copied};
 ghost use Rattle.al_check_here.specs.Stacks.{innermost};
 
@@ -12,11 +12,9 @@ use crate::regions::leave_region;
 use crate::state::{AnalyzedHeading, BodyRole, CheckState, OpenBody};
 use al_base::NoMemory;
 use al_decl::{OuterFrame, Outside, declare_all_formals, enter_subprogram, set_aside, take_back};
+use al_decl_judged::words_of;
 use al_decl_profile::{Heading, ReturnedPart, enter_body, leave_body};
-use al_decl_type::words_of;
-use al_stmts::ReturnContext;
-use al_stmts_loops::EnclosingBody;
-use al_stmts_walked::BodyExtent;
+use al_stmts::{BodyExtent, EnclosingBody, ReturnContext};
 use al_view::{Mode, Seq, SubtypeView};
 use al_view_predefined::StandardTypes;
 use al_view_typed::{

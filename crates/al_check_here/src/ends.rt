@@ -1,17 +1,15 @@
 // What the walk over a unit's text leaves.
 ghost use Rattle.std.specs.Prelude.{◌≡◌, ◌++◌, ◌∷◌, [], drop, map, IfOk, OnOk};
-ghost use Rattle.al_scope_seen.specs.Hidden.{hidden, hidden_in};
+ghost use Rattle.al_scope.specs.Hidden.{hidden, hidden_in};
 ghost use Rattle.al_check_here.specs.Ends.{ends_of, ends_told, hidden_by, hidden_declaration, hidden_own, parts_ended, stub_names, use_inside, uses_inside};
 
 use crate::parts::copied_clause;
 use crate::state::{CheckState, UnitText, UseHere};
 use al_base::{Name, NoMemory};
-use al_decl_judged::Progress;
-use al_decl_type::Declaration;
+use al_decl_judged::{Declaration, Progress};
 use al_query::{Completion, UseInPart};
 use al_query_outcome::{Parts, StubDeclarations};
-use al_scope_seen::{PrivateName, hidden, hidden_in};
-use al_scope_unit::OwnText;
+use al_scope::{OwnText, PrivateName, hidden, hidden_in};
 use al_view::{Interface, Part, Seq};
 use std::alloc::Global;
 use std::mem;

@@ -4,8 +4,7 @@ ghost use Rattle.al_check_here.specs.BodiesHere.{entry_in, entry_kind, kind_of, 
 
 use crate::state::{BodyRole, OpenObject};
 use al_base::NoMemory;
-use al_stmts::ReturnContext;
-use al_stmts_loops::EnclosingBody;
+use al_stmts::{EnclosingBody, ReturnContext};
 use al_view_typed::{BodyKind, EntryOf};
 use std::alloc::Global;
 

@@ -9,7 +9,7 @@ ghost use Rattle.al_check_here.specs.RegionsHere.{in_block, in_loop, left_to, ou
 use crate::state::{CheckState, LoopType};
 use al_base::{Name, NoMemory};
 use al_decl::{Environment, Outside, begin_one, defining_name, take_back};
-use al_decl_type::{Declaration, object_view};
+use al_decl_judged::{Declaration, object_view};
 use al_scope::Scope;
 use al_stmts::{LoopRange, LoopWords, parameter_bounds};
 use al_tree::Identifier;

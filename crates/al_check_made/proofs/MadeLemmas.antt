@@ -9,8 +9,8 @@ use Rattle.al_view.specs.declared.view.ViewKind.{ViewKind}
 use Rattle.al_view_typed.specs.UnitTrees.{ElaborationTree, elaboration_model, unit_model}
 use Rattle.al_view_typed.specs.declared.unit.Elaboration.{Elaboration}
 use Rattle.al_view_typed.specs.declared.unit.TypedUnit.{TypedUnit}
-use Rattle.al_stmts_walked.specs.WalkedViews.{inside_model}
-use Rattle.al_stmts_walked.specs.declared.inside.WalkedInside.{WalkedInside}
+use Rattle.al_stmts.specs.WalkedViews.{inside_model}
+use Rattle.al_stmts.specs.declared.inside.WalkedInside.{WalkedInside}
 use Rattle.al_query_outcome.specs.Tables.{interface_of}
 use Rattle.al_check_promises.specs.SelfChecks.{not_checked}
 use Rattle.al_check_bounded.specs.Verdicts.{Verdict, sound_of}

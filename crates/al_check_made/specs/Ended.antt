@@ -9,7 +9,7 @@ use Rattle.al_view_typed.specs.declared.declaration.TypedDeclaration.{TypedDecla
 use Rattle.al_view_typed.specs.declared.statement.TypedStatement.{TypedStatement}
 use Rattle.al_view_typed.specs.declared.unit.TypedBody.{TypedBody}
 use Rattle.al_query_outcome.specs.Tables.{interface_of}
-use Rattle.al_stmts_walked.specs.Steps.{Inside}
+use Rattle.al_stmts.specs.Steps.{Inside}
 use Rattle.al_check_bounded.specs.Verdicts.{Verdict}
 use Rattle.al_check_bounded.specs.Verdicts.Verdict.{Wrong, Right}
 use Rattle.al_check_made.specs.Made.{faults_in, or_not_yet, unless_wrong}

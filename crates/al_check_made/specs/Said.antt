@@ -2,8 +2,8 @@
 use Rattle.std.specs.Prelude.{List, Option, Some, None, slice_get, if◌then◌else◌}
 use Rattle.al_view.specs.declared.view.ViewKind.{ViewKind}
 use Rattle.al_view.specs.declared.view.ViewKind.TheVariants.{OfPackage}
-use Rattle.al_scope_unit.specs.declared.own.OwnText.{OwnText}
-use Rattle.al_decl_type.specs.declared.declaration.Declaration.{Declaration}
+use Rattle.al_scope.specs.declared.own.OwnText.{OwnText}
+use Rattle.al_decl_judged.specs.declared.declaration.Declaration.{Declaration}
 use Rattle.al_query_outcome.specs.declared.interface.Properties.{Properties}
 use Rattle.al_check_made.specs.declared.said.SaidUnit.{SaidUnit}
 

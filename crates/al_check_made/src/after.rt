@@ -1,6 +1,6 @@
 // What is found in the text of a unit after its end.
 ghost use Rattle.std.specs.Prelude.{◌≡◌, Some, IfOk};
-ghost use Rattle.al_stmts_walked.specs.WalkedViews.{inside_model};
+ghost use Rattle.al_stmts.specs.WalkedViews.{inside_model};
 ghost use Rattle.al_check_bounded.specs.Verdicts.{verdict_of};
 ghost use Rattle.al_check_bounded.specs.Verdicts.Verdict.{Wrong};
 ghost use Rattle.al_check_made.specs.Made.{faults_in, or_not_yet};
@@ -11,12 +11,11 @@ use crate::made::{WalkedUnit, finding_of};
 use crate::said::{SaidUnit, own_view};
 use al_base::{Name, NoMemory, UnitKey};
 use al_check_bounded::UnitVerdict;
-use al_decl_judged::Progress;
-use al_decl_type::Declaration;
+use al_decl_judged::{Declaration, Progress};
 use al_query::{Completion, UseInPart};
 use al_query_outcome::Parts;
-use al_scope_unit::OwnText;
-use al_stmts_walked::WalkedInside;
+use al_scope::OwnText;
+use al_stmts::WalkedInside;
 use al_view::{Seq, View};
 use al_view_typed::{TypedBody, TypedDeclaration, TypedStatement};
 use std::alloc::Global;
@@ -170,7 +169,7 @@ fn with_view(
     finding_of(alloc, faults, walked)
 }
 
-#[tactic(auto, unfolding(al_stmts_walked::specs::WalkedViews::inside_model))]
+#[tactic(auto, unfolding(al_stmts::specs::WalkedViews::inside_model))]
 /// What is wrong with a unit that has no view.
 fn without_view(
     alloc: Global,

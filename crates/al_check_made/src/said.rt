@@ -4,10 +4,10 @@ ghost use Rattle.al_view.specs.declared.view.ViewKind.TheVariants.{OfPackage};
 ghost use Rattle.al_check_made.specs.Said.{own_view, said, view_of_subprogram};
 
 use al_base::{Name, NoMemory, UnitKey};
-use al_decl_type::Declaration;
+use al_decl_judged::Declaration;
 use al_query::{Completion, ContextView, UseInPart};
 use al_query_outcome::Properties;
-use al_scope_unit::OwnText;
+use al_scope::OwnText;
 use al_view::{Seq, Symbol, View, ViewKind};
 use std::alloc::Global;
 

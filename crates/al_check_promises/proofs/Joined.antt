@@ -17,12 +17,12 @@ use Rattle.al_query_outcome.specs.Tables.{interface_of}
 use Rattle.al_query_outcome.specs.declared.interface.Parts.{Parts}
 use Rattle.al_query_outcome.specs.declared.interface.Properties.{Properties}
 use Rattle.al_query_outcome.specs.declared.interface.StubDeclarations.{StubDeclarations}
-use Rattle.al_view_used.specs.Links.{Gains, has_link, is_among}
-use Rattle.al_view_used.specs.declared.link_set.LinkSet.{LinkSet}
+use Rattle.al_check_promises.specs.Links.{Gains, has_link, is_among}
+use Rattle.al_check_promises.specs.declared.link_set.LinkSet.{LinkSet}
 use Rattle.al_check_promises.specs.Parts.{part_uses, property_uses}
 use Rattle.al_check_promises.specs.SelfChecks.{accounted, defined, is_allowed, is_completed, is_declared, is_kept, is_well_formed, left_shown}
-use Rattle.al_view_used.specs.Rules.{permits}
-use Rattle.al_view_used.specs.declared.rule.LinkRule.{LinkRule}
+use Rattle.al_check_promises.specs.Rules.{permits}
+use Rattle.al_check_promises.specs.declared.rule.LinkRule.{LinkRule}
 use Rattle.al_check_promises.specs.Tests.{completes, declares}
 use Rattle.al_check_promises.specs.declared.completed.Completing.{Completing}
 use Rattle.al_check_promises.specs.declared.tested.Declared.{Declared}

@@ -27,7 +27,7 @@ use Rattle.al_query_outcome.specs.Results.{Faulty, Sound}
 use Rattle.al_query_outcome.specs.declared.interface.StubDeclarations.{StubDeclarations}
 use Rattle.al_query_outcome.specs.declared.interface.UnitInterface.{UnitInterface}
 use Rattle.al_query_outcome.proofs.Members.{all-at}
-use Rattle.al_view_used.specs.Links.{is_among}
+use Rattle.al_check_promises.specs.Links.{is_among}
 use Rattle.al_check_promises.specs.Laws.{FaultsAreReported, NotYetIsReported, Promised, WhatIsTestedKeeps}
 use Rattle.al_check_promises.specs.SelfChecks.{accounted, defined, is_allowed, is_declared, is_kept, is_well_formed, left_shown, not_checked, self_checked, stub_codes}
 use Rattle.al_check_promises.specs.Shown.{WereShown}

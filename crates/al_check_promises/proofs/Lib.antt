@@ -1,7 +1,12 @@
-pub mod Recorded
+pub mod Gained
 pub mod Items
 pub mod Joined
 pub mod Kept
-pub mod PartsKept
+pub mod Layers
+pub mod Listed
 pub mod More
+pub mod PartsKept
+pub mod Prefixes
+pub mod Recorded
+pub mod Same
 pub mod Used

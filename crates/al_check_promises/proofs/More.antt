@@ -14,7 +14,7 @@ use Rattle.al_view_typed.specs.UnitTrees.{UnitTree}
 use Rattle.al_view_typed.specs.Uses.{unit_uses}
 use Rattle.al_query_outcome.specs.Defines.{interface_uses}
 use Rattle.al_query_outcome.specs.declared.interface.UnitInterface.{UnitInterface}
-use Rattle.al_view_used.specs.Links.{is_among, same_link, same_link_kind}
+use Rattle.al_check_promises.specs.Links.{is_among, same_link, same_link_kind}
 use Rattle.al_check_promises.specs.SelfChecks.{accounted, defined, is_allowed, is_declared, is_kept, is_well_formed, left_shown}
 use Rattle.al_check_promises.proofs.Used.{among-contains, both}
 

@@ -29,7 +29,7 @@ use Rattle.al_query_outcome.specs.Tables.{part_of}
 use Rattle.al_query_outcome.specs.declared.interface.StubDeclarations.{StubDeclarations}
 use Rattle.al_query_outcome.specs.declared.interface.UnitInterface.{UnitInterface}
 use Rattle.al_query_outcome.proofs.Members.{all-at}
-use Rattle.al_view_used.specs.Links.{is_among}
+use Rattle.al_check_promises.specs.Links.{is_among}
 use Rattle.al_check_promises.specs.Laws.{PartsAreCompleted}
 use Rattle.al_check_promises.specs.SelfChecks.{accounted, completing, declares_itself, defined, has_main, is_complete, is_completed, is_kept, is_told_stub, leaves_rightly, left_shown, not_checked, self_checked}
 use Rattle.al_check_promises.proofs.Kept.{accounted_is, defined_is}

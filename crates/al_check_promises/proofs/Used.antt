@@ -8,7 +8,7 @@ use Rattle.al_view.specs.declared.link.LinkKind.{LinkKind}
 use Rattle.al_view.specs.declared.link.LinkKind.TheVariants as kind
 use Rattle.al_view.specs.declared.link.LinkSymbol.{LinkSymbol}
 use Rattle.al_view.proofs.SymbolLemmas.{same_symbol-one}
-use Rattle.al_view_used.specs.Links.{is_among, same_link, same_link_kind}
+use Rattle.al_check_promises.specs.Links.{is_among, same_link, same_link_kind}
 
 pub both : (a b : Bool) → (a && b) ≡ true → (a ≡ true) × (b ≡ true)
 both true b h = (refl, h)

@@ -1,5 +1,8 @@
+pub mod Depths
+pub mod Laws
+pub mod Links
 pub mod Parts
+pub mod Rules
 pub mod SelfChecks
 pub mod Shown
 pub mod Tests
-pub mod Laws

@@ -28,7 +28,7 @@ use Rattle.al_query_outcome.specs.Results.{Outcome, Faulty, Sound}
 use Rattle.al_query_outcome.specs.Tables.{part_of}
 use Rattle.al_query_outcome.specs.declared.interface.StubDeclarations.{StubDeclarations}
 use Rattle.al_query_outcome.specs.declared.interface.UnitInterface.{UnitInterface}
-use Rattle.al_view_used.specs.Links.{is_among}
+use Rattle.al_check_promises.specs.Links.{is_among}
 
 -- ---- what a unit uses and shows
 

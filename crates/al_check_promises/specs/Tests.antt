@@ -2,7 +2,7 @@
 use Rattle.std.specs.Prelude.{Bool, ◌||◌, not}
 use Rattle.al_view.specs.declared.link.LinkSymbol.{LinkSymbol}
 use Rattle.al_query_outcome.specs.Left.{is_of_body}
-use Rattle.al_view_used.specs.Links.{has_link}
+use Rattle.al_check_promises.specs.Links.{has_link}
 use Rattle.al_check_promises.specs.declared.completed.Completing.{Completing}
 use Rattle.al_check_promises.specs.declared.tested.Declared.{Declared}
 

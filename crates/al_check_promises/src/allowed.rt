@@ -8,17 +8,17 @@ ghost use Rattle.al_view_typed.specs.UnitTrees.{unit_model};
 ghost use Rattle.al_view_typed.specs.Uses.{unit_defines};
 ghost use Rattle.al_query_outcome.specs.Left.{is_of_body};
 ghost use Rattle.al_query_outcome.specs.Tables.{interface_of};
-ghost use Rattle.al_view_used.specs.Links.{Gains, has_link, is_among};
-ghost use Rattle.al_view_used.specs.Rules.{permits};
+ghost use Rattle.al_check_promises.specs.Links.{Gains, has_link, is_among};
+ghost use Rattle.al_check_promises.specs.Rules.{permits};
 ghost use Rattle.al_check_promises.specs.SelfChecks.{accounted, defined, is_allowed};
 
 use crate::checked::SoundUnit;
+use crate::{LinkRule, LinkSet, add_defines, add_shown};
 use al_base::{NoMemory, UnitKey};
 use al_query::Completion;
 use al_query_outcome::{Parts, StubDeclarations};
 use al_view::{LinkKind, View, copied_unit};
 use al_view_typed::TypedUnit;
-use al_view_used::{LinkRule, LinkSet, add_defines, add_shown};
 use std::alloc::Global;
 
 /// Whether a body defines it; flags, words and protected objects are its declaration's.
@@ -66,7 +66,7 @@ fn add_stubs(set: &mut LinkSet, stubs: &[StubDeclarations]) -> Result<(), NoMemo
 }
 
 /// What a unit defines, and the code of its stubs.
-#[tactic(auto, using(al_view_used::proofs::Gained::gains_both))]
+#[tactic(auto, using(crate::proofs::Gained::gains_both))]
 pub(crate) fn add_defined(
     set: &mut LinkSet,
     parts: &Parts,
@@ -79,7 +79,7 @@ pub(crate) fn add_defined(
 }
 
 /// What a unit accounts for.
-#[tactic(auto, using(al_view_used::proofs::Gained::gains_both))]
+#[tactic(auto, using(crate::proofs::Gained::gains_both))]
 fn add_accounted(set: &mut LinkSet, sound: &SoundUnit) -> Result<(), NoMemory>
     ensures { OnOk result (Gains set.old set.new (accounted (interface_of sound.now.properties sound.now.parts) (unit_model sound.now.tree))) }
 {

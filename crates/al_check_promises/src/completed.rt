@@ -9,7 +9,7 @@ ghost use Rattle.al_view_typed.specs.UnitTrees.{unit_model};
 ghost use Rattle.al_unit_graph.specs.Views.{header_model};
 ghost use Rattle.al_query_outcome.specs.Left.{is_of_body, own_code};
 ghost use Rattle.al_query_outcome.specs.Tables.{interface_of};
-ghost use Rattle.al_view_used.specs.Links.{Gains, is_among};
+ghost use Rattle.al_check_promises.specs.Links.{Gains, is_among};
 ghost use Rattle.al_check_promises.specs.SelfChecks.{accounted, completing, has_main, is_complete, is_completed, leaves_rightly};
 ghost use Rattle.al_check_promises.specs.Tests.{completes};
 
@@ -17,12 +17,12 @@ use crate::allowed::{add_defined, is_of_body, own_of};
 use crate::checked::SoundUnit;
 use crate::interfaces::{completions_pass, views_pass};
 use crate::stubs::are_told;
+use crate::{LinkSet, LinkTest, add_defines};
 use al_base::{Name, NoMemory, UnitKey, UnitKind};
 use al_query::Completion;
 use al_query_outcome::last_of;
 use al_unit_graph::Header;
 use al_view::{LinkKind, Symbol, View, copied_unit};
-use al_view_used::{LinkSet, LinkTest, add_defines};
 use std::alloc::Global;
 
 /// What may count as completed.

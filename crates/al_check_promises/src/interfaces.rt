@@ -6,10 +6,10 @@ ghost use Rattle.al_view.specs.declared.view.ViewKind.{ViewKind};
 ghost use Rattle.al_query_outcome.specs.Defines.{declared_uses};
 ghost use Rattle.al_check_promises.specs.Parts.{part_uses, property_uses};
 
+use crate::{LinkTest, view_passes};
 use al_query::Completion;
 use al_query_outcome::{Parts, Properties, StubDeclarations};
 use al_view::{Interface, View};
-use al_view_used::{LinkTest, view_passes};
 
 /// The views of the i-th name, from 0.
 pub(crate) fn views_at(interface: &Interface, i: usize) -> &[View]

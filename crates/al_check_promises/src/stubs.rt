@@ -12,7 +12,7 @@ ghost use Rattle.al_unit_graph.specs.Views.{header_model};
 ghost use Rattle.al_query_outcome.specs.Defines.{is_simple};
 ghost use Rattle.al_query_outcome.specs.Left.{first_view, one_view, separate};
 ghost use Rattle.al_query_outcome.specs.Tables.{before_stub, interface_of};
-ghost use Rattle.al_view_used.specs.Links.{is_among};
+ghost use Rattle.al_check_promises.specs.Links.{is_among};
 ghost use Rattle.al_check_promises.specs.SelfChecks.{is_told_stub};
 
 use crate::allowed::shown_of;

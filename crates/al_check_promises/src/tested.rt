@@ -6,7 +6,7 @@ ghost use Rattle.al_view_typed.specs.UnitTrees.{unit_model};
 ghost use Rattle.al_view_typed.specs.Uses.{unit_uses};
 ghost use Rattle.al_query_outcome.specs.Tables.{interface_of};
 ghost use Rattle.al_check_promises.specs.Parts.{part_uses, property_uses};
-ghost use Rattle.al_view_used.specs.Rules.{permits};
+ghost use Rattle.al_check_promises.specs.Rules.{permits};
 ghost use Rattle.al_check_promises.specs.SelfChecks.{defined, is_declared, is_kept, left_shown};
 ghost use Rattle.al_check_promises.specs.Tests.{declares};
 
@@ -14,9 +14,9 @@ use crate::allowed::{allowed_of, defined_of, is_of_body};
 use crate::checked::SoundUnit;
 use crate::code::has_code;
 use crate::interfaces::{completions_pass, parts_pass, properties_pass};
+use crate::{LinkRule, LinkSet, LinkTest, uses_pass};
 use al_base::{NoMemory, UnitKey};
 use al_view::{LinkKind, Symbol, View};
-use al_view_used::{LinkRule, LinkSet, LinkTest, uses_pass};
 use std::alloc::Global;
 
 /// Whether a result uses and shows only what is allowed.

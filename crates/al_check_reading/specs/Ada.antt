@@ -10,20 +10,20 @@ use Rattle.al_check_here.specs.RegionsHere.{in_block, in_loop, out_of_block, wit
 use Rattle.al_check_here.specs.Standings.{is_nowhere, is_whole, with_word, word_of}
 use Rattle.al_check_here.specs.declared.state.CheckState.{CheckState}
 use Rattle.al_check_reading.specs.ValuesHere.{choice_here, condition_here, loop_range_here, moment_here, call_effect_here, result_here, selector_here, source_here, target_here, whole_here}
-use Rattle.al_decl_completion.specs.Uncompleted.{missing_fault}
+use Rattle.al_decl_profile.specs.Uncompleted.{missing_fault}
 use Rattle.al_tree_grammar.specs.Grammar.{Label}
 use Rattle.al_base_fault.specs.declared.fault.Fault.{Fault}
-use Rattle.al_overload_keys.specs.Places.{place_of}
+use Rattle.al_overload_lookup.specs.Places.{place_of}
 use Rattle.al_query.specs.Reads.{Table}
 use Rattle.al_stmts_right_choices.specs.ChoicesTest.{choices_right}
 use Rattle.al_tree_syntax.specs.DeclarationTrees.{SpecificationTree}
 use Rattle.al_view_typed.specs.DeclarationTrees.{DeclarationTree}
-use Rattle.al_stmts_walked.specs.Readings.{Read, Reading}
+use Rattle.al_stmts.specs.Readings.{Read, Reading}
 use Rattle.al_check_declared.specs.DeclarationsHere.{declared_here, nested_declared, no_place}
 use Rattle.al_check_declared.specs.EnteredHere.{body_here, private_here}
 use Rattle.al_check_declared.specs.HeadsHere.{stub_here}
 use Rattle.al_check_declared.specs.ObjectsHere.{entry_head, inner_head, object_entered, object_here, task_head, task_here}
-use Rattle.al_check_objects.specs.OpenObjects.{object_left}
+use Rattle.al_check_declared.specs.OpenObjects.{object_left}
 use Rattle.al_check_declared.specs.WholeHere.{whole_declared, whole_head}
 
 -- outside of all regions nothing is declared

@@ -1,7 +1,7 @@
 -- The expressions of a text where the check of its unit stands, by a table of answers. The temporaries of what is right take the next words of the
 -- frame.
 use Rattle.std.specs.Prelude.{ℕ, Option, Some, None, Result, Ok, Err}
-use Rattle.al_stmts_choices.specs.declared.choice.Choice.{Choice}
+use Rattle.al_stmts.specs.declared.choice.Choice.{Choice}
 use Rattle.al_base_fault.specs.Judging.{map_ok}
 use Rattle.al_base_fault.specs.declared.fault.Fault.{Fault}
 use Rattle.al_overload_label.specs.Ranges.{FoundTree}
@@ -19,7 +19,7 @@ use Rattle.al_overload_values.specs.ValuesAt.{condition_at, moment_at, result_at
 use Rattle.al_overload_values.specs.Words.{Worded}
 use Rattle.al_view.specs.declared.types.Bounds.{Bounds}
 use Rattle.al_view.specs.declared.view.SubtypeView.{SubtypeView}
-use Rattle.al_stmts_walked.specs.Readings.{CallEffect, Read}
+use Rattle.al_stmts.specs.Readings.{CallEffect, Read}
 use Rattle.al_check_here.specs.Stacks.{innermost}
 use Rattle.al_check_here.specs.Standings.{at_word, word_of}
 use Rattle.al_check_here.specs.declared.state.OpenBody.{OpenBody}

@@ -8,19 +8,17 @@ use al_base::{NoMemory, Place};
 use al_base_fault::{CheckResult, CheckRule, Fault};
 use al_check_declared::{
     declare_object, declare_task, declared, enter_body, enter_object, enter_private, entry_head,
-    inner_head, nested_subprogram, no_place, open_stub, task_head, whole_head, whole_subprogram,
+    inner_head, leave_object, nested_subprogram, no_place, open_stub, task_head, whole_head,
+    whole_subprogram,
 };
 use al_check_here::{
     CheckState, declare_parameter, enter_block, enter_loop, enter_statements, labelled,
     leave_block, leave_innermost, returns_in,
 };
-use al_check_objects::leave_object;
 use al_query::{Answers, Recorder};
-use al_stmts::{LoopRange, LoopWords, ReturnContext};
-use al_stmts_choices::{Choice, Selector};
+use al_stmts::{BodyExtent, Choice, LoopRange, LoopWords, ReturnContext, Selector};
 use al_stmts_right_choices::are_right;
 use al_stmts_text::{Analyzer, CallEffect};
-use al_stmts_walked::BodyExtent;
 use al_tree::{
     Choice as ChoiceOfText, CommonDeclaration, DiscreteRange, Expression, Identifier,
     OperationBody, ProtectedDefinition, Specification, TaskDeclaration,

@@ -10,7 +10,7 @@ use al_base::NoMemory;
 use al_base_fault::CheckResult;
 use al_check_here::CheckState;
 use al_query::{Answers, Recorder};
-use al_stmts_choices::Choice;
+use al_stmts::Choice;
 use al_stmts_ranges::{selected_at, whole_at};
 use al_tree::{Choice as ChoiceOfText, Expression};
 use al_view::Bounds;

@@ -10,7 +10,7 @@ use Rattle.al_scope.specs.declared.region.UnitPart.{UnitPart}
 use Rattle.al_view.specs.Named.{Declarations}
 use Rattle.al_query_outcome.specs.Left.{last_of}
 use Rattle.al_check_start.specs.Subunits.{next_body, stubs_in, stubs_out}
-use Rattle.al_scope_unit.specs.UnitPlaces.{part_of}
+use Rattle.al_scope.specs.UnitPlaces.{part_of}
 use Rattle.al_view.specs.declared.part.Part.TheVariants.{Stub}
 
 pub if_ok : {X E : Type 0} (r : Result X E) (P Q : X → Type 0) → ((x : X) → P x → Q x) → IfOk r P → IfOk r Q

@@ -1,2 +1,4 @@
+pub mod PrivateNames
+pub mod Starts
 pub mod Subunits
 pub mod UnitsAt

@@ -7,7 +7,7 @@ use Rattle.al_query.specs.declared.query.Property.TheVariants.{Parent}
 use Rattle.al_query.specs.declared.query.Query.TheVariants.{Of}
 use Rattle.al_query_outcome.specs.Left.{body_named, last_of}
 use Rattle.al_scope.specs.declared.region.UnitPart.{UnitPart}
-use Rattle.al_scope_unit.specs.UnitPlaces.{is_subunit, part_of}
+use Rattle.al_scope.specs.UnitPlaces.{is_subunit, part_of}
 use Rattle.al_view.specs.declared.part.Part.TheVariants.{Stub}
 
 -- in which body the stub of a subunit stands; a library body has none

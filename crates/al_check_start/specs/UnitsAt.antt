@@ -10,15 +10,15 @@ use Rattle.al_base.specs.declared.unit_key.UnitKind.TheVariants.{Decl, Body, Sub
 use Rattle.al_scope_context.specs.Contexts.{all_mentioned, context_at, mentioned, packaged}
 use Rattle.al_scope_context.specs.declared.context.Context.{Context}
 use Rattle.al_decl_judged.specs.declared.progress.Progress.{Progress}
-use Rattle.al_decl_type.specs.Homonyms.{Counts, with_name}
+use Rattle.al_decl_judged.specs.Homonyms.{Counts, with_name}
 use Rattle.al_scope_context.specs.ContextPragmas.{full_name}
 use Rattle.al_unit_header.specs.Units.{is_private, item_name, place_of}
-use Rattle.al_scope_seen.specs.Seen.{completions_seen_at}
-use Rattle.al_scope_seen.specs.declared.hiding.PrivateName.{PrivateName}
+use Rattle.al_scope.specs.Seen.{completions_seen_at}
+use Rattle.al_scope.specs.declared.seen_hiding.PrivateName.{PrivateName}
 use Rattle.al_base_fault.specs.Faults.{fault_at}
 use Rattle.al_base_fault.specs.Judging.{next, unless}
 use Rattle.al_base_fault.specs.declared.fault.Fault.{Fault}
-use Rattle.al_overload_keys.specs.Keys as keys
+use Rattle.al_overload_lookup.specs.Keys as keys
 use Rattle.al_query.specs.Answers.{completions_of, declaration, names_told, own_view_of, views_of}
 use Rattle.al_query.specs.Reads.{Table}
 use Rattle.al_query.specs.declared.answer.Completion.{Completion}
@@ -29,8 +29,8 @@ use Rattle.al_scope.specs.declared.region.UnitPart.{UnitPart}
 use Rattle.al_tree_syntax.specs.UnitTrees.{CompilationUnitTree, LibraryItemTree}
 use Rattle.al_tree_syntax.specs.UnitTrees.LibraryItemTree.{LibrarySubprogram, LibraryPackage, LibraryBody, LibraryPackageBody, Subunit}
 use Rattle.al_unit_graph.specs.Names as names
-use Rattle.al_scope_unit.specs.UnitPlaces.{ancestor_units, mentioned_names, standard_unit, unit_regions, view_symbol}
-use Rattle.al_scope_unit.specs.declared.own.OwnText.{OwnText}
+use Rattle.al_scope.specs.UnitPlaces.{ancestor_units, mentioned_names, standard_unit, unit_regions, view_symbol}
+use Rattle.al_scope.specs.declared.own.OwnText.{OwnText}
 use Rattle.al_view.specs.declared.part.Part.TheVariants as part
 use Rattle.al_view.specs.declared.symbol.Symbol.{Symbol}
 use Rattle.al_view.specs.declared.view.CallKind.{CallKind}

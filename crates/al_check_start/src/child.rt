@@ -14,7 +14,7 @@ ghost use Rattle.al_unit_graph.specs.Names as names;
 use crate::item::item_name;
 use al_base::{Name, NoMemory, UnitKey, UnitKind};
 use al_base_fault::{CheckRule, Fault};
-use al_overload_keys::is_none;
+use al_overload_lookup::is_none;
 use al_query::{Answers, Query, Recorder};
 use al_query_outcome::last_of;
 use al_tree::LibraryItem;

@@ -2,7 +2,7 @@
 ghost use Rattle.std.specs.Prelude.{◌≡◌, ◌∷◌, [], ◌++◌, map, IfOk, OnOk};
 ghost use Rattle.std.specs.List.{flat_map};
 ghost use Rattle.al_query.specs.Answers.{names_told};
-ghost use Rattle.al_scope_unit.specs.UnitPlaces.{ancestor_units};
+ghost use Rattle.al_scope.specs.UnitPlaces.{ancestor_units};
 ghost use Rattle.al_query.specs.Reads.{FromAnswers};
 ghost use Rattle.al_query.specs.declared.query.Property.TheVariants.{Context};
 ghost use Rattle.al_query.specs.declared.query.Query.TheVariants.{Of};
@@ -10,8 +10,7 @@ ghost use Rattle.al_check_start.specs.UnitsAt.{hidden_at, named_in, private_name
 
 use al_base::{Name, NoMemory, UnitKey, UnitKind};
 use al_query::{Answers, Property, Query, Recorder};
-use al_scope_seen::PrivateName;
-use al_scope_unit::{OwnText, ancestors_of};
+use al_scope::{OwnText, PrivateName, ancestors_of};
 use al_view::{Seq, copied_unit};
 use std::alloc::Global;
 

@@ -3,15 +3,14 @@ ghost use Rattle.std.specs.Prelude.{◌≡◌, [], IfOk, OnOk};
 ghost use Rattle.al_query.specs.Reads.{FromAnswers};
 ghost use Rattle.al_tree.specs.UnitViews.{library_item_model};
 ghost use Rattle.al_check_start.specs.UnitsAt.{own_text, own_view, place_at, symbol_of};
-ghost use Rattle.al_scope_unit.specs.UnitPlaces.{view_symbol};
+ghost use Rattle.al_scope.specs.UnitPlaces.{view_symbol};
 
 use crate::item::{is_package_item, is_private};
 use crate::names::plain_symbol;
 use al_base::{NoMemory, UnitKey};
 use al_query::{Answers, Recorder};
-use al_scope::{Scope, UnitPart};
+use al_scope::{OwnText, Scope, UnitPart, enter_unit, mentioned};
 use al_scope_context::{Context, mention_all, mention_view};
-use al_scope_unit::{OwnText, enter_unit, mentioned};
 use al_tree::LibraryItem;
 use al_view::{Seq, Symbol, View, ViewKind, copied_unit};
 use std::alloc::Global;

@@ -7,7 +7,7 @@ ghost use Rattle.al_query.specs.Known.{body};
 ghost use Rattle.al_query.specs.Reads.{FromAnswers};
 ghost use Rattle.al_query.specs.declared.query.Property.TheVariants.{Parent};
 ghost use Rattle.al_query.specs.declared.query.Query.TheVariants.{Named, Of};
-ghost use Rattle.al_scope_unit.specs.UnitPlaces.{is_subunit, part_of};
+ghost use Rattle.al_scope.specs.UnitPlaces.{is_subunit, part_of};
 ghost use Rattle.al_view.specs.declared.part.Part.TheVariants.{Stub};
 ghost use Rattle.al_query_outcome.specs.Left.{body_named, first_view, last_of, stub_view};
 ghost use Rattle.al_check_start.specs.Subunits.{next_body, stubs_in, stubs_out, stubs_round};

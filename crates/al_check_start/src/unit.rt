@@ -2,7 +2,7 @@
 ghost use Rattle.std.specs.Prelude.{◌≡◌, IfOk};
 ghost use Rattle.al_query.specs.Reads.{FromAnswers};
 ghost use Rattle.al_tree.specs.UnitViews.{library_item_model, unit_model};
-ghost use Rattle.al_scope_seen.specs.Seen.{completions_seen_at};
+ghost use Rattle.al_scope.specs.Seen.{completions_seen_at};
 ghost use Rattle.al_check_start.specs.UnitsAt.{hidden_at, start_after, start_with, unit_at, waiting};
 
 use crate::child::name_fault;
@@ -12,13 +12,11 @@ use crate::place::{own_text, own_view, place_at};
 use crate::waiting::{progress_at, visible_waiting};
 use al_base::{NoMemory, UnitKey};
 use al_base_fault::{CheckResult, unless};
-use al_decl_completion::Uncompleted;
 use al_decl_judged::Progress;
+use al_decl_profile::Uncompleted;
 use al_query::{Answers, Recorder};
-use al_scope::Scope;
+use al_scope::{OwnText, PrivateName, Scope};
 use al_scope_context::{Context, context_at};
-use al_scope_seen::PrivateName;
-use al_scope_unit::OwnText;
 use al_tree::{CompilationUnit, LibraryItem};
 use al_view::{Seq, View};
 use std::alloc::Global;

@@ -1,6 +1,6 @@
 // What waits at the start of a unit, and how far its check has come there.
 ghost use Rattle.std.specs.Prelude.{◌≡◌, IfOk};
-ghost use Rattle.al_scope_seen.specs.Seen.{completions_seen_at};
+ghost use Rattle.al_scope.specs.Seen.{completions_seen_at};
 ghost use Rattle.al_query.specs.Answers.{completions_of, declaration};
 ghost use Rattle.al_query.specs.Reads.{FromAnswers};
 ghost use Rattle.al_query.specs.declared.query.Property.TheVariants.{Completions};
@@ -9,13 +9,11 @@ ghost use Rattle.al_tree.specs.UnitViews.{library_item_model};
 ghost use Rattle.al_check_start.specs.UnitsAt.{call_depth, completion, depth_of, homonyms_at, progress_at, waiting};
 
 use al_base::{Name, NoMemory, UnitKey, UnitKind};
-use al_decl_completion::Uncompleted;
-use al_decl_judged::Progress;
-use al_decl_type::{Homonyms, Words};
+use al_decl_judged::{Homonyms, Progress, Words};
+use al_decl_profile::Uncompleted;
 use al_query::{Answers, Completion, Property, Query, Recorder};
 use al_query_outcome::last_of;
-use al_scope::Scope;
-use al_scope_seen::completions_seen_at;
+use al_scope::{Scope, completions_seen_at};
 use al_tree::LibraryItem;
 use al_view::{CallKind, Seq, View, ViewKind, copied_unit};
 use std::alloc::Global;

@@ -31,10 +31,10 @@ use Rattle.al_instr.specs.declared.numbers.Plain.{Plain as PlainOne}
 use Rattle.al_instr.specs.declared.numbers.Plain.TheVariants as plain
 use Rattle.al_instr.specs.declared.numbers.Sized.{Sized as SizedOne}
 use Rattle.al_instr.specs.declared.numbers.Sized.TheVariants as sized
-use Rattle.al_code_output.specs.declared.piece.Construct.TheVariants as construct
-use Rattle.al_code_output.specs.Pieces.{Piece}
-use Rattle.al_code_expr.specs.Pieces.{one, of_size, number, slot, store_slot, load_slot, check_code, place_code, join, unless_zero, guarded, times}
-use Rattle.al_code_expr.specs.Templates.{kept_code, above_code, below_code, unary_code, binary_code, negation_code, short_code, step_code, words_of, static_or, flag_code, mark_code, routine_code, formal_code, copy_code, copies_code, value_of, form_code, address_of, checked_code, converted_code, components_code, variable_code, variables_code, passed_code, all_passed_code, call_code}
+use Rattle.al_code.specs.declared.piece.Construct.TheVariants as construct
+use Rattle.al_code.specs.Pieces.{Piece}
+use Rattle.al_code.specs.ExprPieces.{one, of_size, number, slot, store_slot, load_slot, check_code, place_code, join, unless_zero, guarded, times}
+use Rattle.al_code.specs.Templates.{kept_code, above_code, below_code, unary_code, binary_code, negation_code, short_code, step_code, words_of, static_or, flag_code, mark_code, routine_code, formal_code, copy_code, copies_code, value_of, form_code, address_of, checked_code, converted_code, components_code, variable_code, variables_code, passed_code, all_passed_code, call_code}
 use Rattle.al_code.proofs.Bounds.{Bounded, nothing, whole, using_one, waiting, then, end_of}
 
 -- ---- short codes

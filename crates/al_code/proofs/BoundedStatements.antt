@@ -25,8 +25,8 @@ use Rattle.al_view_typed.specs.StatementViews.{statements_of}
 use Rattle.al_view_typed.specs.UnitTrees.{ElaborationTree}
 use Rattle.al_view_typed.specs.declared.unit.EntryOf.{EntryOf}
 use Rattle.al_view_typed.specs.declared.unit.FormalWords.{FormalWords}
-use Rattle.al_code_output.specs.declared.piece.Construct.TheVariants as construct
-use Rattle.al_code_output.specs.Pieces.{Piece}
+use Rattle.al_code.specs.declared.piece.Construct.TheVariants as construct
+use Rattle.al_code.specs.Pieces.{Piece}
 use Rattle.al_code.specs.declared.routine.Routine.{Routine}
 use Rattle.al_code.specs.Declarations.{object_code, subprogram_code, elaborated_code, component_code, declaration_code, declaration_form_code, seed_code, declarations_code}
 use Rattle.al_code.specs.Images.{dropped_code, image_code, images, line_code, piece_code, pieces_code, emit_code}

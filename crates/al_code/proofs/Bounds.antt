@@ -5,16 +5,16 @@ use Rattle.al_view.specs.declared.link.LinkSymbol.{LinkSymbol}
 use Rattle.al_instr.specs.declared.instruction.Instr.{Instr}
 use Rattle.al_instr.specs.declared.instruction.Instr.TheVariants as instr
 use Rattle.al_instr.specs.Codes.{code_bytes, size_of, encoded}
-use Rattle.al_code_output.specs.declared.piece.Construct.{Construct}
-use Rattle.al_code_output.specs.declared.piece.Target.{Target}
-use Rattle.al_code_output.specs.declared.piece.JumpCondition.{JumpCondition}
-use Rattle.al_code_output.specs.declared.piece.JumpCondition.TheVariants as when
+use Rattle.al_code.specs.declared.piece.Construct.{Construct}
+use Rattle.al_code.specs.declared.piece.Target.{Target}
+use Rattle.al_code.specs.declared.piece.JumpCondition.{JumpCondition}
+use Rattle.al_code.specs.declared.piece.JumpCondition.TheVariants as when
 use Rattle.al_code_object.specs.declared.object.Address.{Address}
-use Rattle.al_code_output.specs.Pieces.{Piece, Whole, Using, Leaving, Begins, Line, back, bytes_of, closed, defines_from, definition_at, jump_of, over_or, repeated, size}
-use Rattle.al_code_output.specs.Targets.{outside}
-use Rattle.al_code_output.proofs.Jumps.{jump_size}
-use Rattle.al_code_output.proofs.Closing.{noted_closed}
-use Rattle.al_code_output.proofs.Writing.{noted_append, size_cons}
+use Rattle.al_code.specs.Pieces.{Piece, Whole, Using, Leaving, Begins, Line, back, bytes_of, closed, defines_from, definition_at, jump_of, over_or, repeated, size}
+use Rattle.al_code.specs.Targets.{outside}
+use Rattle.al_code.proofs.Jumps.{jump_size}
+use Rattle.al_code.proofs.Closing.{noted_closed}
+use Rattle.al_code.proofs.Writing.{noted_append, size_cons}
 use Rattle.al_code.specs.Division.{BeginsAt, JumpsLead, jump_in}
 
 -- the instructions of pieces

@@ -25,14 +25,14 @@ use Rattle.al_instr.specs.declared.instruction.Instr.{Instr}
 use Rattle.al_instr.specs.declared.instruction.Instr.TheVariants as instr
 use Rattle.al_instr.specs.Numbers.{plain_number, protected_number, sized_number}
 use Rattle.al_instr.specs.Codes.{encoded, jump_bytes, long_bytes, names_bytes, word_bytes}
-use Rattle.al_code_output.specs.declared.piece.Construct.{Construct}
-use Rattle.al_code_output.specs.declared.piece.Construct.TheVariants as construct
-use Rattle.al_code_output.specs.declared.piece.Target.{Target}
-use Rattle.al_code_output.specs.Pieces.{Piece, Whole, Using, Leaving, Begins, Line, closed, jump_of, over_or, piece_bytes, piece_size, repeated, size}
-use Rattle.al_code_output.specs.Targets.{outside}
-use Rattle.al_code_output.proofs.Writing.{size_cons}
-use Rattle.al_code_expr.specs.Pieces.{guarded, unless_zero}
-use Rattle.al_code_expr.specs.Templates.{call_code, checked_code, routine_code}
+use Rattle.al_code.specs.declared.piece.Construct.{Construct}
+use Rattle.al_code.specs.declared.piece.Construct.TheVariants as construct
+use Rattle.al_code.specs.declared.piece.Target.{Target}
+use Rattle.al_code.specs.Pieces.{Piece, Whole, Using, Leaving, Begins, Line, closed, jump_of, over_or, piece_bytes, piece_size, repeated, size}
+use Rattle.al_code.specs.Targets.{outside}
+use Rattle.al_code.proofs.Writing.{size_cons}
+use Rattle.al_code.specs.ExprPieces.{guarded, unless_zero}
+use Rattle.al_code.specs.Templates.{call_code, checked_code, routine_code}
 use Rattle.al_code.specs.declared.routine.Routine.{Routine}
 use Rattle.al_code.specs.Declarations.{component_code, declaration_code, declaration_form_code, declarations_code, elaborated_code, object_code, seed_code, subprogram_code}
 use Rattle.al_code.specs.Images.{emit_code, piece_code}

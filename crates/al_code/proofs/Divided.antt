@@ -19,10 +19,10 @@ use Rattle.al_view_typed.specs.declared.unit.EntryOf.{EntryOf}
 use Rattle.al_code_object.specs.declared.object.Address.{Address}
 use Rattle.al_code_object.specs.declared.object.Object.TheVariants.{Large, Compiled}
 use Rattle.al_code_object.specs.Objects.{CompiledCode}
-use Rattle.al_code_output.specs.Pieces.{Piece, Begins, bytes_of, defines_from, size}
-use Rattle.al_code_output.proofs.Writing.{bytes_append, noted_append}
-use Rattle.al_code_output.specs.Pieces.{definition_at}
-use Rattle.al_code_expr.specs.Pieces.{of_size}
+use Rattle.al_code.specs.Pieces.{Piece, Begins, bytes_of, defines_from, size}
+use Rattle.al_code.proofs.Writing.{bytes_append, noted_append}
+use Rattle.al_code.specs.Pieces.{definition_at}
+use Rattle.al_code.specs.ExprPieces.{of_size}
 use Rattle.al_code.specs.Division.{EachFallsIntoRoutines, FallsIntoRoutines, RoutineCode, StaysInside, bytes_in, kind_symbols, routine_symbols, standing_from, symbol_at}
 use Rattle.al_code.specs.ObjectOf.{compiled_of, data_addresses, object_of}
 use Rattle.al_code.specs.Routines.{body_code, elaboration_code, entry_code, function_code, gate_code, inside_code, kind_code, procedure_code, protected_function_code, protected_procedure_code, task_code, unit_code, unlocking, within}

@@ -7,11 +7,11 @@ use Rattle.std.proofs.lemmas.List.Sums.{sum_by-cons}
 use Rattle.al_view_typed.specs.StatementViews.{piece_model, statement_model, statements_of}
 use Rattle.al_view_typed.specs.declared.statement.Piece.{Piece as TextPiece}
 use Rattle.al_view_typed.specs.declared.statement.TypedStatement.{TypedStatement}
-use Rattle.al_code_output.specs.Pieces.{Piece}
-use Rattle.al_code_output.specs.Written.{Buffer, written}
-use Rattle.al_code_output.proofs.Writing.{written_all, written_append, written_more}
-use Rattle.al_code_expr.specs.Pieces.{join}
-use Rattle.al_code_expr.proofs.Lists.{flat_map-map}
+use Rattle.al_code.specs.Pieces.{Piece}
+use Rattle.al_code.specs.Written.{Buffer, written}
+use Rattle.al_code.proofs.Writing.{written_all, written_append, written_more}
+use Rattle.al_code.specs.ExprPieces.{join}
+use Rattle.al_code.proofs.ExprLists.{flat_map-map}
 use Rattle.al_code.specs.Images.{is_image, piece_code, pieces_code}
 use Rattle.al_code.specs.Statements.{others_code}
 

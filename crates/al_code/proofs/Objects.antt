@@ -18,11 +18,11 @@ use Rattle.al_code_object.specs.declared.object.Relocation.{Relocation}
 use Rattle.al_code_object.specs.Objects.{CompiledCode, IsCode, Keeps, LiesIn, StandsAt, StandsIn}
 use Rattle.al_instr.specs.declared.lines.LineEntry.{LineEntry}
 use Rattle.al_instr.specs.Lines.{AreLines, line_table}
-use Rattle.al_code_output.specs.Kept.{IsCodeKind, StandsWithin}
-use Rattle.al_code_output.specs.Pieces.{size}
-use Rattle.al_code_output.specs.Written.{Buffer, empty, grown, written}
-use Rattle.al_code_output.proofs.Lines.{table_keeps}
-use Rattle.al_code_output.proofs.Writing.{writes_all}
+use Rattle.al_code.specs.Kept.{IsCodeKind, StandsWithin}
+use Rattle.al_code.specs.Pieces.{size}
+use Rattle.al_code.specs.Written.{Buffer, empty, grown, written}
+use Rattle.al_code.proofs.Lines.{table_keeps}
+use Rattle.al_code.proofs.Writing.{writes_all}
 use Rattle.al_code.specs.Images.{word_of}
 use Rattle.al_code.specs.ObjectOf.{data_addresses, object_of, place_address, protected_addresses, region_of, tasks_of}
 use Rattle.al_code.specs.Routines.{unit_code}

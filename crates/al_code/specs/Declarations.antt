@@ -10,10 +10,10 @@ use Rattle.al_instr.specs.declared.instruction.Instr.TheVariants as instr
 use Rattle.al_instr.specs.declared.numbers.Sized.TheVariants as sized
 use Rattle.al_view_typed.specs.DeclarationTrees.{ComponentValueTree, DeclarationTree, DeclarationFormTree, Objects, Subprogram, Elaborated, SingleTask, SingleProtected}
 use Rattle.al_view_typed.specs.ExpressionTrees.{ValueTree}
-use Rattle.al_code_output.specs.Pieces.{Piece}
-use Rattle.al_code_output.specs.Pieces.Piece.{Using}
-use Rattle.al_code_expr.specs.Pieces.{number, of_size, place_code}
-use Rattle.al_code_expr.specs.Templates.{checked_code}
+use Rattle.al_code.specs.Pieces.{Piece}
+use Rattle.al_code.specs.Pieces.Piece.{Using}
+use Rattle.al_code.specs.ExprPieces.{number, of_size, place_code}
+use Rattle.al_code.specs.Templates.{checked_code}
 use Rattle.al_code.specs.Marks.{declaration_has_code, mark_of}
 
 -- an object begins with its value, or with zeros (ARM 3.3.1)

@@ -6,10 +6,10 @@ use Rattle.al_instr.specs.declared.numbers.Plain.TheVariants as plain
 use Rattle.al_instr.specs.declared.numbers.Sized.TheVariants as sized
 use Rattle.al_view_typed.specs.StatementTrees.{PieceTree}
 use Rattle.al_view_typed.specs.StatementTrees.PieceTree.{TextPiece, IntegerImage, EnumerationImage}
-use Rattle.al_code_output.specs.Pieces.{Piece, printed}
-use Rattle.al_code_output.specs.Pieces.Piece.{Whole}
-use Rattle.al_code_expr.specs.Pieces.{of_size, one}
-use Rattle.al_code_expr.specs.Templates.{value_of}
+use Rattle.al_code.specs.Pieces.{Piece, printed}
+use Rattle.al_code.specs.Pieces.Piece.{Whole}
+use Rattle.al_code.specs.ExprPieces.{of_size, one}
+use Rattle.al_code.specs.Templates.{value_of}
 
 -- a count as an operand: no image has room for as many as don't fit
 abbrev pub word_of : ℕ → ℕ

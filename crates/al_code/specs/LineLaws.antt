@@ -2,7 +2,7 @@
 use Rattle.std.specs.Prelude.{ℕ, ◌≡◌, nat_lt}
 use Rattle.al_view_typed.specs.DeclarationTrees.{DeclarationFormTree}
 use Rattle.al_view_typed.specs.StatementTrees.{StatementFormTree}
-use Rattle.al_code_output.specs.Pieces.{size}
+use Rattle.al_code.specs.Pieces.{size}
 use Rattle.al_code.specs.declared.routine.Routine.{Routine}
 use Rattle.al_code.specs.Declarations.{declaration_form_code}
 use Rattle.al_code.specs.Marks.{declaration_has_code, has_code}

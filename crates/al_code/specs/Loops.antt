@@ -7,12 +7,12 @@ use Rattle.al_instr.specs.declared.numbers.Sized.TheVariants as sized
 use Rattle.al_view_typed.specs.ExpressionTrees.{TypedTree}
 use Rattle.al_view_typed.specs.StatementTrees.{SchemeTree}
 use Rattle.al_view_typed.specs.StatementTrees.SchemeTree.{ForeverScheme, WhileScheme, ForScheme}
-use Rattle.al_code_output.specs.declared.piece.JumpCondition.TheVariants as when
-use Rattle.al_code_output.specs.declared.piece.Target.TheVariants as target
-use Rattle.al_code_output.specs.Pieces.{Piece, repeated}
-use Rattle.al_code_output.specs.Pieces.Piece.{Leaving}
-use Rattle.al_code_expr.specs.Pieces.{check_code, guarded, load_slot, number, of_size, one, store_slot}
-use Rattle.al_code_expr.specs.Templates.{value_of}
+use Rattle.al_code.specs.declared.piece.JumpCondition.TheVariants as when
+use Rattle.al_code.specs.declared.piece.Target.TheVariants as target
+use Rattle.al_code.specs.Pieces.{Piece, repeated}
+use Rattle.al_code.specs.Pieces.Piece.{Leaving}
+use Rattle.al_code.specs.ExprPieces.{check_code, guarded, load_slot, number, of_size, one, store_slot}
+use Rattle.al_code.specs.Templates.{value_of}
 
 -- a loop so many loops out is left
 abbrev pub exit_code : ℕ → List Piece

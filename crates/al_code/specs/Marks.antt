@@ -9,8 +9,8 @@ use Rattle.al_view_typed.specs.StatementTrees.BranchesTree.{NoBranch, MoreBranch
 use Rattle.al_view_typed.specs.StatementTrees.StatementTree.{Numbered}
 use Rattle.al_view_typed.specs.StatementTrees.StatementsTree.{NoStatement, MoreStatements}
 use Rattle.al_view_typed.specs.StatementTrees.StatementFormTree.{NullStatement, AssignmentStatement, CallStatement, PutStatement, ReturnStatement, ExitStatement, DelayStatement, IfStatement, CaseStatement, LoopStatement, BlockStatement}
-use Rattle.al_code_output.specs.Pieces.{Piece}
-use Rattle.al_code_output.specs.Pieces.Piece.{Line}
+use Rattle.al_code.specs.Pieces.{Piece}
+use Rattle.al_code.specs.Pieces.Piece.{Line}
 
 -- the code of a line begins here
 unfoldable pub mark_of : Bool → ℕ → List Piece

@@ -13,7 +13,7 @@ use Rattle.al_code_object.specs.declared.object.Object.{Object}
 use Rattle.al_code_object.specs.declared.object.Object.TheVariants.{Large, Compiled}
 use Rattle.al_code_object.specs.declared.object.Region.{Region}
 use Rattle.al_code_object.specs.Objects.{CompiledCode}
-use Rattle.al_code_output.specs.Pieces.{Piece, bytes_of, defines_from, lines_from, size, uses_from}
+use Rattle.al_code.specs.Pieces.{Piece, bytes_of, defines_from, lines_from, size, uses_from}
 use Rattle.al_code.specs.Images.{word_of}
 use Rattle.al_code.specs.Routines.{unit_code}
 

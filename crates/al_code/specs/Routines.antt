@@ -20,10 +20,10 @@ use Rattle.al_view_typed.specs.declared.unit.BodyKind.{BodyKind}
 use Rattle.al_view_typed.specs.declared.unit.BodyKind.TheVariants as kinds
 use Rattle.al_view_typed.specs.declared.unit.EntryOf.{EntryOf}
 use Rattle.al_view_typed.specs.declared.unit.FormalWords.{FormalWords}
-use Rattle.al_code_output.specs.declared.piece.Construct.TheVariants as construct
-use Rattle.al_code_output.specs.Pieces.{Piece, closed}
-use Rattle.al_code_output.specs.Pieces.Piece.{Using, Begins}
-use Rattle.al_code_expr.specs.Pieces.{guarded, of_size, one, place_code, slot}
+use Rattle.al_code.specs.declared.piece.Construct.TheVariants as construct
+use Rattle.al_code.specs.Pieces.{Piece, closed}
+use Rattle.al_code.specs.Pieces.Piece.{Using, Begins}
+use Rattle.al_code.specs.ExprPieces.{guarded, of_size, one, place_code, slot}
 use Rattle.al_code.specs.declared.routine.Routine.{Routine}
 use Rattle.al_code.specs.Declarations.{declarations_code}
 use Rattle.al_code.specs.Marks.{mark_of}

@@ -13,13 +13,13 @@ use Rattle.al_view_typed.specs.StatementTrees.BranchTree.{Branch}
 use Rattle.al_view_typed.specs.StatementTrees.BranchesTree.{NoBranch, MoreBranches}
 use Rattle.al_view_typed.specs.StatementTrees.AlternativeTree.{Alternative}
 use Rattle.al_view_typed.specs.StatementTrees.AlternativesTree.{NoAlternative, MoreAlternatives}
-use Rattle.al_code_output.specs.declared.piece.JumpCondition.TheVariants as when
-use Rattle.al_code_output.specs.declared.piece.Target.TheVariants as target
-use Rattle.al_code_output.specs.declared.piece.Construct.TheVariants as construct
-use Rattle.al_code_output.specs.Pieces.{Piece, closed}
-use Rattle.al_code_output.specs.Pieces.Piece.{Leaving}
-use Rattle.al_code_expr.specs.Pieces.{guarded, join, load_slot, number, of_size, one, store_slot}
-use Rattle.al_code_expr.specs.Templates.{address_of, call_code, checked_code, value_of}
+use Rattle.al_code.specs.declared.piece.JumpCondition.TheVariants as when
+use Rattle.al_code.specs.declared.piece.Target.TheVariants as target
+use Rattle.al_code.specs.declared.piece.Construct.TheVariants as construct
+use Rattle.al_code.specs.Pieces.{Piece, closed}
+use Rattle.al_code.specs.Pieces.Piece.{Leaving}
+use Rattle.al_code.specs.ExprPieces.{guarded, join, load_slot, number, of_size, one, store_slot}
+use Rattle.al_code.specs.Templates.{address_of, call_code, checked_code, value_of}
 use Rattle.al_code.specs.declared.routine.Routine.{Routine}
 use Rattle.al_code.specs.Declarations.{declarations_code}
 use Rattle.al_code.specs.Images.{emit_code}

@@ -3,8 +3,8 @@ ghost use Rattle.std.specs.Prelude.{◌≡◌, ◌++◌, OnOk};
 ghost use Rattle.std.specs.List.{flat_map};
 ghost use Rattle.al_instr.specs.declared.numbers.Sized.TheVariants as sized;
 ghost use Rattle.al_view_typed.specs.UnitTrees.{body_model, elaboration_model};
-ghost use Rattle.al_code_output.specs.Written.{written};
-ghost use Rattle.al_code_expr.specs.Pieces.{of_size, slot};
+ghost use Rattle.al_code.specs.Written.{written};
+ghost use Rattle.al_code.specs.ExprPieces.{of_size, slot};
 ghost use Rattle.al_code.specs.Routines.{begun_code, body_code, copied_code, elaboration_code, ending_code, entry_code, formal_code, function_code, inside_code, procedure_code, protected_function_code, protected_procedure_code, task_code};
 
 use crate::declarations::emit_declarations;
@@ -12,15 +12,14 @@ use crate::marks::emit_mark;
 use crate::protected::{emit_act, emit_gate, emit_served};
 use crate::routine::Routine;
 use crate::statements::emit_statements;
+use crate::{Construct, Output, emit_plain, emit_sized, emit_slot};
 use al_base::NoMemory;
-use al_code_expr::{emit_plain, emit_sized, emit_slot};
-use al_code_output::{Construct, Output};
 use al_instr::{Plain, Protected, Sized};
 use al_view::{LinkKind, Mode, ObjectPlace, Symbol};
 use al_view_typed::{BodyKind, Elaboration, EntryOf, FormalWords, TypedBody};
 
 /// What is done when a unit is elaborated (ARM 10.2(9)).
-#[tactic(auto, using(al_code_output::proofs::Writing::written_append), unfolding(al_view_typed::specs::UnitTrees::elaboration_model, crate::specs::Routines::elaboration_code))]
+#[tactic(auto, using(crate::proofs::Writing::written_append), unfolding(al_view_typed::specs::UnitTrees::elaboration_model, crate::specs::Routines::elaboration_code))]
 pub(crate) fn emit_elaboration(out: &mut Output, elaboration: &Elaboration) -> Result<(), NoMemory>
     ensures { OnOk result (out.new ≡ written out.old (elaboration_code (elaboration_model elaboration.now))) }
 {
@@ -50,7 +49,7 @@ pub(crate) fn emit_body(out: &mut Output, body: &TypedBody) -> Result<(), NoMemo
     }
 }
 
-#[tactic(auto, using(al_code_output::proofs::Writing::written_append), unfolding(al_view_typed::specs::UnitTrees::body_model, al_view_typed::specs::UnitTrees::elaboration_model, crate::specs::Routines::procedure_code))]
+#[tactic(auto, using(crate::proofs::Writing::written_append), unfolding(al_view_typed::specs::UnitTrees::body_model, al_view_typed::specs::UnitTrees::elaboration_model, crate::specs::Routines::procedure_code))]
 fn emit_procedure(out: &mut Output, body: &TypedBody, copied: u32) -> Result<(), NoMemory>
     ensures { OnOk result (out.new ≡ written out.old (procedure_code (body_model body.now) copied)) }
 {
@@ -61,7 +60,7 @@ fn emit_procedure(out: &mut Output, body: &TypedBody, copied: u32) -> Result<(),
 }
 
 /// A function that runs past its end raises Program_Error (ARM 6.5(20)).
-#[tactic(auto, using(al_code_output::proofs::Writing::written_append), unfolding(al_view_typed::specs::UnitTrees::body_model, al_view_typed::specs::UnitTrees::elaboration_model, crate::specs::Routines::function_code))]
+#[tactic(auto, using(crate::proofs::Writing::written_append), unfolding(al_view_typed::specs::UnitTrees::body_model, al_view_typed::specs::UnitTrees::elaboration_model, crate::specs::Routines::function_code))]
 fn emit_function(out: &mut Output, body: &TypedBody, end: usize) -> Result<(), NoMemory>
     ensures { OnOk result (out.new ≡ written out.old (function_code (body_model body.now) end)) }
 {
@@ -72,7 +71,7 @@ fn emit_function(out: &mut Output, body: &TypedBody, end: usize) -> Result<(), N
     emit_sized(out, Sized::Raise, 2)
 }
 
-#[tactic(auto, using(al_code_output::proofs::Writing::written_append), unfolding(al_view_typed::specs::UnitTrees::body_model, al_view_typed::specs::UnitTrees::elaboration_model, crate::specs::Routines::task_code))]
+#[tactic(auto, using(crate::proofs::Writing::written_append), unfolding(al_view_typed::specs::UnitTrees::body_model, al_view_typed::specs::UnitTrees::elaboration_model, crate::specs::Routines::task_code))]
 fn emit_task(out: &mut Output, body: &TypedBody) -> Result<(), NoMemory>
     ensures { OnOk result (out.new ≡ written out.old (task_code (body_model body.now))) }
 {
@@ -82,7 +81,7 @@ fn emit_task(out: &mut Output, body: &TypedBody) -> Result<(), NoMemory>
     emit_plain(out, Plain::Done)
 }
 
-#[tactic(auto, using(al_code_output::proofs::Writing::written_append), unfolding(al_view_typed::specs::UnitTrees::body_model, al_view_typed::specs::UnitTrees::elaboration_model, crate::specs::Routines::protected_procedure_code))]
+#[tactic(auto, using(crate::proofs::Writing::written_append), unfolding(al_view_typed::specs::UnitTrees::body_model, al_view_typed::specs::UnitTrees::elaboration_model, crate::specs::Routines::protected_procedure_code))]
 fn emit_protected_procedure(
     out: &mut Output,
     body: &TypedBody,
@@ -101,7 +100,7 @@ fn emit_protected_procedure(
     emit_copied(out, body.formals.as_slice(), copied)
 }
 
-#[tactic(auto, using(al_code_output::proofs::Writing::written_append), unfolding(al_view_typed::specs::UnitTrees::body_model, al_view_typed::specs::UnitTrees::elaboration_model, crate::specs::Routines::protected_function_code))]
+#[tactic(auto, using(crate::proofs::Writing::written_append), unfolding(al_view_typed::specs::UnitTrees::body_model, al_view_typed::specs::UnitTrees::elaboration_model, crate::specs::Routines::protected_function_code))]
 fn emit_protected_function(
     out: &mut Output,
     body: &TypedBody,
@@ -118,7 +117,7 @@ fn emit_protected_function(
     emit_sized(out, Sized::Raise, 2)
 }
 
-#[tactic(auto, using(al_code_output::proofs::Writing::written_append), unfolding(al_view_typed::specs::UnitTrees::body_model, al_view_typed::specs::UnitTrees::elaboration_model, crate::specs::Routines::entry_code))]
+#[tactic(auto, using(crate::proofs::Writing::written_append), unfolding(al_view_typed::specs::UnitTrees::body_model, al_view_typed::specs::UnitTrees::elaboration_model, crate::specs::Routines::entry_code))]
 fn emit_entry(
     out: &mut Output,
     body: &TypedBody,
@@ -137,7 +136,7 @@ fn emit_entry(
 }
 
 /// The frame, the declarations, the statements.
-#[tactic(auto, using(al_code_output::proofs::Writing::written_append), unfolding(al_view_typed::specs::UnitTrees::elaboration_model, crate::specs::Routines::inside_code))]
+#[tactic(auto, using(crate::proofs::Writing::written_append), unfolding(al_view_typed::specs::UnitTrees::elaboration_model, crate::specs::Routines::inside_code))]
 fn emit_inside(
     out: &mut Output,
     routine: Routine,
@@ -163,7 +162,7 @@ fn emit_ending(out: &mut Output, routine: Routine, inside: &Elaboration) -> Resu
 }
 
 /// A task tells that its activation ends (ARM 9.2).
-#[tactic(auto, using(al_code_output::proofs::Writing::written_nothing))]
+#[tactic(auto, using(crate::proofs::Writing::written_nothing))]
 fn emit_begun(out: &mut Output, is_task: bool) -> Result<(), NoMemory>
     ensures { OnOk result (out.new ≡ written out.old (begun_code is_task)) }
 {
@@ -174,7 +173,7 @@ fn emit_begun(out: &mut Output, is_task: bool) -> Result<(), NoMemory>
 }
 
 /// The return of a procedure with what is copied back, of so many words (ARM 6.4.1(17)).
-#[tactic(auto, using(al_code_output::proofs::Writing::written_append), unfolding(crate::specs::Routines::copied_code))]
+#[tactic(auto, using(crate::proofs::Writing::written_append), unfolding(crate::specs::Routines::copied_code))]
 fn emit_copied(out: &mut Output, formals: &[FormalWords], copied: u32) -> Result<(), NoMemory>
     ensures { OnOk result (out.new ≡ written out.old (copied_code formals.now copied)) }
 {
@@ -191,7 +190,7 @@ fn emit_formals(out: &mut Output, formals: &[FormalWords]) -> Result<(), NoMemor
     Ok(())
 }
 
-#[tactic(auto, using(al_code_output::proofs::Writing::written_append, al_code_output::proofs::Writing::written_nothing), unfolding(crate::specs::Routines::formal_code))]
+#[tactic(auto, using(crate::proofs::Writing::written_append, crate::proofs::Writing::written_nothing), unfolding(crate::specs::Routines::formal_code))]
 fn emit_formal(out: &mut Output, formal: FormalWords) -> Result<(), NoMemory>
     ensures { OnOk result (out.new ≡ written out.old (formal_code formal)) }
 {
@@ -203,7 +202,7 @@ fn emit_formal(out: &mut Output, formal: FormalWords) -> Result<(), NoMemory>
 }
 
 /// So many words of the frame from this one on.
-#[tactic(auto, using(al_code_output::proofs::Writing::written_append))]
+#[tactic(auto, using(crate::proofs::Writing::written_append))]
 fn emit_words(out: &mut Output, word: u32, words: u32) -> Result<(), NoMemory>
     ensures { OnOk result (out.new ≡ written out.old (slot word ++ of_size sized.Load words)) }
 {

@@ -2,20 +2,19 @@
 ghost use Rattle.std.specs.Prelude.{◌≡◌, ◌++◌, OnOk};
 ghost use Rattle.std.specs.List.{flat_map};
 ghost use Rattle.al_view_typed.specs.ExpressionViews.{typed_model};
-ghost use Rattle.al_code_output.specs.Written.{written};
-ghost use Rattle.al_code_expr.specs.Pieces.{store_slot};
-ghost use Rattle.al_code_expr.specs.Templates.{value_of};
+ghost use Rattle.al_code.specs.Written.{written};
+ghost use Rattle.al_code.specs.ExprPieces.{store_slot};
+ghost use Rattle.al_code.specs.Templates.{value_of};
 ghost use Rattle.al_code.specs.Statements.{choice_code, choices_code, other_choice_code};
 
+use crate::{Output, emit_load_slot, emit_number, emit_plain, emit_store_slot, emit_value};
 use al_base::NoMemory;
-use al_code_expr::{emit_load_slot, emit_number, emit_plain, emit_store_slot, emit_value};
-use al_code_output::Output;
 use al_instr::Plain;
 use al_view::Bounds;
 use al_view_typed::Typed;
 
 /// The selector's value is kept.
-#[tactic(auto, using(al_code_output::proofs::Writing::written_append))]
+#[tactic(auto, using(crate::proofs::Writing::written_append))]
 pub(crate) fn emit_selector(
     out: &mut Output,
     depth: u32,
@@ -29,7 +28,7 @@ pub(crate) fn emit_selector(
 }
 
 /// Whether the value that is kept lies within the bounds of any choice.
-#[tactic(auto, using(al_code_output::proofs::Writing::written_append, al_code_output::proofs::Writing::written_nothing))]
+#[tactic(auto, using(crate::proofs::Writing::written_append, crate::proofs::Writing::written_nothing))]
 pub(crate) fn emit_choices(out: &mut Output, word: u32, choices: &[Bounds]) -> Result<(), NoMemory>
     ensures { OnOk result (out.new ≡ written out.old (choices_code word choices.now)) }
 {
@@ -51,7 +50,7 @@ fn emit_other_choices(out: &mut Output, word: u32, choices: &[Bounds]) -> Result
     Ok(())
 }
 
-#[tactic(auto, using(al_code_output::proofs::Writing::written_append), unfolding(crate::specs::Statements::other_choice_code))]
+#[tactic(auto, using(crate::proofs::Writing::written_append), unfolding(crate::specs::Statements::other_choice_code))]
 fn emit_other_choice(out: &mut Output, word: u32, choice: &Bounds) -> Result<(), NoMemory>
     ensures { OnOk result (out.new ≡ written out.old (other_choice_code word choice.now)) }
 {
@@ -59,7 +58,7 @@ fn emit_other_choice(out: &mut Output, word: u32, choice: &Bounds) -> Result<(),
     emit_plain(out, Plain::Or)
 }
 
-#[tactic(auto, using(al_code_output::proofs::Writing::written_append), unfolding(crate::specs::Statements::choice_code))]
+#[tactic(auto, using(crate::proofs::Writing::written_append), unfolding(crate::specs::Statements::choice_code))]
 fn emit_choice(out: &mut Output, word: u32, choice: &Bounds) -> Result<(), NoMemory>
     ensures { OnOk result (out.new ≡ written out.old (choice_code word choice.now)) }
 {

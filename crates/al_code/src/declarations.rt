@@ -6,15 +6,14 @@ ghost use Rattle.al_view.specs.declared.link.LinkKind.TheVariants.{Code, Data};
 ghost use Rattle.al_instr.specs.declared.instruction.Instr.TheVariants.{Seed, Task};
 ghost use Rattle.al_view_typed.specs.DeclarationTrees.{component_value_model, declaration_model, form_model};
 ghost use Rattle.al_view_typed.specs.ExpressionViews.{value_model};
-ghost use Rattle.al_code_output.specs.Pieces.Piece.{Using};
-ghost use Rattle.al_code_output.specs.Written.{written};
+ghost use Rattle.al_code.specs.Pieces.Piece.{Using};
+ghost use Rattle.al_code.specs.Written.{written};
 ghost use Rattle.al_code.specs.Marks.{component_has_code, declaration_has_code, flag_has_code, is_some_of};
 ghost use Rattle.al_code.specs.Declarations.{declaration_code, component_code, declaration_form_code, declarations_code, elaborated_code, object_code, seed_code, subprogram_code};
 
 use crate::marks::emit_mark;
+use crate::{Output, emit_checked, emit_flag_place, emit_number, emit_place, emit_sized};
 use al_base::NoMemory;
-use al_code_expr::{emit_checked, emit_flag_place, emit_number, emit_place, emit_sized};
-use al_code_output::Output;
 use al_instr::{Instr, Sized};
 use al_view::{LinkKind, ObjectPlace, Priority, Symbol};
 use al_view_typed::{CheckedValue, ComponentValue, DeclarationForm, TypedDeclaration};
@@ -73,7 +72,7 @@ pub(crate) fn declarations_have_code(declarations: &[TypedDeclaration]) -> bool
 }
 
 /// A declaration, with its line where it has code.
-#[tactic(auto, using(al_code_output::proofs::Writing::written_append))]
+#[tactic(auto, using(crate::proofs::Writing::written_append))]
 fn emit_marked(out: &mut Output, depth: u32, declaration: &TypedDeclaration) -> Result<(), NoMemory>
     ensures { OnOk result (out.new ≡ written out.old (declaration_code depth (declaration_model declaration.now))) }
 {
@@ -129,7 +128,7 @@ fn emit_objects(
     Ok(())
 }
 
-#[tactic(auto, using(al_code_output::proofs::Writing::written_append))]
+#[tactic(auto, using(crate::proofs::Writing::written_append))]
 fn emit_object(
     out: &mut Output,
     depth: u32,
@@ -153,7 +152,7 @@ fn emit_object(
 }
 
 /// A flag in a frame begins with no (ARM 3.11(10)).
-#[tactic(auto, using(al_code_output::proofs::Writing::written_append, al_code_output::proofs::Writing::written_nothing), unfolding(crate::specs::Declarations::subprogram_code))]
+#[tactic(auto, using(crate::proofs::Writing::written_append, crate::proofs::Writing::written_nothing), unfolding(crate::specs::Declarations::subprogram_code))]
 fn emit_subprogram(out: &mut Output, depth: u32, flag: &ObjectPlace) -> Result<(), NoMemory>
     ensures { OnOk result (out.new ≡ written out.old (subprogram_code depth flag.now)) }
 {
@@ -167,7 +166,7 @@ fn emit_subprogram(out: &mut Output, depth: u32, flag: &ObjectPlace) -> Result<(
 }
 
 /// The body is elaborated from here on.
-#[tactic(auto, using(al_code_output::proofs::Writing::written_append), unfolding(crate::specs::Declarations::elaborated_code))]
+#[tactic(auto, using(crate::proofs::Writing::written_append), unfolding(crate::specs::Declarations::elaborated_code))]
 fn emit_elaborated(out: &mut Output, depth: u32, flag: &ObjectPlace) -> Result<(), NoMemory>
     ensures { OnOk result (out.new ≡ written out.old (elaborated_code depth flag.now)) }
 {
@@ -235,7 +234,7 @@ fn emit_seeds(
     Ok(())
 }
 
-#[tactic(auto, using(al_code_output::proofs::Writing::written_append))]
+#[tactic(auto, using(crate::proofs::Writing::written_append))]
 fn emit_seeded(
     out: &mut Output,
     depth: u32,

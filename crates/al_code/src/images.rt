@@ -2,17 +2,16 @@
 ghost use Rattle.std.specs.Prelude.{◌≡◌, ◌≤◌, OnOk, map};
 ghost use Rattle.std.specs.List.{flat_map};
 ghost use Rattle.al_view_typed.specs.StatementViews.{piece_model};
-ghost use Rattle.al_code_output.specs.Written.{written};
+ghost use Rattle.al_code.specs.Written.{written};
 ghost use Rattle.al_code.specs.Images.{dropped_code, image_code, images, is_image, line_code, piece_code, pieces_code, emit_code, word_of};
 
+use crate::{Output, emit_plain, emit_sized, emit_value};
 use al_base::NoMemory;
-use al_code_expr::{emit_plain, emit_sized, emit_value};
-use al_code_output::Output;
 use al_instr::{Plain, Sized};
 use al_view_typed::Piece;
 
 /// Put, Put_Line or New_Line of pieces, in a body of so much nesting.
-#[tactic(auto, using(al_code_output::proofs::Writing::written_append))]
+#[tactic(auto, using(crate::proofs::Writing::written_append))]
 pub(crate) fn emit_output(
     out: &mut Output,
     depth: u32,
@@ -37,7 +36,7 @@ fn emit_images(out: &mut Output, depth: u32, pieces: &[Piece]) -> Result<(), NoM
     Ok(())
 }
 
-#[tactic(auto, using(al_code_output::proofs::Writing::written_nothing))]
+#[tactic(auto, using(crate::proofs::Writing::written_nothing))]
 fn emit_image(out: &mut Output, depth: u32, piece: &Piece) -> Result<(), NoMemory>
     ensures { OnOk result (out.new ≡ written out.old (image_code depth (piece_model piece.now))) }
 {
@@ -93,7 +92,7 @@ fn emit_piece(out: &mut Output, above: usize, piece: &Piece) -> Result<(), NoMem
     }
 }
 
-#[tactic(auto, using(al_code_output::proofs::Writing::written_nothing))]
+#[tactic(auto, using(crate::proofs::Writing::written_nothing))]
 fn emit_line(out: &mut Output, ends_line: bool) -> Result<(), NoMemory>
     ensures { OnOk result (out.new ≡ written out.old (line_code ends_line)) }
 {
@@ -104,7 +103,7 @@ fn emit_line(out: &mut Output, ends_line: bool) -> Result<(), NoMemory>
 }
 
 /// The values go.
-#[tactic(auto, using(al_code_output::proofs::Writing::written_nothing))]
+#[tactic(auto, using(crate::proofs::Writing::written_nothing))]
 fn emit_dropped(out: &mut Output, count: usize) -> Result<(), NoMemory>
     ensures { OnOk result (out.new ≡ written out.old (dropped_code count)) }
 {

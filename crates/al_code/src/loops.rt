@@ -1,16 +1,15 @@
 // Loops by their schemes, and their exits (ARM 5.5, 5.7).
 ghost use Rattle.std.specs.Prelude.{◌≡◌, OnOk, option_map};
 ghost use Rattle.al_view_typed.specs.ExpressionViews.{typed_model};
-ghost use Rattle.al_code_output.specs.Written.{written};
-ghost use Rattle.al_code_expr.specs.Pieces.{guarded};
+ghost use Rattle.al_code.specs.Written.{written};
+ghost use Rattle.al_code.specs.ExprPieces.{guarded};
 ghost use Rattle.al_code.specs.Loops.{bounds_code, compare_code, exit_code, high_word, leave_code, low_word, mark_check, marked_code, step_operator, turn_code, while_code};
 
-use al_base::NoMemory;
-use al_code_expr::{
-    emit_check, emit_load_slot, emit_number, emit_plain, emit_sized, emit_store_slot,
-    emit_unless_zero, emit_value,
+use crate::{
+    Construct, JumpCondition, Output, Target, emit_check, emit_load_slot, emit_number, emit_plain,
+    emit_sized, emit_store_slot, emit_unless_zero, emit_value,
 };
-use al_code_output::{Construct, JumpCondition, Output, Target};
+use al_base::NoMemory;
 use al_instr::{Plain, Sized};
 use al_view::Bounds;
 use al_view_typed::Typed;
@@ -41,7 +40,7 @@ pub(crate) fn emit_exit_unless_zero(out: &mut Output, loops: u32) -> Result<(), 
 }
 
 /// `exit [when condition];` of a loop so many loops out.
-#[tactic(auto, using(al_code_output::proofs::Writing::written_append))]
+#[tactic(auto, using(crate::proofs::Writing::written_append))]
 pub(crate) fn emit_leave(
     out: &mut Output,
     depth: u32,
@@ -60,7 +59,7 @@ pub(crate) fn emit_leave(
 }
 
 /// Two words of the frame are compared.
-#[tactic(auto, using(al_code_output::proofs::Writing::written_append), unfolding(crate::specs::Loops::compare_code))]
+#[tactic(auto, using(crate::proofs::Writing::written_append), unfolding(crate::specs::Loops::compare_code))]
 fn emit_compare(out: &mut Output, left: u32, right: u32, operator: Plain) -> Result<(), NoMemory>
     ensures { OnOk result (out.new ≡ written out.old (compare_code left right operator)) }
 {
@@ -70,7 +69,7 @@ fn emit_compare(out: &mut Output, left: u32, right: u32, operator: Plain) -> Res
 }
 
 /// The bounds of a `for` loop, and its end where there is nothing between them.
-#[tactic(auto, using(al_code_output::proofs::Writing::written_append), unfolding(crate::specs::Loops::bounds_code))]
+#[tactic(auto, using(crate::proofs::Writing::written_append), unfolding(crate::specs::Loops::bounds_code))]
 pub(crate) fn emit_bounds(
     out: &mut Output,
     depth: u32,
@@ -105,7 +104,7 @@ fn high_word(is_reverse: bool, parameter: u32, last: u32) -> u32
 }
 
 /// A bound is checked against the range of the mark.
-#[tactic(auto, using(al_code_output::proofs::Writing::written_append), unfolding(crate::specs::Loops::mark_check))]
+#[tactic(auto, using(crate::proofs::Writing::written_append), unfolding(crate::specs::Loops::mark_check))]
 fn emit_mark_check(out: &mut Output, mark: &Option<Bounds>, word: u32) -> Result<(), NoMemory>
     ensures { OnOk result (out.new ≡ written out.old (mark_check mark.now word)) }
 {
@@ -115,7 +114,7 @@ fn emit_mark_check(out: &mut Output, mark: &Option<Bounds>, word: u32) -> Result
 }
 
 /// Both bounds of a loop with a mark are.
-#[tactic(auto, using(al_code_output::proofs::Writing::written_append, al_code_output::proofs::Writing::written_nothing), unfolding(crate::specs::Loops::marked_code))]
+#[tactic(auto, using(crate::proofs::Writing::written_append, crate::proofs::Writing::written_nothing), unfolding(crate::specs::Loops::marked_code))]
 pub(crate) fn emit_marked(
     out: &mut Output,
     mark: &Option<Bounds>,
@@ -134,7 +133,7 @@ pub(crate) fn emit_marked(
 }
 
 /// The end of a loop where its parameter has its last value, or else its next value.
-#[tactic(auto, using(al_code_output::proofs::Writing::written_append), unfolding(crate::specs::Loops::turn_code))]
+#[tactic(auto, using(crate::proofs::Writing::written_append), unfolding(crate::specs::Loops::turn_code))]
 pub(crate) fn emit_turn(
     out: &mut Output,
     is_reverse: bool,

@@ -1,16 +1,16 @@
 // Where code begins that is of a line.
 ghost use Rattle.std.specs.Prelude.{◌≡◌, ◌||◌, map, OnOk};
 ghost use Rattle.al_view_typed.specs.StatementViews.{branch_model, branches_of, piece_model, statement_form_model, statement_model, statements_of};
-ghost use Rattle.al_code_output.specs.Written.{written};
+ghost use Rattle.al_code.specs.Written.{written};
 ghost use Rattle.al_code.specs.Marks.{has_branch, has_code, is_some_of, mark_of, statements_have_code};
 
+use crate::Output;
 use crate::declarations::declarations_have_code;
 use al_base::NoMemory;
-use al_code_output::Output;
 use al_view_typed::{Branch, Piece, StatementForm, TypedStatement};
 
 /// The code of a line begins here, where there is any.
-#[tactic(auto, using(al_code_output::proofs::Writing::written_nothing), unfolding(crate::specs::Marks::mark_of))]
+#[tactic(auto, using(crate::proofs::Writing::written_nothing), unfolding(crate::specs::Marks::mark_of))]
 pub(crate) fn emit_mark(out: &mut Output, has_code: bool, line: usize) -> Result<(), NoMemory>
     ensures { OnOk result (out.new ≡ written out.old (mark_of has_code line)) }
 {

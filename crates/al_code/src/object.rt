@@ -7,15 +7,15 @@ ghost use Rattle.al_view_typed.specs.DeclarationTrees.{declaration_model, form_m
 ghost use Rattle.al_view_typed.specs.UnitTrees.{body_model, elaboration_model, unit_model};
 ghost use Rattle.al_view_typed.specs.WellFormed.{IsWellFormed};
 ghost use Rattle.al_instr.specs.Lines.{line_table};
-ghost use Rattle.al_code_output.specs.Written.{written};
+ghost use Rattle.al_code.specs.Written.{written};
 ghost use Rattle.al_code.specs.ObjectOf.{data_addresses, is_task, object_of, place_address, protected_addresses, region_of, tasks_in, tasks_of};
 ghost use Rattle.al_code.specs.Routines.{body_code, elaboration_code, unit_code};
 
 use crate::bodies::{emit_body, emit_elaboration};
 use crate::images::word_of;
+use crate::{Output, Written};
 use al_base::NoMemory;
 use al_code_object::{Address, Compiled, Object, Region};
-use al_code_output::{Output, Written};
 use al_instr::{LineEntry, line_table};
 use al_view::{LinkKind, LinkSymbol, Symbol};
 use al_view_typed::{
@@ -58,7 +58,7 @@ fn lines_of(alloc: Global, written: &Written) -> Result<Vec<LineEntry>, NoMemory
 }
 
 /// The elaboration of a unit, and its bodies.
-#[tactic(auto, using(al_code_output::proofs::Writing::written_append), unfolding(al_view_typed::specs::UnitTrees::unit_model, crate::specs::Routines::unit_code))]
+#[tactic(auto, using(crate::proofs::Writing::written_append), unfolding(al_view_typed::specs::UnitTrees::unit_model, crate::specs::Routines::unit_code))]
 fn emit_unit(out: &mut Output, unit: &TypedUnit) -> Result<(), NoMemory>
     ensures { OnOk result (out.new ≡ written out.old (unit_code (unit_model unit.now))) }
 {
@@ -66,7 +66,7 @@ fn emit_unit(out: &mut Output, unit: &TypedUnit) -> Result<(), NoMemory>
     emit_bodies(out, &unit.bodies)
 }
 
-#[tactic(auto, using(al_code_output::proofs::Writing::written_nothing))]
+#[tactic(auto, using(crate::proofs::Writing::written_nothing))]
 fn emit_first(out: &mut Output, elaboration: &Option<Elaboration>) -> Result<(), NoMemory>
     ensures { OnOk result (out.new ≡ written out.old (option_map_or elaboration_code (option_map elaboration_model elaboration.now) [])) }
 {

@@ -3,13 +3,12 @@ ghost use Rattle.std.specs.Prelude.{◌≡◌, ◌++◌, OnOk};
 ghost use Rattle.al_instr.specs.declared.numbers.Plain.TheVariants.{Leave};
 ghost use Rattle.al_instr.specs.declared.numbers.Protected.TheVariants.{Wake};
 ghost use Rattle.al_instr.specs.declared.numbers.Sized.TheVariants.{Return};
-ghost use Rattle.al_code_output.specs.Written.{written};
-ghost use Rattle.al_code_expr.specs.Pieces.{guarded, of_size, one};
+ghost use Rattle.al_code.specs.Written.{written};
+ghost use Rattle.al_code.specs.ExprPieces.{guarded, of_size, one};
 ghost use Rattle.al_code.specs.Routines.{act_code, barrier_code, entry_call_code, gate_code, served_code};
 
+use crate::{Construct, Output, emit_place, emit_plain, emit_sized, emit_unless_zero};
 use al_base::NoMemory;
-use al_code_expr::{emit_place, emit_plain, emit_sized, emit_unless_zero};
-use al_code_output::{Construct, Output};
 use al_instr::{Instr, Plain, Protected, Sized};
 use al_view::{LinkKind, ObjectPlace, Symbol};
 use al_view_typed::EntryOf;
@@ -22,7 +21,7 @@ pub(crate) fn emit_act(out: &mut Output, what: Protected, object: &Symbol) -> Re
 }
 
 /// The value of a barrier.
-#[tactic(auto, using(al_code_output::proofs::Writing::written_append), unfolding(crate::specs::Routines::barrier_code))]
+#[tactic(auto, using(crate::proofs::Writing::written_append), unfolding(crate::specs::Routines::barrier_code))]
 fn emit_barrier(out: &mut Output, depth: u32, barrier: &ObjectPlace) -> Result<(), NoMemory>
     ensures { OnOk result (out.new ≡ written out.old (barrier_code depth barrier.now)) }
 {
@@ -31,7 +30,7 @@ fn emit_barrier(out: &mut Output, depth: u32, barrier: &ObjectPlace) -> Result<(
 }
 
 /// The body of an entry is called.
-#[tactic(auto, using(al_code_output::proofs::Writing::written_append), unfolding(crate::specs::Routines::entry_call_code))]
+#[tactic(auto, using(crate::proofs::Writing::written_append), unfolding(crate::specs::Routines::entry_call_code))]
 fn emit_entry_call(out: &mut Output, entry: &Symbol) -> Result<(), NoMemory>
     ensures { OnOk result (out.new ≡ written out.old (entry_call_code entry.now)) }
 {
@@ -41,7 +40,7 @@ fn emit_entry_call(out: &mut Output, entry: &Symbol) -> Result<(), NoMemory>
 }
 
 /// Who waits at the entry is served where its barrier is open (ARM 9.5.3).
-#[tactic(auto, using(al_code_output::proofs::Writing::written_append, al_code_output::proofs::Writing::written_nothing), unfolding(crate::specs::Routines::served_code))]
+#[tactic(auto, using(crate::proofs::Writing::written_append, crate::proofs::Writing::written_nothing), unfolding(crate::specs::Routines::served_code))]
 pub(crate) fn emit_served(
     out: &mut Output,
     depth: u32,
@@ -84,7 +83,7 @@ fn emit_woken(out: &mut Output, object: &Symbol, entry: &Symbol) -> Result<(), N
 }
 
 /// The gate of an entry: its body is called where the barrier is open, and else the caller waits.
-#[tactic(auto, using(al_code_output::proofs::Writing::written_append), unfolding(crate::specs::Routines::gate_code))]
+#[tactic(auto, using(crate::proofs::Writing::written_append), unfolding(crate::specs::Routines::gate_code))]
 pub(crate) fn emit_gate(
     out: &mut Output,
     depth: u32,

@@ -3,7 +3,7 @@ ghost use Rattle.std.specs.Prelude.{◌≡◌};
 ghost use Rattle.al_code.specs.Routines.{unlocking, within};
 
 /// The body that statements stand in: its depth of nesting, and whether a return of it leaves a protected object.
-#[derive(Clone, Copy, Debug, PartialEq, Eq)]
+#[derive(Clone, Copy)]
 pub struct Routine {
     pub depth: u32,
     pub unlocks: bool,

@@ -2,20 +2,21 @@
 ghost use Rattle.std.specs.Prelude.{◌≡◌, ◌++◌, OnOk, option_map};
 ghost use Rattle.al_instr.specs.declared.numbers.Plain.TheVariants.{Sleep};
 ghost use Rattle.al_view_typed.specs.ExpressionViews.{name_model, typed_model, value_model};
-ghost use Rattle.al_code_output.specs.Written.{written};
-ghost use Rattle.al_code_expr.specs.Pieces.{one};
-ghost use Rattle.al_code_expr.specs.Templates.{value_of};
+ghost use Rattle.al_code.specs.Written.{written};
+ghost use Rattle.al_code.specs.ExprPieces.{one};
+ghost use Rattle.al_code.specs.Templates.{value_of};
 ghost use Rattle.al_code.specs.Statements.{assignment_code, return_code, unlocked_code};
 
 use crate::routine::Routine;
+use crate::{
+    JumpCondition, Output, Target, emit_address, emit_checked, emit_plain, emit_sized, emit_value,
+};
 use al_base::NoMemory;
-use al_code_expr::{emit_address, emit_checked, emit_plain, emit_sized, emit_value};
-use al_code_output::{JumpCondition, Output, Target};
 use al_instr::{Plain, Sized};
 use al_view_typed::{CheckedValue, Typed, TypedName};
 
 /// An assignment (ARM 5.2).
-#[tactic(auto, using(al_code_output::proofs::Writing::written_append))]
+#[tactic(auto, using(crate::proofs::Writing::written_append))]
 pub(crate) fn emit_assignment(
     out: &mut Output,
     depth: u32,
@@ -31,7 +32,7 @@ pub(crate) fn emit_assignment(
 }
 
 /// A return statement (ARM 6.5).
-#[tactic(auto, using(al_code_output::proofs::Writing::written_append))]
+#[tactic(auto, using(crate::proofs::Writing::written_append))]
 pub(crate) fn emit_return(
     out: &mut Output,
     routine: Routine,
@@ -51,7 +52,7 @@ pub(crate) fn emit_return(
 }
 
 /// A function of a protected object leaves that before it returns.
-#[tactic(auto, using(al_code_output::proofs::Writing::written_nothing))]
+#[tactic(auto, using(crate::proofs::Writing::written_nothing))]
 fn emit_unlocked(out: &mut Output, unlocks: bool) -> Result<(), NoMemory>
     ensures { OnOk result (out.new ≡ written out.old (unlocked_code unlocks)) }
 {
@@ -62,7 +63,7 @@ fn emit_unlocked(out: &mut Output, unlocks: bool) -> Result<(), NoMemory>
 }
 
 /// `delay until moment;` (ARM 9.6)
-#[tactic(auto, using(al_code_output::proofs::Writing::written_append))]
+#[tactic(auto, using(crate::proofs::Writing::written_append))]
 pub(crate) fn emit_delay(out: &mut Output, depth: u32, moment: &Typed) -> Result<(), NoMemory>
     ensures { OnOk result (out.new ≡ written out.old (value_of depth (typed_model moment.now) ++ one Sleep)) }
 {

@@ -1,7 +1,7 @@
 // Statements: what recurses (ARM 5.1).
 ghost use Rattle.std.specs.Prelude.{◌≡◌, OnOk, map};
 ghost use Rattle.al_view_typed.specs.StatementViews.{alternative_model, alternatives_of, branch_model, branches_of, scheme_model, statement_form_model, statement_model, statements_of};
-ghost use Rattle.al_code_output.specs.Written.{written};
+ghost use Rattle.al_code.specs.Written.{written};
 ghost use Rattle.al_code.specs.Loops.{round_code};
 ghost use Rattle.al_code.specs.Statements.{alternative_code, alternatives_code, branch_code, branches_code, others_code, statement_code, statement_form_code, statements_code};
 
@@ -12,9 +12,8 @@ use crate::loops::{emit_bounds, emit_leave, emit_marked, emit_turn, emit_while};
 use crate::marks::{emit_mark, has_code};
 use crate::routine::Routine;
 use crate::simple::{emit_assignment, emit_delay, emit_return};
+use crate::{Construct, Output, emit_call, emit_join, emit_sized, emit_unless_zero, emit_value};
 use al_base::NoMemory;
-use al_code_expr::{emit_call, emit_join, emit_sized, emit_unless_zero, emit_value};
-use al_code_output::{Construct, Output};
 use al_instr::Sized;
 use al_view_typed::{Alternative, Branch, LoopScheme, StatementForm, TypedStatement};
 
@@ -34,7 +33,7 @@ pub(crate) fn emit_statements(
 }
 
 #[cycle(statement)]
-#[tactic(auto, using(crate::proofs::Layers::statement_layers, al_code_output::proofs::Writing::written_append))]
+#[tactic(auto, using(crate::proofs::Layers::statement_layers, crate::proofs::Writing::written_append))]
 fn emit_statement(
     out: &mut Output,
     routine: Routine,
@@ -47,7 +46,7 @@ fn emit_statement(
 }
 
 #[cycle(statement)]
-#[tactic(auto, using(al_code_output::proofs::Writing::written_append, al_code_output::proofs::Writing::written_nothing, al_view_typed::proofs::StatementsMade::null_made, al_view_typed::proofs::StatementsMade::assignment_made, al_view_typed::proofs::StatementsMade::call_made, al_view_typed::proofs::StatementsMade::put_made, al_view_typed::proofs::StatementsMade::return_made, al_view_typed::proofs::StatementsMade::exit_made, al_view_typed::proofs::StatementsMade::delay_made, al_view_typed::proofs::StatementsMade::if_made, al_view_typed::proofs::StatementsMade::case_made, al_view_typed::proofs::StatementsMade::loop_made, al_view_typed::proofs::StatementsMade::block_made))]
+#[tactic(auto, using(crate::proofs::Writing::written_append, crate::proofs::Writing::written_nothing, al_view_typed::proofs::StatementsMade::null_made, al_view_typed::proofs::StatementsMade::assignment_made, al_view_typed::proofs::StatementsMade::call_made, al_view_typed::proofs::StatementsMade::put_made, al_view_typed::proofs::StatementsMade::return_made, al_view_typed::proofs::StatementsMade::exit_made, al_view_typed::proofs::StatementsMade::delay_made, al_view_typed::proofs::StatementsMade::if_made, al_view_typed::proofs::StatementsMade::case_made, al_view_typed::proofs::StatementsMade::loop_made, al_view_typed::proofs::StatementsMade::block_made))]
 fn emit_statement_form(
     out: &mut Output,
     routine: Routine,

@@ -1,6 +1,6 @@
 -- Components of a record type at a place (ARM 3.8).
 use Rattle.std.specs.Prelude.{List, [], ◌∷◌, ◌++◌, fold, map, Option, Result}
-use Rattle.al_decl_type.specs.declared.record.Part.{Part}
+use Rattle.al_decl_judged.specs.declared.record.Part.{Part}
 use Rattle.al_decl_judged.specs.DefiningNames.{repeated}
 use Rattle.al_decl_judged.specs.declared.names.DefiningName.{DefiningName}
 use Rattle.al_decl.specs.Declaring.{begun, duplicates}
@@ -41,13 +41,13 @@ abbrev pub after_components : Place → List ComponentTree → Place
 after_components place cs = fold after_component place cs
 
 -- parts after others; the first fault of either
-abbrev pub parts_behind : Result (List Part) Fault → Result (List Part) Fault → Result (List Part) Fault
-parts_behind a b = map_ok (λ (p : List Part × List Part). p.0 ++ p.1) (both a b)
+abbrev pub parts_of_both : Result (List Part) Fault → Result (List Part) Fault → Result (List Part) Fault
+parts_of_both a b = map_ok (λ (p : List Part × List Part). p.0 ++ p.1) (both a b)
 
 -- what is found so far, and then one list more at a time, each after those before it
 abbrev pub parts_after : PartReading → (Query → AnswerKind) → Place → Result (List Part) Fault → List ComponentTree → Result (List Part) Fault
 parts_after R t place so_far [] = so_far
-parts_after R t place so_far (c ∷ cs) = parts_after R t (after_component place c) (parts_behind so_far (component_parts R t place c)) cs
+parts_after R t place so_far (c ∷ cs) = parts_after R t (after_component place c) (parts_of_both so_far (component_parts R t place c)) cs
 
 abbrev pub component_list : ComponentsTree → List ComponentTree
 component_list NullComponents = []

@@ -11,7 +11,7 @@ use Rattle.al_base_fault.specs.declared.fault.Fault.{Fault}
 use Rattle.al_scope.specs.Places.{Place, in_last, with_begun, with_declared}
 use Rattle.al_scope.specs.Visible.{innermost}
 use Rattle.al_scope.specs.declared.region.Region.{Region}
-use Rattle.al_decl_type.specs.declared.declaration.Declaration.{Declaration}
+use Rattle.al_decl_judged.specs.declared.declaration.Declaration.{Declaration}
 use Rattle.al_decl_judged.specs.DefiningNames.{duplicate_at}
 use Rattle.al_decl_judged.specs.declared.names.DefiningName.{DefiningName}
 use Rattle.al_decl.specs.declared.env.Environment.{Environment}

@@ -1,7 +1,7 @@
 -- The names that a text defines (ARM 3.1(4)).
 use Rattle.std.specs.Prelude.{List, ◌∷◌, map}
 use Rattle.al_tree_grammar.specs.Grammar.{Label}
-use Rattle.al_overload_keys.specs.Places.{place_of}
+use Rattle.al_overload_lookup.specs.Places.{place_of}
 use Rattle.al_tree_syntax.specs.DeclarationTrees.{IdentifiersTree}
 use Rattle.al_decl_judged.specs.declared.names.DefiningName.{DefiningName}
 

@@ -17,7 +17,7 @@ use Rattle.al_decl_judged.specs.declared.progress.Progress.{Progress}
 use Rattle.al_decl.specs.Declaring.{begun, begun_one, duplicate, duplicates}
 use Rattle.al_decl.specs.TypeNames.{enumeration_duplicate, type_begun, type_duplicate}
 use Rattle.al_decl.specs.declared.env.Environment.{Environment}
-use Rattle.al_decl_type.specs.declared.subtype.StaticRange.{StaticRange}
+use Rattle.al_decl_judged.specs.declared.subtype_views.StaticRange.{StaticRange}
 use Rattle.al_base_fault.specs.Judging.{both, next, map_ok}
 use Rattle.al_base_fault.specs.declared.fault.Fault.{Fault}
 use Rattle.al_decl.specs.PartReadings.{PartReading}

@@ -3,7 +3,7 @@ use Rattle.std.specs.Prelude.{ℕ, ◌-◌, Bool, true, false, List, [], ◌∷�
 use Rattle.al_decl.specs.Inner.{in_region}
 use Rattle.al_decl_judged.specs.declared.names.DefiningName.{DefiningName}
 use Rattle.al_tree_grammar.specs.Grammar.{Label}
-use Rattle.al_overload_keys.specs.Places.{place_of}
+use Rattle.al_overload_lookup.specs.Places.{place_of}
 use Rattle.al_decl.specs.PartReadings.{PartReading}
 use Rattle.al_scope.specs.Places.{Place}
 use Rattle.al_decl_profile.specs.declared.heading.Heading.{Heading}

@@ -1,6 +1,6 @@
 // Components of a record type at a place (ARM 3.8).
 ghost use Rattle.std.specs.Prelude.{◌≡◌, ◌<◌, ◌++◌, [], length, map, IfOk, OnOk, Ok};
-ghost use Rattle.al_decl.specs.Components.{after_component, after_components, component_parts, named_parts, names_fault, part, parts_after, parts_behind};
+ghost use Rattle.al_decl.specs.Components.{after_component, after_components, component_parts, named_parts, names_fault, part, parts_after, parts_of_both};
 ghost use Rattle.al_decl.specs.Founds.{found_model};
 ghost use Rattle.al_decl.specs.Declaring.{begun};
 ghost use Rattle.al_decl.specs.Inner.{made_visible};
@@ -11,8 +11,7 @@ ghost use Rattle.al_tree.specs.DeclarationViews.{component_model};
 use crate::{PartAnalyzer, begin, defining_names, fixed_duplicates, make_visible};
 use al_base::{Name, NoMemory};
 use al_base_fault::{CheckResult, Fault, earlier, unless};
-use al_decl_judged::{DefiningName, copied_subtype, repeated};
-use al_decl_type::Part;
+use al_decl_judged::{DefiningName, Part, copied_subtype, repeated};
 use al_query::{Answers, Recorder};
 use al_scope::Scope;
 use al_tree::ComponentDeclaration;
@@ -73,7 +72,7 @@ impl ComponentList {
         of: CheckResult<SubtypeView>,
         names: &[DefiningName],
     ) -> Result<(), NoMemory>
-        ensures { OnOk result (found_model self.new ≡ parts_behind (found_model self.old) (unless fault (map_ok (λ s. map (part s) names.now) of))) }
+        ensures { OnOk result (found_model self.new ≡ parts_of_both (found_model self.old) (unless fault (map_ok (λ s. map (part s) names.now) of))) }
     {
         match unless(fault, of) {
             Ok(of) => add_parts(alloc, &mut self.parts, &of, names),
@@ -121,7 +120,7 @@ fn named_parts<R: PartAnalyzer, A: Answers>(
 ) -> Result<(), NoMemory>
     requires { 0 < length scope.old.regions }
     ensures asked { recorder.new.asked ≡ recorder.old.asked }
-    ensures answered { OnOk result (FromAnswers recorder.old.log recorder.new.log (λ t. found_model found.new ≡ parts_behind (found_model found.old) (named_parts (R.reading analyzer.now t) t scope.old (component_model component.now) names.now))) }
+    ensures answered { OnOk result (FromAnswers recorder.old.log recorder.new.log (λ t. found_model found.new ≡ parts_of_both (found_model found.old) (named_parts (R.reading analyzer.now t) t scope.old (component_model component.now) names.now))) }
     ensures scope { OnOk result (scope.new ≡ made_visible (begun scope.old names.now) names.now) }
     ensures depth { length scope.new.regions ≡ length scope.old.regions }
 {
@@ -143,7 +142,7 @@ pub(crate) fn check_component<R: PartAnalyzer, A: Answers>(
 ) -> Result<(), NoMemory>
     requires { 0 < length scope.old.regions }
     ensures asked { recorder.new.asked ≡ recorder.old.asked }
-    ensures answered { OnOk result (FromAnswers recorder.old.log recorder.new.log (λ t. found_model found.new ≡ parts_behind (found_model found.old) (component_parts (R.reading analyzer.now t) t scope.old (component_model component.now)))) }
+    ensures answered { OnOk result (FromAnswers recorder.old.log recorder.new.log (λ t. found_model found.new ≡ parts_of_both (found_model found.old) (component_parts (R.reading analyzer.now t) t scope.old (component_model component.now)))) }
     ensures scope { OnOk result (scope.new ≡ after_component scope.old (component_model component.now)) }
     ensures depth { length scope.new.regions ≡ length scope.old.regions }
 {

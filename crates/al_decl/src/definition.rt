@@ -14,10 +14,9 @@ use crate::{Environment, PartAnalyzer, begin_type, enumeration_duplicate, type_d
 use al_base::NoMemory;
 use al_base_fault::{CheckResult, Fault, both};
 use al_decl_judged::{
-    DefiningName, TypeName, declare_array, declare_enumeration, declare_integer, declare_private,
-    declare_record, static_range,
+    DefiningName, Part, StaticRange, TypeName, declare_array, declare_enumeration, declare_integer,
+    declare_private, declare_record, static_range,
 };
-use al_decl_type::{Part, StaticRange};
 use al_query::{Answers, Recorder};
 use al_scope::Scope;
 use al_tree::{ArrayDefinition, Range, SubtypeIndication};

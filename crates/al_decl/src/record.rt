@@ -16,8 +16,7 @@ use crate::{
 };
 use al_base::NoMemory;
 use al_base_fault::CheckResult;
-use al_decl_judged::TypeName;
-use al_decl_type::Part;
+use al_decl_judged::{Part, TypeName};
 use al_query::{Answers, Recorder};
 use al_scope::Scope;
 use al_tree::Components;

@@ -10,9 +10,9 @@ use Rattle.al_query.specs.Reads.{Table}
 use Rattle.al_scope.specs.Places.{Place}
 use Rattle.al_decl_ada.specs.SubtypesAt.{index_at, indication_at}
 use Rattle.al_tree_syntax.specs.ExpressionTrees.{ExpressionTree}
-use Rattle.al_overload_prefixes.specs.CompoundNames.{name_text}
-use Rattle.al_overload_prefixes.specs.TermsAt.{mark_at}
-use Rattle.al_overload_types.specs.Leaves.{mark_type}
+use Rattle.al_overload_values.specs.CompoundNames.{name_text}
+use Rattle.al_overload_values.specs.TermsAt.{mark_at}
+use Rattle.al_overload_nodes.specs.Leaves.{mark_type}
 use Rattle.al_view_typed.specs.ExpressionTrees.{TypedTree}
 use Rattle.al_overload_values.specs.Surroundings.{Surroundings}
 use Rattle.al_overload_values.specs.ValuesAt.{checked_at, static_checked_at}

@@ -2,22 +2,22 @@
 use Rattle.std.specs.Prelude.{ℕ, List, [], ◌++◌, Option, Some, None, Result, Ok, Err}
 use Rattle.al_base.specs.declared.place.Place.{Place}
 use Rattle.al_base.specs.declared.unit_key.UnitKey.{UnitKey}
-use Rattle.al_decl_type.specs.declared.subtype.StaticRange.{StaticRange}
+use Rattle.al_decl_judged.specs.declared.subtype_views.StaticRange.{StaticRange}
 use Rattle.al_decl_judged.specs.Indications.{index_of_bounds, index_of_mark, indication}
 use Rattle.al_decl_judged.specs.StaticPieces.{static_range}
 use Rattle.al_base_fault.specs.Judging.{next}
 use Rattle.al_base_fault.specs.declared.fault.Fault.{Fault}
-use Rattle.al_overload_keys.specs.Places.{first_place, place_of}
+use Rattle.al_overload_lookup.specs.Places.{first_place, place_of}
 use Rattle.al_overload_label.specs.Ranges.{PairTree}
 use Rattle.al_overload.specs.declared.context.Context.{Context}
 use Rattle.al_overload.specs.declared.context.Context.TheVariants as contexts
-use Rattle.al_overload_prefixes.specs.TextsAt.{range_with_at}
+use Rattle.al_overload_values.specs.TextsAt.{range_with_at}
 use Rattle.al_query.specs.Reads.{Table}
 use Rattle.al_tree_syntax.specs.DeclarationTrees.{DiscreteRangeTree, DiscreteRangeTree as ranges, RangeTree, SubtypeIndicationTree}
 use Rattle.al_tree_syntax.specs.ExpressionTrees.{ExpressionTree}
-use Rattle.al_overload_prefixes.specs.CompoundNames.{name_text}
-use Rattle.al_overload_prefixes.specs.TermsAt.{mark_at, range_names, text_names}
-use Rattle.al_overload_types.specs.Leaves.{mark_type}
+use Rattle.al_overload_values.specs.CompoundNames.{name_text}
+use Rattle.al_overload_values.specs.TermsAt.{mark_at, range_names, text_names}
+use Rattle.al_overload_nodes.specs.Leaves.{mark_type}
 use Rattle.al_overload_values.specs.Surroundings.{Surroundings}
 use Rattle.al_overload_values.specs.ValuesAt.{static_pair_at}
 use Rattle.al_view.specs.declared.types.TypeView.{TypeView}

@@ -6,18 +6,16 @@ ghost use Rattle.al_overload.specs.declared.context.Context.TheVariants as conte
 ghost use Rattle.al_query.specs.Asked.{AsksOf, by_some_name};
 ghost use Rattle.al_query.specs.Reads.{FromAnswers};
 ghost use Rattle.al_decl_ada.specs.SubtypesAt.{constraint_at, static_at, static_pair};
-ghost use Rattle.al_overload_prefixes.specs.TermsAt.{range_names};
-ghost use Rattle.al_overload_types.specs.Leaves.{mark_type};
+ghost use Rattle.al_overload_values.specs.TermsAt.{range_names};
+ghost use Rattle.al_overload_nodes.specs.Leaves.{mark_type};
 ghost use Rattle.al_tree.specs.DeclarationViews.{range_model};
 ghost use Rattle.al_overload_values.specs.Surroundings.{site_model, site_units};
 
 use al_base::NoMemory;
 use al_base_fault::CheckResult;
-use al_decl_judged::static_range;
-use al_decl_type::StaticRange;
-use al_overload::Context;
+use al_decl_judged::{StaticRange, static_range};
+use al_overload::{Context, value_type};
 use al_overload_label::Pair;
-use al_overload_name::value_type;
 use al_overload_nodes::Labeller;
 use al_overload_values::{Site, static_pair_at};
 use al_query::{Answers, Recorder};

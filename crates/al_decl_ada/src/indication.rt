@@ -3,7 +3,7 @@ ghost use Rattle.std.specs.Prelude.{◌≡◌, IfOk, Some};
 ghost use Rattle.al_query.specs.Asked.{AsksOf, by_some_name};
 ghost use Rattle.al_query.specs.Reads.{FromAnswers};
 ghost use Rattle.al_decl_ada.specs.SubtypesAt.{constrained_at, indication_at, indication_names};
-ghost use Rattle.al_overload_prefixes.specs.TermsAt.{range_names};
+ghost use Rattle.al_overload_values.specs.TermsAt.{range_names};
 ghost use Rattle.al_tree.specs.DeclarationViews.{indication_model, range_model};
 ghost use Rattle.al_overload_values.specs.Surroundings.{site_model, site_units};
 
@@ -12,8 +12,7 @@ use crate::constraint::constraint_at;
 use al_base::{NoMemory, Place, UnitKey};
 use al_base_fault::CheckResult;
 use al_decl_judged::indication;
-use al_overload_prefixes::name_mark_at;
-use al_overload_values::Site;
+use al_overload_values::{Site, name_mark_at};
 use al_query::{Answers, Recorder};
 use al_tree::{Range, SubtypeIndication};
 use al_view::SubtypeView;

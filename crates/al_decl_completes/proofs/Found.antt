@@ -5,10 +5,10 @@ use Rattle.std.specs.List.{All}
 use Rattle.std.proofs.lemmas.Bool.{false_from_ne_true}
 use Rattle.al_base.specs.declared.place.Place.{Place}
 use Rattle.al_base_fault.specs.declared.check_rule.CheckRule.TheVariants.{NotConformant}
-use Rattle.al_decl_completion.specs.Completing.{Completes, IsFirst}
-use Rattle.al_decl_completion.specs.LoneBodies.{lone_body_fault}
-use Rattle.al_decl_completion.specs.declared.specification.BodyHead.TheVariants as head
-use Rattle.al_decl_completion.specs.declared.specification.Specification.{Specification}
+use Rattle.al_decl_profile.specs.Completing.{Completes, IsFirst}
+use Rattle.al_decl_profile.specs.LoneBodies.{lone_body_fault}
+use Rattle.al_decl_profile.specs.declared.specification.BodyHead.TheVariants as head
+use Rattle.al_decl_profile.specs.declared.specification.Specification.{Specification}
 use Rattle.al_decl_judged.specs.declared.names.DefiningName.{DefiningName}
 use Rattle.al_base_fault.specs.Faults.{fault_at}
 use Rattle.al_base_fault.specs.declared.fault.Fault.{Fault}

@@ -5,8 +5,7 @@ ghost use Rattle.al_decl_profile.specs.Profiles.{specification_of};
 ghost use Rattle.al_decl_completes.specs.CompletingFound.{completing_found};
 
 use al_base::NoMemory;
-use al_decl_completion::Uncompleted;
-use al_decl_profile::{Completing, Heading};
+use al_decl_profile::{Completing, Heading, Uncompleted};
 use std::alloc::Global;
 
 /// What a body or a stub is to the declarations that wait: it completes the first of them that has its name and its types, and E303 stands at its name

@@ -7,8 +7,10 @@ ghost use Rattle.al_decl_completes.specs.CompletingFound.{conformance, unit_comp
 
 use al_base::{NoMemory, Place};
 use al_base_fault::{CheckRule, Fault};
-use al_decl_completion::{Specification, Uncompleted, conformance_fault};
-use al_decl_profile::{Completing, Heading, copied_flag, specification_of};
+use al_decl_profile::{
+    Completing, Heading, Specification, Uncompleted, conformance_fault, copied_flag,
+    specification_of,
+};
 use al_view::{Profile, SubprogramView, ViewKind};
 use std::alloc::Global;
 

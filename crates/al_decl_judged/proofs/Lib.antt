@@ -1,7 +1,15 @@
+pub mod DeclarationLemmas
+pub mod HomonymLemmas
 pub mod JudgedLemmas
 pub mod Layers
+pub mod LayoutLemmas
 pub mod NameLemmas
 pub mod NewObjectLemmas
+pub mod NumberLemmas
 pub mod ObjectLemmas
 pub mod PlaceLemmas
+pub mod RangeLemmas
+pub mod Same
+pub mod SymbolsOf
+pub mod TypeDeclarationLemmas
 pub mod TypeLemmas

@@ -4,8 +4,8 @@ use Rattle.std.proofs.lemmas.List.{map_push}
 use Rattle.std.proofs.lemmas.List.Sums.{fold_push}
 use Rattle.al_base_fault.specs.declared.fault.Fault.{Fault}
 use Rattle.al_base_fault.specs.Judging.{next, map_ok}
-use Rattle.al_decl_type.specs.Homonyms.{Counts, with_name}
-use Rattle.al_decl_type.specs.TypeDeclarations.{with_names}
+use Rattle.al_decl_judged.specs.Homonyms.{Counts, with_name}
+use Rattle.al_decl_judged.specs.TypeDeclarations.{with_names}
 use Rattle.al_decl_judged.specs.declared.names.DefiningName.{DefiningName}
 use Rattle.al_decl_judged.specs.declared.new_object.NewObject.{NewObject}
 use Rattle.al_decl_judged.specs.declared.new_object.ObjectType.{ObjectType}

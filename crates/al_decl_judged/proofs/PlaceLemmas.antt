@@ -3,9 +3,9 @@ use Rattle.std.proofs.Common.{◌≡◌, ℕ, ◌+◌, ◌<◌, Bool, List, [], 
 use Rattle.std.proofs.lemmas.List.Sums.{fold_push}
 use Rattle.al_view.specs.declared.types.StaticValue.{StaticValue}
 use Rattle.al_view.specs.declared.view.ObjectPlace.{ObjectPlace}
-use Rattle.al_decl_type.specs.declared.declaration.Declaration.{Declaration}
-use Rattle.al_decl_type.specs.Objects.{object_view}
-use Rattle.al_decl_type.specs.TypeDeclarations.{declared_as}
+use Rattle.al_decl_judged.specs.declared.declaration.Declaration.{Declaration}
+use Rattle.al_decl_judged.specs.TypeObjects.{object_view}
+use Rattle.al_decl_judged.specs.TypeDeclarations.{declared_as}
 use Rattle.al_decl_judged.specs.declared.new_object.NewObject.{NewObject}
 use Rattle.al_decl_judged.specs.declared.progress.Progress.{Progress}
 use Rattle.al_decl_judged.specs.Objects.{objects_of, places_of, with_object, with_objects}

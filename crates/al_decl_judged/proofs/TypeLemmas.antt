@@ -4,8 +4,8 @@ use Rattle.al_base_fault.specs.declared.fault.Fault.{Fault}
 use Rattle.al_base_fault.specs.Judging.{next, map_ok, unless}
 use Rattle.al_view.specs.declared.symbol.Symbol.{Symbol}
 use Rattle.al_view.specs.declared.types.TypeView.{TypeView}
-use Rattle.al_decl_type.specs.declared.subtype.StaticRange.{StaticRange}
-use Rattle.al_decl_type.specs.Types.{integer_type}
+use Rattle.al_decl_judged.specs.declared.subtype_views.StaticRange.{StaticRange}
+use Rattle.al_decl_judged.specs.Types.{integer_type}
 use Rattle.al_decl_judged.specs.declared.names.TypeName.{TypeName}
 use Rattle.al_decl_judged.specs.declared.progress.Progress.{Progress}
 use Rattle.al_decl_judged.specs.Progressing.{type_counted, type_symbol}

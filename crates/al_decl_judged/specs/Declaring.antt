@@ -2,7 +2,7 @@
 use Rattle.std.specs.Prelude.{List, Option, None, option_map, Result, Ok, Err}
 use Rattle.al_base_fault.specs.declared.fault.Fault.{Fault}
 use Rattle.al_view_typed.specs.DeclarationTrees.{DeclarationTree, declaration_model}
-use Rattle.al_decl_type.specs.declared.declaration.Declaration.{Declaration}
+use Rattle.al_decl_judged.specs.declared.declaration.Declaration.{Declaration}
 use Rattle.al_decl_judged.specs.declared.declared.Declared.{Declared}
 use Rattle.al_decl_judged.specs.declared.progress.Progress.{Progress}
 

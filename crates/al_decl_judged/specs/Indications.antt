@@ -6,8 +6,8 @@ use Rattle.al_base_fault.specs.Judging.{both, next, map_ok}
 use Rattle.al_view.specs.declared.symbol.Symbol.{Symbol}
 use Rattle.al_view.specs.declared.types.TypeView.{TypeView}
 use Rattle.al_view.specs.declared.view.SubtypeView.{SubtypeView}
-use Rattle.al_decl_type.specs.declared.subtype.StaticRange.{StaticRange}
-use Rattle.al_decl_type.specs.Subtypes.{scalar_bounds, subtype_bounds, subtype_of}
+use Rattle.al_decl_judged.specs.declared.subtype_views.StaticRange.{StaticRange}
+use Rattle.al_decl_judged.specs.TypeSubtypes.{scalar_bounds, subtype_bounds, subtype_of}
 use Rattle.al_decl_judged.specs.Rules.{optional}
 
 -- of a mark that must be scalar, at that place, with a constraint or without

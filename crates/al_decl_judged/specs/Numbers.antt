@@ -4,9 +4,9 @@ use Rattle.al_base_fault.specs.declared.fault.Fault.{Fault}
 use Rattle.al_base_fault.specs.Faults.{earlier}
 use Rattle.al_base_fault.specs.Judging.{map_ok, unless}
 use Rattle.al_view.specs.declared.types.StaticValue.{StaticValue}
-use Rattle.al_decl_type.specs.declared.declaration.Declaration.{Declaration}
-use Rattle.al_decl_type.specs.Objects.{number_view}
-use Rattle.al_decl_type.specs.TypeDeclarations.{declared_as}
+use Rattle.al_decl_judged.specs.declared.declaration.Declaration.{Declaration}
+use Rattle.al_decl_judged.specs.TypeObjects.{number_view}
+use Rattle.al_decl_judged.specs.TypeDeclarations.{declared_as}
 use Rattle.al_decl_judged.specs.Declaring.{DeclaredTree, declares}
 use Rattle.al_decl_judged.specs.DefiningNames.{names_of, repeated}
 use Rattle.al_decl_judged.specs.Progressing.{with_all_counted}

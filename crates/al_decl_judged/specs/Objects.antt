@@ -12,10 +12,10 @@ use Rattle.al_view.specs.declared.view.ObjectPlace.{ObjectPlace}
 use Rattle.al_view.specs.declared.view.SubtypeView.{SubtypeView}
 use Rattle.al_view_typed.specs.DeclarationTrees.{DeclarationTree, Objects}
 use Rattle.al_view_typed.specs.ExpressionTrees.{TypedTree, ValueTree, Checked}
-use Rattle.al_decl_type.specs.declared.declaration.Declaration.{Declaration}
-use Rattle.al_decl_type.specs.Objects.{missing_value, object_view, whole_subtype}
-use Rattle.al_decl_type.specs.TypeDeclarations.{declared_as}
-use Rattle.al_decl_type.specs.Types.{array_type, array_view, words_of}
+use Rattle.al_decl_judged.specs.declared.declaration.Declaration.{Declaration}
+use Rattle.al_decl_judged.specs.TypeObjects.{missing_value, object_view, whole_subtype}
+use Rattle.al_decl_judged.specs.TypeDeclarations.{declared_as}
+use Rattle.al_decl_judged.specs.Types.{array_type, array_view, words_of}
 use Rattle.al_decl_judged.specs.Declaring.{DeclaredTree}
 use Rattle.al_decl_judged.specs.DefiningNames.{names_of, repeated}
 use Rattle.al_decl_judged.specs.Progressing.{after_object, next_place, symbol_of, with_counted}

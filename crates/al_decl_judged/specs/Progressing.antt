@@ -5,9 +5,9 @@ use Rattle.al_view.specs.declared.view.ObjectPlace.{ObjectPlace}
 use Rattle.al_view.specs.declared.view.ObjectPlace.TheVariants.{Frame, Static}
 use Rattle.al_view_typed.specs.declared.unit.DataPlace.{DataPlace}
 use Rattle.al_view_typed.specs.declared.unit.ProtectedWords.{ProtectedWords}
-use Rattle.al_decl_type.specs.Homonyms.{with_name}
-use Rattle.al_decl_type.specs.TypeDeclarations.{next_symbol, with_names}
-use Rattle.al_decl_type.specs.WordCounts.{after_data, after_frame}
+use Rattle.al_decl_judged.specs.Homonyms.{with_name}
+use Rattle.al_decl_judged.specs.TypeDeclarations.{next_symbol, with_names}
+use Rattle.al_decl_judged.specs.WordCounts.{after_data, after_frame}
 use Rattle.al_decl_judged.specs.declared.names.TypeName.{TypeName}
 use Rattle.al_decl_judged.specs.declared.progress.Progress.{Progress}
 

@@ -7,7 +7,7 @@ use Rattle.al_base_fault.specs.Judging.{both, map_ok}
 use Rattle.al_base_fault.specs.declared.fault.Fault.{Fault}
 use Rattle.al_view.specs.declared.types.StaticValue.{StaticValue}
 use Rattle.al_view_typed.specs.ExpressionTrees.{TypedTree, Labelled}
-use Rattle.al_decl_type.specs.declared.subtype.StaticRange.{StaticRange}
+use Rattle.al_decl_judged.specs.declared.subtype_views.StaticRange.{StaticRange}
 
 -- the value of an expression, where it is static
 abbrev pub value_label : TypedTree → Option StaticValue

@@ -3,8 +3,8 @@ use Rattle.std.specs.Prelude.{List, [], ◌∷◌, Option, Result}
 use Rattle.al_base_fault.specs.declared.fault.Fault.{Fault}
 use Rattle.al_base_fault.specs.Judging.{map_ok, unless}
 use Rattle.al_view.specs.declared.view.SubtypeView.{SubtypeView}
-use Rattle.al_decl_type.specs.Objects.{subtype_view}
-use Rattle.al_decl_type.specs.TypeDeclarations.{declared_as}
+use Rattle.al_decl_judged.specs.TypeObjects.{subtype_view}
+use Rattle.al_decl_judged.specs.TypeDeclarations.{declared_as}
 use Rattle.al_decl_judged.specs.Declaring.{DeclaredTree, declares}
 use Rattle.al_decl_judged.specs.Progressing.{with_counted}
 use Rattle.al_decl_judged.specs.declared.names.DefiningName.{DefiningName}

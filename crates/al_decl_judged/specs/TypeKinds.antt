@@ -7,12 +7,12 @@ use Rattle.al_view.specs.declared.symbol.Symbol.{Symbol}
 use Rattle.al_view.specs.declared.types.TypeDefinition.{TypeDefinition}
 use Rattle.al_view.specs.declared.types.TypeView.{TypeView}
 use Rattle.al_view.specs.declared.view.SubtypeView.{SubtypeView}
-use Rattle.al_decl_type.specs.declared.declaration.Declaration.{Declaration}
-use Rattle.al_decl_type.specs.declared.record.Part.{Part}
-use Rattle.al_decl_type.specs.declared.subtype.StaticRange.{StaticRange}
-use Rattle.al_decl_type.specs.Homonyms.{Counts}
-use Rattle.al_decl_type.specs.TypeDeclarations.{Sign, declared_with, later_signs, signs_of, spellings, with_names}
-use Rattle.al_decl_type.specs.Types.{array_type, enumeration_type, integer_type, record_type}
+use Rattle.al_decl_judged.specs.declared.declaration.Declaration.{Declaration}
+use Rattle.al_decl_judged.specs.declared.record.Part.{Part}
+use Rattle.al_decl_judged.specs.declared.subtype_views.StaticRange.{StaticRange}
+use Rattle.al_decl_judged.specs.Homonyms.{Counts}
+use Rattle.al_decl_judged.specs.TypeDeclarations.{Sign, declared_with, later_signs, signs_of, spellings, with_names}
+use Rattle.al_decl_judged.specs.Types.{array_type, enumeration_type, integer_type, record_type}
 use Rattle.al_view_predefined.specs.Standard.{private_type}
 use Rattle.al_decl_judged.specs.Declaring.{DeclaredTree, declares}
 use Rattle.al_decl_judged.specs.DefiningNames.{named_so, names_of, repeated}

@@ -1,5 +1,5 @@
 // What a declaration declares.
-use al_decl_type::Declaration;
+use crate::Declaration;
 use al_view::Seq;
 use al_view_typed::TypedDeclaration;
 

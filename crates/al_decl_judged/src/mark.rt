@@ -3,9 +3,9 @@ ghost use Rattle.std.specs.Prelude.{◌≡◌, IfOk};
 ghost use Rattle.al_decl_judged.specs.Indications.{index_of_bounds, index_of_mark, indication};
 ghost use Rattle.al_decl_judged.specs.Rules.{optional};
 
+use crate::{StaticRange, scalar_bounds, subtype_of};
 use al_base::{NoMemory, Place};
 use al_base_fault::{CheckResult, both};
-use al_decl_type::{StaticRange, scalar_bounds, subtype_of};
 use al_view::{Subtype, SubtypeView, Symbol, Types};
 use al_view_predefined::{StandardTypes, no_names};
 use std::alloc::Global;

@@ -1,18 +1,18 @@
 // The names of an object declaration with their subtypes (ARM 3.3.1).
 ghost use Rattle.std.specs.Prelude.{◌≡◌, [], IfOk, OnOk};
-ghost use Rattle.al_decl_type.specs.Objects.{whole_subtype};
-ghost use Rattle.al_decl_type.specs.Types.{array_type, array_view};
+ghost use Rattle.al_decl_judged.specs.TypeObjects.{whole_subtype};
+ghost use Rattle.al_decl_judged.specs.Types.{array_type, array_view};
 ghost use Rattle.al_decl_judged.specs.Declaring.{joined};
 ghost use Rattle.al_decl_judged.specs.DefiningNames.{names_of};
 ghost use Rattle.al_decl_judged.specs.Objects.{new_object, new_objects, subtype_for};
 ghost use Rattle.al_decl_judged.specs.Progressing.{with_all_counted, with_counted};
 ghost use Rattle.al_base_fault.specs.Judging.{map_ok};
 
+use crate::array_type;
 use crate::names::DefiningName;
 use crate::progress::Progress;
 use al_base::{Name, NoMemory, Place};
 use al_base_fault::CheckResult;
-use al_decl_type::array_type;
 use al_view::{Seq, Subtype, SubtypeView, Symbol, Types};
 use al_view_predefined::{StandardTypes, no_names};
 use std::alloc::Global;

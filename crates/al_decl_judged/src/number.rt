@@ -1,7 +1,7 @@
 // Number declarations (ARM 3.3.2).
 ghost use Rattle.std.specs.Prelude.{◌≡◌, IfOk};
-ghost use Rattle.al_decl_type.specs.Objects.{number_view};
-ghost use Rattle.al_decl_type.specs.TypeDeclarations.{declared_as};
+ghost use Rattle.al_decl_judged.specs.TypeObjects.{number_view};
+ghost use Rattle.al_decl_judged.specs.TypeDeclarations.{declared_as};
 ghost use Rattle.al_base_fault.specs.Judging.{map_ok};
 ghost use Rattle.al_decl_judged.specs.Declaring.{declared_model, joined};
 ghost use Rattle.al_decl_judged.specs.Numbers.{number_declarations, numbers_declared};
@@ -9,9 +9,9 @@ ghost use Rattle.al_decl_judged.specs.Numbers.{number_declarations, numbers_decl
 use crate::declared::Declared;
 use crate::names::{DefiningName, count_all, repeated};
 use crate::progress::Progress;
+use crate::{Declaration, number_view};
 use al_base::{Name, NoMemory};
 use al_base_fault::{CheckResult, Fault, earlier, unless};
-use al_decl_type::{Declaration, number_view};
 use al_view::{Seq, StaticValue};
 use std::alloc::Global;
 

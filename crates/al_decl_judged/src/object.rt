@@ -1,8 +1,8 @@
 // Object declarations (ARM 3.3.1).
 ghost use Rattle.std.specs.Prelude.{◌≡◌, ◌++◌, ◌∷◌, [], IfOk, OnOk, Some, option_map, is_some, slice_get};
 ghost use Rattle.std.specs.Option.{option_and_then};
-ghost use Rattle.al_decl_type.specs.Objects.{object_view};
-ghost use Rattle.al_decl_type.specs.TypeDeclarations.{declared_as};
+ghost use Rattle.al_decl_judged.specs.TypeObjects.{object_view};
+ghost use Rattle.al_decl_judged.specs.TypeDeclarations.{declared_as};
 ghost use Rattle.al_base_fault.specs.Judging.{both, map_ok, unless};
 ghost use Rattle.al_view_typed.specs.DeclarationTrees.{Objects, declaration_model};
 ghost use Rattle.al_view_typed.specs.ExpressionTrees.{Checked};
@@ -18,9 +18,9 @@ use crate::names::{DefiningName, repeated};
 use crate::new_object::NewObject;
 use crate::progress::Progress;
 use crate::static_piece::value_label;
+use crate::{Declaration, missing_value, object_view, words_of};
 use al_base::{Name, NoMemory};
 use al_base_fault::{CheckResult, Fault, both, earlier, unless};
-use al_decl_type::{Declaration, missing_value, object_view, words_of};
 use al_view::{Bounds, ObjectPlace, Seq, StaticValue};
 use al_view_predefined::StandardTypes;
 use al_view_typed::{CheckedValue, DeclarationForm, Typed, TypedDeclaration};

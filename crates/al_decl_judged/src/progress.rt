@@ -3,8 +3,8 @@ ghost use Rattle.std.specs.Prelude.{◌≡◌, IfOk, OnOk};
 ghost use Rattle.al_decl_judged.specs.Progressing.{after_flag, after_object, after_protected, is_library_level, next_place, symbol_of, type_counted, type_symbol, with_counted};
 
 use crate::names::TypeName;
+use crate::{Homonyms, Words, next_symbol};
 use al_base::{NoMemory, UnitKey};
-use al_decl_type::{Homonyms, Words, next_symbol};
 use al_view::{ObjectPlace, Priority, Seq, Symbol};
 use al_view_typed::{DataPlace, ProtectedWords};
 use std::alloc::Global;

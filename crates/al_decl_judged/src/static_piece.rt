@@ -3,9 +3,9 @@ ghost use Rattle.std.specs.Prelude.{◌≡◌};
 ghost use Rattle.al_view_typed.specs.ExpressionViews.{typed_model};
 ghost use Rattle.al_decl_judged.specs.StaticPieces.{place_label, static_of, static_range, value_label, wanted_at};
 
+use crate::StaticRange;
 use al_base::Place;
 use al_base_fault::{CheckResult, CheckRule, Fault, both};
-use al_decl_type::StaticRange;
 use al_view::{Bounds, StaticValue};
 use al_view_typed::Typed;
 

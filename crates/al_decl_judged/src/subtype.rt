@@ -1,6 +1,6 @@
 // Declarations of subtypes (ARM 3.2.2).
 ghost use Rattle.std.specs.Prelude.{◌≡◌, ◌∷◌, [], IfOk};
-ghost use Rattle.al_decl_type.specs.TypeDeclarations.{declared_as};
+ghost use Rattle.al_decl_judged.specs.TypeDeclarations.{declared_as};
 ghost use Rattle.al_base_fault.specs.Judging.{map_ok};
 ghost use Rattle.al_decl_judged.specs.Declaring.{declared_model, declares, joined};
 ghost use Rattle.al_decl_judged.specs.Subtypes.{subtype_declared};
@@ -8,9 +8,9 @@ ghost use Rattle.al_decl_judged.specs.Subtypes.{subtype_declared};
 use crate::declared::Declared;
 use crate::names::DefiningName;
 use crate::progress::Progress;
+use crate::{Declaration, subtype_view};
 use al_base::{Name, NoMemory};
 use al_base_fault::{CheckResult, Fault, unless};
-use al_decl_type::{Declaration, subtype_view};
 use al_view::{Seq, SubtypeView, View};
 use std::alloc::Global;
 

@@ -1,9 +1,9 @@
 // Declarations of types (ARM 3.2.1).
 ghost use Rattle.std.specs.Prelude.{◌≡◌, [], IfOk, OnOk};
 ghost use Rattle.al_base_fault.specs.Judging.{both, next, map_ok, unless};
-ghost use Rattle.al_decl_type.specs.Types.{array_type, integer_type, record_type};
+ghost use Rattle.al_decl_judged.specs.Types.{array_type, integer_type, record_type};
 ghost use Rattle.al_view_predefined.specs.Standard.{private_type};
-ghost use Rattle.al_decl_type.specs.TypeDeclarations.{declared_with, spellings, with_names};
+ghost use Rattle.al_decl_judged.specs.TypeDeclarations.{declared_with, spellings, with_names};
 ghost use Rattle.al_decl_judged.specs.Declaring.{declared_model, joined};
 ghost use Rattle.al_decl_judged.specs.DefiningNames.{names_of};
 ghost use Rattle.al_decl_judged.specs.TypeKinds.{array_declared, counts_after, declarations_of, enumeration_declared, integer_declared, literals_fault, private_declared, record_declared, signs_by, with_type};
@@ -11,12 +11,12 @@ ghost use Rattle.al_decl_judged.specs.TypeKinds.{array_declared, counts_after, d
 use crate::declared::Declared;
 use crate::names::{DefiningName, TypeName, named_so, names_of, repeated};
 use crate::progress::Progress;
-use al_base::NoMemory;
-use al_base_fault::{CheckResult, Fault, both, earlier, unless};
-use al_decl_type::{
+use crate::{
     Declaration, Homonyms, Part, StaticRange, array_type, declared_by, enumeration_type,
     full_declared_by, integer_type, own_type, record_type,
 };
+use al_base::NoMemory;
+use al_base_fault::{CheckResult, Fault, both, earlier, unless};
 use al_view::{Names, Seq, SubtypeView, Symbol, TypeView, Types};
 use al_view_predefined::{StandardTypes, no_names, private_type};
 use std::alloc::Global;

@@ -7,10 +7,10 @@ use Rattle.al_view.specs.declared.symbol.Symbol.{Symbol}
 use Rattle.al_view.specs.declared.view.ObjectPlace.{ObjectPlace}
 use Rattle.al_view.specs.declared.view.ViewKind.{ViewKind}
 use Rattle.al_view.specs.declared.view.ViewKind.TheVariants as views
-use Rattle.al_decl_completion.specs.Completing.{Completes, IsBodyOf, IsFirst}
-use Rattle.al_decl_completion.specs.declared.specification.BodyHead.{BodyHead}
-use Rattle.al_decl_completion.specs.declared.specification.BodyHead.TheVariants as head
-use Rattle.al_decl_completion.specs.declared.specification.Specification.{Specification}
+use Rattle.al_decl_profile.specs.Completing.{Completes, IsBodyOf, IsFirst}
+use Rattle.al_decl_profile.specs.declared.specification.BodyHead.{BodyHead}
+use Rattle.al_decl_profile.specs.declared.specification.BodyHead.TheVariants as head
+use Rattle.al_decl_profile.specs.declared.specification.Specification.{Specification}
 use Rattle.al_decl_judged.specs.declared.names.DefiningName.{DefiningName}
 use Rattle.al_decl_profile.specs.Bodies.{IsWaiting}
 use Rattle.al_decl_profile.specs.Completions.{IsCompleted, IsCompletedAt, IsCompleting, IsOfSubprogram}

@@ -2,10 +2,10 @@
 use Rattle.std.proofs.Common.{◌≡◌, ℕ, ◌+◌, ◌<◌, List, [], ◌∷◌, ◌++◌, length, take, get_or, refl, sym, ◌∙◌, ap}
 use Rattle.std.proofs.lemmas.List.Sums.{fold_push}
 use Rattle.al_view_typed.specs.declared.unit.FormalWords.{FormalWords}
-use Rattle.al_decl_type.specs.declared.declaration.Declaration.{Declaration}
-use Rattle.al_decl_type.specs.Objects.{formal_view}
-use Rattle.al_decl_type.specs.TypeDeclarations.{declared_as}
-use Rattle.al_decl_type.specs.Types.{words_of}
+use Rattle.al_decl_judged.specs.declared.declaration.Declaration.{Declaration}
+use Rattle.al_decl_judged.specs.TypeObjects.{formal_view}
+use Rattle.al_decl_judged.specs.TypeDeclarations.{declared_as}
+use Rattle.al_decl_judged.specs.Types.{words_of}
 use Rattle.al_decl_judged.specs.declared.progress.Progress.{Progress}
 use Rattle.al_decl_judged.proofs.NameLemmas.{front_more}
 use Rattle.al_decl_profile.specs.declared.frame.NewFormal.{NewFormal}

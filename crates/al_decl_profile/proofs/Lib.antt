@@ -1,2 +1,4 @@
 pub mod CompletingLemmas
+pub mod EachLemmas
 pub mod FormalLemmas
+pub mod SignatureLemmas

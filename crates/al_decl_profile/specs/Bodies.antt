@@ -8,8 +8,8 @@ use Rattle.al_view.specs.declared.symbol.Symbol.{Symbol}
 use Rattle.al_view.specs.declared.view.ObjectPlace.{ObjectPlace}
 use Rattle.al_view_typed.specs.DeclarationTrees.{DeclarationTree, Elaborated}
 use Rattle.al_query.specs.declared.answer.Completion.{Completion}
-use Rattle.al_decl_type.specs.declared.declaration.Declaration.{Declaration}
-use Rattle.al_decl_type.specs.TypeDeclarations.{declared_as}
+use Rattle.al_decl_judged.specs.declared.declaration.Declaration.{Declaration}
+use Rattle.al_decl_judged.specs.TypeDeclarations.{declared_as}
 use Rattle.al_decl_judged.specs.Declaring.{DeclaredTree, declared_model}
 use Rattle.al_decl_judged.specs.Progressing.{symbol_of, with_counted}
 use Rattle.al_decl_judged.specs.declared.progress.Progress.{Progress}

@@ -11,12 +11,12 @@ use Rattle.al_view.specs.declared.view.Profile.{Profile}
 use Rattle.al_view.specs.declared.view.ViewKind.{ViewKind}
 use Rattle.al_view.specs.declared.view.ViewKind.TheVariants.{OfSubprogram}
 use Rattle.al_query.specs.declared.answer.Completion.{Completion}
-use Rattle.al_decl_completion.specs.Completing.{Completes, IsFirst}
-use Rattle.al_decl_completion.specs.Conformance.{Conforms}
-use Rattle.al_decl_completion.specs.LoneBodies.{lone_body_fault}
-use Rattle.al_decl_completion.specs.declared.specification.BodyHead.{BodyHead}
-use Rattle.al_decl_completion.specs.declared.specification.BodyHead.TheVariants as head
-use Rattle.al_decl_completion.specs.declared.specification.Specification.{Specification}
+use Rattle.al_decl_profile.specs.Completing.{Completes, IsFirst}
+use Rattle.al_decl_profile.specs.Conformance.{Conforms}
+use Rattle.al_decl_profile.specs.LoneBodies.{lone_body_fault}
+use Rattle.al_decl_profile.specs.declared.specification.BodyHead.{BodyHead}
+use Rattle.al_decl_profile.specs.declared.specification.BodyHead.TheVariants as head
+use Rattle.al_decl_profile.specs.declared.specification.Specification.{Specification}
 use Rattle.al_decl_judged.specs.declared.names.DefiningName.{DefiningName}
 use Rattle.al_decl_profile.specs.declared.body.Completing.{Completing}
 use Rattle.al_decl_profile.specs.declared.body.Completing.TheVariants.{Declared, Alone}

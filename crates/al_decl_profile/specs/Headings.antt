@@ -3,7 +3,7 @@ use Rattle.std.specs.Prelude.{ℕ, Bool, true, false, List, [], ◌∷◌, map, 
 use Rattle.al_base_fault.specs.declared.fault.Fault.{Fault}
 use Rattle.al_base_fault.specs.Faults.{earlier}
 use Rattle.al_base_fault.specs.Judging.{fault_in}
-use Rattle.al_decl_completion.specs.LoneBodies.{dotted_name_fault, mode_fault}
+use Rattle.al_decl_profile.specs.LoneBodies.{dotted_name_fault, mode_fault}
 use Rattle.al_decl_judged.specs.declared.names.DefiningName.{DefiningName}
 use Rattle.al_decl_judged.specs.DefiningNames.{repeated}
 use Rattle.al_decl_profile.specs.declared.heading.FormalPart.{FormalPart}

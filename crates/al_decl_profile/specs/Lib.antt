@@ -1,6 +1,10 @@
 pub mod Bodies
+pub mod Completing
 pub mod Completions
+pub mod Conformance
 pub mod Frames
 pub mod Headings
+pub mod LoneBodies
 pub mod Profiles
 pub mod Subprograms
+pub mod Uncompleted

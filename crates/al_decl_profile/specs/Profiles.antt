@@ -7,11 +7,11 @@ use Rattle.al_view.specs.declared.types.TypeView.{TypeView}
 use Rattle.al_view.specs.declared.view.Parameter.{Parameter}
 use Rattle.al_view.specs.declared.view.Profile.{Profile}
 use Rattle.al_view.specs.declared.view.SubtypeView.{SubtypeView}
-use Rattle.al_decl_type.specs.TypeLists.{joined}
-use Rattle.al_decl_completion.specs.declared.specification.Formal.{Formal}
-use Rattle.al_decl_completion.specs.declared.specification.Returned.{Returned}
-use Rattle.al_decl_completion.specs.declared.specification.Returned.TheVariants as returned
-use Rattle.al_decl_completion.specs.declared.specification.Specification.{Specification}
+use Rattle.al_decl_judged.specs.TypeLists.{joined}
+use Rattle.al_decl_profile.specs.declared.specification.Formal.{Formal}
+use Rattle.al_decl_profile.specs.declared.specification.Returned.{Returned}
+use Rattle.al_decl_profile.specs.declared.specification.Returned.TheVariants as returned
+use Rattle.al_decl_profile.specs.declared.specification.Specification.{Specification}
 use Rattle.al_decl_profile.specs.declared.heading.FormalPart.{FormalPart}
 use Rattle.al_decl_profile.specs.declared.heading.Heading.{Heading}
 use Rattle.al_decl_profile.specs.declared.heading.ReturnedPart.{ReturnedPart}

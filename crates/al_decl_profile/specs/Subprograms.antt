@@ -10,8 +10,8 @@ use Rattle.al_view.specs.declared.view.ViewKind.{ViewKind}
 use Rattle.al_view.specs.declared.view.ViewKind.TheVariants.{OfSubprogram}
 use Rattle.al_view_typed.specs.DeclarationTrees.{Subprogram}
 use Rattle.al_query.specs.declared.answer.Completion.{Completion}
-use Rattle.al_decl_type.specs.TypeDeclarations.{declared_as}
-use Rattle.al_decl_completion.specs.Uncompleted.{with_declared}
+use Rattle.al_decl_judged.specs.TypeDeclarations.{declared_as}
+use Rattle.al_decl_profile.specs.Uncompleted.{with_declared}
 use Rattle.al_decl_judged.specs.Declaring.{DeclaredTree}
 use Rattle.al_decl_judged.specs.Progressing.{after_flag, next_place, symbol_of, with_counted}
 use Rattle.al_decl_judged.specs.declared.progress.Progress.{Progress}

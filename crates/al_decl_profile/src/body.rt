@@ -2,17 +2,17 @@
 ghost use Rattle.std.specs.Prelude.{◌≡◌, ◌∷◌, [], IfOk, OnOk, None, option_map};
 ghost use Rattle.al_decl_judged.specs.Declaring.{declares};
 ghost use Rattle.al_decl_judged.specs.Progressing.{symbol_of, with_counted};
-ghost use Rattle.al_decl_type.specs.TypeDeclarations.{declared_as};
+ghost use Rattle.al_decl_judged.specs.TypeDeclarations.{declared_as};
 ghost use Rattle.al_base_fault.specs.Judging.{map_ok};
 ghost use Rattle.al_view_typed.specs.DeclarationTrees.{Elaborated, declaration_model};
 ghost use Rattle.al_decl_profile.specs.Bodies.{after_body, body_declared, completing_fault, IsWaiting, left_waiting, new_body_model, right_body};
 ghost use Rattle.al_decl_profile.specs.Subprograms.{joined_waiting, subprogram_view};
 
+use crate::Uncompleted;
 use crate::heading::{Heading, heading_fault};
 use crate::subprogram::{one_declaration, subprogram_view};
 use al_base::NoMemory;
 use al_base_fault::{CheckResult, Fault, earlier};
-use al_decl_completion::Uncompleted;
 use al_decl_judged::{Declared, Progress};
 use al_view::{ObjectPlace, Seq, Symbol};
 use al_view_predefined::StandardTypes;

@@ -1,6 +1,6 @@
 // Which declaration a body or a stub completes (ARM 3.11.1, 6.3.1).
 ghost use Rattle.std.specs.Prelude.{◌≡◌, ◌<◌, length, slice_get, Some, IfOk};
-ghost use Rattle.al_decl_completion.specs.declared.specification.BodyHead.TheVariants as heads;
+ghost use Rattle.al_decl_profile.specs.declared.specification.BodyHead.TheVariants as heads;
 ghost use Rattle.al_decl_profile.specs.Bodies.{IsWaiting};
 ghost use Rattle.al_decl_profile.specs.Completions.{IsCompletedAt, IsCompleting, IsOfSubprogram, IsSubprogramHead};
 ghost use Rattle.al_decl_profile.specs.Profiles.{specification_of};
@@ -9,10 +9,8 @@ ghost use Rattle.al_view.specs.declared.view.ViewKind.TheVariants.{OfSubprogram}
 use crate::body::Completing;
 use crate::heading::Heading;
 use crate::profile::specification_of;
+use crate::{BodyHead, Specification, Uncompleted, conformance_fault, lone_body_fault};
 use al_base::{NoMemory, Place};
-use al_decl_completion::{
-    BodyHead, Specification, Uncompleted, conformance_fault, lone_body_fault,
-};
 use al_view::{ObjectPlace, SubprogramView, ViewKind};
 use std::alloc::Global;
 

@@ -1,15 +1,14 @@
 // The frame of a body, and its formal parameters in it (ARM 6.1, 6.4).
 ghost use Rattle.std.specs.Prelude.{◌≡◌, ◌++◌, ◌∷◌, [], IfOk, OnOk};
 ghost use Rattle.std.specs.List.{filter_map};
-ghost use Rattle.al_decl_type.specs.Objects.{formal_view};
-ghost use Rattle.al_decl_type.specs.TypeDeclarations.{declared_as};
-ghost use Rattle.al_decl_type.specs.Types.{words_of};
+ghost use Rattle.al_decl_judged.specs.TypeObjects.{formal_view};
+ghost use Rattle.al_decl_judged.specs.TypeDeclarations.{declared_as};
+ghost use Rattle.al_decl_judged.specs.Types.{words_of};
 ghost use Rattle.al_decl_profile.specs.Frames.{entered, formal_declarations, formal_place, formal_words, left_body, new_formal, with_formal, with_formals};
 
 use crate::heading::FormalPart;
 use al_base::{Name, NoMemory};
-use al_decl_judged::{Progress, copied_subtype};
-use al_decl_type::{Declaration, formal_view, words_of};
+use al_decl_judged::{Declaration, Progress, copied_subtype, formal_view, words_of};
 use al_view::{Mode, ObjectPlace, Seq, SubtypeView};
 use al_view_predefined::StandardTypes;
 use al_view_typed::FormalWords;

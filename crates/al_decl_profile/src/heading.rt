@@ -3,9 +3,9 @@ ghost use Rattle.std.specs.Prelude.{◌≡◌, IfOk};
 ghost use Rattle.al_base_fault.specs.Judging.{fault_in};
 ghost use Rattle.al_decl_profile.specs.Headings.{formal_fault, formal_names, formals_fault, heading_fault, is_function, returned_fault};
 
+use crate::{dotted_name_fault, mode_fault};
 use al_base::{Name, NoMemory};
 use al_base_fault::{CheckResult, Fault, earlier};
-use al_decl_completion::{dotted_name_fault, mode_fault};
 use al_decl_judged::{DefiningName, repeated};
 use al_view::{Mode, Seq, SubtypeView};
 use std::alloc::Global;

@@ -1,14 +1,14 @@
 // What a specification specifies (ARM 6.1(20)).
 ghost use Rattle.std.specs.Prelude.{◌≡◌, ◌++◌, ◌∷◌, [], IfOk, OnOk, map};
 ghost use Rattle.std.specs.List.{filter_map};
-ghost use Rattle.al_decl_type.specs.TypeLists.{joined};
+ghost use Rattle.al_decl_judged.specs.TypeLists.{joined};
 ghost use Rattle.al_decl_profile.specs.Profiles.{formal_of, formal_types, parameter_of, profile_of, profile_types, result_of, returned_of, returned_types, specification_of, subtype_in, types_in};
 
 use crate::heading::{FormalPart, Heading, ReturnedPart};
+use crate::{Formal, Returned, Specification};
 use al_base::{Name, NoMemory};
 use al_base_fault::CheckResult;
-use al_decl_completion::{Formal, Returned, Specification};
-use al_decl_type::add_types;
+use al_decl_judged::add_types;
 use al_view::{Parameter, Profile, Seq, Subtype, SubtypeView, TypeView, Types};
 use al_view_predefined::StandardTypes;
 use std::alloc::Global;

@@ -1,18 +1,17 @@
 // Declarations of subprograms (ARM 6.1).
 ghost use Rattle.std.specs.Prelude.{◌≡◌, ◌∷◌, [], IfOk, OnOk, Some};
-ghost use Rattle.al_decl_completion.specs.Uncompleted.{with_declared};
-ghost use Rattle.al_decl_type.specs.TypeDeclarations.{declared_as};
+ghost use Rattle.al_decl_profile.specs.Uncompleted.{with_declared};
+ghost use Rattle.al_decl_judged.specs.TypeDeclarations.{declared_as};
 ghost use Rattle.al_decl_judged.specs.Declaring.{declared_model};
 ghost use Rattle.al_base_fault.specs.Judging.{map_ok};
 ghost use Rattle.al_decl_profile.specs.Subprograms.{flagged_view, flag_of, joined_waiting, right_subprogram, subprogram_declared, subprogram_view, with_subprogram};
 
+use crate::Uncompleted;
 use crate::heading::{Heading, heading_fault};
 use crate::profile::{profile_of, profile_types};
 use al_base::{Name, NoMemory};
 use al_base_fault::{CheckResult, Fault, earlier};
-use al_decl_completion::Uncompleted;
-use al_decl_judged::{Declared, Progress};
-use al_decl_type::Declaration;
+use al_decl_judged::{Declaration, Declared, Progress};
 use al_view::{CallKind, ObjectPlace, Seq, SubprogramView, Symbol, View, ViewKind};
 use al_view_predefined::StandardTypes;
 use al_view_typed::{DeclarationForm, TypedDeclaration};

@@ -2,7 +2,7 @@
 use Rattle.std.proofs.Common.{◌≡◌, ℕ, zero, suc, ◌+◌, ◌<◌, ◌≤◌, List, [], ◌∷◌, ◌++◌, length, take, drop, refl, sym, ap, ◌∙◌, append-nil, append_assoc, add-one, arith}
 use Rattle.std.proofs.lemmas.List.{at_drop_all}
 use Rattle.al_decl_judged.specs.declared.names.DefiningName.{DefiningName}
-use Rattle.al_decl_type.specs.WordCounts.{place_after}
+use Rattle.al_decl_judged.specs.WordCounts.{place_after}
 use Rattle.al_decl_protected.specs.Components.{places_from, word_after}
 
 places_first : (words next : ℕ) (names : List DefiningName) (i : ℕ) → i < length names → places_from words next (drop i names) ≡ next ∷ places_from words (place_after next words) (drop (suc i) names)

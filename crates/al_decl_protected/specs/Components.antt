@@ -8,9 +8,9 @@ use Rattle.al_decl_judged.specs.declared.names.DefiningName.{DefiningName}
 use Rattle.al_decl.specs.Defining.{defining_names}
 use Rattle.al_decl.specs.PartReadings.{PartReading}
 use Rattle.al_decl.specs.Components.{names_fault}
-use Rattle.al_decl_type.specs.TypeLists.{joined}
-use Rattle.al_decl_type.specs.Types.{words_of}
-use Rattle.al_decl_type.specs.WordCounts.{place_after}
+use Rattle.al_decl_judged.specs.TypeLists.{joined}
+use Rattle.al_decl_judged.specs.Types.{words_of}
+use Rattle.al_decl_judged.specs.WordCounts.{place_after}
 use Rattle.al_query.specs.Reads.{Table}
 use Rattle.al_scope.specs.Places.{Place}
 use Rattle.al_tree_syntax.specs.DeclarationTrees.{ProtectedComponentTree, ProtectedPrivateTree}

@@ -6,7 +6,7 @@ use Rattle.al_base_fault.specs.declared.check_rule.CheckRule.TheVariants.{NotLib
 use Rattle.al_base_fault.specs.Faults.{earlier, fault_at}
 use Rattle.al_base_fault.specs.Judging.{next, unless}
 use Rattle.al_base_fault.specs.declared.fault.Fault.{Fault}
-use Rattle.al_overload_keys.specs.Places.{place_of}
+use Rattle.al_overload_lookup.specs.Places.{place_of}
 use Rattle.al_query.specs.Reads.{Table}
 use Rattle.al_scope.specs.Places.{Place}
 use Rattle.al_tree_syntax.specs.DeclarationTrees.{AspectTree}

@@ -11,9 +11,9 @@ use Rattle.al_decl_judged.specs.declared.names.DefiningName.{DefiningName}
 use Rattle.al_decl_judged.specs.declared.progress.Progress.{Progress}
 use Rattle.al_decl.specs.Defining.{defined}
 use Rattle.al_decl.specs.PartReadings.{PartReading}
-use Rattle.al_overload_keys.specs.Places.{place_of}
+use Rattle.al_overload_lookup.specs.Places.{place_of}
 use Rattle.al_query.specs.Reads.{Table}
-use Rattle.al_stmts_loops.specs.Ends.{end_fault}
+use Rattle.al_stmts.specs.Ends.{end_fault}
 use Rattle.al_tree_grammar.specs.Grammar.{Label}
 use Rattle.al_tree_syntax.specs.DeclarationTrees.{ProtectedTree}
 use Rattle.al_view.specs.declared.symbol.Symbol.{Symbol}

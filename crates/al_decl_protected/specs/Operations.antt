@@ -6,7 +6,7 @@ use Rattle.al_base_fault.specs.declared.check_rule.CheckRule.TheVariants.{Second
 use Rattle.al_base_fault.specs.Faults.{earlier, fault_at}
 use Rattle.al_base_fault.specs.Judging.{next, unless}
 use Rattle.al_base_fault.specs.declared.fault.Fault.{Fault}
-use Rattle.al_decl_completion.specs.Completing.{is_entry}
+use Rattle.al_decl_profile.specs.Completing.{is_entry}
 use Rattle.al_decl.specs.Heads.{heading_read}
 use Rattle.al_decl.specs.Declaring.{in_innermost}
 use Rattle.al_decl.specs.declared.env.Environment.{Environment}

@@ -20,7 +20,7 @@ use al_base_fault::{CheckResult, Fault};
 use al_decl::{Environment, PartAnalyzer, defining_name, enter_region, leave_region};
 use al_decl_judged::DefiningName;
 use al_query::{Answers, Recorder};
-use al_stmts_loops::{NameAtEnd, end_fault};
+use al_stmts::{NameAtEnd, end_fault};
 use al_tree::{Identifier, ProtectedComponent, ProtectedDefinition, ProtectedPrivatePart};
 use al_view::{
     Component, Operation, Priority, ProtectedView, Seq, Symbol, TypeView, Types, View, ViewKind,

@@ -2,7 +2,7 @@
 ghost use Rattle.std.specs.Prelude.{◌≡◌, ◌<◌, ◌++◌, ◌∷◌, [], length, map, IfOk, OnOk, Some};
 ghost use Rattle.std.specs.List.{list_any};
 ghost use Rattle.al_decl.specs.Checking.{with_progress, with_scope};
-ghost use Rattle.al_decl_completion.specs.Completing.{is_entry};
+ghost use Rattle.al_decl_profile.specs.Completing.{is_entry};
 ghost use Rattle.al_decl_judged.specs.Progressing.{symbol_of, with_counted};
 ghost use Rattle.al_decl.specs.Defining.{defined};
 ghost use Rattle.al_decl.specs.Declaring.{in_innermost};

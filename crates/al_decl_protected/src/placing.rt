@@ -6,8 +6,7 @@ ghost use Rattle.al_view_typed.specs.DeclarationTrees.{declaration_model};
 
 use al_base::{Name, NoMemory};
 use al_decl::{Environment, finish_right};
-use al_decl_judged::Declared;
-use al_decl_type::Declaration;
+use al_decl_judged::{Declaration, Declared};
 use al_view::{Seq, View};
 use al_view_typed::TypedDeclaration;
 use std::alloc::Global;

@@ -14,20 +14,20 @@ use Rattle.al_query_outcome.specs.Equations.{is_reached, table}
 use Rattle.al_entries.specs.EntryLaw.{HasCurrent, TextMeaning}
 use Rattle.al_entries.specs.Stored.{Stored}
 use Rattle.al_engine_refresh.specs.Builds.{raised, results_of, text_of}
-use Rattle.al_engine_keep.specs.Staying.{is_there, or_else, staying}
-use Rattle.al_engine_recheck.specs.Rechecks.{AreReady, setting_of}
-use Rattle.al_engine_recheck.proofs.RecheckLemmas.{settled}
-use Rattle.al_engine_recheck.specs.UnitCache.{Kept}
-use Rattle.al_engine_graph.specs.declared.graph.UnitGraph.{UnitGraph}
-use Rattle.al_engine_batch.specs.Patches.{linked_in}
-use Rattle.al_engine_batch.proofs.PatchLemmas.{stays-patched}
-use Rattle.al_engine_rebuild.specs.Rebuilds.{IsRebuilt, IsWithin, is_moved}
-use Rattle.al_engine_rebuild.proofs.WithinLemmas.{still-within}
-use Rattle.al_engine_rebuild.specs.declared.rebuilding.Rebuilt.{Rebuilt}
+use Rattle.al_engine_refresh.specs.Staying.{is_there, or_else, staying}
+use Rattle.al_engine.specs.Rechecks.{AreReady, setting_of}
+use Rattle.al_engine.proofs.RecheckLemmas.{settled}
+use Rattle.al_engine.specs.UnitCache.{Kept}
+use Rattle.al_engine.specs.declared.graph.UnitGraph.{UnitGraph}
+use Rattle.al_engine.specs.Patches.{linked_in}
+use Rattle.al_engine.proofs.PatchLemmas.{stays-patched}
+use Rattle.al_engine.specs.Rebuilds.{IsRebuilt, IsWithin, is_moved}
+use Rattle.al_engine.proofs.WithinLemmas.{still-within}
+use Rattle.al_engine.specs.declared.rebuilding.Rebuilt.{Rebuilt}
 use Rattle.al_query.specs.Known.{has_unit}
 use Rattle.al_query_store.specs.Keyed.{differ, settled_at, state}
-use Rattle.al_engine_keep.specs.Moves.{Entries}
-use Rattle.al_unit_order.specs.Reached.{is_faultless}
+use Rattle.al_engine_refresh.specs.Moves.{Entries}
+use Rattle.al_unit_faults.specs.Reached.{is_faultless}
 use Rattle.al_view.proofs.SymbolLemmas.{both}
 use Rattle.al_engine_refresh.proofs.LoopLemmas.{raised-none}
 use Rattle.al_engine.specs.Builds.{IsBuild}

@@ -6,18 +6,18 @@ use Rattle.al_query.specs.declared.answer.AnswerKind.{AnswerKind}
 use Rattle.al_query.specs.declared.query.Query.{Query}
 use Rattle.al_query_store.specs.Keyed.{SameStates, settled_at}
 use Rattle.al_entries.specs.EntryLaw.{TextMeaning}
-use Rattle.al_engine_keep.specs.Moves.{Entries}
+use Rattle.al_engine_refresh.specs.Moves.{Entries}
 use Rattle.al_engine_refresh.specs.Settings.{ArePredefined}
 use Rattle.al_engine_refresh.specs.Builds.{raised}
-use Rattle.al_engine_recheck.specs.Rechecks.{setting_of}
-use Rattle.al_engine_recheck.specs.UnitCache.{Kept}
-use Rattle.al_engine_graph.specs.Kept.{IsGraphOf}
-use Rattle.al_engine_graph.specs.declared.graph.UnitGraph.{UnitGraph}
+use Rattle.al_engine.specs.Rechecks.{setting_of}
+use Rattle.al_engine.specs.UnitCache.{Kept}
+use Rattle.al_engine.specs.Kept.{IsGraphOf}
+use Rattle.al_engine.specs.declared.graph.UnitGraph.{UnitGraph}
 use Rattle.al_link.specs.Relinking.{LinkedImage}
-use Rattle.al_engine_batch.specs.Batches.{IsCompiled}
-use Rattle.al_engine_batch.specs.Patches.{IsPatched, linked_in}
-use Rattle.al_engine_rebuild.specs.Rebuilds.{IsKept, IsRebuilt}
-use Rattle.al_engine_rebuild.specs.declared.rebuilding.Rebuilt.{Rebuilt}
+use Rattle.al_engine.specs.Batches.{IsCompiled}
+use Rattle.al_engine.specs.Patches.{IsPatched, linked_in}
+use Rattle.al_engine.specs.Rebuilds.{IsKept, IsRebuilt}
+use Rattle.al_engine.specs.declared.rebuilding.Rebuilt.{Rebuilt}
 use Rattle.al_engine.specs.Builds.{IsBuild}
 use Rattle.al_engine.specs.States.{AreReadFor, Built, Held, IsRight, IsSettledBy, linked_last}
 use Rattle.al_engine.proofs.SameLemmas.{right-same}

@@ -12,8 +12,8 @@ use Rattle.al_query.specs.Known.{has_unit}
 use Rattle.al_query_outcome.specs.Equations.{is_sound, unit_named}
 use Rattle.al_query_outcome.specs.Results.{Faulty, Outcome, Sound}
 use Rattle.al_query_outcome.proofs.Names.{tested}
-use Rattle.al_engine_found.specs.Found.{contents_findings, file_findings, findings_of, outcome_findings}
-use Rattle.al_engine_graph.specs.Graphs.{HaveOneGraph, HaveSameHeaders, contents_at}
+use Rattle.al_engine_refresh.specs.Found.{contents_findings, file_findings, findings_of, outcome_findings}
+use Rattle.al_engine.specs.GraphGraphs.{HaveOneGraph, HaveSameHeaders, contents_at}
 
 -- nothing in the parts of nothing
 pub none-left : (xs ys : List Finding) → xs ++ ys ≡ [] → xs ≡ []

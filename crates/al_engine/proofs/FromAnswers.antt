@@ -10,10 +10,10 @@ use Rattle.al_query_outcome.specs.Results.{Outcome}
 use Rattle.al_engine_refresh.specs.Builds.{results_of}
 use Rattle.al_entries.specs.EntryLaw.{TextMeaning}
 use Rattle.al_entries.specs.Stored.{Stored}
-use Rattle.al_engine_batch.specs.Batches.{IsBatch}
-use Rattle.al_engine_rebuild.specs.Replies.{ReplyIsOne, reply_of}
-use Rattle.al_engine_rebuild.specs.Rebuilds.{IsRebuilt}
-use Rattle.al_engine_rebuild.specs.declared.rebuilding.Rebuilt.{Rebuilt}
+use Rattle.al_engine.specs.Batches.{IsBatch}
+use Rattle.al_engine.specs.Replies.{ReplyIsOne, reply_of}
+use Rattle.al_engine.specs.Rebuilds.{IsRebuilt}
+use Rattle.al_engine.specs.declared.rebuilding.Rebuilt.{Rebuilt}
 use Rattle.al_engine.specs.LawBuilds.{BuildsTellOneThing, told}
 
 module _ (reply_is_one : ReplyIsOne) (meaning : TextMeaning) (header : List ℕ → Header) (predefined : Query → AnswerKind) (lib : Library) (main : List ℕ) where

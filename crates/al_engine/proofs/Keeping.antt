@@ -9,23 +9,23 @@ use Rattle.al_unit_graph.specs.Headers.{Header, Library}
 use Rattle.al_unit_graph.specs.Library.{unit_at}
 use Rattle.al_unit_graph.specs.Needed.{subunits_of}
 use Rattle.al_bind.specs.Elaboration.{IsPartOf, itself, subunit}
-use Rattle.al_link_placed.specs.Placed.{ArePlaced, AreSubunits, item, nothing}
+use Rattle.al_engine.specs.Placed.{ArePlaced, AreSubunits, item, nothing}
 use Rattle.al_query.specs.declared.answer.AnswerKind.{AnswerKind}
 use Rattle.al_query.specs.declared.query.Query.{Query}
 use Rattle.al_query_outcome.specs.Results.{Outcome}
 use Rattle.al_entries.specs.EntryLaw.{TextMeaning}
 use Rattle.al_entries.specs.Stored.{Stored}
 use Rattle.al_engine_refresh.specs.Builds.{results_of}
-use Rattle.al_engine_graph.specs.Graphs.{HaveOneGraph}
-use Rattle.al_engine_batch.specs.Batches.{IsBatch}
-use Rattle.al_engine_batch.specs.Renewals.{HoldsPartition, KeepsPartition}
-use Rattle.al_engine_batch.specs.declared.compiled.Compiled.{Compiled}
-use Rattle.al_engine_batch.specs.declared.compiled.Compiled.TheVariants.{Faulty, Unbound, TooLarge, Made}
-use Rattle.al_engine_batch.specs.declared.compiled.Program.{Program}
-use Rattle.al_engine_rebuild.specs.Rebuilds.{IsRebuilt}
-use Rattle.al_engine_rebuild.specs.declared.rebuilding.Rebuilt.{Rebuilt}
-use Rattle.al_engine_batch.specs.Gave.{order_of}
-use Rattle.al_engine.proofs.Edited.{all-made}
+use Rattle.al_engine.specs.GraphGraphs.{HaveOneGraph}
+use Rattle.al_engine.specs.Batches.{IsBatch}
+use Rattle.al_engine.specs.BatchRenewals.{HoldsPartition, KeepsPartition}
+use Rattle.al_engine.specs.declared.compiled.Compiled.{Compiled}
+use Rattle.al_engine.specs.declared.compiled.Compiled.TheVariants.{Faulty, Unbound, TooLarge, Made}
+use Rattle.al_engine.specs.declared.compiled.Program.{Program}
+use Rattle.al_engine.specs.Rebuilds.{IsRebuilt}
+use Rattle.al_engine.specs.declared.rebuilding.Rebuilt.{Rebuilt}
+use Rattle.al_engine.specs.Gave.{order_of}
+use Rattle.al_engine.proofs.EditedThere.{all-made}
 
 -- the parts of an item go by what the units are
 module _ (old new : Library) (units : (key : Key) → unit_at old key ≡ unit_at new key) where

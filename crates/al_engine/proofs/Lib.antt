@@ -1,11 +1,50 @@
 mod Again
+mod Bases
 mod BuiltLemmas
 mod Clean
-mod Edited
+pub mod Closing
+pub mod Completing
+mod Defined
+mod EditedThere
+pub mod Entries
+pub mod ExchangeLemmas
+mod FileNames
+pub mod Files
 mod FromAnswers
 mod Keeping
+pub mod KeptLemmas
+pub mod KeyOrders
+mod Left
+pub mod LinkLemmas
+pub mod MainDefined
 mod Obsolete
+pub mod OrderLemmas
+pub mod Parts
+pub mod PatchLemmas
+pub mod PlacedLemmas
 mod Readings
-mod Renewing
+pub mod ReadyLemmas
+mod RebuildClean
+mod RebuildObjects
+pub mod RebuildPlacing
+pub mod RecheckLemmas
+pub mod RecheckSameLemmas
+pub mod RenewLemmas
+mod RenewingThere
+pub mod Replies
+mod RowLemmas
+mod SameFaults
 mod SameLemmas
+mod SamePartitions
+mod SameUnits
+mod Skipping
+pub mod Sound
+pub mod StayLemmas
+pub mod SubunitNames
 mod Taken
+mod Used
+mod UsedBodies
+mod UsedExpressions
+mod UsedStatements
+mod WalkLemmas
+pub mod WithinLemmas

@@ -3,8 +3,8 @@ use Rattle.std.proofs.Common.{◌≡◌, ℕ, List, subst}
 use Rattle.al_base.specs.Batch.{Key}
 use Rattle.al_unit_graph.specs.Headers.{Library}
 use Rattle.al_unit_graph.specs.Traces.{AreReadAlike}
-use Rattle.al_unit_obsolete.specs.Obsolete.{obsolete_of}
-use Rattle.al_unit_obsolete.specs.Wanted.{ListsObsolete}
+use Rattle.al_unit_faults.specs.Obsolete.{obsolete_of}
+use Rattle.al_unit_faults.specs.Wanted.{ListsObsolete}
 
 pub listed : (old built new now : Library) (found faulty : List (List ℕ)) (keys : List Key) → old ≡ built → new ≡ now → found ≡ faulty → AreReadAlike built now → ListsObsolete old found new keys → keys ≡ obsolete_of built faulty now
 listed old built new now found faulty keys o n f alike lists =

@@ -6,10 +6,10 @@ use Rattle.al_query.specs.declared.answer.AnswerKind.{AnswerKind}
 use Rattle.al_query.specs.declared.query.Query.{Query}
 use Rattle.al_query_store.specs.Keyed.{SameStates}
 use Rattle.al_entries.specs.EntryLaw.{TextMeaning}
-use Rattle.al_engine_keep.specs.Moves.{Entries}
-use Rattle.al_engine_recheck.proofs.SameLemmas.{before-same, ready-same, settled-same}
-use Rattle.al_engine_graph.specs.declared.graph.UnitGraph.{UnitGraph}
-use Rattle.al_engine_batch.specs.declared.compiled.Compiled.{Compiled}
+use Rattle.al_engine_refresh.specs.Moves.{Entries}
+use Rattle.al_engine.proofs.RecheckSameLemmas.{before-same, ready-same, settled-same}
+use Rattle.al_engine.specs.declared.graph.UnitGraph.{UnitGraph}
+use Rattle.al_engine.specs.declared.compiled.Compiled.{Compiled}
 use Rattle.al_engine.specs.States.{Built, IsRight, IsSettledBy}
 
 module _ (meaning : TextMeaning) (header : List ℕ → Header) (pre : Query → AnswerKind) (library : Texts → Library) (old new : Entries) (same : SameStates old new) where

@@ -8,14 +8,14 @@ use Rattle.al_bind.specs.Binding.{IsElaboration}
 use Rattle.al_query_outcome.specs.Equations.{Setting}
 use Rattle.al_query_outcome.specs.Results.{Outcome}
 use Rattle.al_entries.specs.EntryLaw.{TextMeaning}
-use Rattle.al_engine_batch.specs.Batches.{IsBatch, IsCompiled}
-use Rattle.al_engine_batch.specs.declared.compiled.Compiled.{Compiled}
-use Rattle.al_engine_batch.specs.declared.compiled.Compiled.TheVariants.{Faulty, Unbound, TooLarge, Made}
+use Rattle.al_engine.specs.Batches.{IsBatch, IsCompiled}
+use Rattle.al_engine.specs.declared.compiled.Compiled.{Compiled}
+use Rattle.al_engine.specs.declared.compiled.Compiled.TheVariants.{Faulty, Unbound, TooLarge, Made}
 use Rattle.std.specs.Option.{option_map}
-use Rattle.al_engine_graph.specs.Graphs.{HaveOneGraph, HaveSameHeaders}
-use Rattle.al_engine_graph.specs.Kept.{IsGraphOf}
-use Rattle.al_engine_graph.specs.declared.graph.UnitGraph.{UnitGraph}
-use Rattle.al_engine_batch.specs.Gave.{order_of}
+use Rattle.al_engine.specs.GraphGraphs.{HaveOneGraph, HaveSameHeaders}
+use Rattle.al_engine.specs.Kept.{IsGraphOf}
+use Rattle.al_engine.specs.declared.graph.UnitGraph.{UnitGraph}
+use Rattle.al_engine.specs.Gave.{order_of}
 use Rattle.al_engine.specs.Graphs.{IsOrdered}
 
 -- a build that was found to be the last one is as that one is

@@ -7,8 +7,8 @@ use Rattle.al_query.specs.declared.answer.AnswerKind.{AnswerKind}
 use Rattle.al_query.specs.declared.query.Query.{Query}
 use Rattle.al_engine_refresh.specs.Builds.{raised}
 use Rattle.al_entries.specs.EntryLaw.{TextMeaning}
-use Rattle.al_engine_batch.specs.Patches.{IsPatched, linked_in}
-use Rattle.al_engine_rebuild.specs.Rebuilds.{IsKept, IsRebuilt}
+use Rattle.al_engine.specs.Patches.{IsPatched, linked_in}
+use Rattle.al_engine.specs.Rebuilds.{IsKept, IsRebuilt}
 use Rattle.al_engine.specs.States.{Built, Held, linked_last}
 
 -- the last build is of the files as they are and this main unit, over what was kept of the units; so many checks more were made

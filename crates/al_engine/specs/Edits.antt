@@ -10,10 +10,10 @@ use Rattle.al_unit_map.specs.Units.{at_unit}
 use Rattle.al_query.specs.Known.{has_unit}
 use Rattle.std.specs.Prelude.{Option}
 use Rattle.al_entries.specs.Stored.{Stored}
-use Rattle.al_engine_graph.specs.declared.graph.UnitGraph.{UnitGraph}
+use Rattle.al_engine.specs.declared.graph.UnitGraph.{UnitGraph}
 use Rattle.al_engine_refresh.specs.Builds.{text_of}
-use Rattle.al_engine_recheck.specs.Edits.{IsForAnother, units_of}
-use Rattle.al_engine_recheck.specs.declared.edited.EditedUnit.{EditedUnit}
+use Rattle.al_engine.specs.RecheckEdits.{IsForAnother, units_of}
+use Rattle.al_engine.specs.declared.edited.EditedUnit.{EditedUnit}
 
 -- no other unit of the library wants this file
 abbrev pub HoldsAlone : Library → List ℕ → UnitKey → Type 0

@@ -5,10 +5,10 @@ use Rattle.al_base.specs.Files.{Texts}
 use Rattle.al_base.specs.declared.unit_key.UnitKey.{UnitKey}
 use Rattle.al_unit_graph.specs.Headers.{Library}
 use Rattle.al_bind.specs.Binding.{IsElaboration}
-use Rattle.al_engine_batch.specs.declared.compiled.Compiled.{Compiled}
-use Rattle.al_engine_graph.specs.Kept.{IsGraphOf}
-use Rattle.al_engine_graph.specs.declared.graph.UnitGraph.{UnitGraph}
-use Rattle.al_engine_batch.specs.Gave.{order_of}
+use Rattle.al_engine.specs.declared.compiled.Compiled.{Compiled}
+use Rattle.al_engine.specs.Kept.{IsGraphOf}
+use Rattle.al_engine.specs.declared.graph.UnitGraph.{UnitGraph}
+use Rattle.al_engine.specs.Gave.{order_of}
 
 -- an order that compiling gave is one of elaboration
 abbrev pub IsOrdered : Library → List ℕ → Compiled → Type 0

@@ -5,7 +5,7 @@ use Rattle.al_unit_graph.specs.Headers.{Header, Library}
 use Rattle.al_query.specs.declared.answer.AnswerKind.{AnswerKind}
 use Rattle.al_query.specs.declared.query.Query.{Query}
 use Rattle.al_entries.specs.EntryLaw.{TextMeaning}
-use Rattle.al_engine_rebuild.specs.Replies.{Reply, reply_of}
+use Rattle.al_engine.specs.Replies.{Reply, reply_of}
 use Rattle.al_engine.specs.Builds.{IsBuild}
 use Rattle.al_engine.specs.States.{Built, Held}
 

@@ -6,7 +6,7 @@ use Rattle.al_base.specs.Batch.{key_of}
 use Rattle.al_base.specs.declared.unit_key.UnitKey.{UnitKey}
 use Rattle.al_unit_graph.specs.Headers.{Header, Library}
 use Rattle.al_unit_graph.specs.Orders.{key_cmp}
-use Rattle.al_unit_order.specs.Reached.{is_faultless}
+use Rattle.al_unit_faults.specs.Reached.{is_faultless}
 use Rattle.al_query.specs.Known.{has_unit}
 use Rattle.al_query.specs.Reads.{Agrees}
 use Rattle.al_query.specs.declared.answer.AnswerKind.{AnswerKind}
@@ -14,8 +14,8 @@ use Rattle.al_query.specs.declared.query.Query.{Query}
 use Rattle.al_entries.specs.EntryLaw.{IsCurrent, KeepsLaw, TextMeaning}
 use Rattle.al_entries.specs.Stored.{Stored}
 use Rattle.al_engine_refresh.specs.Builds.{has_sound_dependences, present, results_of, text_of}
-use Rattle.al_engine_recheck.specs.Edits.{IsRenewable, IsRenewal}
-use Rattle.al_engine_recheck.specs.Rechecks.{HasOrder, IsRechecked, setting_of}
+use Rattle.al_engine.specs.RecheckEdits.{IsRenewable, IsRenewal}
+use Rattle.al_engine.specs.Rechecks.{HasOrder, IsRechecked, setting_of}
 
 -- Each of these units has a new entry for its text of now, with the answers that there are then; all other entries are those that there were.
 -- Nobody else is reached by it: the log of each other entry has the answers that there are then, and each unit depends on as sound ones.

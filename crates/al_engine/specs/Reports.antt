@@ -6,9 +6,9 @@ use Rattle.al_base.specs.declared.diagnostic.Diagnostic.{Diagnostic}
 use Rattle.al_base.specs.declared.refusal.Refusal.{Refusal}
 use Rattle.al_base.specs.declared.refusal.Refusal.TheVariants.{NotBuilt, NoImage}
 use Rattle.al_unit_graph.specs.Headers.{Library}
-use Rattle.al_unit_obsolete.specs.Obsolete.{obsolete_of}
-use Rattle.al_engine_batch.specs.declared.compiled.Compiled.{Compiled}
-use Rattle.al_engine_batch.specs.Gave.{diagnostics_of, files_reported}
+use Rattle.al_unit_faults.specs.Obsolete.{obsolete_of}
+use Rattle.al_engine.specs.declared.compiled.Compiled.{Compiled}
+use Rattle.al_engine.specs.Gave.{diagnostics_of, files_reported}
 use Rattle.al_engine.specs.States.{Built}
 
 abbrev pub or_no_image : {X : Type 0} → Option X → Result X Refusal

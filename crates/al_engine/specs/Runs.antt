@@ -2,9 +2,9 @@
 use Rattle.std.specs.Prelude.{ℕ, ◌≡◌, ◌⊎◌, Option, Result, Ok, Err}
 use Rattle.al_base.specs.declared.refusal.Refusal.{Refusal}
 use Rattle.al_base.specs.declared.refusal.Refusal.TheVariants.{NoMemory}
-use Rattle.al_engine_batch.specs.Programs.{image_in}
-use Rattle.al_engine_batch.specs.declared.compiled.Program.{Program}
-use Rattle.al_engine_batch.specs.Gave.{program_of}
+use Rattle.al_engine.specs.Programs.{image_in}
+use Rattle.al_engine.specs.declared.compiled.Program.{Program}
+use Rattle.al_engine.specs.Gave.{program_of}
 use Rattle.al_tasks.specs.WorldRuns.{run_of, run_model}
 use Rattle.al_tasks.specs.declared.running.RunReport.{RunReport}
 use Rattle.al_engine.specs.Reports.{reported}

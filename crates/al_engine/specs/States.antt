@@ -5,24 +5,24 @@ use Rattle.al_base.specs.Files.{Texts}
 use Rattle.al_base.specs.declared.unit_key.UnitKey.{UnitKey}
 use Rattle.al_unit_graph.specs.Headers.{Header, Library}
 use Rattle.al_unit_graph.specs.Traces.{AreReadAlike}
-use Rattle.al_unit_order.specs.Read.{AreHeaded, NameParentBodies}
+use Rattle.al_unit_faults.specs.Read.{AreHeaded, NameParentBodies}
 use Rattle.al_query.specs.declared.answer.AnswerKind.{AnswerKind}
 use Rattle.al_query.specs.declared.query.Query.{Query}
 use Rattle.al_engine_refresh.specs.Settings.{ArePredefined}
 use Rattle.al_entries.specs.EntryLaw.{TextMeaning}
 use Rattle.al_entries.specs.Stored.{Stored}
-use Rattle.al_engine_recheck.specs.UnitCache.{Kept}
+use Rattle.al_engine.specs.UnitCache.{Kept}
 use Rattle.al_query_store.specs.Keyed.{before_at, settled_at}
-use Rattle.al_engine_keep.specs.Moves.{Entries}
-use Rattle.al_engine_recheck.specs.Rechecks.{AreReady, setting_of}
+use Rattle.al_engine_refresh.specs.Moves.{Entries}
+use Rattle.al_engine.specs.Rechecks.{AreReady, setting_of}
 use Rattle.al_link.specs.Relinking.{LinkedImage}
-use Rattle.al_engine_batch.specs.Batches.{IsCompiled}
-use Rattle.al_engine_batch.specs.Patches.{linked_in}
-use Rattle.al_engine_batch.specs.declared.compiled.Compiled.{Compiled}
-use Rattle.al_engine_graph.specs.declared.graph.UnitGraph.{UnitGraph}
+use Rattle.al_engine.specs.Batches.{IsCompiled}
+use Rattle.al_engine.specs.Patches.{linked_in}
+use Rattle.al_engine.specs.declared.compiled.Compiled.{Compiled}
+use Rattle.al_engine.specs.declared.graph.UnitGraph.{UnitGraph}
 use Rattle.al_engine.specs.Graphs.{KeepsGraph}
-use Rattle.al_engine_rebuild.specs.Rebuilds.{IsRebuilt}
-use Rattle.al_engine_rebuild.specs.declared.rebuilding.Rebuilt.{Rebuilt}
+use Rattle.al_engine.specs.Rebuilds.{IsRebuilt}
+use Rattle.al_engine.specs.declared.rebuilding.Rebuilt.{Rebuilt}
 
 -- the files that a build found, its main unit, and what it gave
 pub record Built : Type 0 where

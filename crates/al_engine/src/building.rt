@@ -2,20 +2,20 @@
 ghost use Rattle.std.specs.Prelude.{◌≡◌, IfOk, IfSome, OnErr, OnOk, length, map};
 ghost use Rattle.al_base.specs.Batch.{key_of};
 ghost use Rattle.al_unit_graph.specs.Traces.{AreReadAlike};
-ghost use Rattle.al_unit_obsolete.specs.Obsolete.{obsolete_of};
-ghost use Rattle.al_engine_batch.specs.Gave.{files_reported};
+ghost use Rattle.al_unit_faults.specs.Obsolete.{obsolete_of};
+ghost use Rattle.al_engine.specs.Gave.{files_reported};
 ghost use Rattle.al_query_store.specs.Keyed.{SameStates, settled_at};
-ghost use Rattle.al_engine_keep.specs.Moves.{IsLeft};
+ghost use Rattle.al_engine_refresh.specs.Moves.{IsLeft};
 ghost use Rattle.al_engine_refresh.specs.Builds.{raised};
-ghost use Rattle.al_engine_graph.specs.Graphs.{HaveSameHeaders};
-ghost use Rattle.al_engine_graph.specs.Kept.{IsGraphOf};
-ghost use Rattle.al_engine_graph.specs.Texts.{HaveTextsBut};
+ghost use Rattle.al_engine.specs.GraphGraphs.{HaveSameHeaders};
+ghost use Rattle.al_engine.specs.Kept.{IsGraphOf};
+ghost use Rattle.al_engine.specs.Texts.{HaveTextsBut};
 ghost use Rattle.al_engine_refresh.specs.Settings.{ArePredefined};
-ghost use Rattle.al_engine_recheck.specs.Rechecks.{AreReady, setting_of};
-ghost use Rattle.al_engine_batch.specs.Batches.{IsCompiled};
-ghost use Rattle.al_engine_batch.specs.Patches.{IsPatched, linked_in};
-ghost use Rattle.al_engine_rebuild.specs.Prepared.{IsPrepared};
-ghost use Rattle.al_engine_rebuild.specs.Rebuilds.{IsKept, IsRebuilt};
+ghost use Rattle.al_engine.specs.Rechecks.{AreReady, setting_of};
+ghost use Rattle.al_engine.specs.Batches.{IsCompiled};
+ghost use Rattle.al_engine.specs.Patches.{IsPatched, linked_in};
+ghost use Rattle.al_engine.specs.Prepared.{IsPrepared};
+ghost use Rattle.al_engine.specs.Rebuilds.{IsKept, IsRebuilt};
 ghost use Rattle.al_engine.specs.Graphs.{IsOrdered};
 ghost use Rattle.al_engine.specs.States.{AreReadFor, IsSettledBy};
 
@@ -23,15 +23,14 @@ use crate::edits::edited_now;
 use crate::graphs::{alike, graph_now, order_now};
 use crate::last_build::LastBuild;
 use crate::read_files::ReadFiles;
+use crate::rebuild_laws::rebuilds_are_compiled;
+use crate::{
+    Compiled, Edited, PreparedBuild, Rebuilt, UnitCache, UnitGraph, files_reported, prepare,
+};
 use al_base::{Files, Name, NoMemory, UnitKey};
-use al_engine_batch::{Compiled, files_reported};
-use al_engine_graph::{Edited, UnitGraph};
-use al_engine_rebuild::laws::rebuilds_are_compiled;
-use al_engine_rebuild::{PreparedBuild, Rebuilt, prepare};
-use al_engine_recheck::UnitCache;
 use al_query::Answers;
 use al_query_outcome::UnitCheck;
-use al_unit_obsolete::obsolete;
+use al_unit_faults::obsolete;
 use std::alloc::Global;
 use std::rc::Rc;
 

@@ -2,12 +2,12 @@
 ghost use Rattle.std.specs.Prelude.{◌≡◌, ℕ, List, [], None, Some, Ok, Err, IfOk, IfSome, IsTrue, MatchResult, OnOk, OnErr, length, map, option_map};
 ghost use Rattle.al_base.specs.Batch.{key_of};
 ghost use Rattle.al_base.specs.Files.{with_file, without_file, with_renamed, put_refusal, delete_refusal, rename_refusal, AnswersRefusal, AnswersFirst};
-ghost use Rattle.al_unit_obsolete.specs.Units.{unit_model, units_of};
+ghost use Rattle.al_unit_faults.specs.Units.{unit_model, units_of};
 ghost use Rattle.al_query_store.specs.Keyed.{SameStates, settled_at};
 ghost use Rattle.al_entries.specs.EntryLaw.{AllKeepLaw};
 ghost use Rattle.al_engine_refresh.specs.Settings.{ArePredefined};
-ghost use Rattle.al_engine_batch.specs.Answers.{answer_of};
-ghost use Rattle.al_engine_batch.specs.Gave.{order_of, program_of};
+ghost use Rattle.al_engine.specs.Answers.{answer_of};
+ghost use Rattle.al_engine.specs.Gave.{order_of, program_of};
 ghost use Rattle.al_engine.specs.States.{AreReadFor, IsBuiltRight, IsOfNow, compared_last, last_checked, patched_last};
 ghost use Rattle.al_engine.specs.Builds.{IsBuild};
 ghost use Rattle.al_engine.specs.Reports.{found_last, gave_last, obsolete_refusal, obsolete_since, reported};
@@ -17,16 +17,15 @@ use crate::building::{build_or_cancel, obsolete_since};
 use crate::last_build::LastBuild;
 use crate::read_files::ReadFiles;
 use crate::reading::{alone_now, read, read_now, read_twice};
-use al_base::{Diagnostic, Files, Name, NoMemory, Refusal, UnitKey};
-use al_engine_batch::{
-    BuildAnswer, Compiled, Program, answer_of, diagnostics_of, order_of, program_of,
+use crate::{
+    BuildAnswer, Compiled, Program, Rebuilt, UnitCache, answer_of, diagnostics_of, order_of,
+    program_of,
 };
-use al_engine_rebuild::Rebuilt;
-use al_engine_recheck::UnitCache;
+use al_base::{Diagnostic, Files, Name, NoMemory, Refusal, UnitKey};
 use al_query::Answers;
 use al_query_outcome::UnitCheck;
 use al_tasks::{RunReport, run};
-use al_unit_obsolete::units;
+use al_unit_faults::units;
 use al_view::Seq;
 use std::alloc::Global;
 use std::marker::Model;

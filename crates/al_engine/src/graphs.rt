@@ -2,18 +2,16 @@
 ghost use Rattle.std.specs.Prelude.{◌≡◌, List, Some, IfOk, IfSome, MatchOption, map};
 ghost use Rattle.al_base.specs.Batch.{key_of};
 ghost use Rattle.al_bind.specs.Binding.{IsElaboration};
-ghost use Rattle.al_engine_graph.specs.Graphs.{HaveSameHeaders};
-ghost use Rattle.al_engine_graph.specs.Kept.{IsGraphOf};
-ghost use Rattle.al_engine_graph.specs.Texts.{HaveTextsBut};
+ghost use Rattle.al_engine.specs.GraphGraphs.{HaveSameHeaders};
+ghost use Rattle.al_engine.specs.Kept.{IsGraphOf};
+ghost use Rattle.al_engine.specs.Texts.{HaveTextsBut};
 ghost use Rattle.al_engine.specs.Graphs.{IsOrdered};
 
+use crate::graph_laws::graphs_go_by_headers;
 use crate::last_build::LastBuild;
 use crate::read_files::ReadFiles;
+use crate::{Edited, Rebuilt, UnitGraph, order_of};
 use al_base::{NoMemory, UnitKey};
-use al_engine_batch::order_of;
-use al_engine_graph::laws::graphs_go_by_headers;
-use al_engine_graph::{Edited, UnitGraph};
-use al_engine_rebuild::Rebuilt;
 use std::alloc::Global;
 use std::rc::Rc;
 

@@ -1,8 +1,8 @@
 // What a library keeps of its last build.
 ghost use Rattle.std.specs.Prelude.{◌≡◌};
 
+use crate::UnitGraph;
 use al_base::Name;
-use al_engine_graph::UnitGraph;
 use std::rc::Rc;
 
 /// The files that a build found, with what they are read as and the graph of their units, and its main unit.

@@ -3,7 +3,7 @@ ghost use Rattle.al_engine.specs.LawBuilds.{BuildsTellOneThing};
 ghost use Rattle.al_engine.specs.Renewals.{RenewalsAreRechecked};
 
 use crate::ReadFiles;
-use al_engine_rebuild::batch_laws::reply_is_one;
+use crate::batch_laws::reply_is_one;
 use al_query::Answers;
 use al_query_outcome::UnitCheck;
 

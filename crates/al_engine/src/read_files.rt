@@ -1,11 +1,11 @@
 // Files with what they are read as.
 ghost use Rattle.std.specs.Prelude.{◌≡◌, IfOk, IfSome};
-ghost use Rattle.al_engine_graph.specs.Graphs.{HaveSameHeaders};
-ghost use Rattle.al_engine_graph.specs.Texts.{HaveTextsBut};
+ghost use Rattle.al_engine.specs.GraphGraphs.{HaveSameHeaders};
+ghost use Rattle.al_engine.specs.Texts.{HaveTextsBut};
 ghost use Rattle.al_engine.specs.Readings.{IsEditedAt};
 
+use crate::Edited;
 use al_base::{Files, NoMemory};
-use al_engine_graph::Edited;
 use al_unit_graph::Sources;
 use std::alloc::Global;
 

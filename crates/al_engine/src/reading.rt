@@ -1,14 +1,14 @@
 // What a build reads of the files.
 ghost use Rattle.std.specs.Prelude.{◌≡◌, true, false, IfOk, IfSome, is_some};
 ghost use Rattle.al_base.specs.Files.{text_of};
-ghost use Rattle.al_engine_graph.specs.Graphs.{HaveSameHeaders};
-ghost use Rattle.al_engine_graph.specs.Texts.{HaveTextsBut};
+ghost use Rattle.al_engine.specs.GraphGraphs.{HaveSameHeaders};
+ghost use Rattle.al_engine.specs.Texts.{HaveTextsBut};
 ghost use Rattle.al_engine.specs.Readings.{IsEditedAt};
 
+use crate::Edited;
 use crate::last_build::LastBuild;
 use crate::read_files::ReadFiles;
 use al_base::{Files, Name, NoMemory};
-use al_engine_graph::Edited;
 use std::alloc::Global;
 
 /// The files as they are, with what they are read as: what the last build read of them can be shared.

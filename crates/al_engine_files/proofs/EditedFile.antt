@@ -21,9 +21,9 @@ use Rattle.al_unit_graph.specs.Headers.{Library, Source}
 use Rattle.al_unit_graph.specs.Library.{source_at}
 use Rattle.al_unit.specs.Libraries.{library_of, source_of, texts_of}
 use Rattle.al_unit.proofs.LibraryLemmas.{names_of-library_of}
-use Rattle.al_engine_graph.specs.Graphs.{HaveSameHeaders, contents_at}
-use Rattle.al_engine_graph.specs.Texts.{HaveTextsBut, text_in}
-use Rattle.al_engine_graph.specs.declared.alike.Edited.{Edited}
+use Rattle.al_engine.specs.GraphGraphs.{HaveSameHeaders, contents_at}
+use Rattle.al_engine.specs.Texts.{HaveTextsBut, text_in}
+use Rattle.al_engine.specs.declared.alike.Edited.{Edited}
 use Rattle.al_engine.specs.Readings.{IsEditedAt}
 use Rattle.al_engine_files.specs.AdaFiles.{AreOfTexts}
 

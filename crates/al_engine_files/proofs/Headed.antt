@@ -15,7 +15,7 @@ use Rattle.al_unit.specs.Libraries.{contents_of, library_of, source_of}
 use Rattle.al_unit.specs.Readings.{Reading, reading_of}
 use Rattle.al_unit.specs.Readings.Reading.{Sentence, Fails}
 use Rattle.al_engine_files.specs.Headed.{ReadsHeaders, TextsAreHeaded}
-use Rattle.al_unit_order.specs.Read.{NamesParentBody}
+use Rattle.al_unit_faults.specs.Read.{NamesParentBody}
 
 -- a source of the library is that of a text
 source_by : (file : List ℕ) (f : List ℕ × List ℕ) (b : Bool) (others : Option Source) (source : Source) → (others ≡ Some source → (text : List ℕ) × (source_of text ≡ source)) → cond b (Some (source_of f.1)) others ≡ Some source → (text : List ℕ) × (source_of text ≡ source)

@@ -1,3 +1,4 @@
 mod EditedFile
 pub mod Headed
+mod Known
 mod OfTexts

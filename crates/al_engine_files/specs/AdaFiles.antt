@@ -5,9 +5,9 @@ use Rattle.al_base.specs.Files.{Texts}
 use Rattle.al_unit_graph.specs.Headers.{Header, Library}
 use Rattle.al_unit.specs.Libraries.{library_of, source_of, texts_of}
 use Rattle.al_engine_files.specs.Headed.{ReadsHeaders}
-use Rattle.al_engine_graph.specs.Graphs.{contents_at}
-use Rattle.al_engine_graph.specs.Texts.{may_differ, text_in}
-use Rattle.al_engine_graph.specs.declared.alike.Edited.{Edited}
+use Rattle.al_engine.specs.GraphGraphs.{contents_at}
+use Rattle.al_engine.specs.Texts.{may_differ, text_in}
+use Rattle.al_engine.specs.declared.alike.Edited.{Edited}
 use Rattle.al_engine.specs.States.{AreReadFor}
 
 -- what is held of the files is what their texts are read as

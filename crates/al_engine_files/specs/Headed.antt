@@ -7,7 +7,7 @@ use Rattle.al_unit_graph.specs.Headers.{Header}
 use Rattle.al_unit.specs.Libraries.{library_of}
 use Rattle.al_unit.specs.Readings.{reading_of}
 use Rattle.al_unit.specs.Readings.Reading.{Sentence}
-use Rattle.al_unit_order.specs.Read.{AreHeaded, NameParentBodies}
+use Rattle.al_unit_faults.specs.Read.{AreHeaded, NameParentBodies}
 
 -- of each text that is a unit, the header of its tree
 abbrev pub ReadsHeaders : (List ℕ → Header) → Type 0

@@ -1,2 +1,3 @@
 pub mod AdaFiles
 pub mod Headed
+pub mod PredefinedUnits

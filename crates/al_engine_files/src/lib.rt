@@ -3,8 +3,14 @@
 #![tactic(auto)]
 
 mod files;
+mod fixed;
 pub mod laws;
+mod package;
+pub mod query_predefined_laws;
 mod renewing;
 mod sources;
+mod units;
 
 pub use files::AdaFiles;
+pub use fixed::FixedAnswers;
+pub use units::PredefinedUnits;

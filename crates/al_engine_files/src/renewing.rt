@@ -6,13 +6,13 @@ ghost use Rattle.al_base.specs.Files.{AreFiles, name_cmp};
 ghost use Rattle.al_unit_graph.specs.Views.{source_model};
 ghost use Rattle.al_unit.specs.Libraries.{library_of, texts_of};
 ghost use Rattle.al_engine.specs.Readings.{IsEditedAt};
-ghost use Rattle.al_engine_graph.specs.Graphs.{HaveSameHeaders, contents_at};
-ghost use Rattle.al_engine_graph.specs.Texts.{HaveTextsBut};
+ghost use Rattle.al_engine.specs.GraphGraphs.{HaveSameHeaders, contents_at};
+ghost use Rattle.al_engine.specs.Texts.{HaveTextsBut};
 ghost use Rattle.al_engine_files.specs.AdaFiles.{AreOfTexts};
 
 use crate::sources::held_after;
 use al_base::{Files, Name, NoMemory};
-use al_engine_graph::{Edited, is_read_as};
+use al_engine::{Edited, is_read_as};
 use al_unit_graph::{Source, Sources};
 use std::alloc::Global;
 use std::rc::Rc;

@@ -5,12 +5,12 @@ ghost use Rattle.al_base.specs.Files.{name_cmp};
 ghost use Rattle.al_unit_graph.specs.Views.{contents_model, source_model};
 ghost use Rattle.al_unit.specs.Libraries.{contents_of, library_of, source_of};
 ghost use Rattle.al_unit.specs.ReadingSeen.{reading_model};
-ghost use Rattle.al_engine_graph.specs.Graphs.{HaveSameHeaders, contents_at};
-ghost use Rattle.al_engine_graph.specs.Texts.{HaveTextsBut, may_differ};
+ghost use Rattle.al_engine.specs.GraphGraphs.{HaveSameHeaders, contents_at};
+ghost use Rattle.al_engine.specs.Texts.{HaveTextsBut, may_differ};
 ghost use Rattle.al_engine_files.specs.AdaFiles.{AreOfTexts, IsKnown, WasKept, WereRead};
 
 use al_base::{Files, Name, NoMemory};
-use al_engine_graph::{Edited, have_same_files, is_read_as, note};
+use al_engine::{Edited, have_same_files, is_read_as, note};
 use al_unit::{Reading, read};
 use al_unit_graph::{Contents, Source, Sources};
 use al_unit_header::header_of;

@@ -14,9 +14,9 @@ use Rattle.al_unit_graph.proofs.Lists.{from_map, into_map}
 use Rattle.al_query_outcome.specs.Equations.{IsSetting, Setting, unit_named}
 use Rattle.al_query_outcome.proofs.Members.{contains-has, has-contains}
 use Rattle.al_engine_refresh.specs.Builds.{IsOrder, StandsAfter, setting}
-use Rattle.al_unit_order.specs.Laws.{rank_in}
-use Rattle.al_unit_order.specs.Reached.{is_faultless, IsDependenceOrder}
-use Rattle.al_unit_order.proofs.Ranks.{below_rank, order_gives_ranks, rank_at}
+use Rattle.al_unit_faults.specs.OrderLaws.{rank_in}
+use Rattle.al_unit_faults.specs.Reached.{is_faultless, IsDependenceOrder}
+use Rattle.al_unit_faults.proofs.Ranks.{below_rank, order_gives_ranks, rank_at}
 
 -- units and their keys
 key_has : (us : List UnitKey) (u : UnitKey) → Contains (map key_of us) (key_of u) → has_unit us u ≡ true

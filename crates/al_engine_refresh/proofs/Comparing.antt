@@ -10,14 +10,14 @@ use Rattle.al_view.proofs.SymbolLemmas.{same_unit-one, same_unit-self}
 use Rattle.al_query.specs.Queries.{unit_of}
 use Rattle.al_query.specs.declared.answer.AnswerKind.{AnswerKind}
 use Rattle.al_query.specs.declared.query.Query.{Query}
-use Rattle.al_query_slots.specs.Stored.{base}
-use Rattle.al_query_slots.specs.declared.slots.Held.{Held}
-use Rattle.al_query_slots.proofs.CountLemmas.{sum_count}
+use Rattle.al_query_store.specs.Stored.{base}
+use Rattle.al_query_store.specs.declared.slots.Held.{Held}
+use Rattle.al_query_store.proofs.CountLemmas.{sum_count}
 use Rattle.al_query_store.specs.Changes.{HasAnswers, Spot, answer_of, asks, same_spot}
 use Rattle.al_query_store.specs.Keyed.{Changes, State, base_state, differ, state}
 use Rattle.al_query_store.proofs.SpotLemmas.{spot_equiv, spot_one}
 use Rattle.al_entries.specs.Stored.{Stored, log_of}
-use Rattle.al_engine_keep.specs.Moves.{AreQuiet, Entries, has_moved}
+use Rattle.al_engine_refresh.specs.Moves.{AreQuiet, Entries, has_moved}
 use Rattle.al_engine_refresh.specs.Builds.{raised}
 use Rattle.al_engine_refresh.specs.Moving.{IsCompared}
 

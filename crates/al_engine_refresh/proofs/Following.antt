@@ -10,14 +10,14 @@ use Rattle.al_query.specs.declared.answer.AnswerKind.{AnswerKind}
 use Rattle.al_query.specs.declared.query.Query.{Query}
 use Rattle.al_query_outcome.specs.Equations.{entry}
 use Rattle.al_query_outcome.proofs.Names.{tested}
-use Rattle.al_query_slots.specs.Marking.{MarksTell}
-use Rattle.al_query_slots.specs.Stored.{base}
-use Rattle.al_query_slots.specs.declared.slots.Held.{Held}
+use Rattle.al_query_store.specs.Marking.{MarksTell}
+use Rattle.al_query_store.specs.Stored.{base}
+use Rattle.al_query_store.specs.declared.slots.Held.{Held}
 use Rattle.al_query_store.specs.Changes.{AreCompared, ComparesUnit}
 use Rattle.al_query_store.specs.Keyed.{Changes, State, base_state, entry_of, first_of, now_at, state}
 use Rattle.al_query_store.proofs.TellLemmas.{tells-follow}
 use Rattle.al_entries.specs.Stored.{Stored, log_of, outcome_of}
-use Rattle.al_engine_keep.specs.Moves.{Entries}
+use Rattle.al_engine_refresh.specs.Moves.{Entries}
 use Rattle.al_engine_refresh.specs.Builds.{present, results_of}
 use Rattle.al_engine_refresh.specs.Moving.{MarksFollow, now_table}
 

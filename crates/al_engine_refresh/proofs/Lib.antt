@@ -1,8 +1,10 @@
+mod Ascending
 pub mod BuildLemmas
 pub mod BuildOrder
 pub mod Comparing
 pub mod Decided
 pub mod Following
+pub mod FoundLemmas
 pub mod HandleLemmas
 pub mod HandleTurned
 pub mod Kept
@@ -10,7 +12,9 @@ pub mod LeftLemmas
 pub mod LoopLemmas
 pub mod Moves
 pub mod OrderSteps
+pub mod QuietLemmas
 pub mod RefreshLemmas
 pub mod Settings
+mod Sorting
 pub mod SteadyLemmas
 pub mod Turning

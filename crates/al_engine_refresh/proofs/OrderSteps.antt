@@ -8,7 +8,7 @@ use Rattle.al_view.specs.Symbols.{same_unit}
 use Rattle.al_view.proofs.SymbolLemmas.{same_unit-one}
 use Rattle.al_query.specs.Known.{has_unit}
 use Rattle.al_query_store.specs.Keyed.{base_state, now_at, state}
-use Rattle.al_engine_keep.specs.Moves.{Entries, has_moved}
+use Rattle.al_engine_refresh.specs.Moves.{Entries, has_moved}
 use Rattle.al_engine_refresh.proofs.Comparing.{moved-same}
 use Rattle.al_engine_refresh.proofs.Following.{now-same, turned-unit}
 

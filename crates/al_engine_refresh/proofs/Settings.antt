@@ -22,12 +22,12 @@ use Rattle.al_unit_graph.proofs.Lists.{from_map, into_map}
 use Rattle.al_query_outcome.specs.Equations.{IsSetting, Setting, unit_named}
 use Rattle.al_query_outcome.specs.ReadsLaw.{subunit}
 use Rattle.al_query_outcome.proofs.Members.{has-contains}
-use Rattle.al_unit_order.specs.Reached.{is_faultless, IsDependenceOrder}
-use Rattle.al_unit_order.specs.Read.{AreHeaded, NameParentBodies}
+use Rattle.al_unit_faults.specs.Reached.{is_faultless, IsDependenceOrder}
+use Rattle.al_unit_faults.specs.Read.{AreHeaded, NameParentBodies}
 use Rattle.al_engine_refresh.specs.Settings.{ArePredefined, library_setting, text_of}
-use Rattle.al_unit_order.specs.Laws.{rank_in}
-use Rattle.al_unit_order.proofs.Ranks.{order_gives_ranks}
-use Rattle.al_unit_order.proofs.SoundUnits.{Stands, acting, body_there, completes, declared, reserved_is_not, stands, subunit_there}
+use Rattle.al_unit_faults.specs.OrderLaws.{rank_in}
+use Rattle.al_unit_faults.proofs.Ranks.{order_gives_ranks}
+use Rattle.al_unit_faults.proofs.SoundUnits.{Stands, acting, body_there, completes, declared, reserved_is_not, stands, subunit_there}
 
 -- the predefined units have reserved names
 AllReserved : List UnitKey → Type 0

@@ -10,14 +10,14 @@ use Rattle.al_view.specs.Symbols.{same_unit}
 use Rattle.al_view.proofs.SymbolLemmas.{same_unit-one, same_unit-self}
 use Rattle.al_query.specs.declared.answer.AnswerKind.{AnswerKind}
 use Rattle.al_query.specs.declared.query.Query.{Query}
-use Rattle.al_query_slots.specs.Stored.{base, fresh}
-use Rattle.al_query_slots.specs.declared.slots.Held.{Held}
+use Rattle.al_query_store.specs.Stored.{base, fresh}
+use Rattle.al_query_store.specs.declared.slots.Held.{Held}
 use Rattle.al_query_store.specs.Changes.{with_made}
 use Rattle.al_query_store.specs.Keyed.{State, base_state, differ, state, with_reached}
 use Rattle.al_unit_graph.specs.Headers.{Library}
 use Rattle.al_entries.specs.Stored.{Stored, log_of}
-use Rattle.al_engine_keep.specs.Moves.{Entries, has_moved}
-use Rattle.al_engine_keep.specs.Staying.{is_there}
+use Rattle.al_engine_refresh.specs.Moves.{Entries, has_moved}
+use Rattle.al_engine_refresh.specs.Staying.{is_there}
 use Rattle.al_engine_refresh.specs.Moving.{AreLeaving, IsSteady, Turned}
 
 some-based : (a b : Option (Held Stored)) → option_map base a ≡ option_map base b → is_some a ≡ is_some b

@@ -7,13 +7,13 @@ use Rattle.al_base.specs.declared.unit_key.UnitKey.{UnitKey}
 use Rattle.al_view.specs.Symbols.{same_unit}
 use Rattle.al_query.specs.declared.answer.AnswerKind.{AnswerKind}
 use Rattle.al_query.specs.declared.query.Query.{Query}
-use Rattle.al_query_slots.specs.Stored.{base}
-use Rattle.al_query_slots.specs.declared.slots.Held.{Held}
+use Rattle.al_query_store.specs.Stored.{base}
+use Rattle.al_query_store.specs.declared.slots.Held.{Held}
 use Rattle.al_query_store.specs.Changes.{ComparesUnit}
 use Rattle.al_unit_map.specs.Units.{at_unit}
 use Rattle.al_query_store.specs.Keyed.{Changes, State, base_state, differ, is_moved, nothing, now_at, state}
 use Rattle.al_entries.specs.Stored.{Stored, log_of}
-use Rattle.al_engine_keep.specs.Moves.{Entries, IsLeft, left_by_last}
+use Rattle.al_engine_refresh.specs.Moves.{Entries, IsLeft, left_by_last}
 use Rattle.al_engine_refresh.specs.Builds.{present, results_of}
 use Rattle.al_engine_refresh.specs.Moving.{Turned}
 use Rattle.al_engine_refresh.proofs.Following.{marks-follow}

@@ -1,5 +1,9 @@
+pub mod Ascending
 pub mod Builds
+pub mod Found
 pub mod Handling
+pub mod Moves
 pub mod Moving
 pub mod Progress
 pub mod Settings
+pub mod Staying

@@ -7,13 +7,13 @@ use Rattle.al_query.specs.Known.{has_unit}
 use Rattle.al_query.specs.declared.answer.AnswerKind.{AnswerKind}
 use Rattle.al_query.specs.declared.query.Query.{Query}
 use Rattle.al_unit_graph.specs.Headers.{Library}
-use Rattle.al_query_slots.specs.Stored.{base, fresh}
-use Rattle.al_query_slots.specs.declared.slots.Held.{Held}
+use Rattle.al_query_store.specs.Stored.{base, fresh}
+use Rattle.al_query_store.specs.declared.slots.Held.{Held}
 use Rattle.al_query_store.specs.Changes.{AreMarkedNow, HasAnswers}
 use Rattle.al_query_store.specs.Keyed.{State, base_state, before_at, leaving, now_at, state, with_reached}
 use Rattle.al_entries.specs.Stored.{Stored, log_of}
-use Rattle.al_engine_keep.specs.Moves.{Entries, has_moved}
-use Rattle.al_engine_keep.specs.Staying.{is_there}
+use Rattle.al_engine_refresh.specs.Moves.{Entries, has_moved}
+use Rattle.al_engine_refresh.specs.Staying.{is_there}
 use Rattle.al_engine_refresh.specs.Builds.{present, raised, results_of}
 
 -- what the units answer that are reached now; and that the last build reached

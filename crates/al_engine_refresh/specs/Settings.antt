@@ -19,7 +19,7 @@ use Rattle.al_unit_graph.specs.Headers.{Header, Library}
 use Rattle.al_unit_graph.specs.Library.{source_at}
 use Rattle.al_query_outcome.specs.Equations.{Setting}
 use Rattle.al_query_outcome.specs.ReadsLaw.{answer_uses}
-use Rattle.al_unit_order.specs.Reached.{is_faultless}
+use Rattle.al_unit_faults.specs.Reached.{is_faultless}
 
 -- the answers of the predefined units: they are there, name no others, and show nothing that the linker must find
 pub record ArePredefined (predefined : Query → AnswerKind) : Type 0 where

@@ -6,8 +6,8 @@ ghost use Rattle.al_query.specs.declared.answer.AnswerKind.{AnswerKind};
 ghost use Rattle.al_query.specs.declared.query.Query.{Query};
 ghost use Rattle.al_unit_graph.specs.Headers.{Header, Library};
 ghost use Rattle.al_query_outcome.specs.Equations.{IsSetting};
-ghost use Rattle.al_unit_order.specs.Reached.{IsDependenceOrder};
-ghost use Rattle.al_unit_order.specs.Read.{AreHeaded, NameParentBodies};
+ghost use Rattle.al_unit_faults.specs.Reached.{IsDependenceOrder};
+ghost use Rattle.al_unit_faults.specs.Read.{AreHeaded, NameParentBodies};
 ghost use Rattle.al_engine_refresh.specs.Settings.{ArePredefined, library_setting};
 
 /// A library whose files have the headers that are read in their texts is a setting for checks, by any order of dependence of its units

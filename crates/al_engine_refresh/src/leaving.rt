@@ -4,13 +4,13 @@ ghost use Rattle.al_base.specs.declared.unit_key.UnitKey.{UnitKey};
 ghost use Rattle.al_unit_map.specs.Units.{at_unit};
 ghost use Rattle.al_query.specs.Known.{has_unit};
 ghost use Rattle.al_query_store.specs.Keyed.{state};
-ghost use Rattle.al_engine_keep.specs.Moves.{AreQuiet, IsLeft, has_moved};
-ghost use Rattle.al_engine_keep.specs.Staying.{is_there};
+ghost use Rattle.al_engine_refresh.specs.Moves.{AreQuiet, IsLeft, has_moved};
+ghost use Rattle.al_engine_refresh.specs.Staying.{is_there};
 ghost use Rattle.al_engine_refresh.specs.Moving.{IsCompared, LeftOut, Turned, left_out};
 
+use crate::KeptEntries;
 use crate::moving::{leave, turn};
 use al_base::{NoMemory, UnitKey};
-use al_engine_keep::KeptEntries;
 use al_query::Answers;
 use al_unit_graph::Sources;
 use al_unit_map::UnitMap;

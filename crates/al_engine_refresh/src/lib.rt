@@ -1,6 +1,11 @@
 //! Checks the units of a library again that an edit reaches, and uses what was kept of the others.
 #![tactic(auto)]
 
+mod files;
+mod finding;
+pub mod found_laws;
+pub mod keep_laws;
+mod kept_entries;
 pub mod laws;
 mod leaving;
 mod moving;
@@ -9,6 +14,8 @@ mod present;
 mod refreshed;
 mod unit;
 
+pub use files::findings_of;
+pub use kept_entries::KeptEntries;
 pub use leaving::leave_out;
 pub use present::{Present, has_sound, text_of};
 pub use refreshed::{begun, refresh, refresh_rest};

@@ -7,13 +7,13 @@ ghost use Rattle.al_unit_map.specs.Units.{at_unit};
 ghost use Rattle.al_query_store.specs.Changes.{ComparesUnit, HasAnswers, with_made};
 ghost use Rattle.al_query_store.specs.Keyed.{base_state, leaving, now_at, state, with_reached};
 ghost use Rattle.al_entries.specs.Stored.{log_of, outcome_of};
-ghost use Rattle.al_engine_keep.specs.Moves.{IsLeft, has_moved};
+ghost use Rattle.al_engine_refresh.specs.Moves.{IsLeft, has_moved};
 ghost use Rattle.al_engine_refresh.specs.Builds.{present, raised, results_of};
 ghost use Rattle.al_engine_refresh.specs.Moving.{IsCompared, Turned};
 
+use crate::KeptEntries;
 use crate::present::is_predefined;
 use al_base::{NoMemory, UnitKey};
-use al_engine_keep::KeptEntries;
 use al_entries::Entry;
 use al_query::{Answer, Answers, Query};
 use al_query_outcome::no_answer;

@@ -7,8 +7,8 @@ ghost use Rattle.al_query.specs.declared.query.Query.{Query};
 ghost use Rattle.al_unit_graph.specs.Headers.{Header, Library};
 ghost use Rattle.al_query_outcome.specs.Equations.{IsSetting};
 ghost use Rattle.al_engine_refresh.specs.Builds.{IsOrder, setting};
-ghost use Rattle.al_unit_order.specs.Reached.{IsDependenceOrder, is_faultless};
-ghost use Rattle.al_unit_order.specs.Read.{AreHeaded, NameParentBodies};
+ghost use Rattle.al_unit_faults.specs.Reached.{IsDependenceOrder, is_faultless};
+ghost use Rattle.al_unit_faults.specs.Read.{AreHeaded, NameParentBodies};
 ghost use Rattle.al_engine_refresh.specs.Settings.{ArePredefined};
 
 /// A library whose files have the headers that are read in their texts is a setting for a build, by any order of dependence of its units

@@ -10,8 +10,8 @@ ghost use Rattle.al_query_outcome.specs.Equations.{entry, is_sound};
 ghost use Rattle.al_entries.specs.Stored.{outcome_of};
 ghost use Rattle.al_engine_refresh.specs.Builds.{has_sound_dependences, present, results_of, text_of};
 
+use crate::KeptEntries;
 use al_base::{NoMemory, UnitKey};
-use al_engine_keep::KeptEntries;
 use al_entries::Entry;
 use al_query::{Answer, Answers, Query};
 use al_query_outcome::{Checked, no_answer};

@@ -2,9 +2,9 @@
 use Rattle.std.proofs.Common.{◌≡◌, [], ◌∷◌, Option, Some, None, IfSome, refl, sym, ap, subst, ◌∙◌}
 use Rattle.al_base.specs.Files.{Texts}
 use Rattle.al_unit_graph.specs.Headers.{Library}
-use Rattle.al_engine_graph.specs.Graphs.{HaveSameHeaders}
-use Rattle.al_engine_graph.specs.Texts.{HaveTextsBut}
-use Rattle.al_engine_graph.specs.declared.alike.Edited.{Edited}
+use Rattle.al_engine.specs.GraphGraphs.{HaveSameHeaders}
+use Rattle.al_engine.specs.Texts.{HaveTextsBut}
+use Rattle.al_engine.specs.declared.alike.Edited.{Edited}
 use Rattle.al_engine_toy.specs.Toys.{AreToys, texts_of, toy_library}
 
 texts_of-library : (files : Texts) → texts_of (toy_library files) ≡ files

@@ -3,8 +3,7 @@ ghost use Rattle.al_engine.specs.States.{AreReadFor};
 ghost use Rattle.al_engine_toy.specs.Toys.{header_in, toy_library};
 
 use al_base::{Files, NoMemory};
-use al_engine::ReadFiles;
-use al_engine_graph::{Edited, edited_between};
+use al_engine::{Edited, ReadFiles, edited_between};
 use al_engine_toy::{sources_after, sources_of, toys_are_read};
 use al_unit_graph::Sources;
 use std::alloc::Global;

@@ -1,7 +1,7 @@
 // What builds and runs say.
 use al_base::{Diagnostic, NoMemory, UnitKey, UnitKind};
 use al_bind::{BindFault, Line, MissingItem, Reason};
-use al_engine_batch::Compiled;
+use al_engine::Compiled;
 use al_machine::Exception;
 use al_tasks::{RunEnd, RunReport};
 use std::alloc::Global;

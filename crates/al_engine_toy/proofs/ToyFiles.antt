@@ -16,7 +16,7 @@ use Rattle.al_unit_graph.specs.Headers.{Header, Headed, Library, Mention, Source
 use Rattle.al_unit_graph.specs.Library.{is_kind, source_at}
 use Rattle.al_unit_graph.specs.Traces.{text_at}
 use Rattle.al_unit_graph.specs.declared.header.UnitForm.TheVariants.{PackageDeclaration, SubprogramBody}
-use Rattle.al_unit_order.specs.Read.{AreHeaded, NameParentBodies, NamesParentBody}
+use Rattle.al_unit_faults.specs.Read.{AreHeaded, NameParentBodies, NamesParentBody}
 use Rattle.al_engine_toy.specs.Toys.{AreToys, ToysAreRead, header_in, header_of, is_main, source_of, texts_of, toy_library, words_from}
 
 -- ---- what is put in by ascending names stands in that order

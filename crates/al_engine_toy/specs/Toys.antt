@@ -12,7 +12,7 @@ use Rattle.al_unit_graph.specs.Headers.{Header, Headed, Library, Mention, Source
 use Rattle.al_unit_graph.specs.Traces.{AreReadAlike}
 use Rattle.al_unit_graph.specs.declared.header.UnitForm.{UnitForm}
 use Rattle.al_unit_graph.specs.declared.header.UnitForm.TheVariants.{PackageDeclaration, SubprogramBody}
-use Rattle.al_unit_order.specs.Read.{AreHeaded, NameParentBodies}
+use Rattle.al_unit_faults.specs.Read.{AreHeaded, NameParentBodies}
 use Rattle.al_view.specs.Symbols.{same_unit}
 use Rattle.al_query.specs.Answers.{completions_of, declaration, is_private_of, parent_of}
 use Rattle.al_query.specs.Asked.{AsksOf}

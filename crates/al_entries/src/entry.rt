@@ -6,7 +6,7 @@ ghost use Rattle.al_entries.specs.Stored.{outcome_of};
 use al_base::NoMemory;
 use al_query::{Answer, Query, ReadLog};
 use al_query_outcome::Checked;
-use al_query_slots::Logged;
+use al_query_store::Logged;
 use std::alloc::Global;
 use std::marker::Model;
 use std::rc::Rc;

@@ -1,1 +1,3 @@
 mod Blanks
+mod Files
+mod ToldLines

@@ -1,4 +1,11 @@
+pub mod Diagnostics
+pub mod Excerpts
+pub mod Faults
+pub mod Lines
 pub mod Names
 pub mod Numbers
-pub mod Lines
-pub mod Excerpts
+pub mod Parts
+pub mod Progress
+pub mod Runs
+pub mod Status
+pub mod Words

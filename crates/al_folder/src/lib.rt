@@ -2,12 +2,26 @@
 //! the main unit, numbers, lines, and the caret under a place.
 #![tactic(auto)]
 
+mod diagnostics;
 mod excerpt;
+mod faults;
 mod lines;
 mod names;
 mod numbers;
+mod parts;
+mod progress;
+mod runs;
+mod status;
+mod words;
 
+pub use diagnostics::emit_diagnostics;
 pub use excerpt::{BEFORE, WIDTH, emit_excerpt};
+pub use faults::{emit_cycle, emit_no_body, emit_no_main, emit_no_subunit, emit_too_large};
 pub use lines::line_at;
 pub use names::{has_source_ending, unit_of};
 pub use numbers::number_of;
+pub use parts::emit_parts;
+pub use progress::{ImageChange, emit_progress, image_change};
+pub use runs::{RunEnd, emit_end};
+pub use status::{Ending, ending_of, exit_code};
+pub use words::{WatchWord, watch_word};

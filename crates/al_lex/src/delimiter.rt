@@ -3,7 +3,7 @@ ghost use Rattle.std.specs.Prelude.{◌≡◌};
 ghost use Rattle.al_lex.specs.Delimiters.{double, single};
 
 /// A delimiter of one or two bytes (ARM 2.2(9), 2.2(14)).
-#[derive(Clone, Copy, Debug, PartialEq, Eq)]
+#[derive(Clone, Copy)]
 pub enum Delimiter {
     /// `&`
     Ampersand,

@@ -14,14 +14,14 @@ const LARGEST: u64 = i64::MAX as u64;
 const FEW_DIGITS: usize = 18;
 
 /// Which digits a numeral may have.
-#[derive(Clone, Copy, Debug, PartialEq, Eq)]
+#[derive(Clone, Copy)]
 pub(crate) enum Digits {
     Decimal,
     Hexadecimal,
 }
 
 /// How long the parts of a number are.
-#[derive(Clone, Copy, Debug, PartialEq, Eq)]
+#[derive(Clone, Copy)]
 pub(crate) struct Parts {
     /// The numeral in front, which is the base where the number has one.
     pub(crate) numeral: usize,

@@ -8,7 +8,7 @@ use al_base::{Place, ReservedWord, Span};
 use std::alloc::{AllocError, AllocFailed};
 
 /// What a lexeme is.
-#[derive(Clone, Copy, Debug, PartialEq, Eq)]
+#[derive(Clone, Copy)]
 pub enum Kind {
     Identifier,
     Reserved(ReservedWord),
@@ -20,14 +20,14 @@ pub enum Kind {
 }
 
 /// A lexeme. Its text is the slice of the source that the span names.
-#[derive(Clone, Copy, Debug, PartialEq, Eq)]
+#[derive(Clone, Copy)]
 pub struct Token {
     pub kind: Kind,
     pub span: Span,
 }
 
 /// Which lexical rule is broken.
-#[derive(Clone, Copy, Debug, PartialEq, Eq)]
+#[derive(Clone, Copy)]
 pub enum LexCode {
     /// No lexeme begins with the byte.
     IllegalCharacter,
@@ -60,7 +60,7 @@ impl LexCode {
 }
 
 /// The first lexical fault of a text.
-#[derive(Clone, Copy, Debug, PartialEq, Eq)]
+#[derive(Clone, Copy)]
 pub struct LexFault {
     /// Where the faulty lexeme begins.
     pub place: Place,
@@ -68,7 +68,7 @@ pub struct LexFault {
 }
 
 /// Why a text has no tokens.
-#[derive(Debug, Drop)]
+#[derive(Drop)]
 pub enum LexError {
     Fault(LexFault),
     /// Memory was wanted and not given.
@@ -92,7 +92,7 @@ impl<T: Drop> From<AllocFailed<T>> for LexError {
 }
 
 /// What a piece of a text is.
-#[derive(Clone, Copy, Debug, PartialEq, Eq)]
+#[derive(Clone, Copy)]
 pub(crate) enum Sort {
     /// A space, a tab or a comment.
     Gap,
@@ -101,7 +101,7 @@ pub(crate) enum Sort {
 }
 
 /// The piece at the front of a text.
-#[derive(Clone, Copy, Debug, PartialEq, Eq)]
+#[derive(Clone, Copy)]
 pub(crate) struct Piece {
     pub(crate) sort: Sort,
     pub(crate) len: usize,

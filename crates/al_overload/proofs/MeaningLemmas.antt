@@ -4,7 +4,7 @@ use Rattle.al_base.specs.declared.place.Place.{Place}
 use Rattle.al_base_fault.specs.CheckRules.{as_rule, rule_number}
 use Rattle.al_base_fault.specs.declared.check_rule.CheckRule.TheVariants.{Ambiguous, NoInterpretation}
 use Rattle.al_base.specs.Rules.{number_of}
-use Rattle.al_overload_choice.specs.Labelling.{Label, acceptable, labellings}
+use Rattle.al_overload.specs.Labelling.{Label, acceptable, labellings}
 use Rattle.al_base_fault.specs.declared.fault.Fault.{Fault}
 use Rattle.al_overload.specs.Meanings.{FaultsTellWhy, OneIsAcceptable, meaning, nothing_fits, several_fit}
 

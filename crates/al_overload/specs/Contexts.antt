@@ -1,9 +1,9 @@
 -- What each kind of complete context wants of its expression (ARM 8.6(4 to 9, 20 to 25)).
 use Rattle.std.specs.Prelude.{if◌then◌else◌}
-use Rattle.al_overload_choice.specs.Fitting.{is_integer}
-use Rattle.al_overload_choice.specs.declared.types.ValueType.{ValueType}
-use Rattle.al_overload_choice.specs.declared.types.Expected.{Expected}
-use Rattle.al_overload_choice.specs.declared.types.Expected.TheVariants as w
+use Rattle.al_overload.specs.Fitting.{is_integer}
+use Rattle.al_overload.specs.declared.types.ValueType.{ValueType}
+use Rattle.al_overload.specs.declared.types.Expected.{Expected}
+use Rattle.al_overload.specs.declared.types.Expected.TheVariants as w
 use Rattle.al_overload.specs.declared.context.Context.{Context}
 use Rattle.al_overload.specs.declared.context.Context.TheVariants as contexts
 use Rattle.al_overload.specs.declared.context.PredefinedTypes.{PredefinedTypes}

@@ -1,2 +1,15 @@
+pub mod Candidates
+pub mod Chains
 pub mod Contexts
+pub mod Counts
+pub mod Fitting
+pub mod Heads
+pub mod Labelling
+pub mod Labels
 pub mod Meanings
+pub mod PickedTypes
+pub mod Picks
+pub mod Ranges
+pub mod Resolution
+pub mod Sizes
+pub mod Types

@@ -2,8 +2,8 @@
 use Rattle.std.specs.Prelude.{◌≡◌, ◌≤◌, ◌↔◌, List, [], ◌∷◌, length, Option, Some, None, Result, Ok, Err}
 use Rattle.al_base.specs.declared.place.Place.{Place}
 use Rattle.al_base_fault.specs.declared.check_rule.CheckRule.TheVariants.{Ambiguous, NoInterpretation}
-use Rattle.al_overload_choice.specs.Labelling.{Label, Tree, acceptable, labellings}
-use Rattle.al_overload_choice.specs.declared.types.Expected.{Expected}
+use Rattle.al_overload.specs.Labelling.{Label, Tree, acceptable, labellings}
+use Rattle.al_overload.specs.declared.types.Expected.{Expected}
 use Rattle.al_base_fault.specs.Faults.{fault_at}
 use Rattle.al_base_fault.specs.declared.fault.Fault.{Fault}
 

@@ -1,10 +1,10 @@
 // What each kind of complete context wants of its expression (ARM 8.6).
 ghost use Rattle.std.specs.Prelude.{◌≡◌, IfOk};
-ghost use Rattle.al_overload_choice.specs.declared.types.Expected.TheVariants as w;
+ghost use Rattle.al_overload.specs.declared.types.Expected.TheVariants as w;
 ghost use Rattle.al_overload.specs.Contexts.{converted_to, wanted_in};
 
+use crate::{Expected, ValueType};
 use al_base::NoMemory;
-use al_overload_choice::{Expected, ValueType};
 use std::alloc::Global;
 
 /// The predefined types that contexts want (ARM A.1, D.8).

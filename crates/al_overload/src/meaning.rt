@@ -1,12 +1,12 @@
 // The one interpretation of a complete context, or what is wrong with it (ARM 8.6(29 to 31)).
 ghost use Rattle.std.specs.Prelude.{◌≡◌, IfOk};
-ghost use Rattle.al_overload_choice.specs.Counts.{label_of, plain};
+ghost use Rattle.al_overload.specs.Counts.{label_of, plain};
 ghost use Rattle.al_base_fault.specs.Judging.{map_ok};
 ghost use Rattle.al_overload.specs.Meanings.{nothing_fits, resolved, several_fit};
 
+use crate::{Expected, Expression, Interpretation, Labelled, interpret};
 use al_base::{NoMemory, Place};
 use al_base_fault::{CheckResult, CheckRule, Fault};
-use al_overload_choice::{Expected, Expression, Interpretation, Labelled, interpret};
 use std::alloc::Global;
 
 /// E402 there.

@@ -1,7 +1,7 @@
 -- A chain with one more operator at its front.
 use Rattle.std.proofs.Common.{◌≡◌, Bool, ◌&&◌, List, [], ◌∷◌, ◌++◌, Option, refl, ap, ◌∙◌}
-use Rattle.al_overload_choice.specs.Counts.{plain_all}
-use Rattle.al_overload_choice.specs.Labelling.{Tree, MoreTrees}
+use Rattle.al_overload.specs.Counts.{plain_all}
+use Rattle.al_overload.specs.Labelling.{Tree, MoreTrees}
 use Rattle.al_overload_heads.specs.Chains.{chained_head, chained_part, chained_universal, joint_head, joint_part, joint_universal}
 use Rattle.al_overload_heads.specs.declared.chain.Joint.{Joint}
 use Rattle.al_overload_heads.specs.declared.everywhere.Predefined.{Predefined}

@@ -1,11 +1,11 @@
 -- Operands from the last one on, and terms in a row.
 use Rattle.std.proofs.Common.{◌≡◌, suc, List, [], ◌∷◌, ◌++◌, map, length, refl, ap}
-use Rattle.al_overload_choice.specs.Counts.{plain}
-use Rattle.al_overload_choice.specs.Labelling.{Trees, MoreTrees}
-use Rattle.al_overload_choice.specs.declared.term.Term.{Term as HeadTerm}
-use Rattle.al_overload_term.specs.TermViews.{term_model, terms_of}
-use Rattle.al_overload_term.specs.Terms.{TermTree}
-use Rattle.al_overload_term.specs.declared.term.Term.{Term}
+use Rattle.al_overload.specs.Counts.{plain}
+use Rattle.al_overload.specs.Labelling.{Trees, MoreTrees}
+use Rattle.al_overload.specs.declared.term.Term.{Term as HeadTerm}
+use Rattle.al_overload_heads.specs.TermViews.{term_model, terms_of}
+use Rattle.al_overload_heads.specs.Terms.{TermTree}
+use Rattle.al_overload_heads.specs.declared.term.Term.{Term}
 use Rattle.al_view_typed.specs.Listed.{listed}
 use Rattle.al_overload_heads.specs.Aggregates.{how_many}
 use Rattle.al_overload_heads.specs.Heads.{heads_of, plain_head, trees_of}

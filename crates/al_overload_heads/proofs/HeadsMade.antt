@@ -2,13 +2,13 @@
 use Rattle.std.proofs.Common.{◌≡◌, ℕ, Bool, map, length, Result, IfOk, Option, sym, ap, subst, ◌∙◌, Vec, Global}
 use Rattle.std.specs.Option.{option_and_then}
 use Rattle.al_base.specs.declared.place.Place.{Place}
-use Rattle.al_overload_choice.specs.Counts.{plain}
-use Rattle.al_overload_choice.specs.Labelling.{Tree, Trees}
-use Rattle.al_overload_term.proofs.TermsMade.{aggregate_made}
-use Rattle.al_overload_term.specs.TermViews.{term_model, terms_of}
-use Rattle.al_overload_term.specs.Terms.{TermTree, TermTree as terms}
-use Rattle.al_overload_term.specs.declared.term.Term.{Term}
-use Rattle.al_overload_term.specs.declared.term.Term.TheVariants.{Aggregate}
+use Rattle.al_overload.specs.Counts.{plain}
+use Rattle.al_overload.specs.Labelling.{Tree, Trees}
+use Rattle.al_overload_heads.proofs.TermsMade.{aggregate_made}
+use Rattle.al_overload_heads.specs.TermViews.{term_model, terms_of}
+use Rattle.al_overload_heads.specs.Terms.{TermTree, TermTree as terms}
+use Rattle.al_overload_heads.specs.declared.term.Term.{Term}
+use Rattle.al_overload_heads.specs.declared.term.Term.TheVariants.{Aggregate}
 use Rattle.al_overload_heads.proofs.Gathered.{count_model}
 use Rattle.al_overload_heads.specs.Aggregates.{how_many, positional}
 use Rattle.al_overload_heads.specs.Heads.{head_of, heads_of, possible}

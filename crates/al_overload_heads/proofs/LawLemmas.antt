@@ -3,15 +3,15 @@ use Rattle.std.proofs.Common.{◌≡◌, ℕ, suc, Bool, true, false, ◌&&◌, 
 use Rattle.std.specs.List.{flat_map, list_any}
 use Rattle.std.specs.Option.{option_and_then}
 use Rattle.al_base.specs.declared.place.Place.{Place}
-use Rattle.al_overload_choice.specs.Labelling.{Label, Labels, MoreLabels, Node, NodeAs, NoTree, Tree, Trees, MoreTrees, fillings, labellings, numbered, pairs, suits}
-use Rattle.al_overload_choice.specs.declared.term.Candidate.{Candidate}
-use Rattle.al_overload_choice.specs.declared.types.Given.{Given}
-use Rattle.al_overload_choice.specs.declared.types.Given.TheVariants as g
-use Rattle.al_overload_choice.specs.declared.types.Expected.{Expected}
-use Rattle.al_overload_choice.specs.declared.types.Expected.TheVariants as w
-use Rattle.al_overload_name.specs.Heads.{all_candidates, operated}
+use Rattle.al_overload.specs.Labelling.{Label, Labels, MoreLabels, Node, NodeAs, NoTree, Tree, Trees, MoreTrees, fillings, labellings, numbered, pairs, suits}
+use Rattle.al_overload.specs.declared.term.Candidate.{Candidate}
+use Rattle.al_overload.specs.declared.types.Given.{Given}
+use Rattle.al_overload.specs.declared.types.Given.TheVariants as g
+use Rattle.al_overload.specs.declared.types.Expected.{Expected}
+use Rattle.al_overload.specs.declared.types.Expected.TheVariants as w
+use Rattle.al_overload.specs.Heads.{all_candidates, operated}
 use Rattle.al_view_predefined.specs.Operators.{spelling}
-use Rattle.al_overload_term.specs.Terms.{TermTree, TermTree as t}
+use Rattle.al_overload_heads.specs.Terms.{TermTree, TermTree as t}
 use Rattle.al_view_typed.specs.declared.label.BinaryOperator.{BinaryOperator}
 use Rattle.al_view_typed.specs.declared.label.Conversion.{Conversion}
 use Rattle.al_view_typed.specs.declared.label.Conversion.TheVariants as conversions

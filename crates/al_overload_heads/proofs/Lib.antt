@@ -1,7 +1,8 @@
-pub mod TermsSeen
-pub mod LawLemmas
+pub mod ChainLemmas
 pub mod Gathered
 pub mod HeadsMade
-pub mod ChainLemmas
-pub mod Standing
+pub mod LawLemmas
 pub mod PartLemmas
+pub mod Standing
+pub mod TermsMade
+pub mod TermsSeen

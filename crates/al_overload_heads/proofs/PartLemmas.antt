@@ -4,7 +4,7 @@ use Rattle.std.specs.Option.{option_and_then, option_map_or}
 use Rattle.al_overload_heads.specs.PartChains.{before, built_up, link_of, linked_part}
 use Rattle.al_overload_heads.specs.Parts.{declared_under, part_of, sole_object}
 use Rattle.al_overload_heads.specs.declared.part.Nominal.{Nominal}
-use Rattle.al_overload_term.specs.Terms.{TermTree, TermTree as t}
+use Rattle.al_overload_heads.specs.Terms.{TermTree, TermTree as t}
 
 pub Link : Type 0
 Link = TermTree × Option (List ℕ)

@@ -1,13 +1,13 @@
 -- What doesn't begin with an operand: it is none of those that do.
 use Rattle.std.proofs.Common.{◌≡◌, Bool, false, List, sym, ap, ◌∙◌, refl, Vec, Box, Global, ℕ}
 use Rattle.al_overload_heads.specs.Chains.{leans}
-use Rattle.al_overload_term.proofs.TermsMade.{number_made, text_made, named_made, bound_made, length_made, conversion_made, qualified_made, attribute_made, image_made, prefixed_made, group_made, aggregate_made, others_made, nothing_made}
-use Rattle.al_overload_term.specs.TermViews.{term_model}
-use Rattle.al_overload_term.specs.Terms.{TermTree}
-use Rattle.al_overload_term.specs.declared.term.Term.{Term, out-Term, roll-Term, roll-out-Term}
-use Rattle.al_overload_term.specs.declared.term.Term.TheOpen.{Term-F}
-use Rattle.al_overload_term.specs.declared.term.Term.TheOpen as layer
-use Rattle.al_overload_term.specs.declared.term.Term.TheVariants.{Number, Text, Named, Selected, Applied, Bound, Length, Conversion, Qualified, Attribute, Image, Prefixed, Infix, Concatenation, ShortCircuit, Member, RangeMember, Group, Aggregate, Others, Nothing, rolls-Number, rolls-Text, rolls-Named, rolls-Selected, rolls-Applied, rolls-Bound, rolls-Length, rolls-Conversion, rolls-Qualified, rolls-Attribute, rolls-Image, rolls-Prefixed, rolls-Infix, rolls-Concatenation, rolls-ShortCircuit, rolls-Member, rolls-RangeMember, rolls-Group, rolls-Aggregate, rolls-Others, rolls-Nothing}
+use Rattle.al_overload_heads.proofs.TermsMade.{number_made, text_made, named_made, bound_made, length_made, conversion_made, qualified_made, attribute_made, image_made, prefixed_made, group_made, aggregate_made, others_made, nothing_made}
+use Rattle.al_overload_heads.specs.TermViews.{term_model}
+use Rattle.al_overload_heads.specs.Terms.{TermTree}
+use Rattle.al_overload_heads.specs.declared.term.Term.{Term, out-Term, roll-Term, roll-out-Term}
+use Rattle.al_overload_heads.specs.declared.term.Term.TheOpen.{Term-F}
+use Rattle.al_overload_heads.specs.declared.term.Term.TheOpen as layer
+use Rattle.al_overload_heads.specs.declared.term.Term.TheVariants.{Number, Text, Named, Selected, Applied, Bound, Length, Conversion, Qualified, Attribute, Image, Prefixed, Infix, Concatenation, ShortCircuit, Member, RangeMember, Group, Aggregate, Others, Nothing, rolls-Number, rolls-Text, rolls-Named, rolls-Selected, rolls-Applied, rolls-Bound, rolls-Length, rolls-Conversion, rolls-Qualified, rolls-Attribute, rolls-Image, rolls-Prefixed, rolls-Infix, rolls-Concatenation, rolls-ShortCircuit, rolls-Member, rolls-RangeMember, rolls-Group, rolls-Aggregate, rolls-Others, rolls-Nothing}
 use Rattle.al_view_typed.specs.declared.label.BinaryOperator.{BinaryOperator}
 use Rattle.al_view_typed.specs.declared.label.ShortCircuit.{ShortCircuit as ShortCircuitForm}
 use Rattle.al_view.specs.declared.view.SubtypeView.{SubtypeView}

@@ -1,13 +1,13 @@
 -- The aggregates of a type (ARM 4.3.1, 4.3.3).
 use Rattle.std.specs.Prelude.{ℕ, suc, ◌-◌, ◌-ℤ◌, int_le, unsigned_abs, Bool, false, ◌&&◌, ◌==◌, List, [], ◌∷◌, map, replicate, Option, Some, None, if◌then◌else◌}
 use Rattle.std.specs.Option.{option_and_then, option_map_or, option_or}
-use Rattle.al_overload_choice.specs.declared.term.Candidate.{Candidate}
-use Rattle.al_overload_choice.specs.declared.types.Given.{Given}
-use Rattle.al_overload_choice.specs.declared.types.Given.TheVariants as g
-use Rattle.al_overload_choice.specs.declared.types.Expected.{Expected}
-use Rattle.al_overload_choice.specs.declared.types.Expected.TheVariants as w
-use Rattle.al_overload_name.specs.Types.{value_type}
-use Rattle.al_overload_term.specs.Terms.{TermsTree, TermsTree as terms}
+use Rattle.al_overload.specs.declared.term.Candidate.{Candidate}
+use Rattle.al_overload.specs.declared.types.Given.{Given}
+use Rattle.al_overload.specs.declared.types.Given.TheVariants as g
+use Rattle.al_overload.specs.declared.types.Expected.{Expected}
+use Rattle.al_overload.specs.declared.types.Expected.TheVariants as w
+use Rattle.al_overload.specs.Types.{value_type}
+use Rattle.al_overload_heads.specs.Terms.{TermsTree, TermsTree as terms}
 use Rattle.al_view.specs.Types.{definition_bounds}
 use Rattle.al_view.specs.declared.types.Bounds.{Bounds}
 use Rattle.al_view.specs.declared.types.Component.{Component}

@@ -1,9 +1,9 @@
 -- Chains of operators, indexes and the like: each has what stands at its left for its left operand.
 use Rattle.std.specs.Prelude.{◌≡◌, ◌<◌, Bool, true, false, ◌&&◌, List, [], ◌∷◌, Option, None, Some}
 use Rattle.std.specs.Option.{option_and_then}
-use Rattle.al_overload_choice.specs.Counts.{plain, plain_all}
-use Rattle.al_overload_choice.specs.Labelling.{Tree, Trees, MoreTrees}
-use Rattle.al_overload_choice.specs.Ranges.{alike}
+use Rattle.al_overload.specs.Counts.{plain, plain_all}
+use Rattle.al_overload.specs.Labelling.{Tree, Trees, MoreTrees}
+use Rattle.al_overload.specs.Ranges.{alike}
 use Rattle.al_overload_heads.specs.Heads.{concatenation, head_of, indexing, infixed, possible, selection, short_circuit, sole}
 use Rattle.al_overload_heads.specs.Parts.{component_of, element_of, part_of}
 use Rattle.al_overload_heads.specs.Universal.{computes_two, is_universal}
@@ -14,9 +14,9 @@ use Rattle.al_overload_heads.specs.declared.chain.Step.{Step}
 use Rattle.al_overload_heads.specs.declared.chain.Step.TheVariants as steps
 use Rattle.al_overload_heads.specs.declared.everywhere.Predefined.{Predefined}
 use Rattle.al_overload_heads.specs.declared.part.Nominal.{Nominal}
-use Rattle.al_overload_term.specs.Terms.{TermTree, TermTree as t}
-use Rattle.al_overload_term.specs.TermViews.{term_model}
-use Rattle.al_overload_term.specs.declared.term.Term.{Term, size-Term}
+use Rattle.al_overload_heads.specs.Terms.{TermTree, TermTree as t}
+use Rattle.al_overload_heads.specs.TermViews.{term_model}
+use Rattle.al_overload_heads.specs.declared.term.Term.{Term, size-Term}
 
 -- which terms begin with an operand, or with a name that is called
 abbrev pub leans : TermTree → Bool

@@ -1,7 +1,7 @@
 -- The predefined types that contexts and constructs want (ARM A.1, D.8).
 use Rattle.std.specs.Prelude.{codes}
-use Rattle.al_overload_choice.specs.declared.types.Class.TheVariants as class
-use Rattle.al_overload_choice.specs.declared.types.ValueType.{ValueType}
+use Rattle.al_overload.specs.declared.types.Class.TheVariants as class
+use Rattle.al_overload.specs.declared.types.ValueType.{ValueType}
 use Rattle.al_view_predefined.specs.Operators.{predefined_symbol, standard_symbol}
 
 abbrev pub boolean_type : ValueType

@@ -2,19 +2,19 @@
 -- whose heads have their candidates.
 use Rattle.std.specs.Prelude.{ℕ, Bool, ◌&&◌, List, [], ◌∷◌, Option, Some, None, option_map, if◌then◌else◌}
 use Rattle.std.specs.Option.{option_and_then}
-use Rattle.al_overload_choice.specs.Fitting.{is_discrete}
-use Rattle.al_overload_choice.specs.declared.types.ValueType.{ValueType}
-use Rattle.al_overload_choice.specs.Labelling.{Tree, Node, Trees, NoTree, MoreTrees}
-use Rattle.al_overload_choice.specs.Ranges.{alike}
-use Rattle.al_overload_choice.specs.declared.term.Candidate.{Candidate}
-use Rattle.al_overload_choice.specs.declared.types.Given.{Given}
-use Rattle.al_overload_choice.specs.declared.types.Given.TheVariants as g
-use Rattle.al_overload_choice.specs.declared.types.Expected.{Expected}
-use Rattle.al_overload_choice.specs.declared.types.Expected.TheVariants as w
-use Rattle.al_overload_name.specs.Heads.{all_candidates, operated}
-use Rattle.al_overload_name.specs.Types.{value_type}
+use Rattle.al_overload.specs.Fitting.{is_discrete}
+use Rattle.al_overload.specs.declared.types.ValueType.{ValueType}
+use Rattle.al_overload.specs.Labelling.{Tree, Node, Trees, NoTree, MoreTrees}
+use Rattle.al_overload.specs.Ranges.{alike}
+use Rattle.al_overload.specs.declared.term.Candidate.{Candidate}
+use Rattle.al_overload.specs.declared.types.Given.{Given}
+use Rattle.al_overload.specs.declared.types.Given.TheVariants as g
+use Rattle.al_overload.specs.declared.types.Expected.{Expected}
+use Rattle.al_overload.specs.declared.types.Expected.TheVariants as w
+use Rattle.al_overload.specs.Heads.{all_candidates, operated}
+use Rattle.al_overload.specs.Types.{value_type}
 use Rattle.al_view_predefined.specs.Operators.{spelling}
-use Rattle.al_overload_term.specs.Terms.{TermTree, TermTree as t, TermsTree, TermsTree as terms}
+use Rattle.al_overload_heads.specs.Terms.{TermTree, TermTree as t, TermsTree, TermsTree as terms}
 use Rattle.al_view_typed.specs.declared.label.BinaryOperator.{BinaryOperator}
 use Rattle.al_view_typed.specs.declared.label.Conversion.{Conversion}
 use Rattle.al_view_typed.specs.declared.label.Conversion.TheVariants as conversions

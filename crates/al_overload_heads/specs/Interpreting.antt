@@ -1,14 +1,14 @@
 -- What a term means in its complete context (ARM 8.6(4 to 9, 29 to 31)).
 use Rattle.std.specs.Prelude.{Option, None, Result}
-use Rattle.al_overload_choice.specs.Labelling.{Label}
-use Rattle.al_overload_choice.specs.declared.types.ValueType.{ValueType}
+use Rattle.al_overload.specs.Labelling.{Label}
+use Rattle.al_overload.specs.declared.types.ValueType.{ValueType}
 use Rattle.al_base_fault.specs.declared.fault.Fault.{Fault}
 use Rattle.al_overload.specs.Contexts.{wanted_in}
 use Rattle.al_overload.specs.Meanings.{resolved}
 use Rattle.al_overload.specs.declared.context.Context.{Context}
 use Rattle.al_overload.specs.declared.context.Context.TheVariants as contexts
-use Rattle.al_overload_term.specs.Places.{first_place}
-use Rattle.al_overload_term.specs.Terms.{TermTree}
+use Rattle.al_overload_heads.specs.Places.{first_place}
+use Rattle.al_overload_heads.specs.Terms.{TermTree}
 use Rattle.al_overload_heads.specs.Heads.{bounds_head, head_of}
 use Rattle.al_overload_heads.specs.declared.everywhere.Predefined.{Predefined}
 use Rattle.al_overload_heads.specs.declared.part.Nominal.{Nominal}

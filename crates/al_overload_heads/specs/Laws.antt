@@ -2,12 +2,12 @@
 use Rattle.std.specs.Prelude.{◌≡◌, Bool, true, false, List, [], ◌∷◌, map, Option, None}
 use Rattle.std.specs.List.{list_any}
 use Rattle.al_base.specs.declared.place.Place.{Place}
-use Rattle.al_overload_choice.specs.Labelling.{Tree, Node, Trees, MoreTrees, labellings, suits}
-use Rattle.al_overload_choice.specs.declared.term.Candidate.{Candidate}
-use Rattle.al_overload_choice.specs.declared.types.Given.{Given}
-use Rattle.al_overload_choice.specs.declared.types.Given.TheVariants as g
-use Rattle.al_overload_choice.specs.declared.types.Expected.{Expected}
-use Rattle.al_overload_term.specs.Terms.{TermTree, TermTree as t, TermsTree, TermsTree as terms}
+use Rattle.al_overload.specs.Labelling.{Tree, Node, Trees, MoreTrees, labellings, suits}
+use Rattle.al_overload.specs.declared.term.Candidate.{Candidate}
+use Rattle.al_overload.specs.declared.types.Given.{Given}
+use Rattle.al_overload.specs.declared.types.Given.TheVariants as g
+use Rattle.al_overload.specs.declared.types.Expected.{Expected}
+use Rattle.al_overload_heads.specs.Terms.{TermTree, TermTree as t, TermsTree, TermsTree as terms}
 use Rattle.al_view_typed.specs.declared.label.BinaryOperator.{BinaryOperator}
 use Rattle.al_view_typed.specs.declared.label.UnaryOperator.{UnaryOperator}
 use Rattle.al_view.specs.declared.view.ViewKind.{ViewKind}

@@ -3,7 +3,7 @@ use Rattle.std.specs.Prelude.{ℕ, zero, suc, List, Option, Some, None}
 use Rattle.std.specs.Option.{option_and_then, option_map_or}
 use Rattle.al_overload_heads.specs.Parts.{component_of, element_of}
 use Rattle.al_overload_heads.specs.declared.part.Nominal.{Nominal}
-use Rattle.al_overload_term.specs.Terms.{TermTree, TermTree as t}
+use Rattle.al_overload_heads.specs.Terms.{TermTree, TermTree as t}
 
 -- what stands before the last selector of a term, with the selector, or before the last indexes
 abbrev pub link_of : TermTree → Option (TermTree × Option (List ℕ))

@@ -3,7 +3,7 @@ use Rattle.std.specs.Prelude.{ℕ, List, [], ◌∷◌, find, Option, Some, None
 use Rattle.std.specs.Option.{option_and_then}
 use Rattle.std.specs.Str.{bytes_eq}
 use Rattle.al_view_predefined.specs.StandardTypes.{type_of}
-use Rattle.al_overload_term.specs.Terms.{TermTree, TermTree as t}
+use Rattle.al_overload_heads.specs.Terms.{TermTree, TermTree as t}
 use Rattle.al_view.specs.declared.types.Component.{Component}
 use Rattle.al_view.specs.declared.types.Subtype.{Subtype}
 use Rattle.al_view.specs.declared.types.TypeDefinition.{TypeDefinition}

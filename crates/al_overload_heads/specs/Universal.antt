@@ -1,6 +1,6 @@
 -- Expressions of numbers alone (ARM 3.4.1(7), 4.5.3 to 4.5.6, 8.6(29)).
 use Rattle.std.specs.Prelude.{Bool, true, false, ◌&&◌, List, [], ◌∷◌}
-use Rattle.al_overload_term.specs.Terms.{TermTree, TermTree as t}
+use Rattle.al_overload_heads.specs.Terms.{TermTree, TermTree as t}
 use Rattle.al_view_typed.specs.declared.label.BinaryOperator.{BinaryOperator}
 use Rattle.al_view_typed.specs.declared.label.BinaryOperator.TheVariants as binary
 use Rattle.al_view_typed.specs.declared.label.Conversion.{Conversion}

@@ -6,7 +6,7 @@ ghost use Rattle.al_overload_heads.specs.Aggregates.{bounds_of, component_wanted
 use crate::candidate::{of_one, operation, value_given, value_wanted};
 use crate::part::{Nominal, definition_of};
 use al_base::NoMemory;
-use al_overload_choice::{Candidate, Expected};
+use al_overload::{Candidate, Expected};
 use al_view::{Bounds, Component, Seq, Subtype, TypeDefinition, Types};
 use al_view_predefined::StandardTypes;
 use std::alloc::Global;

@@ -1,11 +1,11 @@
 // The heads of constructs, where their operands are built.
 ghost use Rattle.std.specs.Prelude.{◌≡◌, ◌&&◌, [], true, false, IfOk};
 ghost use Rattle.std.specs.Option.{option_and_then};
-ghost use Rattle.al_overload_choice.specs.Counts.{plain, plain_all};
-ghost use Rattle.al_overload_choice.specs.Labelling.{Node, NoTree};
-ghost use Rattle.al_overload_choice.specs.Ranges.{alike};
-ghost use Rattle.al_overload_choice.specs.declared.types.Given.TheVariants as g;
-ghost use Rattle.al_overload_name.specs.Heads.{all_candidates};
+ghost use Rattle.al_overload.specs.Counts.{plain, plain_all};
+ghost use Rattle.al_overload.specs.Labelling.{Node, NoTree};
+ghost use Rattle.al_overload.specs.Ranges.{alike};
+ghost use Rattle.al_overload.specs.declared.types.Given.TheVariants as g;
+ghost use Rattle.al_overload.specs.Heads.{all_candidates};
 ghost use Rattle.al_overload_heads.specs.Aggregates.{operation, others, positional};
 ghost use Rattle.al_overload_heads.specs.Heads.{attribute, concatenation, infixed, mark_given, possible, prefixed, short_circuit, sole};
 ghost use Rattle.al_overload_heads.specs.Universal.{computes_one, computes_two, is_position, is_sole_number};
@@ -20,8 +20,7 @@ use crate::operator::{
 };
 use crate::part::Nominal;
 use al_base::NoMemory;
-use al_overload_choice::{Expected, Expression, Given, Operands};
-use al_overload_name::{all_of, operator, sole};
+use al_overload::{Expected, Expression, Given, Operands, all_of, operator, sole};
 use al_view::{SubtypeView, View};
 use al_view_typed::{BinaryOperator, Conversion, UnaryOperator};
 use std::alloc::Global;

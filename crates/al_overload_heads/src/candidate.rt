@@ -1,7 +1,7 @@
 // The candidates of constructs that have one at most (ARM 4.1 to 4.7).
 ghost use Rattle.std.specs.Prelude.{◌≡◌, [], ◌∷◌, IfOk, option_map};
 ghost use Rattle.std.specs.Option.{option_and_then};
-ghost use Rattle.al_overload_choice.specs.Counts.{plain, plain_all};
+ghost use Rattle.al_overload.specs.Counts.{plain, plain_all};
 ghost use Rattle.al_overload_heads.specs.Aggregates.{operation, value_given, value_wanted};
 ghost use Rattle.al_overload_heads.specs.Heads.{attribute, concatenation, indexing, indexing_in, mark_given, mark_wanted, membership, possible, selection, short_circuit};
 ghost use Rattle.al_overload_heads.specs.Parts.{nominal};
@@ -9,8 +9,7 @@ ghost use Rattle.al_overload_heads.specs.Parts.{nominal};
 use crate::everywhere::Predefined;
 use crate::part::{component_of, definition_of};
 use al_base::NoMemory;
-use al_overload_choice::{Candidate, Expected, Expression, Given, Operands};
-use al_overload_name::value_type;
+use al_overload::{Candidate, Expected, Expression, Given, Operands, value_type};
 use al_view::{Seq, Subtype, SubtypeView, TypeDefinition, Types};
 use al_view_predefined::StandardTypes;
 use al_view_typed::Conversion;

@@ -1,15 +1,16 @@
 // What begins with an operand leans to the left: `A - B + C` has `A - B` at the left of its `+`, and `A (1).C` has `A (1)` before its dot.
 ghost use Rattle.std.specs.Prelude.{◌≡◌, ◌&&◌, ◌∷◌, [], ◌++◌, false, IfOk, OnOk, None, option_map};
 ghost use Rattle.std.specs.Option.{option_and_then};
-ghost use Rattle.al_overload_choice.specs.Counts.{plain, plain_all};
-ghost use Rattle.al_overload_choice.specs.Labelling.{MoreTrees};
-ghost use Rattle.al_overload_term.specs.TermViews.{term_model};
+ghost use Rattle.al_overload.specs.Counts.{plain, plain_all};
+ghost use Rattle.al_overload.specs.Labelling.{MoreTrees};
+ghost use Rattle.al_overload_heads.specs.TermViews.{term_model};
 ghost use Rattle.al_overload_heads.specs.Chains.{IsAt, IsPartly, chained_head, chained_universal, joint_head, joint_part, joint_universal, stepped_head, stepped_universal};
 ghost use Rattle.al_overload_heads.specs.declared.everywhere.Predefined.{Predefined};
 ghost use Rattle.al_overload_heads.specs.Heads.{applied, head_of, indexing, membership, one, possible, selection};
 ghost use Rattle.al_overload_heads.specs.Parts.{component_of, declared_under, element_of, nominal, part_of};
 ghost use Rattle.al_overload_heads.specs.Universal.{is_universal};
 
+use crate::Term;
 use crate::built::{
     Built, BuiltOperands, concatenated, infixed, other, range_member, short_circuited,
 };
@@ -17,9 +18,7 @@ use crate::candidate::{indexing, membership, possible, selection};
 use crate::everywhere::Predefined;
 use crate::part::{declared_under, indexed_part, selected_part};
 use al_base::NoMemory;
-use al_overload_choice::{Candidate, Operands};
-use al_overload_name::all_of;
-use al_overload_term::Term;
+use al_overload::{Candidate, Operands, all_of};
 use al_view::{Subtype, SubtypeView, Types, View};
 use al_view_typed::BinaryOperator;
 use std::alloc::Global;

@@ -5,8 +5,7 @@ ghost use Rattle.al_view_predefined.specs.StandardTypes.{root_integer, root_oper
 ghost use Rattle.al_overload_heads.specs.Everywhere.{boolean_type, integer_type, time_type};
 
 use al_base::NoMemory;
-use al_overload::PredefinedTypes;
-use al_overload_choice::{Class, ValueType};
+use al_overload::{Class, PredefinedTypes, ValueType};
 use al_view::{Interface, Symbol};
 use al_view_predefined::{
     StandardTypes, predefined_symbol, root_integer, root_operators, standard_symbol,

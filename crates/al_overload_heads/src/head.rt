@@ -1,13 +1,14 @@
 // The heads of terms, from their operands up.
 ghost use Rattle.std.specs.Prelude.{◌≡◌, ◌&&◌, false, map, IfOk, None};
-ghost use Rattle.al_overload_choice.specs.Counts.{plain, plain_all};
-ghost use Rattle.al_overload_choice.specs.Labelling.{MoreTrees};
-ghost use Rattle.al_overload_term.specs.TermViews.{term_model, terms_of};
+ghost use Rattle.al_overload.specs.Counts.{plain, plain_all};
+ghost use Rattle.al_overload.specs.Labelling.{MoreTrees};
+ghost use Rattle.al_overload_heads.specs.TermViews.{term_model, terms_of};
 ghost use Rattle.al_overload_heads.specs.Chains.{IsBelow, IsPartly, chained_head, chained_universal, leans, stepped_head, stepped_universal};
 ghost use Rattle.al_overload_heads.specs.Heads.{bounds_head, head_of, heads_of, one, plain_head};
 ghost use Rattle.al_overload_heads.specs.Parts.{part_of};
 ghost use Rattle.al_overload_heads.specs.Universal.{is_universal};
 
+use crate::Term;
 use crate::built::{
     Built, BuiltOperands, aggregate, attributed, named, nothing, number, prefixed, text, value,
     with_others,
@@ -17,8 +18,7 @@ use crate::everywhere::Predefined;
 use crate::operands::gathered;
 use crate::part::{Nominal, part_of};
 use al_base::NoMemory;
-use al_overload_choice::{Expression, Operands, ValueType};
-use al_overload_term::Term;
+use al_overload::{Expression, Operands, ValueType};
 use std::alloc::Global;
 
 /// The head of a chain whose last links are these, and whether it is of numbers alone. What begins with an operand of its own (a chain of

@@ -1,19 +1,18 @@
 // What a term means in its complete context (ARM 8.6).
 ghost use Rattle.std.specs.Prelude.{◌≡◌, IfOk};
-ghost use Rattle.al_overload_choice.specs.Counts.{label_of, plain};
+ghost use Rattle.al_overload.specs.Counts.{label_of, plain};
 ghost use Rattle.al_base_fault.specs.Judging.{map_ok};
-ghost use Rattle.al_overload_term.specs.TermViews.{term_model};
+ghost use Rattle.al_overload_heads.specs.TermViews.{term_model};
 ghost use Rattle.al_overload_heads.specs.Heads.{bounds_head};
 ghost use Rattle.al_overload_heads.specs.Interpreting.{bounds_interpreted, interpreted, numbers_in};
 
 use crate::everywhere::Predefined;
 use crate::head::{bounds_head, head_of};
 use crate::part::Nominal;
+use crate::{Term, first_place};
 use al_base::NoMemory;
 use al_base_fault::CheckResult;
-use al_overload::{Context, resolve, wanted_in};
-use al_overload_choice::{Expression, Labelled};
-use al_overload_term::{Term, first_place};
+use al_overload::{Context, Expression, Labelled, resolve, wanted_in};
 use std::alloc::Global;
 
 /// What the term of a complete context means: its one acceptable interpretation, or E402 or E403 at its first token. An aggregate

@@ -13,6 +13,8 @@ mod laws;
 mod operands;
 mod operator;
 mod part;
+mod place;
+mod term;
 
 pub use everywhere::Predefined;
 pub use head::{bounds_head, head_of};
@@ -23,3 +25,5 @@ pub use laws::{
 };
 pub use operator::{computes_one, computes_two, is_position, is_sole_number};
 pub use part::{Nominal, declared_under, part_of};
+pub use place::first_place;
+pub use term::Term;

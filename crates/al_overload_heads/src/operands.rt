@@ -1,10 +1,10 @@
 // Operands in a row.
 ghost use Rattle.std.specs.Prelude.{◌≡◌, map, IfOk};
-ghost use Rattle.al_overload_choice.specs.Counts.{plain, plain_all};
+ghost use Rattle.al_overload.specs.Counts.{plain, plain_all};
 ghost use Rattle.al_overload_heads.specs.Heads.{trees_of};
 
 use al_base::NoMemory;
-use al_overload_choice::{Expression, Operands};
+use al_overload::{Expression, Operands};
 use std::alloc::Global;
 
 /// These heads as operands, in their order.

@@ -1,12 +1,12 @@
 // Objects and parts of objects, with their nominal subtypes (ARM 3.3, 4.1).
 ghost use Rattle.std.specs.Prelude.{◌≡◌, ◌<◌, ◌≤◌, IfSome, option_map};
 ghost use Rattle.std.specs.Option.{option_and_then, option_copied};
-ghost use Rattle.al_overload_term.specs.TermViews.{term_model};
-ghost use Rattle.al_overload_term.specs.declared.term.Term.{size-Term};
+ghost use Rattle.al_overload_heads.specs.TermViews.{term_model};
+ghost use Rattle.al_overload_heads.specs.declared.term.Term.{size-Term};
 ghost use Rattle.al_overload_heads.specs.PartChains.{before, built_up, link_of, linked_part};
 ghost use Rattle.al_overload_heads.specs.Parts.{component_in, component_named, component_of, declared_under, definition_of, element_in, element_of, nominal, object_in, part_of, sole_object};
 
-use al_overload_term::Term;
+use crate::Term;
 use al_view::{Component, Subtype, TypeDefinition, Types, View, ViewKind};
 use al_view_predefined::StandardTypes;
 

@@ -11,19 +11,19 @@ use Rattle.al_overload_label.specs.declared.chain.Joint.{Joint}
 use Rattle.al_overload_label.specs.declared.chain.Step.{Step}
 use Rattle.al_overload_label.specs.declared.chain.Step.TheVariants as steps
 use Rattle.al_overload_nodes.specs.Nodes.{ReadingTree}
-use Rattle.al_overload_term.proofs.TermsMade.{applied_made, infix_made, selected_made, short_circuit_made}
-use Rattle.al_overload_choice.specs.Labelling.{Label}
+use Rattle.al_overload_heads.proofs.TermsMade.{applied_made, infix_made, selected_made, short_circuit_made}
+use Rattle.al_overload.specs.Labelling.{Label}
 use Rattle.al_overload_heads.specs.Parts.{part_of}
 use Rattle.al_overload_heads.specs.declared.part.Nominal.{Nominal}
 use Rattle.al_overload_label.specs.Readings.{operand_read, reading}
 use Rattle.al_overload_nodes.specs.Names.{selected_node}
-use Rattle.al_overload_term.specs.Terms.{TermTree, TermTree as t}
+use Rattle.al_overload_heads.specs.Terms.{TermTree, TermTree as t}
 use Rattle.al_view.specs.declared.types.TypeView.{TypeView}
-use Rattle.al_overload_term.specs.Places.{first_place}
-use Rattle.al_overload_term.specs.TermViews.{term_model}
-use Rattle.al_overload_term.specs.declared.term.Term.{Term, size-Term}
-use Rattle.al_overload_term.specs.declared.term.Term.TheVariants.{Applied, Infix, Selected, ShortCircuit}
-use Rattle.al_overload_term.specs.declared.term.Term.TheViews.{sized-Applied, sized-Infix, sized-Selected, sized-ShortCircuit}
+use Rattle.al_overload_heads.specs.Places.{first_place}
+use Rattle.al_overload_heads.specs.TermViews.{term_model}
+use Rattle.al_overload_heads.specs.declared.term.Term.{Term, size-Term}
+use Rattle.al_overload_heads.specs.declared.term.Term.TheVariants.{Applied, Infix, Selected, ShortCircuit}
+use Rattle.al_overload_heads.specs.declared.term.Term.TheViews.{sized-Applied, sized-Infix, sized-Selected, sized-ShortCircuit}
 use Rattle.al_view_typed.specs.declared.label.BinaryOperator.{BinaryOperator}
 use Rattle.al_view_typed.specs.declared.label.ShortCircuit.{ShortCircuit as ShortCircuitKind}
 use Rattle.al_view.specs.declared.view.ViewKind.{ViewKind}

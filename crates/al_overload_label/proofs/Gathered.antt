@@ -8,11 +8,11 @@ use Rattle.std.proofs.Math.Seq.{drop-cons}
 use Rattle.std.proofs.lemmas.List.{drop_all}
 use Rattle.al_base.specs.declared.place.Place.{Place}
 use Rattle.al_overload.specs.Meanings.{nothing_fits}
-use Rattle.al_overload_choice.specs.Labelling.{Label, Labels}
+use Rattle.al_overload.specs.Labelling.{Label, Labels}
 use Rattle.al_overload_heads.specs.declared.everywhere.Predefined.{Predefined}
-use Rattle.al_overload_term.specs.Places.{first_place}
-use Rattle.al_overload_term.specs.TermViews.{term_model, terms_of}
-use Rattle.al_overload_term.specs.declared.term.Term.{Term}
+use Rattle.al_overload_heads.specs.Places.{first_place}
+use Rattle.al_overload_heads.specs.TermViews.{term_model, terms_of}
+use Rattle.al_overload_heads.specs.declared.term.Term.{Term}
 use Rattle.al_view_typed.specs.ExpressionTrees.{ActualTree, ValueTree}
 use Rattle.al_view.specs.declared.symbol.Symbol.{Symbol}
 use Rattle.al_view.specs.declared.types.TypeView.{TypeView}
@@ -26,10 +26,10 @@ use Rattle.al_overload_nodes.specs.Nodes.{ReadingTree}
 use Rattle.al_overload_label.proofs.OperandLabels.{next_is}
 use Rattle.al_overload_label.specs.OperandLabels.{actual_with, component_with, labels_from, next_label, operand_labels}
 use Rattle.al_overload_label.specs.Variables.{variable_as}
-use Rattle.al_overload_picks.specs.Labels.{operand_label}
-use Rattle.al_overload_picks.specs.Types.{range_in}
+use Rattle.al_overload.specs.Labels.{operand_label}
+use Rattle.al_overload.specs.PickedTypes.{range_in}
 use Rattle.al_overload_label.specs.Readings.{actuals_read, reading, values_read}
-use Rattle.al_overload_types.specs.Leaves.{actual_of, actual_read, component_of_type, component_read, labelled, value_of, with_value}
+use Rattle.al_overload_nodes.specs.Leaves.{actual_of, actual_read, component_of_type, component_read, labelled, value_of, with_value}
 
 -- a list from one of its elements on
 pub drop_here : {A : Type 0} (xs : List A) (i : ℕ) (x : A) → i < length xs → x ≡ get_or xs i x → drop i xs ≡ x ∷ drop (i + 1) xs

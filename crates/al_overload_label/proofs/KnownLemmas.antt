@@ -2,10 +2,10 @@
 use Rattle.std.proofs.Common.{◌≡◌, Bool, true, false, ◌&&◌, List, Option, Some, None, true≢false, refl, sym, ap, ◌∙◌, Box, Global}
 use Rattle.al_overload_heads.specs.Universal.{computes_two, is_universal}
 use Rattle.al_overload_label.specs.Known.{IsKnown}
-use Rattle.al_overload_term.proofs.TermsMade.{infix_made}
-use Rattle.al_overload_term.specs.TermViews.{term_model}
-use Rattle.al_overload_term.specs.declared.term.Term.{Term}
-use Rattle.al_overload_term.specs.declared.term.Term.TheVariants.{Infix}
+use Rattle.al_overload_heads.proofs.TermsMade.{infix_made}
+use Rattle.al_overload_heads.specs.TermViews.{term_model}
+use Rattle.al_overload_heads.specs.declared.term.Term.{Term}
+use Rattle.al_overload_heads.specs.declared.term.Term.TheVariants.{Infix}
 use Rattle.al_view_typed.specs.declared.label.BinaryOperator.{BinaryOperator}
 use Rattle.al_view.specs.declared.view.ViewKind.{ViewKind}
 

@@ -2,9 +2,9 @@
 use Rattle.std.proofs.Common.{◌≡◌, ℕ, zero, suc, ◌+◌, ◌-◌, Bool, false, Option, Some, refl, sym, ap, ◌∙◌, add-one, arith}
 use Rattle.std.proofs.lemmas.Bool.Decides.{nat_tests}
 use Rattle.std.specs.Prelude.{◌==◌, if◌then◌else◌}
-use Rattle.al_overload_choice.specs.Labelling.{Label, NodeAs, Labels, NoLabel, MoreLabels}
+use Rattle.al_overload.specs.Labelling.{Label, NodeAs, Labels, NoLabel, MoreLabels}
 use Rattle.al_overload_label.specs.OperandLabels.{labels_after, labels_from, next_label, operand_labels}
-use Rattle.al_overload_picks.specs.Labels.{nth_label, operand_label}
+use Rattle.al_overload.specs.Labels.{nth_label, operand_label}
 
 none_from : (k : ℕ) → labels_from k NoLabel ≡ NoLabel
 none_from zero = refl

@@ -1,20 +1,20 @@
 -- Bounds, and pairs of them by what their bounds are.
 use Rattle.std.proofs.Common.{◌≡◌, ℕ, List, Result, Option, ap, ◌∙◌}
 use Rattle.al_base.specs.declared.place.Place.{Place}
-use Rattle.al_overload_choice.specs.Labelling.{Label}
+use Rattle.al_overload.specs.Labelling.{Label}
 use Rattle.al_base_fault.specs.Judging.{both, map_ok}
 use Rattle.al_base_fault.specs.declared.fault.Fault.{Fault}
-use Rattle.al_overload_term.specs.Terms.{TermTree}
+use Rattle.al_overload_heads.specs.Terms.{TermTree}
 use Rattle.al_view_typed.specs.ExpressionTrees.{TypedTree}
 use Rattle.al_view.specs.declared.symbol.Symbol.{Symbol}
 use Rattle.al_view.specs.declared.types.TypeView.{TypeView}
 use Rattle.al_overload_heads.specs.declared.everywhere.Predefined.{Predefined}
-use Rattle.al_overload_term.specs.Places.{first_place}
+use Rattle.al_overload_heads.specs.Places.{first_place}
 use Rattle.al_overload_nodes.specs.Nodes.{ReadingTree}
 use Rattle.al_overload_label.specs.Readings.{operand_read}
 use Rattle.al_overload_label.specs.Static.{checked_as}
 use Rattle.al_overload_label.specs.declared.staticness.Staticness.{Staticness}
-use Rattle.al_overload_types.specs.FromAnswers.{DeterminedType, among, pair_type, range_type, types_in}
+use Rattle.al_overload_nodes.specs.FromAnswers.{DeterminedType, among, pair_type, range_type, types_in}
 use Rattle.al_overload_label.specs.Ranges.{PairTree, bound_at, found_type, pair_at, pair_of, pair_read}
 use Rattle.al_overload_label.specs.declared.range.FoundType.{FoundType}
 

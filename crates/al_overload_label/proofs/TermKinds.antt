@@ -1,15 +1,15 @@
 -- What terms of each kind are by what their operands are.
 use Rattle.std.proofs.Common.{◌≡◌, ℕ, ◌≤◌, Bool, List, [], ◌∷◌, map, length, Result, Ok, Err, IfOk, Option, sym, ap, subst, ◌∙◌, arith, Vec, Box, Global}
 use Rattle.al_base.specs.declared.place.Place.{Place}
-use Rattle.al_overload_choice.specs.Labelling.{Label}
+use Rattle.al_overload.specs.Labelling.{Label}
 use Rattle.al_base_fault.specs.Judging.{map_ok}
 use Rattle.al_base_fault.specs.declared.fault.Fault.{Fault}
-use Rattle.al_overload_term.proofs.TermsMade.{applied_made, member_made, selected_made}
-use Rattle.al_overload_term.specs.Places.{first_place}
-use Rattle.al_overload_term.specs.Terms.{TermTree, TermTree as t}
-use Rattle.al_overload_term.specs.TermViews.{term_model, terms_of}
-use Rattle.al_overload_term.specs.declared.term.Term.{Term}
-use Rattle.al_overload_term.specs.declared.term.Term.TheVariants.{Applied, Member, Selected}
+use Rattle.al_overload_heads.proofs.TermsMade.{applied_made, member_made, selected_made}
+use Rattle.al_overload_heads.specs.Places.{first_place}
+use Rattle.al_overload_heads.specs.Terms.{TermTree, TermTree as t}
+use Rattle.al_overload_heads.specs.TermViews.{term_model, terms_of}
+use Rattle.al_overload_heads.specs.declared.term.Term.{Term}
+use Rattle.al_overload_heads.specs.declared.term.Term.TheVariants.{Applied, Member, Selected}
 use Rattle.al_view_typed.specs.ExpressionTrees.{CallTree}
 use Rattle.al_view_typed.specs.ExpressionViews.{call_model}
 use Rattle.al_view_typed.specs.declared.expression.TypedCall.{TypedCall}
@@ -21,7 +21,7 @@ use Rattle.al_overload_heads.specs.declared.everywhere.Predefined.{Predefined}
 use Rattle.al_overload_nodes.specs.Nodes.{ReadingTree, misfit}
 use Rattle.al_overload_nodes.specs.Views.{reading_model}
 use Rattle.al_overload_nodes.specs.declared.node.Reading.{Reading}
-use Rattle.al_overload_types.specs.Leaves.{argument_type, attribute_node, in_mark_node}
+use Rattle.al_overload_nodes.specs.Leaves.{argument_type, attribute_node, in_mark_node}
 use Rattle.al_overload_label.specs.Contexts.{call_read}
 use Rattle.al_overload_label.specs.Readings.{index_read, member_read, operand_read, reading}
 

@@ -2,13 +2,13 @@
 use Rattle.std.proofs.Common.{◌≡◌, Bool, List, map, Result, Ok, Err, IfOk, Option, refl, sym, ap, subst, ◌∙◌, Vec, Box, Global}
 use Rattle.al_base.specs.declared.place.Place.{Place}
 use Rattle.al_base.specs.declared.refusal.NoMemory.{NoMemory}
-use Rattle.al_overload_choice.specs.Labelling.{Label}
-use Rattle.al_overload_term.proofs.TermsMade.{applied_made, range_member_made}
-use Rattle.al_overload_term.specs.Places.{first_place}
-use Rattle.al_overload_term.specs.Terms.{TermTree, TermTree as t, TermsTree}
-use Rattle.al_overload_term.specs.TermViews.{term_model, terms_of}
-use Rattle.al_overload_term.specs.declared.term.Term.{Term}
-use Rattle.al_overload_term.specs.declared.term.Term.TheVariants.{Applied, RangeMember}
+use Rattle.al_overload.specs.Labelling.{Label}
+use Rattle.al_overload_heads.proofs.TermsMade.{applied_made, range_member_made}
+use Rattle.al_overload_heads.specs.Places.{first_place}
+use Rattle.al_overload_heads.specs.Terms.{TermTree, TermTree as t, TermsTree}
+use Rattle.al_overload_heads.specs.TermViews.{term_model, terms_of}
+use Rattle.al_overload_heads.specs.declared.term.Term.{Term}
+use Rattle.al_overload_heads.specs.declared.term.Term.TheVariants.{Applied, RangeMember}
 use Rattle.al_view.specs.declared.symbol.Symbol.{Symbol}
 use Rattle.al_view.specs.declared.types.TypeView.{TypeView}
 use Rattle.al_view.specs.declared.view.ObjectView.{ObjectView}
@@ -19,8 +19,8 @@ use Rattle.al_overload_nodes.specs.Names.{object_node}
 use Rattle.al_overload_nodes.specs.Nodes.{ReadingTree, membership_node}
 use Rattle.al_overload_nodes.specs.Views.{reading_model}
 use Rattle.al_overload_nodes.specs.declared.node.Reading.{Reading}
-use Rattle.al_overload_types.specs.Leaves.{Application, application, applied_node, indexed_node}
-use Rattle.al_overload_types.specs.FromAnswers.{test_type, types_in}
+use Rattle.al_overload_nodes.specs.Leaves.{Application, application, applied_node, indexed_node}
+use Rattle.al_overload_nodes.specs.FromAnswers.{test_type, types_in}
 use Rattle.al_overload_label.specs.Pairs.{together}
 use Rattle.al_overload_label.specs.Readings.{actuals_read, applied_read, index_read, operand_read, range_member_read, reading}
 use Rattle.al_overload_label.proofs.TermKinds.{read_by}

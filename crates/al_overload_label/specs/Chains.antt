@@ -1,7 +1,7 @@
 -- Chains: each link has what stands at its left for its left operand or its prefix.
 use Rattle.std.specs.Prelude.{◌≡◌, ◌<◌, List, [], ◌∷◌, Option, option_map, Result, Ok, ⊤}
 use Rattle.al_base.specs.declared.place.Place.{Place}
-use Rattle.al_overload_choice.specs.Counts.{label_of}
+use Rattle.al_overload.specs.Counts.{label_of}
 use Rattle.al_base.specs.declared.refusal.NoMemory.{NoMemory}
 use Rattle.al_overload_heads.specs.Parts.{nominal}
 use Rattle.al_overload_heads.specs.Universal.{is_universal}
@@ -17,10 +17,10 @@ use Rattle.al_overload_nodes.specs.Nodes.{ReadingTree}
 use Rattle.al_overload_nodes.specs.Operators.{binary_node, short_circuit_node, signature}
 use Rattle.al_overload_nodes.specs.Views.{reading_model}
 use Rattle.al_overload_nodes.specs.declared.node.Reading.{Reading}
-use Rattle.al_overload_picks.specs.Types.{indexing_of}
-use Rattle.al_overload_term.specs.Places.{first_place}
-use Rattle.al_overload_term.specs.TermViews.{term_model}
-use Rattle.al_overload_term.specs.declared.term.Term.{Term, size-Term}
+use Rattle.al_overload.specs.PickedTypes.{indexing_of}
+use Rattle.al_overload_heads.specs.Places.{first_place}
+use Rattle.al_overload_heads.specs.TermViews.{term_model}
+use Rattle.al_overload_heads.specs.declared.term.Term.{Term, size-Term}
 use Rattle.al_view.specs.declared.symbol.Symbol.{Symbol}
 
 -- a link with what stands at its left

@@ -2,14 +2,14 @@
 use Rattle.std.specs.Prelude.{List, Option, None, Result, Ok, Err}
 use Rattle.std.specs.Option.{option_and_then, option_map_or}
 use Rattle.al_base.specs.declared.place.Place.{Place}
-use Rattle.al_overload_choice.specs.Labelling.{Label}
+use Rattle.al_overload.specs.Labelling.{Label}
 use Rattle.al_base_fault.specs.Judging.{next, unless}
 use Rattle.al_base_fault.specs.declared.fault.Fault.{Fault}
 use Rattle.al_overload.specs.Meanings.{nothing_fits}
 use Rattle.al_overload.specs.declared.context.Context.{Context}
 use Rattle.al_overload.specs.declared.context.Context.TheVariants as contexts
-use Rattle.al_overload_term.specs.Places.{first_place}
-use Rattle.al_overload_term.specs.Terms.{TermTree, TermTree as t}
+use Rattle.al_overload_heads.specs.Places.{first_place}
+use Rattle.al_overload_heads.specs.Terms.{TermTree, TermTree as t}
 use Rattle.al_view_typed.specs.ExpressionTrees.{ActualTree, CallTree, TypedTree}
 use Rattle.al_view.specs.declared.symbol.Symbol.{Symbol}
 use Rattle.al_view.specs.declared.types.TypeView.{TypeView}
@@ -24,7 +24,7 @@ use Rattle.al_overload_label.specs.Variables.{variable_as}
 use Rattle.al_overload_nodes.specs.Nodes.{ReadingTree, checked}
 use Rattle.al_overload_nodes.specs.Operators.{picked_subprogram}
 use Rattle.al_overload_label.specs.Readings.{actuals_read, reading}
-use Rattle.al_overload_types.specs.Leaves.{inner}
+use Rattle.al_overload_nodes.specs.Leaves.{inner}
 
 -- The type at which numbers alone stand in a context: that which it wants, or else the root type.
 abbrev pub stands_at : Predefined → Context → Symbol

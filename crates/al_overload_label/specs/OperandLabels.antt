@@ -3,10 +3,10 @@ use Rattle.std.specs.Prelude.{ℕ, zero, suc, Bool, List, Option, Some, None, Er
 use Rattle.std.specs.Option.{option_map_or}
 use Rattle.al_base.specs.declared.place.Place.{Place}
 use Rattle.al_overload.specs.Meanings.{nothing_fits}
-use Rattle.al_overload_choice.specs.Labelling.{Label, NodeAs, Labels, NoLabel, MoreLabels}
+use Rattle.al_overload.specs.Labelling.{Label, NodeAs, Labels, NoLabel, MoreLabels}
 use Rattle.al_overload_nodes.specs.Gathering.{Parts, with_part}
 use Rattle.al_overload_nodes.specs.Nodes.{ReadingTree}
-use Rattle.al_overload_types.specs.Leaves.{actual_of, component_of_type, value_of}
+use Rattle.al_overload_nodes.specs.Leaves.{actual_of, component_of_type, value_of}
 use Rattle.al_view_typed.specs.ExpressionTrees.{ActualTree, ValueTree}
 use Rattle.al_view.specs.declared.symbol.Symbol.{Symbol}
 use Rattle.al_view.specs.declared.types.TypeView.{TypeView}

@@ -1,12 +1,12 @@
 -- What pairs of bounds and selectors are, with the types that they tell (ARM 3.5, 3.6(18), 5.4(4), 5.5).
 use Rattle.std.specs.Prelude.{ℕ, List, [], Option, None, unwrap_or, Result}
-use Rattle.al_overload_choice.specs.Labelling.{Label}
+use Rattle.al_overload.specs.Labelling.{Label}
 use Rattle.al_base_fault.specs.Judging.{both, next, map_ok}
 use Rattle.al_base_fault.specs.declared.fault.Fault.{Fault}
 use Rattle.al_overload.specs.declared.context.Context.{Context}
 use Rattle.al_overload.specs.declared.context.Context.TheVariants as contexts
-use Rattle.al_overload_term.specs.Places.{first_place}
-use Rattle.al_overload_term.specs.Terms.{TermTree}
+use Rattle.al_overload_heads.specs.Places.{first_place}
+use Rattle.al_overload_heads.specs.Terms.{TermTree}
 use Rattle.al_view_typed.specs.ExpressionTrees.{TypedTree}
 use Rattle.al_view.specs.declared.symbol.Symbol.{Symbol}
 use Rattle.al_view.specs.declared.types.TypeView.{TypeView}
@@ -18,7 +18,7 @@ use Rattle.al_overload_label.specs.Readings.{operand_read, reading}
 use Rattle.al_overload_label.specs.Static.{checked_as, expected_after}
 use Rattle.al_overload_label.specs.declared.staticness.Staticness.{Staticness}
 use Rattle.al_overload_label.specs.declared.staticness.Staticness.TheVariants.{Any}
-use Rattle.al_overload_types.specs.FromAnswers.{DeterminedType, among, everywhere, pair_type, range_type, type_told, types_in}
+use Rattle.al_overload_nodes.specs.FromAnswers.{DeterminedType, among, everywhere, pair_type, range_type, type_told, types_in}
 use Rattle.al_overload_label.specs.declared.range.FoundType.{FoundType}
 
 -- a type with the types among which it is: nothing where every unit has it

@@ -2,10 +2,10 @@
 use Rattle.std.specs.Prelude.{ℕ, ◌+◌, ◌&&◌, Bool, false, List, Option, Some, None}
 use Rattle.std.specs.Option.{option_map_or}
 use Rattle.al_base.specs.declared.place.Place.{Place}
-use Rattle.al_overload_choice.specs.Labelling.{Label}
+use Rattle.al_overload.specs.Labelling.{Label}
 use Rattle.al_overload.specs.declared.context.Context.TheVariants as contexts
-use Rattle.al_overload_term.specs.Places.{first_place}
-use Rattle.al_overload_term.specs.Terms.{TermTree, TermTree as t, TermsTree, TermsTree as terms}
+use Rattle.al_overload_heads.specs.Places.{first_place}
+use Rattle.al_overload_heads.specs.Terms.{TermTree, TermTree as t, TermsTree, TermsTree as terms}
 use Rattle.al_view_typed.specs.ExpressionTrees.{ValueTree, ActualTree}
 use Rattle.al_view_typed.specs.declared.label.Conversion.TheVariants as conversions
 use Rattle.al_view_typed.specs.declared.label.ShortCircuit.{ShortCircuit}
@@ -18,13 +18,13 @@ use Rattle.al_overload_heads.specs.Parts.{declared_under, nominal, part_of}
 use Rattle.al_overload_heads.specs.Universal.{computes_one, computes_two, is_universal}
 use Rattle.al_overload_heads.specs.declared.everywhere.Predefined.{Predefined}
 use Rattle.al_overload_nodes.specs.Gathering.{Parts, no_parts}
-use Rattle.al_overload_picks.specs.Labels.{operand_label}
+use Rattle.al_overload.specs.Labels.{operand_label}
 use Rattle.al_overload_label.specs.Variables.{variable_as}
 use Rattle.al_overload_nodes.specs.Names.{selected_node}
 use Rattle.al_overload_nodes.specs.Nodes.{ReadingTree, grouped, literal, misfit}
 use Rattle.al_overload_nodes.specs.Operators.{binary_node, binary_signature, short_circuit_node, unary_node, unary_signature}
-use Rattle.al_overload_types.specs.FromAnswers.{DeterminedType, test_type, types_in}
-use Rattle.al_overload_types.specs.Leaves.{bound_node, length_node, named_node, application, argument_type, attribute_node, mark_node, aggregate_node, others_node, in_range_node, in_mark_node, mark_type, inner, labelled, signed, applied_node, actual_read, component_read}
+use Rattle.al_overload_nodes.specs.FromAnswers.{DeterminedType, test_type, types_in}
+use Rattle.al_overload_nodes.specs.Leaves.{bound_node, length_node, named_node, application, argument_type, attribute_node, mark_node, aggregate_node, others_node, in_range_node, in_mark_node, mark_type, inner, labelled, signed, applied_node, actual_read, component_read}
 
 -- What a term is with its labelling, where it stands at this type among these.
 abbrev mutual

@@ -6,15 +6,15 @@ use Rattle.al_base_fault.specs.Faults.{fault_at}
 use Rattle.al_base_fault.specs.Judging.{unless}
 use Rattle.al_base_fault.specs.declared.fault.Fault.{Fault}
 use Rattle.al_overload.specs.declared.context.Context.{Context}
-use Rattle.al_overload_choice.specs.Labelling.{Label}
+use Rattle.al_overload.specs.Labelling.{Label}
 use Rattle.al_overload_heads.specs.Interpreting.{interpreted}
 use Rattle.al_overload_heads.specs.declared.everywhere.Predefined.{Predefined}
 use Rattle.al_overload_label.specs.Contexts.{term_read}
 use Rattle.al_overload_label.specs.declared.staticness.Staticness.{Staticness}
 use Rattle.al_overload_label.specs.declared.staticness.Staticness.TheVariants.{Any, Static}
 use Rattle.al_overload_nodes.specs.Nodes.{ReadingTree, checked}
-use Rattle.al_overload_term.specs.Places.{first_place}
-use Rattle.al_overload_term.specs.Terms.{TermTree}
+use Rattle.al_overload_heads.specs.Places.{first_place}
+use Rattle.al_overload_heads.specs.Terms.{TermTree}
 use Rattle.al_static.specs.declared.knowledge.Known.{Known}
 use Rattle.al_static.specs.declared.knowledge.Known.TheVariants.{Value, Fails, Open}
 use Rattle.al_view.specs.declared.symbol.Symbol.{Symbol}

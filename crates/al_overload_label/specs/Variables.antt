@@ -6,17 +6,17 @@ use Rattle.al_base_fault.specs.Judging.{next}
 use Rattle.al_base_fault.specs.declared.fault.Fault.{Fault}
 use Rattle.al_overload.specs.Meanings.{nothing_fits}
 use Rattle.al_overload.specs.declared.context.Context.TheVariants as contexts
-use Rattle.al_overload_choice.specs.Labelling.{Label}
+use Rattle.al_overload.specs.Labelling.{Label}
 use Rattle.al_overload_heads.specs.Interpreting.{interpreted}
 use Rattle.al_overload_heads.specs.Parts.{declared_under, nominal, part_of}
 use Rattle.al_overload_heads.specs.declared.everywhere.Predefined.{Predefined}
 use Rattle.al_overload_heads.specs.declared.part.Nominal.{Nominal}
 use Rattle.al_overload_nodes.specs.Names.{is_variable}
-use Rattle.al_overload_picks.specs.Labels.{number_in}
-use Rattle.al_overload_picks.specs.Picks.{pick}
-use Rattle.al_overload_picks.specs.Types.{Indexing, indexing}
-use Rattle.al_overload_term.specs.Places.{first_place}
-use Rattle.al_overload_term.specs.Terms.{TermTree, TermTree as t}
+use Rattle.al_overload.specs.Labels.{number_in}
+use Rattle.al_overload.specs.Picks.{pick}
+use Rattle.al_overload.specs.PickedTypes.{Indexing, indexing}
+use Rattle.al_overload_heads.specs.Places.{first_place}
+use Rattle.al_overload_heads.specs.Terms.{TermTree, TermTree as t}
 use Rattle.al_view.specs.declared.view.ObjectView.{ObjectView}
 use Rattle.al_view.specs.declared.view.ViewKind.{ViewKind}
 use Rattle.al_view.specs.declared.view.ViewKind.TheVariants as views

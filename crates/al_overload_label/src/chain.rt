@@ -1,23 +1,21 @@
 // Chains, which lean to the left: `A - B + C` has `A - B` at the left of its `+`, and `A (1).C` has `A (1)` before its dot.
 ghost use Rattle.std.specs.Prelude.{◌≡◌, IfOk, option_map};
-ghost use Rattle.al_overload_choice.specs.Counts.{label_of};
+ghost use Rattle.al_overload.specs.Counts.{label_of};
 ghost use Rattle.al_overload_label.specs.Chains.{IsAt, IsLastOf, chained_node, joint_node, stepped};
 ghost use Rattle.al_overload_heads.specs.Universal.{is_universal};
 ghost use Rattle.al_overload_label.specs.Known.{IsKnown};
 ghost use Rattle.al_overload_nodes.specs.Views.{reading_model};
-ghost use Rattle.al_overload_term.specs.Places.{first_place};
-ghost use Rattle.al_overload_term.specs.Terms.{TermTree as trees};
-ghost use Rattle.al_overload_term.specs.TermViews.{term_model};
-ghost use Rattle.al_overload_types.specs.Leaves.{labelled};
+ghost use Rattle.al_overload_heads.specs.Places.{first_place};
+ghost use Rattle.al_overload_heads.specs.Terms.{TermTree as trees};
+ghost use Rattle.al_overload_heads.specs.TermViews.{term_model};
+ghost use Rattle.al_overload_nodes.specs.Leaves.{labelled};
 ghost use Rattle.al_overload_label.specs.Readings.{reading};
 
 use crate::made::{kept, kept_binary, kept_element, kept_selected, kept_short_circuit, kept_unfit};
 use al_base::{NoMemory, Place};
-use al_overload_choice::Labelled;
-use al_overload_heads::part_of;
+use al_overload::{Indexing, Labelled, operand_label};
+use al_overload_heads::{Term, part_of};
 use al_overload_nodes::{Labeller, Reading, Signature};
-use al_overload_picks::{Indexing, operand_label};
-use al_overload_term::Term;
 use al_view::{Subtype, Symbol, Types};
 use al_view_typed::{BinaryOperator, ShortCircuit};
 

@@ -1,9 +1,9 @@
 // What the terms of complete contexts are (ARM 8.6).
 ghost use Rattle.std.specs.Prelude.{◌≡◌, IfOk, map};
-ghost use Rattle.al_overload_choice.specs.Counts.{label_of};
+ghost use Rattle.al_overload.specs.Counts.{label_of};
 ghost use Rattle.al_base_fault.specs.Judging.{map_ok};
-ghost use Rattle.al_overload_term.specs.Terms.{TermTree as terms};
-ghost use Rattle.al_overload_term.specs.TermViews.{term_model, terms_of};
+ghost use Rattle.al_overload_heads.specs.Terms.{TermTree as terms};
+ghost use Rattle.al_overload_heads.specs.TermViews.{term_model, terms_of};
 ghost use Rattle.al_view_typed.specs.ExpressionViews.{call_model, typed_model};
 ghost use Rattle.al_overload_label.specs.Static.{static_term_checked};
 ghost use Rattle.al_overload_label.specs.Contexts.{call_checked, call_read, stands_at, statement_checked, target_checked, term_checked, term_read};
@@ -15,11 +15,9 @@ use crate::staticness::{checked_as, expected_after};
 use crate::variable::variable_as;
 use al_base::{NoMemory, Place};
 use al_base_fault::{CheckResult, Fault, unless};
-use al_overload::{Context, nothing_fits};
-use al_overload_choice::Labelled;
-use al_overload_heads::{Nominal, Predefined, declared_under, interpret_term};
+use al_overload::{Context, Labelled, nothing_fits};
+use al_overload_heads::{Nominal, Predefined, Term, declared_under, first_place, interpret_term};
 use al_overload_nodes::{Actuals, Labeller, Reading, checked, picked_subprogram, unless_variable};
-use al_overload_term::{Term, first_place};
 use al_view::{SubprogramView, Symbol, Types, View};
 use al_view_typed::{Typed, TypedCall};
 

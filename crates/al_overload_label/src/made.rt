@@ -5,13 +5,12 @@ ghost use Rattle.al_overload_nodes.specs.Names.{element_node, selected_node};
 ghost use Rattle.al_overload_nodes.specs.Nodes.{literal, membership_node, misfit};
 ghost use Rattle.al_overload_nodes.specs.Operators.{binary_node, short_circuit_node, signature};
 ghost use Rattle.al_overload_nodes.specs.Views.{reading_model};
-ghost use Rattle.al_overload_picks.specs.Types.{indexing_of};
-ghost use Rattle.al_overload_types.specs.Leaves.{bound_node, length_node};
+ghost use Rattle.al_overload.specs.PickedTypes.{indexing_of};
+ghost use Rattle.al_overload_nodes.specs.Leaves.{bound_node, length_node};
 
 use al_base::{NoMemory, Place};
-use al_overload_nodes::{Labeller, Reading, Signature, misfit};
-use al_overload_picks::Indexing;
-use al_overload_types::{bound_reading, length_reading};
+use al_overload::Indexing;
+use al_overload_nodes::{Labeller, Reading, Signature, bound_reading, length_reading, misfit};
 use al_view::{Bounds, StaticValue, Subtype, SubtypeView, Symbol, Types};
 use al_view_typed::{BinaryOperator, ShortCircuit};
 use std::alloc::Global;

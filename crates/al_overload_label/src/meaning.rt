@@ -1,22 +1,21 @@
 // What contexts inside others mean, and the type of a membership test's operands.
 ghost use Rattle.std.specs.Prelude.{◌≡◌, IfOk, Some, None};
-ghost use Rattle.al_overload_choice.specs.Counts.{label_of};
+ghost use Rattle.al_overload.specs.Counts.{label_of};
 ghost use Rattle.al_overload_heads.specs.Interpreting.{interpreted};
 ghost use Rattle.al_overload_heads.specs.Parts.{nominal};
 ghost use Rattle.al_base_fault.specs.Judging.{map_ok};
 ghost use Rattle.al_overload.specs.declared.context.Context.TheVariants as contexts;
-ghost use Rattle.al_overload_term.specs.TermViews.{term_model};
-ghost use Rattle.al_overload_types.specs.Leaves.{mark_type};
-ghost use Rattle.al_overload_types.specs.FromAnswers.{test_type, types_in};
+ghost use Rattle.al_overload_heads.specs.TermViews.{term_model};
+ghost use Rattle.al_overload_nodes.specs.Leaves.{mark_type};
+ghost use Rattle.al_overload_nodes.specs.FromAnswers.{test_type, types_in};
 
 use al_base::NoMemory;
 use al_base_fault::CheckResult;
-use al_overload::Context;
-use al_overload_choice::Labelled;
-use al_overload_heads::{Nominal, interpret_term};
-use al_overload_nodes::Labeller;
-use al_overload_term::Term;
-use al_overload_types::{conversion_context, nominal_of, qualified_context, test_type, types_in};
+use al_overload::{Context, Labelled};
+use al_overload_heads::{Nominal, Term, interpret_term};
+use al_overload_nodes::{
+    Labeller, conversion_context, nominal_of, qualified_context, test_type, types_in,
+};
 use al_view::{SubtypeView, Symbol, Types};
 
 /// What a term means in this context, where no aggregate may stand.

@@ -1,9 +1,9 @@
 // The labellings of operands, one after another.
 ghost use Rattle.std.specs.Prelude.{◌≡◌, option_map};
-ghost use Rattle.al_overload_choice.specs.Counts.{label_of, labels_of};
+ghost use Rattle.al_overload.specs.Counts.{label_of, labels_of};
 ghost use Rattle.al_overload_label.specs.OperandLabels.{labels_after, next_label, operand_labels};
 
-use al_overload_choice::{Labelled, LabelledTerms};
+use al_overload::{Labelled, LabelledTerms};
 
 /// Those of all operands.
 pub(crate) fn operand_labels(label: &Labelled) -> &LabelledTerms

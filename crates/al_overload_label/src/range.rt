@@ -1,17 +1,17 @@
 // Pairs of bounds and selectors, with the types that they tell (ARM 3.5, 3.6(18), 5.4(4), 5.5).
 ghost use Rattle.std.specs.Prelude.{◌≡◌, IfOk, [], unwrap_or};
 ghost use Rattle.std.specs.Option.{option_copied};
-ghost use Rattle.al_overload_choice.specs.Counts.{label_of};
+ghost use Rattle.al_overload.specs.Counts.{label_of};
 ghost use Rattle.al_base_fault.specs.Judging.{both, map_ok};
-ghost use Rattle.al_overload_term.specs.TermViews.{term_model};
+ghost use Rattle.al_overload_heads.specs.TermViews.{term_model};
 ghost use Rattle.al_view_typed.specs.ExpressionViews.{typed_model};
 ghost use Rattle.al_overload_nodes.specs.Nodes.{checked};
 ghost use Rattle.al_overload_nodes.specs.Views.{pair_model as typed_pair_model};
 ghost use Rattle.al_overload_label.specs.Ranges.{bound_at, bounds_checked, bounds_checked_as, found_of, found_type, pair_of, pair_read, selector_at, selector_checked, selector_read, static_bounds_checked};
 ghost use Rattle.al_overload_label.specs.Static.{checked_as};
-ghost use Rattle.al_overload_term.specs.Places.{first_place};
+ghost use Rattle.al_overload_heads.specs.Places.{first_place};
 ghost use Rattle.al_overload_label.specs.RangesSeen.{found_model, pair_model};
-ghost use Rattle.al_overload_types.specs.Seen.{told_model};
+ghost use Rattle.al_overload_nodes.specs.Seen.{told_model};
 
 use crate::context::stands_at;
 use crate::meaning::interpret;
@@ -20,14 +20,11 @@ use crate::reading::{read, read_operand};
 use crate::staticness::{Staticness, checked_as, expected_after};
 use al_base::NoMemory;
 use al_base_fault::{CheckResult, Fault, both};
-use al_overload::Context;
-use al_overload_choice::Labelled;
-use al_overload_heads::interpret_bounds;
-use al_overload_nodes::{Labeller, checked};
-use al_overload_picks::operand_label;
-use al_overload_term::{Term, first_place};
-use al_overload_types::{
-    DeterminedType, among, everywhere, pair_type, range_type, type_told, types_in,
+use al_overload::{Context, Labelled, operand_label};
+use al_overload_heads::{Term, first_place, interpret_bounds};
+use al_overload_nodes::{
+    DeterminedType, Labeller, among, checked, everywhere, pair_type, range_type, type_told,
+    types_in,
 };
 use al_view::{Seq, Symbol, Types};
 use al_view_typed::Typed;

@@ -2,15 +2,15 @@
 ghost use Rattle.std.specs.Prelude.{◌≡◌, ◌&&◌, IfOk, OnOk, false, map, option_map};
 ghost use Rattle.std.specs.Option.{option_map_or};
 ghost use Rattle.al_overload_label.specs.Variables.{variable_as};
-ghost use Rattle.al_overload_choice.specs.Counts.{label_of};
+ghost use Rattle.al_overload.specs.Counts.{label_of};
 ghost use Rattle.al_base_fault.specs.Judging.{map_ok};
-ghost use Rattle.al_overload_term.specs.Terms.{TermTree as trees};
-ghost use Rattle.al_overload_term.specs.TermViews.{term_model, terms_of};
+ghost use Rattle.al_overload_heads.specs.Terms.{TermTree as trees};
+ghost use Rattle.al_overload_heads.specs.TermViews.{term_model, terms_of};
 ghost use Rattle.al_overload_nodes.specs.Gathering.{no_parts};
 ghost use Rattle.al_overload_label.specs.Readings.{actuals_read, applied_read, conversion_read, index_read, member_read, operand_read, qualified_read, reading, short_circuit_read, values_read};
-ghost use Rattle.al_overload_types.specs.Leaves.{indexed_node, inner, labelled};
+ghost use Rattle.al_overload_nodes.specs.Leaves.{indexed_node, inner, labelled};
 ghost use Rattle.al_overload_label.specs.OperandLabels.{actual_with, component_with};
-ghost use Rattle.al_overload_term.specs.Places.{first_place};
+ghost use Rattle.al_overload_heads.specs.Places.{first_place};
 ghost use Rattle.al_overload_heads.specs.Universal.{computes_two, is_universal};
 ghost use Rattle.al_overload_label.specs.Chains.{IsAt, IsBelow, stepped};
 ghost use Rattle.al_overload_label.specs.Known.{IsKnown};
@@ -27,14 +27,12 @@ use crate::universal::{found_universal, left_known};
 use crate::variable::variable_at;
 use al_base::{NoMemory, Place};
 use al_base_fault::CheckResult;
-use al_overload::nothing_fits;
-use al_overload_choice::Labelled;
-use al_overload_nodes::{Actuals, Labeller, Reading, Values, add_actual, faulty, grouped, misfit};
-use al_overload_picks::{how_indexed, operand_label, range_in};
-use al_overload_term::{Term, first_place};
-use al_overload_types::{
-    Application, add_value, aggregate_reading, argument_type, attribute_reading, component_of_type,
-    how_applied, in_mark_reading, is_computed, marked_reading, named_reading, others_reading,
+use al_overload::{Labelled, how_indexed, nothing_fits, operand_label, range_in};
+use al_overload_heads::{Term, first_place};
+use al_overload_nodes::{
+    Actuals, Application, Labeller, Reading, Values, add_actual, add_value, aggregate_reading,
+    argument_type, attribute_reading, component_of_type, faulty, grouped, how_applied,
+    in_mark_reading, is_computed, marked_reading, misfit, named_reading, others_reading,
 };
 use al_view::{ObjectView, SubprogramView, SubtypeView, Symbol, Types, View};
 use al_view_typed::{BinaryOperator, Conversion, ShortCircuit, UnaryOperator};

@@ -3,10 +3,10 @@
 ghost use Rattle.std.specs.Prelude.{◌≡◌, ◌&&◌};
 ghost use Rattle.al_overload_heads.specs.Universal.{computes_two, is_universal};
 ghost use Rattle.al_overload_label.specs.Known.{IsKnown};
-ghost use Rattle.al_overload_term.specs.TermViews.{term_model};
+ghost use Rattle.al_overload_heads.specs.TermViews.{term_model};
 
-use al_overload_term::Term;
-use al_overload_types::are_universal;
+use al_overload_heads::Term;
+use al_overload_nodes::are_universal;
 use al_view_typed::BinaryOperator;
 
 /// Whether an operator and its operands are numbers alone, which may be known.

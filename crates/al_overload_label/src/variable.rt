@@ -1,20 +1,17 @@
 // Names of objects by their labelling (ARM 4.1.3(13), 8.6).
 ghost use Rattle.std.specs.Prelude.{◌≡◌, IfOk, None, false, option_map};
 ghost use Rattle.std.specs.Option.{option_copied, option_map_or};
-ghost use Rattle.al_overload_choice.specs.Counts.{label_of};
+ghost use Rattle.al_overload.specs.Counts.{label_of};
 ghost use Rattle.al_overload_heads.specs.Parts.{declared_under, nominal};
 ghost use Rattle.al_overload_label.specs.Variables.{component_part, is_variable_object, object_of, or_nothing_fits, part_as, part_under, picked_object, target_part, target_part_of, variable_as, variable_under, whole_part};
-ghost use Rattle.al_overload_term.specs.TermViews.{term_model};
+ghost use Rattle.al_overload_heads.specs.TermViews.{term_model};
 
 use crate::meaning::interpret;
 use al_base::NoMemory;
 use al_base_fault::CheckResult;
-use al_overload::{Context, nothing_fits};
-use al_overload_choice::Labelled;
-use al_overload_heads::{Nominal, declared_under, part_of};
+use al_overload::{Context, Labelled, how_indexed, nothing_fits, number_in, pick};
+use al_overload_heads::{Nominal, Term, declared_under, first_place, part_of};
 use al_overload_nodes::{Labeller, is_variable};
-use al_overload_picks::{how_indexed, number_in, pick};
-use al_overload_term::{Term, first_place};
 use al_view::{ObjectView, Subtype, Types, View, ViewKind};
 use al_view_predefined::StandardTypes;
 

@@ -8,7 +8,7 @@ use Rattle.al_overload_lookup.specs.Lookups.{asked_units, package_in}
 use Rattle.al_scope.specs.Expanded.{part_of, region_of, selected_parts, within_parts}
 use Rattle.al_scope.specs.Places.{Place, is_region_of, part_units, place_units}
 use Rattle.al_scope.specs.declared.region.Region.{Region}
-use Rattle.al_scope_seen.proofs.Asked.{found-among}
+use Rattle.al_scope.proofs.Asked.{found-among}
 use Rattle.al_view.proofs.SymbolLemmas.{same_unit-one}
 use Rattle.al_view.specs.Symbols.{same_unit}
 use Rattle.al_view.specs.declared.symbol.Symbol.{Symbol}

@@ -3,8 +3,8 @@ use Rattle.std.proofs.Common.{◌≡◌, ℕ, ◌≤◌, true, false, List, [], 
 use Rattle.std.specs.Option.{option_to_list}
 use Rattle.std.specs.Prelude.{option_map}
 use Rattle.al_tree_grammar.specs.Grammar.{Label}
-use Rattle.al_overload_keys.proofs.Fields.{infix_fields, longer_fields, member_fields, prefixed_fields}
-use Rattle.al_overload_keys.specs.Keys.{key_of}
+use Rattle.al_overload_lookup.proofs.Fields.{infix_fields, longer_fields, member_fields, prefixed_fields}
+use Rattle.al_overload_lookup.specs.Keys.{key_of}
 use Rattle.al_overload_lookup.proofs.Found.{infix_names, longer_names, bounds_names, mark_names}
 use Rattle.al_overload_lookup.specs.Chains.{AreBelow, AreWithin, IsBelow, IsLeft, chained_key, chained_names, leans, link_key, link_names, operation_names, test_names, tested_names}
 use Rattle.al_overload_lookup.specs.TextNames.{names_in, part_names}

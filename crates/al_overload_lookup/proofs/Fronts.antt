@@ -6,8 +6,8 @@ use Rattle.std.specs.Map.{lookup}
 use Rattle.std.specs.Prelude.{fold, unwrap_or}
 use Rattle.std.specs.Str.{bytes_eq}
 use Rattle.al_base.specs.declared.unit_key.UnitKey.{UnitKey}
-use Rattle.al_overload_keys.specs.Keys.{dotted, is_none}
-use Rattle.al_overload_keys.specs.declared.names.Names.{Names}
+use Rattle.al_overload_lookup.specs.Keys.{dotted, is_none}
+use Rattle.al_overload_lookup.specs.declared.names.Names.{Names}
 use Rattle.al_overload_lookup.specs.Lookups.{found, is_new, looked_up, looked_up_all, nothing_found, selected_in, with_each, with_selected, with_views}
 use Rattle.al_overload_lookup.specs.TextNames.{identifier_names, selector_names}
 use Rattle.al_tree_grammar.specs.Grammar.{Label}
@@ -15,7 +15,7 @@ use Rattle.al_overload_lookup.specs.declared.name.TextName.TheVariants.{Simple, 
 use Rattle.al_query.specs.Reads.{Table}
 use Rattle.al_scope.specs.Places.{Place}
 use Rattle.al_scope.specs.Visible.{visible_at}
-use Rattle.al_scope_seen.specs.Seen.{all_seen_at}
+use Rattle.al_scope.specs.Seen.{all_seen_at}
 use Rattle.al_tree.specs.Lexemes.{identifier_label}
 use Rattle.al_tree.specs.declared.names.Identifier.{Identifier}
 use Rattle.al_view.specs.Interfaces.{views_of, with_view}

@@ -1,7 +1,10 @@
 pub mod Asked
+pub mod Chained
+pub mod Fields
+pub mod FirstPlaces
 pub mod Folds
 pub mod Found
-pub mod Chained
 pub mod Fronts
+pub mod NameKeys
 pub mod Pieced
 pub mod Shorts

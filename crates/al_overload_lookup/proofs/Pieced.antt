@@ -2,7 +2,7 @@
 use Rattle.std.proofs.Common.{◌≡◌, ℕ, List, [], ◌∷◌, ◌++◌, true, false, Bool, Option, Some, None, refl, ap, ◌∙◌}
 use Rattle.std.specs.Prelude.{fold, option_map}
 use Rattle.std.proofs.lemmas.List.Sums.{fold-append}
-use Rattle.al_overload_keys.specs.Keys.{dotted}
+use Rattle.al_overload_lookup.specs.Keys.{dotted}
 use Rattle.al_overload_lookup.specs.Pieces.{front, last_key, names_from, names_of, piece_key, piece_name}
 use Rattle.al_overload_lookup.specs.TextNames.{selected_names, sign_names}
 use Rattle.al_overload_lookup.specs.declared.name.TextName.{TextName}

@@ -7,8 +7,8 @@ use Rattle.std.proofs.lemmas.List.Sums.{fold-append}
 use Rattle.std.proofs.lemmas.Slice.Eq.{bytes_eq-Decides}
 use Rattle.std.specs.Str.{bytes_eq}
 use Rattle.al_base.specs.declared.unit_key.UnitKey.{UnitKey}
-use Rattle.al_overload_keys.specs.Keys.{dotted, is_none}
-use Rattle.al_overload_keys.specs.declared.names.Names.{Names}
+use Rattle.al_overload_lookup.specs.Keys.{dotted, is_none}
+use Rattle.al_overload_lookup.specs.declared.names.Names.{Names}
 use Rattle.al_overload_lookup.proofs.Fronts.{each-other, none_there, stays, views-other}
 use Rattle.al_overload_lookup.proofs.Pieced.{key_more, names_more}
 use Rattle.al_overload_lookup.specs.Lookups.{found, is_new, looked_up, looked_up_all, nothing_found}
@@ -20,7 +20,7 @@ use Rattle.al_overload_lookup.specs.declared.piece.Piece.TheVariants.{Alone, Aft
 use Rattle.al_query.specs.Reads.{Table}
 use Rattle.al_scope.specs.Places.{Place}
 use Rattle.al_scope.specs.Visible.{visible_at}
-use Rattle.al_scope_seen.specs.Seen.{all_seen_at}
+use Rattle.al_scope.specs.Seen.{all_seen_at}
 use Rattle.al_view.specs.Interfaces.{views_of}
 
 -- what is visible under another name stays

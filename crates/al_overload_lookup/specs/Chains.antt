@@ -1,6 +1,6 @@
 -- What begins with an operand or a name: what stands after that.
 use Rattle.std.specs.Prelude.{ℕ, ◌<◌, ◌≤◌, Bool, true, false, List, [], ◌∷◌, ◌++◌, Option, Some, None, option_map, ⊤}
-use Rattle.al_overload_keys.specs.Keys.{key_with}
+use Rattle.al_overload_lookup.specs.Keys.{key_with}
 use Rattle.al_overload_lookup.specs.TextNames.{names_in, operator_sign, part_names, sign_names}
 use Rattle.al_overload_lookup.specs.declared.chain.Link.{Link}
 use Rattle.al_overload_lookup.specs.declared.chain.Link.TheVariants as links

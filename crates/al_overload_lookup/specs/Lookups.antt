@@ -2,12 +2,12 @@
 -- private types whose full views are seen there, by these.
 use Rattle.std.specs.Prelude.{ℕ, Bool, List, [], ◌++◌, fold, Option, Some, None, option_map, if◌then◌else◌}
 use Rattle.al_base.specs.declared.unit_key.UnitKey.{UnitKey}
-use Rattle.al_overload_keys.specs.Keys.{dotted, is_none}
-use Rattle.al_overload_keys.specs.declared.names.Names.{Names}
+use Rattle.al_overload_lookup.specs.Keys.{dotted, is_none}
+use Rattle.al_overload_lookup.specs.declared.names.Names.{Names}
 use Rattle.al_overload_lookup.specs.TextNames.{names_in}
 use Rattle.al_overload_lookup.specs.declared.name.TextName.{TextName}
 use Rattle.al_overload_lookup.specs.declared.name.TextName.TheVariants.{Simple, Selected}
-use Rattle.al_scope_seen.specs.Seen.{all_seen_at}
+use Rattle.al_scope.specs.Seen.{all_seen_at}
 use Rattle.al_query.specs.Known.{has_unit}
 use Rattle.al_query.specs.Reads.{Table}
 use Rattle.al_scope.specs.Expanded.{selected_at, within}

@@ -1,7 +1,7 @@
 -- The names and signs that stand in a text, in its order (ARM 4.1, 4.5).
 use Rattle.std.specs.Prelude.{ℕ, List, [], ◌∷◌, ◌++◌, codes, Option, Some, None}
 use Rattle.al_tree_grammar.specs.Grammar.{Label}
-use Rattle.al_overload_keys.specs.Keys.{dotted, key_of}
+use Rattle.al_overload_lookup.specs.Keys.{dotted, key_of}
 use Rattle.al_overload_lookup.specs.declared.name.TextName.{TextName}
 use Rattle.al_overload_lookup.specs.declared.name.TextName.TheVariants.{Simple, Selected}
 use Rattle.al_tree_syntax.specs.ExpressionTrees.{ExpressionTree, ExpressionTree as e, ExpressionsTree, ExpressionsTree as es, GroupTree, GroupTree as g, PartTree, PartTree as part}

@@ -1,6 +1,6 @@
 // What begins with an operand or a name: `A - B + C` has `A - B` at the left of its `+`, and `A (1).C` has `A (1)` before its dot.
 ghost use Rattle.std.specs.Prelude.{◌≡◌, ◌++◌, IfOk, IfSome, MatchOption, false};
-ghost use Rattle.al_overload_keys.specs.Keys.{key_of};
+ghost use Rattle.al_overload_lookup.specs.Keys.{key_of};
 ghost use Rattle.al_overload_lookup.specs.Chains.{AreWithin, IsBelow, IsLeft, chained_names, leans, link_key, link_names};
 ghost use Rattle.al_overload_lookup.specs.TextNames.{names_in};
 ghost use Rattle.al_tree.specs.ExpressionViews.{expression_model};
@@ -28,7 +28,7 @@ pub(crate) struct Chain<'a> {
 }
 
 /// The last link of a text, and what stands before it.
-#[tactic(auto, using(crate::proofs::Chained::longer_split, al_overload_keys::proofs::NameKeys::longer_key, al_overload_keys::proofs::NameKeys::infix_key, al_overload_keys::proofs::NameKeys::member_key, crate::proofs::Chained::infix_split, crate::proofs::Chained::member_split, crate::proofs::Chained::prefixed_leans, al_tree::proofs::ExpressionsMade::expression_numeric_model, al_tree::proofs::ExpressionsMade::expression_text_model, al_tree::proofs::ExpressionsMade::expression_name_model, al_tree::proofs::ExpressionsMade::expression_longer_model, al_tree::proofs::ExpressionsMade::expression_prefixed_model, al_tree::proofs::ExpressionsMade::expression_infix_model, al_tree::proofs::ExpressionsMade::expression_member_model, al_tree::proofs::ExpressionsMade::expression_group_model))]
+#[tactic(auto, using(crate::proofs::Chained::longer_split, crate::proofs::NameKeys::longer_key, crate::proofs::NameKeys::infix_key, crate::proofs::NameKeys::member_key, crate::proofs::Chained::infix_split, crate::proofs::Chained::member_split, crate::proofs::Chained::prefixed_leans, al_tree::proofs::ExpressionsMade::expression_numeric_model, al_tree::proofs::ExpressionsMade::expression_text_model, al_tree::proofs::ExpressionsMade::expression_name_model, al_tree::proofs::ExpressionsMade::expression_longer_model, al_tree::proofs::ExpressionsMade::expression_prefixed_model, al_tree::proofs::ExpressionsMade::expression_infix_model, al_tree::proofs::ExpressionsMade::expression_member_model, al_tree::proofs::ExpressionsMade::expression_group_model))]
 fn last_link(expression: &Expression) -> Option<(Link<'_>, &Expression)>
     ensures names { MatchOption result (leans (expression_model expression.now) ≡ false) (λ l. names_in (expression_model expression.now) ≡ names_in (expression_model l.1.now) ++ link_names (key_of (expression_model l.1.now)) l.0) }
     ensures key { IfSome result (λ l. key_of (expression_model expression.now) ≡ link_key (key_of (expression_model l.1.now)) l.0) }

@@ -1,6 +1,6 @@
 // Names of a text, part after part, looked up at its place as far as something is visible (ARM 4.1.3).
 ghost use Rattle.std.specs.Prelude.{◌≡◌, ◌≤◌, false, length, IfOk, OnOk};
-ghost use Rattle.al_overload_keys.specs.Keys.{is_none};
+ghost use Rattle.al_overload_lookup.specs.Keys.{is_none};
 ghost use Rattle.al_overload_lookup.specs.Lookups.{asked_units, looked_up, looked_up_all};
 ghost use Rattle.al_overload_lookup.specs.Pieces.{AreShort, is_past, names_of, piece_key, piece_name};
 ghost use Rattle.al_query.specs.Asked.{AsksOf, by_some_name};
@@ -11,8 +11,8 @@ use crate::lookup::look_up;
 use crate::name::TextName;
 use crate::piece::Piece;
 use crate::selectors::nothing_found;
+use crate::{Names, is_none};
 use al_base::{Name, NoMemory, UnitKey};
-use al_overload_keys::{Names, is_none};
 use al_query::{Answers, Recorder};
 use al_scope::Scope;
 use std::alloc::Global;

@@ -2,17 +2,16 @@
 ghost use Rattle.std.specs.Prelude.{◌≡◌, IfOk, OnOk, option_map};
 ghost use Rattle.std.specs.Option.{option_copied};
 ghost use Rattle.al_overload_lookup.specs.Lookups.{asked_units, construct_of, package_in, selected_in, with_each, with_selected, with_views};
-ghost use Rattle.al_scope_seen.specs.Seen.{all_seen_at};
+ghost use Rattle.al_scope.specs.Seen.{all_seen_at};
 ghost use Rattle.al_scope.specs.Places.{place_units};
 ghost use Rattle.al_query.specs.Known.{has_unit};
 ghost use Rattle.al_query.specs.Asked.{AsksOf, by_some_name};
 ghost use Rattle.al_query.specs.Reads.{FromAnswers};
 
+use crate::Names;
 use al_base::{NoMemory, UnitKey};
-use al_overload_keys::Names;
 use al_query::{Answers, Recorder};
-use al_scope::Scope;
-use al_scope_seen::all_seen_at;
+use al_scope::{Scope, all_seen_at};
 use al_view::{Interface, Symbol, View, ViewKind, Views, is_unit};
 use std::alloc::Global;
 

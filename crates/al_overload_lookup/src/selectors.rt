@@ -1,6 +1,6 @@
 // A name of several identifiers, looked up at its place as far as something is visible (ARM 4.1.3).
 ghost use Rattle.std.specs.Prelude.{◌≡◌, ◌++◌, IfOk, OnOk, map};
-ghost use Rattle.al_overload_keys.specs.Keys.{dotted};
+ghost use Rattle.al_overload_lookup.specs.Keys.{dotted};
 ghost use Rattle.al_overload_lookup.specs.Lookups.{asked_units, looked_up, looked_up_all, nothing_found};
 ghost use Rattle.al_overload_lookup.specs.TextNames.{identifier_names};
 ghost use Rattle.al_overload_lookup.specs.declared.name.TextName.TheVariants.{Simple, Selected};
@@ -10,8 +10,8 @@ ghost use Rattle.al_tree.specs.Lexemes.{identifier_label};
 
 use crate::lookup::look_up;
 use crate::name::TextName;
+use crate::{Names, is_none};
 use al_base::{Name, NoMemory, UnitKey};
-use al_overload_keys::{Names, is_none};
 use al_query::{Answers, Recorder};
 use al_scope::Scope;
 use al_tree::Identifier;

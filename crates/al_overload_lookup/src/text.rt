@@ -1,7 +1,7 @@
 // The names and signs of an expression's text, in its order.
 ghost use Rattle.std.specs.Prelude.{◌≡◌, ◌++◌, IfOk, OnOk, Some, false, map, option_map};
 ghost use Rattle.std.specs.Option.{option_copied};
-ghost use Rattle.al_overload_keys.specs.Keys.{dotted, key_of};
+ghost use Rattle.al_overload_lookup.specs.Keys.{dotted, key_of};
 ghost use Rattle.al_overload_lookup.specs.Chains.{last_part_key, last_part_names, leans, operation_names, test_names};
 ghost use Rattle.al_overload_lookup.specs.Pieces.{front, last_key, names_of};
 ghost use Rattle.al_overload_lookup.specs.TextNames.{all_names, group_names, names_in, selected_names, sign_names};
@@ -90,7 +90,7 @@ fn add_names(alloc: Global, found: &mut Vec<Piece>, expression: &Expression) -> 
 
 /// Those of what begins with no operand or name, and whether it is one.
 #[cycle(text)]
-#[tactic(auto, using(std::proofs::Common::append_assoc, al_overload_keys::proofs::NameKeys::prefixed_key, crate::proofs::Found::numeric_adds, crate::proofs::Found::literal_adds, crate::proofs::Found::number_names, crate::proofs::Found::text_names, crate::proofs::Found::name_names, crate::proofs::Found::group_in, crate::proofs::Chained::longer_leans, crate::proofs::Chained::infix_leans, crate::proofs::Chained::member_leans, al_tree::proofs::ExpressionsMade::expression_numeric_model, al_tree::proofs::ExpressionsMade::expression_text_model, al_tree::proofs::ExpressionsMade::expression_name_model, al_tree::proofs::ExpressionsMade::expression_longer_model, al_tree::proofs::ExpressionsMade::expression_prefixed_model, al_tree::proofs::ExpressionsMade::expression_infix_model, al_tree::proofs::ExpressionsMade::expression_member_model, al_tree::proofs::ExpressionsMade::expression_group_model))]
+#[tactic(auto, using(std::proofs::Common::append_assoc, crate::proofs::NameKeys::prefixed_key, crate::proofs::Found::numeric_adds, crate::proofs::Found::literal_adds, crate::proofs::Found::number_names, crate::proofs::Found::text_names, crate::proofs::Found::name_names, crate::proofs::Found::group_in, crate::proofs::Chained::longer_leans, crate::proofs::Chained::infix_leans, crate::proofs::Chained::member_leans, al_tree::proofs::ExpressionsMade::expression_numeric_model, al_tree::proofs::ExpressionsMade::expression_text_model, al_tree::proofs::ExpressionsMade::expression_name_model, al_tree::proofs::ExpressionsMade::expression_longer_model, al_tree::proofs::ExpressionsMade::expression_prefixed_model, al_tree::proofs::ExpressionsMade::expression_infix_model, al_tree::proofs::ExpressionsMade::expression_member_model, al_tree::proofs::ExpressionsMade::expression_group_model))]
 fn add_first(
     alloc: Global,
     found: &mut Vec<Piece>,

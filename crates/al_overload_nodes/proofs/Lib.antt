@@ -1,2 +1,4 @@
+pub mod Booleans
+pub mod Operands
 pub mod Seen
 pub mod TermsSeen

@@ -38,7 +38,7 @@ use Rattle.al_static.specs.Combining.{failure_in}
 use Rattle.al_overload_nodes.specs.Gathering.{Parts, with_part}
 use Rattle.al_overload_nodes.specs.Names.{no_variable}
 use Rattle.al_overload_nodes.specs.Nodes.{ReadingTree, misfit, node}
-use Rattle.al_overload_picks.specs.Types.{range_in, words_in}
+use Rattle.al_overload.specs.PickedTypes.{range_in, words_in}
 
 -- ---- what is called
 

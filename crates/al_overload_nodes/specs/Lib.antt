@@ -1,6 +1,9 @@
-pub mod Nodes
-pub mod Names
-pub mod Operators
-pub mod Gathering
 pub mod Calls
+pub mod FromAnswers
+pub mod Gathering
+pub mod Leaves
+pub mod Names
+pub mod Nodes
+pub mod Operators
+pub mod Seen
 pub mod Views

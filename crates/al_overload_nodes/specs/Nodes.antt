@@ -20,7 +20,7 @@ use Rattle.al_view.specs.declared.symbol.Symbol.{Symbol}
 use Rattle.al_view.specs.declared.types.Bounds.{Bounds}
 use Rattle.al_view.specs.declared.types.StaticValue.{StaticValue}
 use Rattle.al_view.specs.declared.types.TypeView.{TypeView}
-use Rattle.al_overload_picks.specs.Types.{words_in}
+use Rattle.al_overload.specs.PickedTypes.{words_in}
 
 -- a type; the root type of all integer types has no declaration
 abbrev pub expression_type : Symbol → Symbol → ExpressionType

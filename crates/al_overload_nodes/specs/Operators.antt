@@ -2,7 +2,7 @@
 use Rattle.std.specs.Prelude.{ℕ, Bool, true, false, List, [], ◌∷◌, Option, Some, None, if◌then◌else◌}
 use Rattle.std.specs.Option.{option_and_then}
 use Rattle.al_base.specs.declared.place.Place.{Place}
-use Rattle.al_overload_choice.specs.Labelling.{Label}
+use Rattle.al_overload.specs.Labelling.{Label}
 use Rattle.al_base_fault.specs.Judging.{both, map_ok}
 use Rattle.al_static.specs.Combining.{binary, short_circuit, unary}
 use Rattle.al_view_typed.specs.ExpressionTrees.{TypedTree, FormTree}
@@ -19,10 +19,10 @@ use Rattle.al_view.specs.declared.view.SubprogramView.{SubprogramView}
 use Rattle.al_view.specs.declared.view.ViewKind.{ViewKind}
 use Rattle.al_view.specs.declared.view.ViewKind.TheVariants as views
 use Rattle.al_overload_heads.specs.declared.everywhere.Predefined.{Predefined}
-use Rattle.al_overload_picks.specs.Labels.{is_root_in, number_in}
+use Rattle.al_overload.specs.Labels.{is_root_in, number_in}
 use Rattle.al_overload_nodes.specs.Nodes.{ReadingTree, node}
-use Rattle.al_overload_picks.specs.Picks.{pick}
-use Rattle.al_overload_picks.specs.Types.{is_scalar_type}
+use Rattle.al_overload.specs.Picks.{pick}
+use Rattle.al_overload.specs.PickedTypes.{is_scalar_type}
 
 -- The types of an operator's operands and of its result, among these types. Of one operand both are that one's.
 pub record Signature : Type 0 where

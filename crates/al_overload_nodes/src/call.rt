@@ -12,8 +12,7 @@ use crate::name::no_variable;
 use crate::node::{Reading, misfit};
 use al_base::{NoMemory, Place};
 use al_base_fault::{CheckResult, CheckRule, Fault, unless};
-use al_overload::nothing_fits;
-use al_overload_picks::{range_in, words_in};
+use al_overload::{nothing_fits, range_in, words_in};
 use al_static::Known;
 use al_view::{
     Bounds, CallKind, Mode, ObjectPlace, Parameter, SubprogramView, Subtype, Symbol, Types,

@@ -10,8 +10,7 @@ ghost use Rattle.al_overload_nodes.specs.Views.{pair_model, reading_model, three
 use crate::labeller::Labeller;
 use al_base::{NoMemory, Place};
 use al_base_fault::{CheckResult, Fault, both, unless};
-use al_overload::nothing_fits;
-use al_overload_picks::words_in;
+use al_overload::{nothing_fits, words_in};
 use al_static::Known;
 use al_view::{Bounds, StaticValue, Symbol, Types};
 use al_view_typed::{CheckedValue, Conversion, ExpressionType, Form, Labels, Typed};

@@ -1,7 +1,7 @@
 // Operators with the types of their operands and results.
 ghost use Rattle.std.specs.Prelude.{◌≡◌, IfOk, option_map};
 ghost use Rattle.std.specs.Option.{option_copied};
-ghost use Rattle.al_overload_choice.specs.Counts.{label_of};
+ghost use Rattle.al_overload.specs.Counts.{label_of};
 ghost use Rattle.al_base_fault.specs.Judging.{map_ok};
 ghost use Rattle.al_view_typed.specs.ExpressionTrees.{FormTree as form_trees};
 ghost use Rattle.al_view_typed.specs.ExpressionViews.{form_model, typed_model};
@@ -12,9 +12,8 @@ use crate::labeller::Labeller;
 use crate::node::Reading;
 use al_base::{NoMemory, Place};
 use al_base_fault::{CheckResult, both};
-use al_overload_choice::Labelled;
+use al_overload::{Labelled, is_root_in, is_scalar_type, number_in, pick};
 use al_overload_heads::Predefined;
-use al_overload_picks::{is_root_in, is_scalar_type, number_in, pick};
 use al_static::Known;
 use al_view::{SubprogramView, Symbol, Types, View, ViewKind};
 use al_view_predefined::StandardTypes;

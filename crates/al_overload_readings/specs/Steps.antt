@@ -3,13 +3,13 @@ use Rattle.std.specs.Prelude.{ℕ, Bool, List, [], ◌∷◌, ◌++◌, Result, 
 use Rattle.al_base.specs.declared.place.Place.{Place}
 use Rattle.al_base_fault.specs.Judging.{both, next, map_ok}
 use Rattle.al_base_fault.specs.declared.fault.Fault.{Fault}
-use Rattle.al_overload_keys.specs.Keys.{Denotations}
+use Rattle.al_overload_lookup.specs.Keys.{Denotations}
 use Rattle.al_overload_readings.specs.Readings.{ReadTree, ReadTree as reads, applied, applied_to, attributed, prefix_of, ranged, read_place}
 use Rattle.al_overload_readings.specs.Signs.{joined, prefixed}
 use Rattle.al_overload_readings.specs.declared.attribute.Attribute.{Attribute}
 use Rattle.al_tree_syntax.specs.ExpressionTrees.{Operator, Prefix}
-use Rattle.al_overload_term.specs.Terms.{TermTree, TermTree as terms}
-use Rattle.al_overload_term.specs.TermViews.{terms_of}
+use Rattle.al_overload_heads.specs.Terms.{TermTree, TermTree as terms}
+use Rattle.al_overload_heads.specs.TermViews.{terms_of}
 use Rattle.al_view.specs.declared.view.SubtypeView.{SubtypeView}
 
 unfoldable pub prefixed_read : Denotations → Prefix → Result TermTree Fault → Result ReadTree Fault

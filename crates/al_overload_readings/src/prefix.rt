@@ -1,13 +1,12 @@
 // What attributes stand after (ARM 4.1.4).
 ghost use Rattle.std.specs.Prelude.{◌≡◌, IfOk, map, option_map};
 ghost use Rattle.al_overload_heads.specs.Parts.{nominal};
-ghost use Rattle.al_overload_term.specs.TermViews.{term_model, terms_of};
+ghost use Rattle.al_overload_heads.specs.TermViews.{term_model, terms_of};
 ghost use Rattle.al_overload_readings.specs.Attributes.{array_of, index_view, is_indexed_by_one, is_one, mark_prefix, name_prefix, part_prefix, scalar_prefix, term_prefix};
 
 use al_base::NoMemory;
-use al_overload_heads::part_of;
-use al_overload_picks::{how_indexed, is_scalar_type};
-use al_overload_term::Term;
+use al_overload::{how_indexed, is_scalar_type};
+use al_overload_heads::{Term, part_of};
 use al_view::{Bounds, Subtype, SubtypeView, Symbol, Types};
 use al_view_predefined::{StandardTypes, no_names};
 use std::alloc::Global;

@@ -1,9 +1,9 @@
 // What an expression may be until what stands round it is known.
 ghost use Rattle.std.specs.Prelude.{◌≡◌, ◌∷◌, [], IfOk, map};
 ghost use Rattle.al_base_fault.specs.Judging.{map_ok};
-ghost use Rattle.al_overload_keys.specs.Keys.{denoted, not_visible};
-ghost use Rattle.al_overload_term.specs.Terms.{TermTree as terms, TermsTree as more};
-ghost use Rattle.al_overload_term.specs.TermViews.{term_model, terms_of};
+ghost use Rattle.al_overload_lookup.specs.Keys.{denoted, not_visible};
+ghost use Rattle.al_overload_heads.specs.Terms.{TermTree as terms, TermsTree as more};
+ghost use Rattle.al_overload_heads.specs.TermViews.{term_model, terms_of};
 ghost use Rattle.al_overload_readings.specs.Readings.{applied, applied_to, array_attribute, attributed, after, after_of, callable, marked_at, marking, mark_read, name_applied, named, prefix_of, range_read, ranged, ranging, read_place, scalar_attribute, selected, selected_from, value_in, valued, wrong_kind};
 ghost use Rattle.al_overload_readings.specs.ReadingViews.{reading_model};
 ghost use Rattle.al_tree.specs.Lexemes.{identifier_label};
@@ -15,9 +15,9 @@ use crate::pair::{boxed, together};
 use crate::prefix::{Prefix, name_prefix, term_prefix};
 use al_base::{Name, NoMemory, Place};
 use al_base_fault::{CheckResult, CheckRule, Fault};
-use al_overload_keys::{Names, dotted, is_none, not_visible};
-use al_overload_name::is_any_no_value;
-use al_overload_term::{Term, first_place};
+use al_overload::is_any_no_value;
+use al_overload_heads::{Term, first_place};
+use al_overload_lookup::{Names, dotted, is_none, not_visible};
 use al_tree::Identifier;
 use al_view::{Bounds, SubtypeView, View, Views};
 use al_view_predefined::StandardTypes;

@@ -1,3 +1,12 @@
+pub mod CompoundNames
+pub mod Prefixes
+pub mod Puts
+pub mod Seen
+pub mod Steps
 pub mod Surroundings
-pub mod Words
+pub mod TermsAt
+pub mod Texts
+pub mod TextsAt
 pub mod ValuesAt
+pub mod Words
+pub mod Worklists

@@ -8,16 +8,16 @@ use Rattle.al_overload_label.specs.Contexts.{target_checked, term_checked}
 use Rattle.al_overload_label.specs.Ranges.{FoundTree, PairTree, bounds_checked, selector_checked, static_bounds_checked}
 use Rattle.al_overload_label.specs.Static.{static_term_checked}
 use Rattle.al_overload_label.specs.Variables.{target_part}
-use Rattle.al_overload_name.specs.Types.{value_type}
+use Rattle.al_overload.specs.Types.{value_type}
 use Rattle.al_overload.specs.declared.context.Context.{Context}
 use Rattle.al_overload.specs.declared.context.Context.TheVariants as contexts
-use Rattle.al_overload_prefixes.specs.TextsAt.{With, bounds_with_at, context_with_at}
+use Rattle.al_overload_values.specs.TextsAt.{With, bounds_with_at, context_with_at}
 use Rattle.al_query.specs.Reads.{Table}
 use Rattle.al_tree_syntax.specs.DeclarationTrees.{RangeTree}
 use Rattle.al_tree_syntax.specs.ExpressionTrees.{ExpressionTree}
-use Rattle.al_overload_term.specs.Terms.{TermTree}
-use Rattle.al_overload_prefixes.specs.TermsAt.{term_at}
-use Rattle.al_overload_types.specs.Leaves.{mark_type}
+use Rattle.al_overload_heads.specs.Terms.{TermTree}
+use Rattle.al_overload_values.specs.TermsAt.{term_at}
+use Rattle.al_overload_nodes.specs.Leaves.{mark_type}
 use Rattle.al_view_typed.specs.ExpressionTrees.{TypedTree}
 use Rattle.al_overload_values.specs.Surroundings.{Surroundings}
 use Rattle.al_overload_values.specs.Words.{Worded, found_with_words, with_words}

@@ -3,13 +3,13 @@ ghost use Rattle.std.specs.Prelude.{◌≡◌, IfOk, [], Some};
 ghost use Rattle.al_base_fault.specs.Judging.{next, map_ok, unless};
 ghost use Rattle.al_overload_label.specs.Contexts.{target_checked};
 ghost use Rattle.al_overload_label.specs.Variables.{target_part};
-ghost use Rattle.al_overload_name.specs.Types.{value_type};
+ghost use Rattle.al_overload.specs.Types.{value_type};
 ghost use Rattle.al_overload.specs.declared.context.Context.TheVariants as contexts;
-ghost use Rattle.al_overload_prefixes.specs.TextsAt.{term_with_model};
+ghost use Rattle.al_overload_values.specs.TextsAt.{term_with_model};
 ghost use Rattle.al_query.specs.Asked.{AsksOf, by_some_name};
 ghost use Rattle.al_query.specs.Reads.{FromAnswers};
-ghost use Rattle.al_overload_term.specs.TermViews.{term_model};
-ghost use Rattle.al_overload_prefixes.specs.TermsAt.{term_at};
+ghost use Rattle.al_overload_heads.specs.TermViews.{term_model};
+ghost use Rattle.al_overload_values.specs.TermsAt.{term_at};
 ghost use Rattle.al_tree.specs.ExpressionViews.{expression_model};
 ghost use Rattle.al_view_typed.specs.ExpressionViews.{typed_model};
 ghost use Rattle.al_overload_values.specs.Surroundings.{site_model, site_units};
@@ -20,15 +20,13 @@ use crate::context::no_types;
 use crate::site::Site;
 use crate::value::value_at;
 use crate::words::take_words;
+use crate::{context_with_at, term_at};
 use al_base::NoMemory;
 use al_base_fault::{CheckResult, Fault, unless};
-use al_overload::Context;
-use al_overload_heads::Nominal;
+use al_overload::{Context, value_type};
+use al_overload_heads::{Nominal, Term};
 use al_overload_label::{check_target, nominal, target_part};
-use al_overload_name::value_type;
 use al_overload_nodes::Labeller;
-use al_overload_prefixes::{context_with_at, term_at};
-use al_overload_term::Term;
 use al_query::{Answers, Recorder};
 use al_tree::Expression;
 use al_view_typed::Typed;
@@ -40,7 +38,7 @@ fn check_assigned(labeller: &Labeller, term: &Term) -> Result<CheckResult<Typed>
     check_target(labeller, &types, term)
 }
 
-#[tactic(auto, using(al_overload_prefixes::proofs::Seen::seen_unless))]
+#[tactic(auto, using(crate::proofs::Seen::seen_unless))]
 fn check_found_target(
     labeller: &Labeller,
     term: CheckResult<(Term, Option<Fault>)>,

@@ -3,26 +3,26 @@ ghost use Rattle.std.specs.Prelude.{◌≡◌, IfOk};
 ghost use Rattle.al_base_fault.specs.Judging.{next, map_ok, unless};
 ghost use Rattle.al_overload_label.specs.Ranges.{bounds_checked, static_bounds_checked};
 ghost use Rattle.al_overload_label.specs.RangesSeen.{pair_model};
-ghost use Rattle.al_overload_prefixes.specs.TextsAt.{terms_with_model};
+ghost use Rattle.al_overload_values.specs.TextsAt.{terms_with_model};
 ghost use Rattle.al_query.specs.Asked.{AsksOf, by_some_name};
 ghost use Rattle.al_query.specs.Reads.{FromAnswers};
 ghost use Rattle.al_tree.specs.DeclarationViews.{range_model};
 ghost use Rattle.al_overload_values.specs.Surroundings.{site_model, site_units};
 ghost use Rattle.al_overload_values.specs.ValuesAt.{pair_judged_at, static_pair_at};
 
+use crate::bounds_with_at;
 use crate::site::Site;
 use al_base::NoMemory;
 use al_base_fault::{CheckResult, Fault, unless};
 use al_overload::Context;
+use al_overload_heads::Term;
 use al_overload_label::{Pair, check_bounds, check_static_bounds};
 use al_overload_nodes::Labeller;
-use al_overload_prefixes::bounds_with_at;
-use al_overload_term::Term;
 use al_query::{Answers, Recorder};
 use al_tree::Range;
 use al_view::Types;
 
-#[tactic(auto, using(al_overload_prefixes::proofs::Seen::seen_unless))]
+#[tactic(auto, using(crate::proofs::Seen::seen_unless))]
 fn check_pair(
     labeller: &Labeller,
     context: &Context,
@@ -60,7 +60,7 @@ pub fn pair_judged_at<A: Answers>(
     check_pair(labeller, context, types, bounds)
 }
 
-#[tactic(auto, using(al_overload_prefixes::proofs::Seen::seen_unless))]
+#[tactic(auto, using(crate::proofs::Seen::seen_unless))]
 fn check_static_pair(
     labeller: &Labeller,
     context: &Context,

@@ -3,25 +3,25 @@ ghost use Rattle.std.specs.Prelude.{◌≡◌, IfOk};
 ghost use Rattle.al_base_fault.specs.Judging.{next, map_ok, unless};
 ghost use Rattle.al_overload_label.specs.Ranges.{selector_checked};
 ghost use Rattle.al_overload_label.specs.RangesSeen.{found_model};
-ghost use Rattle.al_overload_prefixes.specs.TextsAt.{term_with_model};
+ghost use Rattle.al_overload_values.specs.TextsAt.{term_with_model};
 ghost use Rattle.al_query.specs.Asked.{AsksOf, by_some_name};
 ghost use Rattle.al_query.specs.Reads.{FromAnswers};
 ghost use Rattle.al_tree.specs.ExpressionViews.{expression_model};
 ghost use Rattle.al_overload_values.specs.Surroundings.{site_model, site_units};
 ghost use Rattle.al_overload_values.specs.ValuesAt.{selector_at, selector_judged_at};
 
+use crate::context_with_at;
 use crate::site::Site;
 use crate::words::take_found_words;
 use al_base::NoMemory;
 use al_base_fault::{CheckResult, Fault, unless};
+use al_overload_heads::Term;
 use al_overload_label::{DeterminedValue, check_selector};
 use al_overload_nodes::Labeller;
-use al_overload_prefixes::context_with_at;
-use al_overload_term::Term;
 use al_query::{Answers, Recorder};
 use al_tree::Expression;
 
-#[tactic(auto, using(al_overload_prefixes::proofs::Seen::seen_unless))]
+#[tactic(auto, using(crate::proofs::Seen::seen_unless))]
 fn check_found(
     labeller: &Labeller,
     term: CheckResult<(Term, Option<Fault>)>,

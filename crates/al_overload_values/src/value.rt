@@ -3,7 +3,7 @@ ghost use Rattle.std.specs.Prelude.{◌≡◌, IfOk};
 ghost use Rattle.al_base_fault.specs.Judging.{next, map_ok, unless};
 ghost use Rattle.al_overload_label.specs.Contexts.{term_checked};
 ghost use Rattle.al_overload_label.specs.Static.{static_term_checked};
-ghost use Rattle.al_overload_prefixes.specs.TextsAt.{term_with_model};
+ghost use Rattle.al_overload_values.specs.TextsAt.{term_with_model};
 ghost use Rattle.al_query.specs.Asked.{AsksOf, by_some_name};
 ghost use Rattle.al_query.specs.Reads.{FromAnswers};
 ghost use Rattle.al_tree.specs.ExpressionViews.{expression_model};
@@ -11,22 +11,21 @@ ghost use Rattle.al_view_typed.specs.ExpressionViews.{typed_model};
 ghost use Rattle.al_overload_values.specs.Surroundings.{site_model, site_units};
 ghost use Rattle.al_overload_values.specs.ValuesAt.{checked_at, static_checked_at, value_at};
 
+use crate::context_with_at;
 use crate::site::Site;
 use crate::words::take_words;
 use al_base::NoMemory;
 use al_base_fault::{CheckResult, Fault, unless};
 use al_overload::Context;
-use al_overload_heads::Nominal;
+use al_overload_heads::{Nominal, Term};
 use al_overload_label::{check_static_term, check_term};
 use al_overload_nodes::Labeller;
-use al_overload_prefixes::context_with_at;
-use al_overload_term::Term;
 use al_query::{Answers, Recorder};
 use al_tree::Expression;
 use al_view::Types;
 use al_view_typed::Typed;
 
-#[tactic(auto, using(al_overload_prefixes::proofs::Seen::seen_unless))]
+#[tactic(auto, using(crate::proofs::Seen::seen_unless))]
 fn check(
     labeller: &Labeller,
     context: &Context,
@@ -67,7 +66,7 @@ pub fn checked_at<A: Answers>(
     check(labeller, context, allowed, types, term)
 }
 
-#[tactic(auto, using(al_overload_prefixes::proofs::Seen::seen_unless))]
+#[tactic(auto, using(crate::proofs::Seen::seen_unless))]
 fn check_static(
     labeller: &Labeller,
     context: &Context,

@@ -10,7 +10,7 @@ use std::marker::Model;
 use std::rc::Rc;
 
 /// What a unit is (ARM 10.1.1).
-#[derive(Clone, Copy, Debug, PartialEq, Eq)]
+#[derive(Clone, Copy)]
 pub enum UnitForm {
     Package,
     Procedure,

@@ -7,7 +7,7 @@ use al_view::{Part, copied_unit, is_unit};
 use std::alloc::Global;
 
 /// What every unit can be asked for.
-#[derive(Clone, Copy, Debug, PartialEq, Eq)]
+#[derive(Clone, Copy)]
 pub enum Property {
     /// What it is, by its own view (ARM 10.1.1).
     Kind,
@@ -24,7 +24,6 @@ pub enum Property {
 }
 
 /// A question of a unit.
-#[derive(Debug)]
 pub enum Query {
     /// What a part of it declares under a name.
     Named {

@@ -1,6 +1,14 @@
-pub mod KeyLemmas
 pub mod CellLemmas
-pub mod StateLemmas
+pub mod CountLemmas
+pub mod KeepLemmas
+pub mod KeyLemmas
+pub mod LogLemmas
+pub mod MarkLemmas
 pub mod MarkedLemmas
+pub mod PlaceLemmas
+pub mod ReadLemmas
+pub mod SlotLemmas
 pub mod SpotLemmas
+pub mod StateLemmas
 pub mod TellLemmas
+pub mod TestLemmas

@@ -12,10 +12,10 @@ use Rattle.al_query.specs.Known.{has_unit}
 use Rattle.al_query.specs.Queries.{unit_of}
 use Rattle.al_query.specs.declared.answer.AnswerKind.{AnswerKind}
 use Rattle.al_query.specs.declared.query.Query.{Query}
-use Rattle.al_query_readers.specs.declared.place.Place.{Place}
-use Rattle.al_query_slots.specs.Marking.{IsMarked, IsSized, Tells, answer_at, answer_in, is_of, mark_at, mark_in}
-use Rattle.al_query_slots.specs.Stored.{HaveLastMarks, SameBase, base, kept}
-use Rattle.al_query_slots.specs.declared.slots.Held.{Held}
+use Rattle.al_query_store.specs.declared.place.Place.{Place}
+use Rattle.al_query_store.specs.Marking.{IsMarked, IsSized, Tells, answer_at, answer_in, is_of, mark_at, mark_in}
+use Rattle.al_query_store.specs.Stored.{HaveLastMarks, SameBase, base, kept}
+use Rattle.al_query_store.specs.declared.slots.Held.{Held}
 use Rattle.al_query_store.specs.declared.cell.Cell.{Cell}
 use Rattle.al_query_store.specs.Changes.{AreCompared, AreMarkedAsBefore}
 use Rattle.al_query_store.specs.Keyed.{AreCells, IsKeyed, SameStates, State, base_state, cell_at, if_made, if_settled, kept_state, made_key, nothing, seen, settled_key, settled_so, settled_state, state, under, with_slots}

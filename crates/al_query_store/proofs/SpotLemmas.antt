@@ -10,14 +10,14 @@ use Rattle.al_view.specs.Symbols.{same_unit}
 use Rattle.al_view.proofs.SymbolLemmas.{same_unit-one, same_unit-self}
 use Rattle.al_query.specs.declared.answer.AnswerKind.{AnswerKind}
 use Rattle.al_query.specs.declared.query.Query.{Query}
-use Rattle.al_query_readers.specs.declared.place.Place.{Place}
-use Rattle.al_query_readers.specs.Reads.{same_place}
-use Rattle.al_query_readers.proofs.PlaceLemmas.{same_place-turned}
-use Rattle.al_query_slots.specs.Counting.{IsCount}
-use Rattle.al_query_slots.specs.Marking.{answer_at, answer_in, is_of}
-use Rattle.al_query_slots.specs.declared.slots.Held.{Held}
-use Rattle.al_query_slots.proofs.CountLemmas.{filter_distinct, member_is}
-use Rattle.al_query_slots.proofs.MarkLemmas.{place_one}
+use Rattle.al_query_store.specs.declared.place.Place.{Place}
+use Rattle.al_query_store.specs.Reads.{same_place}
+use Rattle.al_query_store.proofs.PlaceLemmas.{same_place-turned}
+use Rattle.al_query_store.specs.Counting.{IsCount}
+use Rattle.al_query_store.specs.Marking.{answer_at, answer_in, is_of}
+use Rattle.al_query_store.specs.declared.slots.Held.{Held}
+use Rattle.al_query_store.proofs.CountLemmas.{filter_distinct, member_is}
+use Rattle.al_query_store.proofs.MarkLemmas.{place_one}
 use Rattle.al_query_store.specs.Changes.{HasAnswers, Spot, answer_of, asks, same_spot}
 use Rattle.al_query_store.specs.Keyed.{AreCells, State, if_settled, settled_key, under, with_slots}
 use Rattle.al_query_store.proofs.StateLemmas.{Cells, state-seen}

@@ -7,8 +7,8 @@ use Rattle.al_base.specs.declared.unit_key.UnitKey.{UnitKey}
 use Rattle.al_view.specs.Symbols.{same_unit}
 use Rattle.al_view.proofs.SymbolLemmas.{same_unit-one, same_unit-self}
 use Rattle.al_unit_map.specs.Units.{at_unit}
-use Rattle.al_query_slots.specs.Stored.{settled}
-use Rattle.al_query_slots.specs.declared.slots.Held.{Held}
+use Rattle.al_query_store.specs.Stored.{settled}
+use Rattle.al_query_store.specs.declared.slots.Held.{Held}
 use Rattle.al_query_store.specs.declared.cell.Cell.{Cell}
 use Rattle.al_query_store.specs.Keyed.{AreCells, Changes, IsKeyed, State, cell_at, empty, entry_of, first_key, first_of, if_made, if_settled, made_key, nothing, now_key, or_settled, promoted, put, replaced, seen, settled_key, state, under, with_slots, without_settled}
 use Rattle.al_query_store.proofs.KeyLemmas.{keyed-less, keyed-more, keyed-same}

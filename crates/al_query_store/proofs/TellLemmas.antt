@@ -5,7 +5,7 @@ use Rattle.al_view.specs.Symbols.{same_unit}
 use Rattle.al_query.specs.Queries.{unit_of}
 use Rattle.al_query.specs.declared.answer.AnswerKind.{AnswerKind}
 use Rattle.al_query.specs.declared.query.Query.{Query}
-use Rattle.al_query_slots.specs.Marking.{MarksTell, Tells}
+use Rattle.al_query_store.specs.Marking.{MarksTell, Tells}
 use Rattle.al_query_store.specs.Changes.{AreCompared}
 
 abbrev pub MarkTells : (Query → AnswerKind) → Query × AnswerKind → List Bool → ℕ → Type 0

@@ -6,10 +6,10 @@ use Rattle.al_view.specs.Symbols.{same_unit}
 use Rattle.al_query.specs.Queries.{unit_of}
 use Rattle.al_query.specs.declared.answer.AnswerKind.{AnswerKind}
 use Rattle.al_query.specs.declared.query.Query.{Query}
-use Rattle.al_query_slots.specs.Counting.{IsCount}
-use Rattle.al_query_slots.specs.Marking.{MarksTell, Tells}
-use Rattle.al_query_slots.specs.Stored.{fresh}
-use Rattle.al_query_slots.specs.declared.slots.Held.{Held}
+use Rattle.al_query_store.specs.Counting.{IsCount}
+use Rattle.al_query_store.specs.Marking.{MarksTell, Tells}
+use Rattle.al_query_store.specs.Stored.{fresh}
+use Rattle.al_query_store.specs.declared.slots.Held.{Held}
 use Rattle.al_query_store.specs.Keyed.{State, base_state, state}
 
 -- a place of the log of a unit's settled entry

@@ -5,8 +5,8 @@ use Rattle.slab.specs.Slab.{Slab, get}
 use Rattle.al_base.specs.declared.unit_key.UnitKey.{UnitKey}
 use Rattle.al_view.specs.Symbols.{same_unit}
 use Rattle.al_unit_map.specs.Units.{at_unit}
-use Rattle.al_query_slots.specs.Stored.{base, kept, settled}
-use Rattle.al_query_slots.specs.declared.slots.Held.{Held}
+use Rattle.al_query_store.specs.Stored.{base, kept, settled}
+use Rattle.al_query_store.specs.declared.slots.Held.{Held}
 use Rattle.al_query_store.specs.declared.cell.Cell.{Cell}
 
 -- what there is of a unit: its entry as the last build settled it, and the one that a build made since; whether the last build reached it,

@@ -1,2 +1,7 @@
-pub mod Keyed
 pub mod Changes
+pub mod Counting
+pub mod Keyed
+pub mod Marked
+pub mod Marking
+pub mod Reads
+pub mod Stored

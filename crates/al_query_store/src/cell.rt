@@ -12,7 +12,7 @@ use std::collections::BTreeMap;
 
 /// The keys of a unit's entries, the settled one's and that of the one that was made since; whether the last build reached it, and whether it
 /// is reached now; and whether it leaves the library.
-#[derive(Clone, Copy, Debug)]
+#[derive(Clone, Copy)]
 pub struct Cell {
     pub settled: Option<usize>,
     pub made: Option<usize>,

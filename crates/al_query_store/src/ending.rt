@@ -4,10 +4,10 @@ ghost use Rattle.al_base.specs.declared.unit_key.UnitKey.{UnitKey};
 ghost use Rattle.al_query.specs.Known.{has_unit};
 ghost use Rattle.al_query_store.specs.Keyed.{Changes, as_before, as_now, base_state, cancelled_state, kept_state, nothing, promoted, replaced, settled_so, settled_state, state, without_made, without_settled};
 
+use crate::Logged;
 use crate::cell::{Cell, cell_of, change, take_away};
 use crate::store::Store;
 use al_base::UnitKey;
-use al_query_slots::Logged;
 
 impl<E: Logged> Store<E> {
     /// Lets go the settled entry of a unit.

@@ -1,6 +1,6 @@
 //! Laws of counts. The function does nothing: its contract is the laws.
 ghost use Rattle.std.specs.Prelude.{◌≡◌, ◌≤◌, ◌+◌, ◌||◌, ℕ, Bool, true, false};
-ghost use Rattle.al_query_slots.specs.Counting.{IsCount};
+ghost use Rattle.al_query_store.specs.Counting.{IsCount};
 ghost use Rattle.al_query_store.specs.Changes.{Spot, same_spot};
 
 /// A test holds for one number of places; for no more than a wider test; and for those of two tests that exclude each other together.

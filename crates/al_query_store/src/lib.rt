@@ -5,8 +5,24 @@
 
 mod cell;
 mod ending;
+mod keeping;
 pub mod laws;
+mod logged;
+mod logs;
+mod marking;
+mod marks;
+mod place;
+mod questions;
+mod readers;
+mod slots;
+pub mod slots_laws;
 mod store;
 
 pub use cell::Cell;
+pub use logged::Logged;
+pub use marks::Marks;
+pub use place::Place;
+pub use questions::Questions;
+pub use readers::Readers;
+pub use slots::{Held, Slots};
 pub use store::Store;

@@ -9,9 +9,9 @@ ghost use Rattle.al_query_store.specs.Changes.{AreMarkedAsBefore, ComparesUnit, 
 ghost use Rattle.al_query_store.specs.Keyed.{Changes, SameStates, base_state, entry_of, is_moved, leaving, now_at, state, under, with_reached};
 
 use crate::cell::{Cell, add, cell_of, change, has_moved, now_key};
+use crate::{Held, Logged, Slots};
 use al_base::{NoMemory, UnitKey};
 use al_query::Answers;
-use al_query_slots::{Held, Logged, Slots};
 use al_view::copied_unit;
 use std::alloc::Global;
 use std::collections::BTreeMap;

@@ -1,9 +1,13 @@
 pub mod Asked
 pub mod Expanded
+pub mod Hidden
 pub mod NameSets
 pub mod PartialViews
 pub mod Places
+pub mod Recasts
 pub mod Searches
+pub mod Seen
+pub mod UnitPlaces
 pub mod UseClauses
 pub mod Visible
 pub mod VisibleSet

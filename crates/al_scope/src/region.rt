@@ -10,7 +10,6 @@ use al_view::{Interface, Part, Seq, Symbol, View, is_unit};
 use std::alloc::Global;
 
 /// A part of a unit.
-#[derive(Debug)]
 pub struct UnitPart {
     pub unit: UnitKey,
     pub part: Part,

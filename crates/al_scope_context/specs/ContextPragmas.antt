@@ -5,7 +5,7 @@ use Rattle.std.specs.Str.{bytes_eq}
 use Rattle.al_base.specs.declared.unit_key.UnitKey.{UnitKey}
 use Rattle.al_base_fault.specs.declared.fault.Fault.{Fault}
 use Rattle.al_tree_syntax.specs.DeclarationTrees.{CompoundNameTree, PragmaArgumentsTree, PragmaTree}
-use Rattle.al_scope_uses.specs.Pragmas.{unless_right}
+use Rattle.al_scope_context.specs.Pragmas.{unless_right}
 
 -- the identifiers of a name, with dots between them
 abbrev pub full_name : CompoundNameTree → List ℕ

@@ -5,7 +5,7 @@ use Rattle.std.specs.Option.{is_none as has_none}
 use Rattle.al_base.specs.declared.unit_key.UnitKey.{UnitKey}
 use Rattle.al_base_fault.specs.Judging.{next, map_ok, unless}
 use Rattle.al_base_fault.specs.declared.fault.Fault.{Fault}
-use Rattle.al_overload_keys.specs.Keys.{is_none}
+use Rattle.al_overload_lookup.specs.Keys.{is_none}
 use Rattle.al_query.specs.Answers.{declaration, own_view_of}
 use Rattle.al_query.specs.Known.{body, has_unit}
 use Rattle.al_query.specs.Reads.{Table}
@@ -18,9 +18,9 @@ use Rattle.al_tree_syntax.specs.DeclarationTrees.{CompoundNameTree}
 use Rattle.al_tree_syntax.specs.UnitTrees.{ContextTree}
 use Rattle.al_tree_syntax.specs.UnitTrees.ContextTree.{WithClause, ContextUse, ContextPragma}
 use Rattle.al_unit_graph.specs.Names.{lineage, parent_of}
-use Rattle.al_scope_unit.specs.UnitPlaces.{is_package_view}
+use Rattle.al_scope.specs.UnitPlaces.{is_package_view}
 use Rattle.al_scope_context.specs.ContextPragmas.{context_pragma_fault, full_name}
-use Rattle.al_scope_uses.specs.UsesAt.{all_names, uses_at}
+use Rattle.al_scope_context.specs.UsesAt.{all_names, uses_at}
 use Rattle.al_scope_context.specs.declared.context.Context.{Context}
 use Rattle.al_view.specs.declared.view.ViewKind.{ViewKind}
 

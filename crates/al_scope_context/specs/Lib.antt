@@ -1,2 +1,4 @@
 pub mod ContextPragmas
 pub mod Contexts
+pub mod Pragmas
+pub mod UsesAt

@@ -6,16 +6,16 @@ ghost use Rattle.al_tree.specs.DeclarationViews.{compound_model, compounds_model
 ghost use Rattle.al_tree.specs.UnitViews.{context_model};
 ghost use Rattle.al_unit_graph.specs.Names.{lineage};
 ghost use Rattle.al_scope_context.specs.Contexts.{context_at, context_start, declared_if, is_new_root, more_uses, rooted, unit_mentioned, with_item, with_named, with_uses, withed};
-ghost use Rattle.al_scope_uses.specs.UsesAt.{all_names, uses_at};
+ghost use Rattle.al_scope_context.specs.UsesAt.{all_names, uses_at};
 
 use crate::mention::{library_view, mention_view};
 use crate::pragma::{context_pragma_fault, full_name};
+use crate::uses_at;
 use al_base::{Name, NoMemory, UnitKey, UnitKind};
 use al_base_fault::{CheckResult, Fault};
-use al_overload_keys::is_none;
+use al_overload_lookup::is_none;
 use al_query::{Answers, Recorder, UseClause};
 use al_scope::Scope;
-use al_scope_uses::uses_at;
 use al_tree::{CompoundName, CompoundNames, ContextItem};
 use al_unit_graph::{lineage, parent_of};
 use al_view::{Seq, View, copied_unit};

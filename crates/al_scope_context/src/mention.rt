@@ -7,7 +7,7 @@ ghost use Rattle.al_query.specs.Known.{has_unit};
 ghost use Rattle.al_query.specs.Reads.{FromAnswers};
 ghost use Rattle.al_query.specs.declared.query.Property.TheVariants.{Kind};
 ghost use Rattle.al_query.specs.declared.query.Query.TheVariants.{Of};
-ghost use Rattle.al_scope_unit.specs.UnitPlaces.{is_package_view};
+ghost use Rattle.al_scope.specs.UnitPlaces.{is_package_view};
 ghost use Rattle.al_scope_context.specs.Contexts.{Mentioned, all_mentioned, library_view, mentioned, packaged, view_or};
 
 use al_base::{Name, NoMemory, UnitKey, UnitKind};

@@ -6,9 +6,9 @@ ghost use Rattle.std.specs.Str.{bytes_eq};
 ghost use Rattle.al_tree.specs.DeclarationViews.{compound_model, pragma_arguments_model, pragma_model};
 ghost use Rattle.al_scope_context.specs.ContextPragmas.{all_withed, context_pragma_fault, full_name, is_withed};
 
+use crate::unless_right;
 use al_base::{NoMemory, UnitKey};
 use al_base_fault::Fault;
-use al_scope_uses::unless_right;
 use al_tree::{CompoundName, Pragma, PragmaArguments};
 use std::alloc::Global;
 

@@ -9,8 +9,8 @@ use Rattle.al_query.specs.declared.query.Query.{Query}
 use Rattle.al_engine_refresh.specs.Builds.{results_of}
 use Rattle.al_entries.specs.EntryLaw.{TextMeaning}
 use Rattle.al_entries.specs.Stored.{Stored}
-use Rattle.al_engine_rebuild.specs.Rebuilds.{IsRebuilt}
-use Rattle.al_engine_rebuild.specs.declared.rebuilding.Rebuilt.{Rebuilt}
+use Rattle.al_engine.specs.Rebuilds.{IsRebuilt}
+use Rattle.al_engine.specs.declared.rebuilding.Rebuilt.{Rebuilt}
 use Rattle.al_engine.specs.Builds.{IsBuild}
 use Rattle.al_engine.specs.States.{Built, Held}
 use Rattle.al_session_served.specs.Library.{IsBuilt, State}

@@ -5,11 +5,11 @@ use Rattle.al_unit_graph.specs.Headers.{Header, Library}
 use Rattle.al_query.specs.declared.answer.AnswerKind.{AnswerKind}
 use Rattle.al_query.specs.declared.query.Query.{Query}
 use Rattle.al_entries.specs.EntryLaw.{TextMeaning}
-use Rattle.al_engine_batch.specs.declared.compiled.Compiled.{Compiled}
-use Rattle.al_engine_batch.specs.declared.compiled.Compiled.TheVariants.{Faulty, Unbound, TooLarge, Made}
-use Rattle.al_engine_batch.specs.Programs.{image_in}
-use Rattle.al_engine_batch.specs.declared.compiled.Program.{Program}
-use Rattle.al_engine_batch.specs.Gave.{program_of}
+use Rattle.al_engine.specs.declared.compiled.Compiled.{Compiled}
+use Rattle.al_engine.specs.declared.compiled.Compiled.TheVariants.{Faulty, Unbound, TooLarge, Made}
+use Rattle.al_engine.specs.Programs.{image_in}
+use Rattle.al_engine.specs.declared.compiled.Program.{Program}
+use Rattle.al_engine.specs.Gave.{program_of}
 use Rattle.al_tasks.specs.WorldRuns as images
 use Rattle.al_engine.specs.Reports.{or_no_image, reported}
 use Rattle.al_engine.specs.States.{Built}

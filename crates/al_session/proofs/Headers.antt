@@ -8,7 +8,7 @@ use Rattle.al_unit.specs.Libraries.{library_of}
 use Rattle.al_unit.specs.Readings.{Reading, reading_of}
 use Rattle.al_unit.specs.Readings.Reading.{Sentence, Fails}
 use Rattle.al_engine_files.specs.Headed.{ReadsHeaders, TextsAreHeaded}
-use Rattle.al_unit_order.specs.Read.{NameParentBodies}
+use Rattle.al_unit_faults.specs.Read.{NameParentBodies}
 
 no_header : Header
 no_header = record {

@@ -10,9 +10,9 @@ use Rattle.al_session.specs.TextOrders.{Obeys, OrdersOfTextsObey}
 use Rattle.al_unit_graph.specs.Headers.{Header}
 use Rattle.al_unit.specs.Libraries.{library_of}
 use Rattle.al_entries.specs.EntryLaw.{TextMeaning}
-use Rattle.al_engine_batch.specs.declared.compiled.Compiled.{Compiled}
-use Rattle.al_engine_batch.specs.declared.compiled.Compiled.TheVariants as compiled
-use Rattle.al_query_predefined.specs.PredefinedUnits.{predefined_answer}
+use Rattle.al_engine.specs.declared.compiled.Compiled.{Compiled}
+use Rattle.al_engine.specs.declared.compiled.Compiled.TheVariants as compiled
+use Rattle.al_engine_files.specs.PredefinedUnits.{predefined_answer}
 use Rattle.al_session.specs.EngineMeanings.{Compiles, CompilesTo}
 use Rattle.al_session.specs.Results.{fault_result, result_of}
 use Rattle.al_session_served.specs.Builds as adds

@@ -13,12 +13,12 @@ use Rattle.al_unit_faults.specs.Orders.{finding_cmp}
 use Rattle.al_unit.specs.Libraries.{library_of}
 use Rattle.al_unit.proofs.LibraryLemmas.{names_of-library_of}
 use Rattle.al_entries.specs.EntryLaw.{TextMeaning}
-use Rattle.al_engine_found.specs.Found.{findings_of}
-use Rattle.al_engine_found.specs.Ascending.{FindingsAscend}
-use Rattle.al_engine_batch.specs.declared.compiled.Compiled.{Compiled}
-use Rattle.al_engine_batch.specs.declared.compiled.Compiled.TheVariants as compiled
+use Rattle.al_engine_refresh.specs.Found.{findings_of}
+use Rattle.al_engine_refresh.specs.Ascending.{FindingsAscend}
+use Rattle.al_engine.specs.declared.compiled.Compiled.{Compiled}
+use Rattle.al_engine.specs.declared.compiled.Compiled.TheVariants as compiled
 use Rattle.al_session_served.specs.Builds as adds
-use Rattle.al_query_predefined.specs.PredefinedUnits.{predefined_answer}
+use Rattle.al_engine_files.specs.PredefinedUnits.{predefined_answer}
 use Rattle.al_session.specs.EngineMeanings.{Compiles, CompilesTo}
 use Rattle.al_session.specs.Results.{fault_result, result_of}
 

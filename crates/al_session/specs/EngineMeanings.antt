@@ -7,20 +7,20 @@ use Rattle.al_base.specs.Files.{Texts, name_cmp}
 use Rattle.al_base.specs.Batch.{Key}
 use Rattle.al_base.specs.declared.unit_key.UnitKey.{UnitKey}
 use Rattle.al_unit_graph.specs.Headers.{Header, Library}
-use Rattle.al_unit_obsolete.specs.Obsolete.{obsolete_of}
-use Rattle.al_unit_obsolete.specs.Units.{units_of}
+use Rattle.al_unit_faults.specs.Obsolete.{obsolete_of}
+use Rattle.al_unit_faults.specs.Units.{units_of}
 use Rattle.al_query.specs.declared.answer.AnswerKind.{AnswerKind}
 use Rattle.al_query.specs.declared.query.Query.{Query}
 use Rattle.al_entries.specs.EntryLaw.{TextMeaning}
 use Rattle.al_engine_refresh.specs.Builds.{with_texts}
 use Rattle.al_query_outcome.specs.Equations.{Solves}
 use Rattle.al_query_outcome.specs.Results.{Outcome}
-use Rattle.al_engine_recheck.specs.Rechecks.{setting_of}
-use Rattle.al_engine_batch.specs.Batches.{IsBatch}
-use Rattle.al_engine_batch.specs.Programs.{image_in}
-use Rattle.al_engine_batch.specs.declared.compiled.Compiled.{Compiled}
-use Rattle.al_engine_batch.specs.declared.compiled.Compiled.TheVariants.{Made}
-use Rattle.al_engine_batch.specs.declared.compiled.Program.{Program}
+use Rattle.al_engine.specs.Rechecks.{setting_of}
+use Rattle.al_engine.specs.Batches.{IsBatch}
+use Rattle.al_engine.specs.Programs.{image_in}
+use Rattle.al_engine.specs.declared.compiled.Compiled.{Compiled}
+use Rattle.al_engine.specs.declared.compiled.Compiled.TheVariants.{Made}
+use Rattle.al_engine.specs.declared.compiled.Program.{Program}
 use Rattle.al_tasks.specs.WorldRuns.{run_of}
 use Rattle.al_engine.specs.States.{Built}
 use Rattle.al_session_served.specs.Builds as adds

@@ -4,7 +4,7 @@ use Rattle.al_unit_graph.specs.Headers.{Header}
 use Rattle.al_unit.specs.Libraries.{library_of}
 use Rattle.al_entries.specs.EntryLaw.{TextMeaning}
 use Rattle.al_session_served.specs.Library.{LibraryMeaning}
-use Rattle.al_query_predefined.specs.PredefinedUnits.{predefined_answer}
+use Rattle.al_engine_files.specs.PredefinedUnits.{predefined_answer}
 use Rattle.al_session.specs.EngineMeanings.{meaning_of}
 
 -- Compiling from nothing, over what each text is read as and what the predefined units answer. No entry that is kept and no earlier build

@@ -5,9 +5,9 @@ use Rattle.al_bind.specs.Binding.{line_model}
 use Rattle.al_bind.specs.declared.binding.BindFault.{BindFault}
 use Rattle.al_bind.specs.declared.binding.BindFault.TheVariants.{Lacks, Cycle}
 use Rattle.al_bind.specs.declared.lacking.MissingItem.TheVariants.{Main, Body, Subunit}
-use Rattle.al_engine_batch.specs.Programs.{bytes_in}
-use Rattle.al_engine_batch.specs.declared.compiled.Compiled.{Compiled}
-use Rattle.al_engine_batch.specs.declared.compiled.Compiled.TheVariants.{Faulty, Unbound, TooLarge, Made}
+use Rattle.al_engine.specs.Programs.{bytes_in}
+use Rattle.al_engine.specs.declared.compiled.Compiled.{Compiled}
+use Rattle.al_engine.specs.declared.compiled.Compiled.TheVariants.{Faulty, Unbound, TooLarge, Made}
 use Rattle.al_machine.specs.declared.instruction.Exception as raising
 use Rattle.al_machine.specs.declared.instruction.Exception.TheVariants.{Constraint, Program, Storage}
 use Rattle.al_tasks.specs.WorldRuns as images

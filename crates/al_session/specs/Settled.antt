@@ -11,20 +11,20 @@ use Rattle.al_query.specs.declared.query.Query.{Query}
 use Rattle.al_entries.specs.EntryLaw.{TextMeaning}
 use Rattle.al_query_outcome.specs.Defines.{main_symbol}
 use Rattle.al_query_outcome.specs.Results.{Outcome}
-use Rattle.al_engine_batch.specs.Batches.{IsBatch}
-use Rattle.al_engine_batch.specs.declared.compiled.Compiled.{Compiled}
-use Rattle.al_engine_batch.specs.declared.compiled.Compiled.TheVariants as compiled
-use Rattle.al_engine_batch.specs.declared.compiled.Program.{Program}
-use Rattle.al_engine_batch.specs.Objects.{linked_units, objects_at}
-use Rattle.al_engine_batch.specs.Partitions.{IsProgram}
-use Rattle.al_engine_batch.specs.Programs.{image_in}
-use Rattle.al_engine_rebuild.specs.Replies as replies
-use Rattle.al_engine_rebuild.proofs.Replies.{one_placed, reply_is_one}
+use Rattle.al_engine.specs.Batches.{IsBatch}
+use Rattle.al_engine.specs.declared.compiled.Compiled.{Compiled}
+use Rattle.al_engine.specs.declared.compiled.Compiled.TheVariants as compiled
+use Rattle.al_engine.specs.declared.compiled.Program.{Program}
+use Rattle.al_engine.specs.Objects.{linked_units, objects_at}
+use Rattle.al_engine.specs.Partitions.{IsProgram}
+use Rattle.al_engine.specs.Programs.{image_in}
+use Rattle.al_engine.specs.Replies as replies
+use Rattle.al_engine.proofs.Replies.{one_placed, reply_is_one}
 use Rattle.al_bind.proofs.Bound.{one_elaboration}
 use Rattle.al_link.specs.Images.{image_of}
 use Rattle.al_query_outcome.specs.Equations.{unit_named}
 use Rattle.al_link_image.specs.Images.{Image}
-use Rattle.al_link_placed.specs.Placed.{ArePlaced}
+use Rattle.al_engine.specs.Placed.{ArePlaced}
 use Rattle.al_tasks.specs.WorldRuns.{run_of}
 use Rattle.al_session_served.specs.Builds as adds
 use Rattle.al_session_served.specs.Library.{IsSettled}

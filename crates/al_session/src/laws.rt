@@ -5,7 +5,7 @@ ghost use Rattle.al_session.specs.Meanings.{library_meaning};
 ghost use Rattle.al_session.specs.Reports.{ReportsAscend};
 
 use crate::engine::Engine;
-use al_engine_found::laws::findings_ascend;
+use al_engine_refresh::found_laws::findings_ascend;
 use al_query_outcome::UnitCheck;
 
 /// What compiling files gives for a main unit is one thing, and so is what a run of its image puts out.

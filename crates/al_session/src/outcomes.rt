@@ -4,7 +4,7 @@ ghost use Rattle.al_session_served.specs.Outcomes.{outcome_model};
 ghost use Rattle.al_session.specs.Results.{end_of, exception_of, fault_result, result_of};
 
 use al_bind::{BindFault, MissingItem};
-use al_engine_batch::Compiled;
+use al_engine::Compiled;
 use al_machine::Exception as Raising;
 use al_session_served::{Exception, Outcome, RunEnd};
 use al_tasks::RunEnd as ImageEnd;

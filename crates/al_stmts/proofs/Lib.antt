@@ -1,3 +1,16 @@
+pub mod ApartLemmas
+pub mod Behind
+pub mod Choosing
+pub mod CoverLemmas
+pub mod Dotted
+pub mod Folded
+pub mod HoldsLemmas
+pub mod Joined
+pub mod JudgingLemmas
 pub mod Layers
-pub mod Ranges
+pub mod LoopLemmas
+pub mod RangeLemmas
+pub mod RangesThere
+pub mod ReturnsLayers
 pub mod Seen
+pub mod TimesLemmas

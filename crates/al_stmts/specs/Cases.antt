@@ -9,10 +9,10 @@ use Rattle.al_base_fault.specs.Judging.{next, unless}
 use Rattle.al_base_fault.specs.declared.fault.Fault.{Fault}
 use Rattle.al_base_faults.specs.FaultLists.{followed, no_fault}
 use Rattle.al_base_faults.specs.declared.fault_list.FaultList.{FaultList}
-use Rattle.al_stmts_choices.specs.Choosing.{AreRight, has_others, range_of}
-use Rattle.al_stmts_choices.specs.declared.choice.Choice.{Choice}
-use Rattle.al_stmts_choices.specs.declared.choice.Selector.{Selector}
-use Rattle.al_stmts_choices.specs.declared.choice.Selector.TheVariants.{OfSubtype, OfType}
+use Rattle.al_stmts.specs.Choosing.{AreRight, has_others, range_of}
+use Rattle.al_stmts.specs.declared.choice.Choice.{Choice}
+use Rattle.al_stmts.specs.declared.choice.Selector.{Selector}
+use Rattle.al_stmts.specs.declared.choice.Selector.TheVariants.{OfSubtype, OfType}
 use Rattle.al_view_typed.specs.ExpressionTrees.{TypedTree}
 use Rattle.al_view_typed.specs.ExpressionTrees.TypedTree.{Labelled}
 use Rattle.al_view_typed.specs.StatementTrees.{AlternativeTree, StatementTree}

@@ -6,8 +6,8 @@ use Rattle.al_view.specs.declared.types.Bounds.{Bounds}
 use Rattle.al_base_fault.specs.Faults.{fault_at}
 use Rattle.al_base_fault.specs.Judging.{both, next, unless}
 use Rattle.al_base_fault.specs.declared.fault.Fault.{Fault}
-use Rattle.al_stmts_loops.specs.Exits.{EnclosingLoops, exit_checked}
-use Rattle.al_stmts_loops.specs.Returns.{return_fault}
+use Rattle.al_stmts.specs.Exits.{EnclosingLoops, exit_checked}
+use Rattle.al_stmts.specs.Returns.{return_fault}
 use Rattle.al_view_typed.specs.ExpressionTrees.{CallTree, NameTree, TypedTree}
 use Rattle.al_view_typed.specs.ExpressionTrees.{NameTree as names, TypedTree as typed, ValueTree as values}
 use Rattle.al_view_typed.specs.ExpressionViews.{name_model}

@@ -1,18 +1,18 @@
 // The alternatives of a case statement.
 ghost use Rattle.std.specs.Prelude.{◌≡◌, ◌++◌, IfOk, OnOk, map};
 ghost use Rattle.std.specs.List.{filter_map};
-ghost use Rattle.al_stmts_choices.specs.Choosing.{has_others, is_others, range_of};
+ghost use Rattle.al_stmts.specs.Choosing.{has_others, is_others, range_of};
 ghost use Rattle.al_base_fault.specs.Judging.{map_ok};
 ghost use Rattle.al_view_typed.specs.ExpressionViews.{typed_model};
 ghost use Rattle.al_view_typed.specs.StatementViews.{alternative_model, statement_model};
 ghost use Rattle.al_stmts.specs.Cases.{alternatives_checked, cased, cased_over, chosen_by, none_chosen, with_alternative};
 ghost use Rattle.al_stmts.specs.Checking.{all_checked, one_checked};
 
+use crate::Choice;
 use crate::checked::{CheckedStatement, CheckedStatements};
 use al_base::NoMemory;
 use al_base_fault::CheckResult;
 use al_base_faults::FaultList;
-use al_stmts_choices::Choice;
 use al_view::{Bounds, Seq};
 use al_view_typed::{Alternative, StatementForm, Typed, TypedStatement};
 use std::alloc::{AllocError, Global};
@@ -68,7 +68,7 @@ fn range_of(choice: &Choice) -> Option<Bounds>
 }
 
 /// The ranges of choices.
-#[tactic(auto, using(std::proofs::lemmas::Grind::common_steps, crate::proofs::Ranges::ranges_more))]
+#[tactic(auto, using(std::proofs::lemmas::Grind::common_steps, crate::proofs::RangesThere::ranges_more))]
 fn ranges_in(alloc: Global, choices: &[Choice]) -> Result<Seq<Bounds>, AllocError>
     ensures { IfOk result (λ ranges. ranges ≡ filter_map range_of choices.now) }
 {

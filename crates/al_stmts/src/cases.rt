@@ -5,9 +5,9 @@ ghost use Rattle.al_view_typed.specs.ExpressionViews.{typed_model};
 ghost use Rattle.al_stmts.specs.Cases.{RightFor, bounds_of, held_against, held_by, right_or_told, selected};
 
 use crate::choices::CaseChoices;
+use crate::{Selector, are_right};
 use al_base::{NoMemory, Place};
 use al_base_fault::{CheckResult, CheckRule, Fault, unless};
-use al_stmts_choices::{Selector, are_right};
 use al_view::Bounds;
 use al_view_typed::Typed;
 use std::alloc::Global;

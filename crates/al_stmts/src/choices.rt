@@ -2,9 +2,9 @@
 ghost use Rattle.std.specs.Prelude.{◌≡◌, OnOk};
 ghost use Rattle.al_stmts.specs.Cases.{no_alternative, no_choice, with_choice, with_choices};
 
+use crate::Choice;
 use al_base::NoMemory;
 use al_base_fault::{CheckResult, Fault, earlier};
-use al_stmts_choices::Choice;
 use al_view::Seq;
 use std::alloc::Global;
 

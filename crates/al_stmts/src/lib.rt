@@ -2,25 +2,70 @@
 #![tactic(auto)]
 
 mod alternatives;
+mod apart;
 mod blocks;
+mod bodies;
+mod bounds;
 mod branches;
 mod cases;
 mod checked;
+mod choice;
 mod choices;
+mod cover;
+mod enclosing;
+mod ends;
+mod examples;
+mod exits;
+mod extent;
+mod extents;
+mod inside;
+mod judging;
+mod laws;
 mod loops;
+mod part;
+mod ranges;
+mod returns;
 mod simple;
+mod statements;
 mod target;
+mod walk;
+mod walked_alternatives;
+mod walked_branches;
+mod walked_ends;
+mod walked_laws;
 
 pub use alternatives::{CheckedAlternatives, Chosen};
 pub use blocks::block_statement;
 pub use branches::CheckedBranches;
 pub use cases::{checked_selector, choices_are_right, selector_of};
 pub use checked::{CheckedStatement, CheckedStatements};
+pub use choice::{Choice, Selector};
 pub use choices::{AlternativeChoices, CaseChoices};
+pub use enclosing::Enclosing;
+pub use ends::{NameAtEnd, end_fault};
+pub use examples::{
+    faults_of_bodies, faults_of_declarations_inside, faults_of_statements, faults_of_tasks,
+};
+pub use exits::Loops;
+pub use extent::BodyExtent;
+pub use extents::{first_line, named_extent, named_line, subprogram_extent};
+pub use inside::WalkedInside;
+pub use judging::are_right;
+pub use laws::{an_exit_leaves_the_innermost_loop, no_exit_where_no_loop};
 pub use loops::{
     LoopRange, LoopWords, for_scheme, loop_statement, mark_range, parameter_bounds, while_scheme,
 };
+pub use part::WalkedPart;
+pub use returns::{EnclosingBody, no_return_fault, return_fault};
 pub use simple::{
     ReturnContext, assignment, call, delay, exit_statement, null, put, return_statement,
 };
+pub use statements::{WalkedStatement, WalkedStatements};
 pub use target::{Target, target_of};
+pub use walk::has_return;
+pub use walked_alternatives::WalkedAlternatives;
+pub use walked_branches::WalkedBranches;
+pub use walked_ends::{end_of, end_of_compound, end_of_named};
+pub use walked_laws::{
+    faults_of_items_follow, faults_of_operations_follow, faults_of_statements_follow,
+};

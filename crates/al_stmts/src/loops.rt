@@ -24,7 +24,7 @@ pub struct LoopRange {
 }
 
 /// The words of the frame that keep a loop's parameter and the last value that it is to have.
-#[derive(Clone, Copy, Debug, PartialEq, Eq)]
+#[derive(Clone, Copy)]
 pub struct LoopWords {
     pub parameter: u32,
     pub last: u32,

@@ -7,15 +7,15 @@ ghost use Rattle.al_view_typed.specs.StatementViews.{piece_model, statement_mode
 ghost use Rattle.al_stmts.specs.Simple.{assigned, called, delayed, exited, maybe_checked, put, returned, target_model, value_returned};
 
 use crate::target::Target;
+use crate::{EnclosingBody, Loops, return_fault};
 use al_base::Place;
 use al_base_fault::{CheckResult, both, unless};
-use al_stmts_loops::{EnclosingBody, Loops, return_fault};
 use al_view::Bounds;
 use al_view_typed::{CheckedValue, Piece, StatementForm, Typed, TypedCall, TypedStatement};
 
 /// What a return statement stands in: the innermost body round it, and of a function the words of its result, with the range of
 /// its subtype where that is scalar; 0 and none of other bodies.
-#[derive(Clone, Copy, Debug)]
+#[derive(Clone, Copy)]
 pub struct ReturnContext {
     pub body: EnclosingBody,
     pub words: u32,

@@ -7,7 +7,7 @@ use Rattle.al_overload_label.specs.Ranges.{bounds_checked}
 use Rattle.al_overload_label.specs.RangesSeen.{pair_model}
 use Rattle.al_overload_label.specs.declared.range.Pair.{Pair}
 use Rattle.al_overload.specs.declared.context.Context.{Context}
-use Rattle.al_overload_term.specs.Terms.{TermTree}
+use Rattle.al_overload_heads.specs.Terms.{TermTree}
 use Rattle.al_view.specs.declared.symbol.Symbol.{Symbol}
 use Rattle.al_view.specs.declared.types.TypeView.{TypeView}
 

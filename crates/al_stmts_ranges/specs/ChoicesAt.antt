@@ -1,23 +1,23 @@
 -- Choices of case statements where they stand (ARM 3.8.1, 5.4), wanted at the selector's type. Their names are looked up by a table of answers.
 use Rattle.std.specs.Prelude.{ℕ, pos, negsuc, List, [], Option, Some, None, Result, Ok, Err, option_map, unwrap_or, if◌then◌else◌}
 use Rattle.al_base.specs.declared.place.Place.{Place}
-use Rattle.al_stmts_choices.specs.declared.choice.Choice.{Choice}
-use Rattle.al_stmts_choices.specs.declared.choice.Choice.TheVariants as choices
-use Rattle.al_decl_type.specs.Subtypes.{subtype_of}
-use Rattle.al_decl_type.specs.declared.subtype.StaticRange.{StaticRange}
+use Rattle.al_stmts.specs.declared.choice.Choice.{Choice}
+use Rattle.al_stmts.specs.declared.choice.Choice.TheVariants as choices
+use Rattle.al_decl_judged.specs.TypeSubtypes.{subtype_of}
+use Rattle.al_decl_judged.specs.declared.subtype_views.StaticRange.{StaticRange}
 use Rattle.al_decl_judged.specs.StaticPieces.{static_of}
 use Rattle.al_overload_heads.specs.declared.everywhere.Predefined.{Predefined}
 use Rattle.al_base_fault.specs.Judging.{both, next, map_ok, unless}
 use Rattle.al_base_fault.specs.declared.fault.Fault.{Fault}
-use Rattle.al_overload_keys.specs.Places.{first_place}
+use Rattle.al_overload_lookup.specs.Places.{first_place}
 use Rattle.al_overload_label.specs.Static.{static_term_checked}
 use Rattle.al_overload_label.specs.Ranges.{FoundTree}
 use Rattle.al_overload_label.specs.declared.range.FoundType.{FoundType}
-use Rattle.al_overload_name.specs.Types.{value_type}
+use Rattle.al_overload.specs.Types.{value_type}
 use Rattle.al_overload.specs.declared.context.Context.{Context}
 use Rattle.al_overload.specs.declared.context.Context.TheVariants as contexts
-use Rattle.al_overload_picks.specs.Types.{positions_in, range_in}
-use Rattle.al_overload_prefixes.specs.TextsAt.{With, read_with_at}
+use Rattle.al_overload.specs.PickedTypes.{positions_in, range_in}
+use Rattle.al_overload_values.specs.TextsAt.{With, read_with_at}
 use Rattle.al_query.specs.Reads.{Table}
 use Rattle.al_overload_readings.specs.Readings.{ReadTree, range_read, valued}
 use Rattle.al_decl_ada.specs.SubtypesAt.{discrete_names, static_at}
@@ -25,8 +25,8 @@ use Rattle.al_tree_syntax.specs.DeclarationTrees.{DiscreteRangeTree, DiscreteRan
 use Rattle.al_tree_syntax.specs.StatementTrees.{ChoiceTree}
 use Rattle.al_tree_syntax.specs.StatementTrees.ChoiceTree.{OthersChoice, RangeChoice}
 use Rattle.al_tree_syntax.specs.ExpressionTrees.{ExpressionTree}
-use Rattle.al_overload_term.specs.Terms.{TermTree}
-use Rattle.al_overload_prefixes.specs.TermsAt.{mark_at}
+use Rattle.al_overload_heads.specs.Terms.{TermTree}
+use Rattle.al_overload_values.specs.TermsAt.{mark_at}
 use Rattle.al_view_typed.specs.ExpressionTrees.{TypedTree}
 use Rattle.al_overload_values.specs.Surroundings.{Surroundings}
 use Rattle.al_overload_values.specs.ValuesAt.{selector_judged_at}

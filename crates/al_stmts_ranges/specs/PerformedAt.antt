@@ -3,18 +3,18 @@
 use Rattle.std.specs.Prelude.{ℕ, false, [], Result, Ok, Err}
 use Rattle.al_base_fault.specs.Judging.{next, map_ok, unless}
 use Rattle.al_base_fault.specs.declared.fault.Fault.{Fault}
-use Rattle.al_overload_prefixes.specs.TextsAt.{With, context_with_at}
-use Rattle.al_overload_put.specs.Puts.{call_effect}
+use Rattle.al_overload_values.specs.TextsAt.{With, context_with_at}
+use Rattle.al_overload_values.specs.Puts.{call_effect}
 use Rattle.al_query.specs.Reads.{Table}
 use Rattle.al_overload_slots.specs.Pieces.{pieces_after, pieces_numbered}
 use Rattle.al_overload_slots.specs.Slots.{call_after, call_numbered}
 use Rattle.al_tree_syntax.specs.ExpressionTrees.{ExpressionTree}
-use Rattle.al_overload_term.specs.Terms.{TermTree}
+use Rattle.al_overload_heads.specs.Terms.{TermTree}
 use Rattle.al_view_typed.specs.StatementTrees.{StatementFormTree}
 use Rattle.al_view_typed.specs.StatementTrees.StatementFormTree.{CallStatement, PutStatement}
 use Rattle.al_overload_values.specs.Surroundings.{Surroundings}
 use Rattle.al_overload_values.specs.Words.{Worded}
-use Rattle.al_stmts_walked.specs.Readings.{CallEffect, Called, Put}
+use Rattle.al_stmts.specs.Readings.{CallEffect, Called, Put}
 
 -- what a statement does that is a call; a name alone is no other statement
 abbrev pub call_effect_of : StatementFormTree → CallEffect

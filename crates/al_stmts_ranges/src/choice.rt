@@ -2,15 +2,15 @@
 ghost use Rattle.std.specs.Prelude.{◌≡◌, IfOk, None, option_map};
 ghost use Rattle.al_decl_judged.specs.StaticPieces.{static_of};
 ghost use Rattle.al_base_fault.specs.Judging.{both, next, map_ok, unless};
-ghost use Rattle.al_overload_keys.specs.Places.{first_place};
+ghost use Rattle.al_overload_lookup.specs.Places.{first_place};
 ghost use Rattle.al_overload_label.specs.Static.{static_term_checked};
-ghost use Rattle.al_overload_prefixes.specs.TextsAt.{read_with_at, reading_with_model};
+ghost use Rattle.al_overload_values.specs.TextsAt.{read_with_at, reading_with_model};
 ghost use Rattle.al_query.specs.Asked.{AsksOf, by_some_name};
 ghost use Rattle.al_query.specs.Reads.{FromAnswers};
 ghost use Rattle.al_stmts_ranges.specs.ChoicesAt.{bounds_choice, choice_at, choice_context, discrete_choice, fitted_choice, mark_choice, marked_choice, one_value, range_choice, range_part, read_choice, static_choice, value_choice};
 ghost use Rattle.al_overload_readings.specs.ReadingViews.{reading_model};
-ghost use Rattle.al_overload_term.specs.TermViews.{term_model};
-ghost use Rattle.al_overload_prefixes.specs.TermsAt.{mark_at};
+ghost use Rattle.al_overload_heads.specs.TermViews.{term_model};
+ghost use Rattle.al_overload_values.specs.TermsAt.{mark_at};
 ghost use Rattle.al_tree.specs.DeclarationViews.{discrete_range_model, range_model};
 ghost use Rattle.al_tree.specs.ExpressionViews.{expression_model};
 ghost use Rattle.al_tree.specs.StatementViews.{choice_model};
@@ -20,20 +20,16 @@ ghost use Rattle.al_overload_values.specs.Surroundings.{site_model, site_units};
 use al_base::{NoMemory, Place};
 use al_base_fault::{CheckResult, Fault, both, unless};
 use al_decl_ada::static_at;
-use al_decl_judged::static_of;
-use al_decl_type::{StaticRange, subtype_of};
-use al_overload::Context;
-use al_overload_keys::first_place;
+use al_decl_judged::{StaticRange, static_of, subtype_of};
+use al_overload::{Context, range_in, value_type};
+use al_overload_heads::Term;
 use al_overload_label::{FoundType, check_static_term};
-use al_overload_name::value_type;
+use al_overload_lookup::first_place;
 use al_overload_nodes::Labeller;
-use al_overload_picks::range_in;
-use al_overload_prefixes::{mark_at, read_with_at};
 use al_overload_readings::{Reading, as_value, mark_in};
-use al_overload_term::Term;
-use al_overload_values::Site;
+use al_overload_values::{Site, mark_at, read_with_at};
 use al_query::{Answers, Recorder};
-use al_stmts_choices::Choice;
+use al_stmts::Choice;
 use al_tree::{Choice as ChoiceText, DiscreteRange, Expression, Range};
 use al_view::{Bounds, SubtypeView};
 use al_view_predefined::StandardTypes;
@@ -75,7 +71,7 @@ fn one_value(checked: &CheckResult<Typed>) -> CheckResult<Choice>
     }
 }
 
-#[tactic(auto, using(al_overload_prefixes::proofs::Seen::seen_unless))]
+#[tactic(auto, using(al_overload_values::proofs::Seen::seen_unless))]
 fn value_choice(
     labeller: &Labeller,
     found: &FoundType,

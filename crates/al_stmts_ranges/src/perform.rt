@@ -2,9 +2,9 @@
 ghost use Rattle.std.specs.Prelude.{◌≡◌, IfOk};
 ghost use Rattle.al_base_fault.specs.Judging.{next, map_ok, unless};
 ghost use Rattle.al_stmts_ranges.specs.PerformedAt.{call_effect_at, call_effect_after, call_effect_numbered, call_effect_of, call_effect_with_words};
-ghost use Rattle.al_overload_prefixes.specs.TextsAt.{term_with_model};
-ghost use Rattle.al_overload_put.specs.Puts.{call_effect};
-ghost use Rattle.al_overload_put.specs.Seen.{call_effect_model as put_model};
+ghost use Rattle.al_overload_values.specs.TextsAt.{term_with_model};
+ghost use Rattle.al_overload_values.specs.Puts.{call_effect};
+ghost use Rattle.al_overload_values.specs.Seen.{call_effect_model as put_model};
 ghost use Rattle.al_query.specs.Asked.{AsksOf, by_some_name};
 ghost use Rattle.al_query.specs.Reads.{FromAnswers};
 ghost use Rattle.al_stmts_text.specs.PerformedViews.{call_effect_model};
@@ -13,12 +13,10 @@ ghost use Rattle.al_overload_values.specs.Surroundings.{site_model, site_units};
 
 use al_base::NoMemory;
 use al_base_fault::{CheckResult, Fault, unless};
+use al_overload_heads::Term;
 use al_overload_nodes::Labeller;
-use al_overload_prefixes::context_with_at;
-use al_overload_put::{CallEffect as Labelled, check_performed};
 use al_overload_slots::{number_call, number_pieces};
-use al_overload_term::Term;
-use al_overload_values::Site;
+use al_overload_values::{CallEffect as Labelled, Site, check_performed, context_with_at};
 use al_query::{Answers, Recorder};
 use al_stmts_text::CallEffect;
 use al_tree::Expression;
@@ -56,7 +54,7 @@ fn call_effect_of(labelled: CheckResult<Labelled>) -> CheckResult<CallEffect>
     }
 }
 
-#[tactic(auto, using(al_overload_prefixes::proofs::Seen::seen_unless))]
+#[tactic(auto, using(al_overload_values::proofs::Seen::seen_unless))]
 fn check(
     labeller: &Labeller,
     term: CheckResult<(Term, Option<Fault>)>,

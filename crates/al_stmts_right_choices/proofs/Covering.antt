@@ -4,11 +4,11 @@ use Rattle.std.specs.List.{list_all}
 use Rattle.std.proofs.lemmas.Bool.{and_from, ltb-true, lt-ltb}
 use Rattle.std.proofs.lemmas.Int.{ints, by_lt_z}
 use Rattle.al_view.specs.declared.types.Bounds.{Bounds}
-use Rattle.al_stmts_choices.specs.Choosing.{Covers, StaysWithin}
-use Rattle.al_stmts_choices.specs.Values.{has_values, holds, times_chosen}
-use Rattle.al_stmts_choices.specs.declared.choice.Selector.{Selector}
-use Rattle.al_stmts_choices.specs.declared.choice.Selector.TheVariants.{OfSubtype, OfType}
-use Rattle.al_stmts_choices.proofs.HoldsLemmas.{holds_from, holds_high, holds_inside, holds_low, holds_upto}
+use Rattle.al_stmts.specs.Choosing.{Covers, StaysWithin}
+use Rattle.al_stmts.specs.Values.{has_values, holds, times_chosen}
+use Rattle.al_stmts.specs.declared.choice.Selector.{Selector}
+use Rattle.al_stmts.specs.declared.choice.Selector.TheVariants.{OfSubtype, OfType}
+use Rattle.al_stmts.proofs.HoldsLemmas.{holds_from, holds_high, holds_inside, holds_low, holds_upto}
 use Rattle.al_stmts_right_choices.specs.ChoicesTest.{covers, goes_on, is_chosen, lies_within, stays_within}
 use Rattle.al_stmts_right_choices.proofs.Tests.{all_hold, both_left, both_right, or_else, or_if}
 use Rattle.al_stmts_right_choices.proofs.Times.{no_fewer, times_no, times_yes}

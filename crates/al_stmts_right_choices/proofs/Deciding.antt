@@ -4,9 +4,9 @@ use Rattle.std.specs.Prelude.{◌==◌, ◌↔◌, IsFalse}
 use Rattle.std.specs.List.{list_all, list_any}
 use Rattle.std.proofs.lemmas.Bool.{and_from, eqb-true, eq-eqb, false≢true, true≢false}
 use Rattle.al_view.specs.declared.types.Bounds.{Bounds}
-use Rattle.al_stmts_choices.specs.Choosing.{AreRight, ChoosesRight, Covers, OthersIsAloneAndLast, covered_by, has_others, is_of_type, ranges_of}
-use Rattle.al_stmts_choices.specs.declared.choice.Choice.{Choice}
-use Rattle.al_stmts_choices.specs.declared.choice.Selector.{Selector}
+use Rattle.al_stmts.specs.Choosing.{AreRight, ChoosesRight, Covers, OthersIsAloneAndLast, covered_by, has_others, is_of_type, ranges_of}
+use Rattle.al_stmts.specs.declared.choice.Choice.{Choice}
+use Rattle.al_stmts.specs.declared.choice.Selector.{Selector}
 use Rattle.al_stmts_right_choices.specs.ChoicesTest.{choices_right, chosen_once, covers, others_in_place, ranges_right, stays_within}
 use Rattle.al_stmts_right_choices.specs.Laws.{TheTestDecides}
 use Rattle.al_stmts_right_choices.proofs.Tests.{both_left, both_right, or_else, or_if}

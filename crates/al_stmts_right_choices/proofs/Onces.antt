@@ -5,8 +5,8 @@ use Rattle.std.specs.List.{list_all}
 use Rattle.std.proofs.lemmas.Bool.{and_from, leb-true, le-leb}
 use Rattle.std.proofs.lemmas.Int.{ints, by_lt_z}
 use Rattle.al_view.specs.declared.types.Bounds.{Bounds}
-use Rattle.al_stmts_choices.specs.Values.{holds, times_chosen}
-use Rattle.al_stmts_choices.proofs.HoldsLemmas.{holds_from, holds_inside, holds_upto}
+use Rattle.al_stmts.specs.Values.{holds, times_chosen}
+use Rattle.al_stmts.proofs.HoldsLemmas.{holds_from, holds_inside, holds_upto}
 use Rattle.al_stmts_right_choices.specs.ChoicesTest.{chosen_once, is_once}
 use Rattle.al_stmts_right_choices.proofs.Tests.{all_hold, all_weaker, both_left, both_right, or_else, or_if}
 use Rattle.al_stmts_right_choices.proofs.Times.{also, as_often, times_no, times_yes}

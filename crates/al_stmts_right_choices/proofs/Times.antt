@@ -3,7 +3,7 @@ use Rattle.std.proofs.Common.{◌≡◌, ◌+◌, ◌≤◌, ℤ, Bool, true, fa
 use Rattle.std.specs.List.{list_all}
 use Rattle.std.proofs.lemmas.List.Sums.{sum_by-cons}
 use Rattle.al_view.specs.declared.types.Bounds.{Bounds}
-use Rattle.al_stmts_choices.specs.Values.{holds, times_chosen}
+use Rattle.al_stmts.specs.Values.{holds, times_chosen}
 use Rattle.al_stmts_right_choices.proofs.Tests.{both_left, both_right, or_else}
 
 pub times-cons : (r : Bounds) (rs : List Bounds) (v : ℤ) → times_chosen (r ∷ rs) v ≡ cond (holds r v) 1 0 + times_chosen rs v

@@ -1,11 +1,11 @@
 -- A test that decides whether the choices of a case statement are right (ARM 5.4(5 to 10)).
 use Rattle.std.specs.Prelude.{Bool, true, not, ◌&&◌, ◌||◌, ◌==◌, nat_le, nat_lt, List, [], ◌∷◌, length, ℤ, pos, ◌+ℤ◌}
 use Rattle.std.specs.List.{list_all, list_any}
-use Rattle.al_stmts_choices.specs.Choosing.{covered_by, has_others, is_of_type, ranges_of}
-use Rattle.al_stmts_choices.specs.Values.{has_values, holds, times_chosen}
-use Rattle.al_stmts_choices.specs.declared.choice.Choice.{Choice}
-use Rattle.al_stmts_choices.specs.declared.choice.Selector.{Selector}
-use Rattle.al_stmts_choices.specs.declared.choice.Selector.TheVariants.{OfSubtype, OfType}
+use Rattle.al_stmts.specs.Choosing.{covered_by, has_others, is_of_type, ranges_of}
+use Rattle.al_stmts.specs.Values.{has_values, holds, times_chosen}
+use Rattle.al_stmts.specs.declared.choice.Choice.{Choice}
+use Rattle.al_stmts.specs.declared.choice.Selector.{Selector}
+use Rattle.al_stmts.specs.declared.choice.Selector.TheVariants.{OfSubtype, OfType}
 use Rattle.al_view.specs.declared.types.Bounds.{Bounds}
 
 -- `others` is the only choice of the last alternative

@@ -1,8 +1,8 @@
 -- What the test tells.
 use Rattle.std.specs.Prelude.{◌↔◌, List, IsTrue}
-use Rattle.al_stmts_choices.specs.Choosing.{AreRight}
-use Rattle.al_stmts_choices.specs.declared.choice.Choice.{Choice}
-use Rattle.al_stmts_choices.specs.declared.choice.Selector.{Selector}
+use Rattle.al_stmts.specs.Choosing.{AreRight}
+use Rattle.al_stmts.specs.declared.choice.Choice.{Choice}
+use Rattle.al_stmts.specs.declared.choice.Selector.{Selector}
 use Rattle.al_stmts_right_choices.specs.ChoicesTest.{choices_right}
 
 abbrev pub TheTestDecides : Type 0

@@ -3,7 +3,7 @@ ghost use Rattle.std.specs.Prelude.{◌≡◌, IfOk};
 ghost use Rattle.al_stmts_right_choices.specs.ChoicesTest.{choices_right};
 
 use al_base::NoMemory;
-use al_stmts_choices::{Choice, Selector};
+use al_stmts::{Choice, Selector};
 use al_view::Seq;
 use std::alloc::Global;
 
@@ -15,5 +15,5 @@ pub fn are_right(
 ) -> Result<bool, NoMemory>
     ensures { IfOk result (λ right. right ≡ choices_right selector alternatives.now) }
 {
-    al_stmts_choices::are_right(alloc, alternatives, selector)
+    al_stmts::are_right(alloc, alternatives, selector)
 }

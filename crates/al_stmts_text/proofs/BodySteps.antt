@@ -4,10 +4,10 @@ use Rattle.al_base_fault.specs.declared.fault.Fault.{Fault}
 use Rattle.al_stmts.specs.declared.simple.ReturnContext.{ReturnContext}
 use Rattle.al_view_typed.specs.DeclarationTrees.{DeclarationTree}
 use Rattle.al_view_typed.specs.UnitTrees.{BodyTree}
-use Rattle.al_stmts_walked.specs.Readings.{Reading, giving}
-use Rattle.al_stmts_walked.specs.Steps.{Enclosing, Inside, Part, body_faults, body_of, in_body, object_of}
-use Rattle.al_stmts_walked.specs.Walking.{body_ended, body_entered, object_ended}
-use Rattle.al_stmts_walked.specs.declared.extent.BodyExtent.{BodyExtent}
+use Rattle.al_stmts.specs.Readings.{Reading, giving}
+use Rattle.al_stmts.specs.Steps.{Enclosing, Inside, Part, body_faults, body_of, in_body, object_of}
+use Rattle.al_stmts.specs.Walking.{body_ended, body_entered, object_ended}
+use Rattle.al_stmts.specs.declared.extent.BodyExtent.{BodyExtent}
 use Rattle.al_stmts_text.proofs.Read.{goes_on}
 
 pub entered : {H : Type 0} (R : Reading H) (h inner after : H) (returns : ReturnContext) (done : Enclosing)

@@ -7,8 +7,8 @@ use Rattle.al_tree_syntax.specs.ExpressionTrees.{ExpressionTree}
 use Rattle.al_tree.specs.StatementViews.{alternative_model, alternatives_of, choice_model}
 use Rattle.al_tree.specs.declared.statement.Alternative.{Alternative}
 use Rattle.al_tree.specs.declared.statement.Choice.{Choice}
-use Rattle.al_stmts_walked.specs.Readings.{Reading}
-use Rattle.al_stmts_walked.specs.Walking.{choices_walked, more_choices}
+use Rattle.al_stmts.specs.Readings.{Reading}
+use Rattle.al_stmts.specs.Walking.{choices_walked, more_choices}
 use Rattle.al_stmts_text.specs.Chosen.{with_chosen}
 
 abbrev pub choice_step : {H : Type 0} → Reading H → H → ExpressionTree → AlternativeChoices → Choice → AlternativeChoices

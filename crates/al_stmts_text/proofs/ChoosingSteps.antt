@@ -2,7 +2,7 @@
 use Rattle.std.proofs.Common.{◌≡◌, Bool, true, false, List, ◌∷◌, Result, Ok, Err, map, refl, ap, sym, ◌∙◌}
 use Rattle.std.specs.Prelude.{fold}
 use Rattle.al_view.specs.declared.types.Bounds.{Bounds}
-use Rattle.al_stmts_choices.specs.declared.choice.Selector.{Selector}
+use Rattle.al_stmts.specs.declared.choice.Selector.{Selector}
 use Rattle.al_base_fault.specs.declared.fault.Fault.{Fault}
 use Rattle.al_stmts.specs.Cases.{bounds_of, held_against, no_alternative, no_choice, with_choices}
 use Rattle.al_stmts.specs.declared.choices.AlternativeChoices.{AlternativeChoices}
@@ -12,9 +12,9 @@ use Rattle.al_tree.specs.StatementViews.{alternative_model, alternatives_of, cho
 use Rattle.al_tree.specs.declared.statement.Alternative.{Alternative, out-Alternative}
 use Rattle.al_tree.specs.declared.statement.Choice.{Choice}
 use Rattle.al_view_typed.specs.ExpressionTrees.{TypedTree}
-use Rattle.al_stmts_returns.proofs.Layers.{alternative_layers}
-use Rattle.al_stmts_walked.specs.Readings.{Reading, giving}
-use Rattle.al_stmts_walked.specs.Walking.{all_choices, choices_walked, more_choices, right_choices}
+use Rattle.al_stmts.proofs.ReturnsLayers.{alternative_layers}
+use Rattle.al_stmts.specs.Readings.{Reading, giving}
+use Rattle.al_stmts.specs.Walking.{all_choices, choices_walked, more_choices, right_choices}
 use Rattle.al_stmts_text.proofs.Read.{goes_on}
 use Rattle.al_stmts_text.specs.Chosen.{choices_of, with_chosen}
 

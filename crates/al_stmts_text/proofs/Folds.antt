@@ -11,11 +11,11 @@ use Rattle.al_tree.specs.declared.statement.Statement.{Statement}
 use Rattle.al_view_typed.specs.DeclarationTrees.{DeclarationTree}
 use Rattle.al_view_typed.specs.StatementTrees.{StatementTree}
 use Rattle.al_view_typed.specs.UnitTrees.{BodyTree}
-use Rattle.al_stmts_walked.specs.Readings.{Reading, giving}
-use Rattle.al_stmts_walked.specs.Steps.{Enclosing, Branching, Choosing, Part, Walked, joined, parts_joined}
-use Rattle.al_stmts_walked.specs.Walking.{alternative_walked, alternatives_walked, branch_walked, elsifs_walked, item_walked, items_walked, more_walked, operation_walked, operations_walked, part_after, statement_walked, walked_after}
-use Rattle.al_stmts_returns.proofs.Layers.{elsif_layers}
-use Rattle.al_stmts_walked.proofs.Behind.{last, last_part, parted, parts_parted}
+use Rattle.al_stmts.specs.Readings.{Reading, giving}
+use Rattle.al_stmts.specs.Steps.{Enclosing, Branching, Choosing, Part, Walked, joined, parts_joined}
+use Rattle.al_stmts.specs.Walking.{alternative_walked, alternatives_walked, branch_walked, elsifs_walked, item_walked, items_walked, more_walked, operation_walked, operations_walked, part_after, statement_walked, walked_after}
+use Rattle.al_stmts.proofs.ReturnsLayers.{elsif_layers}
+use Rattle.al_stmts.proofs.Behind.{last, last_part, parted, parts_parted}
 use Rattle.al_stmts_text.proofs.Loops.{stops}
 use Rattle.al_stmts_text.proofs.Read.{goes_on}
 

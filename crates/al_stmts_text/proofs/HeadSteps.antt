@@ -14,9 +14,9 @@ use Rattle.al_tree_syntax.specs.ExpressionTrees.{ExpressionTree}
 use Rattle.al_tree_syntax.specs.StatementTrees.{AlternativeTree, AlternativesTree}
 use Rattle.al_view_typed.specs.ExpressionTrees.{TypedTree}
 use Rattle.al_view_typed.specs.StatementTrees.{SchemeTree}
-use Rattle.al_stmts_walked.specs.Readings.{Reading, giving}
-use Rattle.al_stmts_walked.specs.Steps.{Choosing, choosing}
-use Rattle.al_stmts_walked.specs.Walking.{all_choices, case_after, case_head, for_head, loop_words, parameter_declared, right_choices}
+use Rattle.al_stmts.specs.Readings.{Reading, giving}
+use Rattle.al_stmts.specs.Steps.{Choosing, choosing}
+use Rattle.al_stmts.specs.Walking.{all_choices, case_after, case_head, for_head, loop_words, parameter_declared, right_choices}
 use Rattle.al_stmts_text.proofs.Read.{goes_on}
 use Rattle.al_stmts_text.specs.Chosen.{chosen_right}
 

@@ -18,17 +18,17 @@ use Rattle.al_tree.specs.declared.statement.OperationBody.{OperationBody}
 use Rattle.al_tree.specs.declared.statement.Statements.{Statements, out-Statements}
 use Rattle.al_tree.specs.declared.statement.SubprogramBody.{SubprogramBody, out-SubprogramBody}
 use Rattle.al_view_typed.specs.DeclarationTrees.{DeclarationTree}
-use Rattle.al_stmts_loops.specs.Returns.{no_return_fault}
-use Rattle.al_stmts_returns.specs.Returning.{has_return}
+use Rattle.al_stmts.specs.Returns.{no_return_fault}
+use Rattle.al_stmts.specs.Returning.{has_return}
 use Rattle.al_stmts.specs.declared.simple.ReturnContext.{ReturnContext}
 use Rattle.al_view_typed.specs.ExpressionTrees.{TypedTree}
-use Rattle.al_stmts_returns.proofs.Layers.{alternative_layers, branch_layers, case_layers, handled_layers, if_layers, statements_layers}
+use Rattle.al_stmts.proofs.ReturnsLayers.{alternative_layers, branch_layers, case_layers, handled_layers, if_layers, statements_layers}
 use Rattle.al_stmts_text.proofs.Layers.{body_layers}
 use Rattle.al_stmts_text.specs.Parts.{all_alternatives, all_branches, body_inside, entered_walked, object_walked, opened_walked, operation_trees}
-use Rattle.al_stmts_walked.specs.Readings.{Reading, giving}
-use Rattle.al_stmts_walked.specs.Steps.{Enclosing, Branching, Choosing, Inside, Part, Walked, block_of, case_of, if_of, inside_of, no_branching, no_part, nothing, one_alternative, one_branch, one_otherwise, part_of, parts_joined}
-use Rattle.al_stmts_walked.specs.Walking.{alternative_walked, alternatives_walked, body_ended, body_entered, body_walked, branch_walked, case_head, closed, elsifs_walked, else_walked, end_of, entry_walked, handled_walked, inside_after, items_walked, more_walked, named_extent, object_ended, operations_walked, part_after, region_left, statement_walked, statements_walked, subprogram_extent, task_walked, walked_after, walked_body}
-use Rattle.al_stmts_walked.specs.declared.extent.BodyExtent.{BodyExtent}
+use Rattle.al_stmts.specs.Readings.{Reading, giving}
+use Rattle.al_stmts.specs.Steps.{Enclosing, Branching, Choosing, Inside, Part, Walked, block_of, case_of, if_of, inside_of, no_branching, no_part, nothing, one_alternative, one_branch, one_otherwise, part_of, parts_joined}
+use Rattle.al_stmts.specs.Walking.{alternative_walked, alternatives_walked, body_ended, body_entered, body_walked, branch_walked, case_head, closed, elsifs_walked, else_walked, end_of, entry_walked, handled_walked, inside_after, items_walked, more_walked, named_extent, object_ended, operations_walked, part_after, region_left, statement_walked, statements_walked, subprogram_extent, task_walked, walked_after, walked_body}
+use Rattle.al_stmts.specs.declared.extent.BodyExtent.{BodyExtent}
 use Rattle.al_stmts_text.proofs.Read.{goes_on, made_of}
 
 pub statements_made : {H : Type 0} (R : Reading H) (r env : Enclosing) (h after : H) (first so_far : Walked) (done : H × Walked) (s : Statements)

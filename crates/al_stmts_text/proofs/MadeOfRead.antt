@@ -5,10 +5,10 @@ use Rattle.al_base_fault.specs.declared.fault.Fault.{Fault}
 use Rattle.al_stmts.specs.Simple.{target_of}
 use Rattle.al_tree_syntax.specs.ExpressionTrees.{ExpressionTree}
 use Rattle.al_view_typed.specs.ExpressionTrees.{TypedTree}
-use Rattle.al_stmts_walked.specs.Readings.{Reading}
+use Rattle.al_stmts.specs.Readings.{Reading}
 use Rattle.al_view_typed.specs.StatementTrees.{StatementTree}
-use Rattle.al_stmts_walked.specs.Steps.{Walked}
-use Rattle.al_stmts_walked.specs.Walking.{alone_at, assigned_at, assignment_walked}
+use Rattle.al_stmts.specs.Steps.{Walked}
+use Rattle.al_stmts.specs.Walking.{alone_at, assigned_at, assignment_walked}
 
 pub alone_by : {H A : Type 0} (make : A → Result StatementTree Fault) (env : H) (seen : A) (read : H × A) (made : Result StatementTree Fault) → (env, seen) ≡ read → made ≡ make seen → alone_at env made ≡ alone_at read.0 (make read.1)
 alone_by {H} {A} make env seen read made e f = ap (alone_at env) f ∙ ap (λ (p : H × A). alone_at p.0 (make p.1)) e

@@ -3,8 +3,8 @@ use Rattle.std.proofs.Common.{◌≡◌, IfOk, Result, Ok, Err, ap, ◌∙◌, r
 use Rattle.std.specs.Prelude.{OnOk}
 use Rattle.al_base_fault.specs.declared.fault.Fault.{Fault}
 use Rattle.al_view_typed.specs.StatementTrees.{StatementTree}
-use Rattle.al_stmts_walked.specs.Steps.{Walked, alone_of}
-use Rattle.al_stmts_walked.specs.Readings.{giving}
+use Rattle.al_stmts.specs.Steps.{Walked, alone_of}
+use Rattle.al_stmts.specs.Readings.{giving}
 
 -- what follows from a value follows from a result that may have it
 pub if_ok : {A E : Type 0} (r : Result A E) (P Q : A → Type 0) → ((a : A) → P a → Q a) → IfOk r P → IfOk r Q

@@ -7,8 +7,8 @@ use Rattle.al_tree_syntax.specs.ExpressionTrees.{ExpressionTree}
 use Rattle.al_tree.specs.StatementViews.{alternative_model, alternatives_of, choice_model}
 use Rattle.al_tree.specs.declared.statement.Alternative.{Alternative}
 use Rattle.al_tree.specs.declared.statement.Choice.{Choice}
-use Rattle.al_stmts_walked.specs.Readings.{Reading, giving}
-use Rattle.al_stmts_walked.specs.Walking.{choices_walked, more_choices}
+use Rattle.al_stmts.specs.Readings.{Reading, giving}
+use Rattle.al_stmts.specs.Walking.{choices_walked, more_choices}
 use Rattle.al_stmts_text.proofs.ChoiceFolds.{alternative_step, alternatives_folded, choice_step, choices_folded}
 use Rattle.al_stmts_text.proofs.Loops.{ends, step}
 use Rattle.al_stmts_text.specs.Chosen.{with_chosen}

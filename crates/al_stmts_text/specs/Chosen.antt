@@ -8,8 +8,8 @@ use Rattle.al_stmts.specs.Cases.{with_choice}
 use Rattle.al_stmts.specs.declared.choices.AlternativeChoices.{AlternativeChoices}
 use Rattle.al_stmts.specs.declared.choices.CaseChoices.{CaseChoices}
 use Rattle.al_view_typed.specs.ExpressionTrees.{TypedTree}
-use Rattle.al_stmts_walked.specs.Readings.{Reading}
-use Rattle.al_stmts_walked.specs.Walking.{all_choices, right_choices}
+use Rattle.al_stmts.specs.Readings.{Reading}
+use Rattle.al_stmts.specs.Walking.{all_choices, right_choices}
 
 abbrev pub with_chosen : {H : Type 0} → Reading H → H → ExpressionTree → AlternativeChoices → ChoiceTree → AlternativeChoices
 with_chosen R h e cs c = with_choice cs (R.choice h e c)

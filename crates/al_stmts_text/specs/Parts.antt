@@ -1,7 +1,7 @@
 -- The walk over parts of the program's trees.
 use Rattle.std.specs.Prelude.{List, Result, Some, map, option_map}
 use Rattle.al_base_fault.specs.declared.fault.Fault.{Fault}
-use Rattle.al_stmts_walked.specs.Readings.{Read}
+use Rattle.al_stmts.specs.Readings.{Read}
 use Rattle.al_tree_grammar.specs.Grammar.{Label}
 use Rattle.al_tree_syntax.specs.StatementTrees.{ItemsTree, NamedEndTree, OperationBodiesTree, StatementsTree}
 use Rattle.al_tree.specs.StatementViews.{alternative_model, alternatives_of, branch_model, elsif_model, elsifs_of, else_of, item_model, items_of, operation_bodies_of, operation_body_model, statements_model}
@@ -12,12 +12,12 @@ use Rattle.al_tree.specs.declared.statement.OperationBody.{OperationBody}
 use Rattle.al_tree.specs.declared.statement.SubprogramBody.{SubprogramBody, out-SubprogramBody}
 use Rattle.al_tree.specs.Lexemes.{place_label}
 use Rattle.al_view_typed.specs.DeclarationTrees.{DeclarationTree}
-use Rattle.al_stmts_loops.specs.Returns.{no_return_fault}
-use Rattle.al_stmts_returns.specs.Returning.{has_return}
-use Rattle.al_stmts_walked.specs.Readings.{Reading}
-use Rattle.al_stmts_walked.specs.Steps.{Enclosing, Branching, Choosing, Inside, Part}
-use Rattle.al_stmts_walked.specs.Walking.{alternative_walked, alternatives_walked, body_ended, body_entered, branch_walked, closed, elsifs_walked, else_walked, end_of, inside_after, items_walked, object_after, object_ended, operations_walked, statements_walked, walked_body}
-use Rattle.al_stmts_walked.specs.declared.extent.BodyExtent.{BodyExtent}
+use Rattle.al_stmts.specs.Returns.{no_return_fault}
+use Rattle.al_stmts.specs.Returning.{has_return}
+use Rattle.al_stmts.specs.Readings.{Reading}
+use Rattle.al_stmts.specs.Steps.{Enclosing, Branching, Choosing, Inside, Part}
+use Rattle.al_stmts.specs.Walking.{alternative_walked, alternatives_walked, body_ended, body_entered, branch_walked, closed, elsifs_walked, else_walked, end_of, inside_after, items_walked, object_after, object_ended, operations_walked, statements_walked, walked_body}
+use Rattle.al_stmts.specs.declared.extent.BodyExtent.{BodyExtent}
 
 -- the branches of an if statement
 abbrev pub all_branches : {H : Type 0} → Reading H → Enclosing → H × Branching → IfStatement → H × Branching

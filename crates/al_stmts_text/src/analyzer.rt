@@ -1,9 +1,7 @@
 // Who reads what a text holds, at a place.
 use al_base::{NoMemory, Place};
 use al_base_fault::{CheckResult, Fault};
-use al_stmts::{LoopRange, LoopWords, ReturnContext};
-use al_stmts_choices::{Choice, Selector};
-use al_stmts_walked::BodyExtent;
+use al_stmts::{BodyExtent, Choice, LoopRange, LoopWords, ReturnContext, Selector};
 use al_tree::{
     Choice as ChoiceOfText, CommonDeclaration, DiscreteRange, Expression, Identifier,
     OperationBody, ProtectedDefinition, Specification, TaskDeclaration,
@@ -38,8 +36,8 @@ pub trait Analyzer {
     ghost use Rattle.al_view_typed.specs.StatementViews.{statement_model};
     ghost use Rattle.al_view_typed.specs.UnitTrees.{body_model};
     ghost use Rattle.al_stmts_text.specs.PerformedViews.{call_effect_model};
-    ghost use Rattle.al_stmts_walked.specs.Readings.{Reading, giving};
-    ghost use Rattle.al_stmts_walked.specs.Views.{effects_model};
+    ghost use Rattle.al_stmts.specs.Readings.{Reading, giving};
+    ghost use Rattle.al_stmts.specs.Views.{effects_model};
 
     /// How far a check has come.
     type Environment;

@@ -7,16 +7,15 @@ ghost use Rattle.al_tree.specs.ExpressionViews.{expression_model};
 ghost use Rattle.al_view_typed.specs.ExpressionViews.{typed_model};
 ghost use Rattle.al_view_typed.specs.StatementViews.{statement_model};
 ghost use Rattle.al_stmts.specs.Simple.{target_of, target_model};
-ghost use Rattle.al_stmts_walked.specs.Steps.{Enclosing};
-ghost use Rattle.al_stmts_walked.specs.Walking.{alone_at, assigned_at, statement_walked};
-ghost use Rattle.al_stmts_walked.specs.WalkedViews.{one_model};
+ghost use Rattle.al_stmts.specs.Steps.{Enclosing};
+ghost use Rattle.al_stmts.specs.Walking.{alone_at, assigned_at, statement_walked};
+ghost use Rattle.al_stmts.specs.WalkedViews.{one_model};
 
 use crate::analyzer::Analyzer;
 use al_base::NoMemory;
 use al_base_fault::CheckResult;
-use al_overload_keys::first_place;
-use al_stmts::{Target, assignment, target_of};
-use al_stmts_walked::{Enclosing, WalkedStatement};
+use al_overload_lookup::first_place;
+use al_stmts::{Enclosing, Target, WalkedStatement, assignment, target_of};
 use al_tree::Assignment;
 use al_view_typed::{Typed, TypedStatement};
 

@@ -1,15 +1,15 @@
 // Bodies, before and after what stands inside them.
 ghost use Rattle.std.specs.Prelude.{◌≡◌, IfOk};
 ghost use Rattle.al_query.specs.Reads.{FromAnswers};
-ghost use Rattle.al_stmts_walked.specs.Views.{effects_model};
-ghost use Rattle.al_stmts_walked.specs.Readings.{giving};
-ghost use Rattle.al_stmts_walked.specs.Walking.{body_ended, body_entered, object_ended};
-ghost use Rattle.al_stmts_walked.specs.WalkedViews.{inside_model, part_model};
+ghost use Rattle.al_stmts.specs.Views.{effects_model};
+ghost use Rattle.al_stmts.specs.Readings.{giving};
+ghost use Rattle.al_stmts.specs.Walking.{body_ended, body_entered, object_ended};
+ghost use Rattle.al_stmts.specs.WalkedViews.{inside_model, part_model};
 
 use crate::analyzer::Analyzer;
 use al_base::NoMemory;
 use al_base_fault::Fault;
-use al_stmts_walked::{BodyExtent, Enclosing, WalkedInside, WalkedPart};
+use al_stmts::{BodyExtent, Enclosing, WalkedInside, WalkedPart};
 use al_view_typed::TypedDeclaration;
 use std::alloc::Global;
 

@@ -6,16 +6,15 @@ ghost use Rattle.al_tree_syntax.specs.StatementTrees.StatementTree.{CallStatemen
 ghost use Rattle.al_tree.specs.ExpressionViews.{expression_model};
 ghost use Rattle.al_view_typed.specs.StatementViews.{statement_model};
 ghost use Rattle.al_stmts_text.specs.PerformedViews.{call_effect_model};
-ghost use Rattle.al_stmts_walked.specs.Steps.{Enclosing};
-ghost use Rattle.al_stmts_walked.specs.Walking.{alone_at, call_effect, statement_walked};
-ghost use Rattle.al_stmts_walked.specs.WalkedViews.{one_model};
+ghost use Rattle.al_stmts.specs.Steps.{Enclosing};
+ghost use Rattle.al_stmts.specs.Walking.{alone_at, call_effect, statement_walked};
+ghost use Rattle.al_stmts.specs.WalkedViews.{one_model};
 
 use crate::analyzer::{Analyzer, CallEffect};
 use al_base::NoMemory;
 use al_base_fault::CheckResult;
-use al_overload_keys::first_place;
-use al_stmts::{call, put};
-use al_stmts_walked::{Enclosing, WalkedStatement};
+use al_overload_lookup::first_place;
+use al_stmts::{Enclosing, WalkedStatement, call, put};
 use al_tree::Expression;
 use al_view_typed::TypedStatement;
 

@@ -6,8 +6,8 @@ ghost use Rattle.al_stmts.specs.Cases.{no_choice, with_choice};
 ghost use Rattle.al_tree.specs.ExpressionViews.{expression_model};
 ghost use Rattle.al_tree.specs.StatementViews.{alternative_model, alternatives_of, choice_model};
 ghost use Rattle.al_view_typed.specs.ExpressionViews.{typed_model};
-ghost use Rattle.al_stmts_walked.specs.Readings.{giving};
-ghost use Rattle.al_stmts_walked.specs.Walking.{all_choices, choices_walked, more_choices, right_choices};
+ghost use Rattle.al_stmts.specs.Readings.{giving};
+ghost use Rattle.al_stmts.specs.Walking.{all_choices, choices_walked, more_choices, right_choices};
 ghost use Rattle.al_stmts_text.specs.Chosen.{choices_of, with_chosen};
 
 use crate::analyzer::Analyzer;

@@ -10,16 +10,15 @@ ghost use Rattle.al_tree.specs.StatementViews.{alternative_model, alternatives_o
 ghost use Rattle.al_view_typed.specs.ExpressionViews.{typed_model};
 ghost use Rattle.al_view_typed.specs.StatementViews.{scheme_model};
 ghost use Rattle.al_stmts_text.specs.Chosen.{chosen_right};
-ghost use Rattle.al_stmts_walked.specs.Readings.{giving};
-ghost use Rattle.al_stmts_walked.specs.Walking.{case_after, case_head, for_head, loop_words, parameter_declared, while_walked};
-ghost use Rattle.al_stmts_walked.specs.WalkedViews.{choosing_model};
+ghost use Rattle.al_stmts.specs.Readings.{giving};
+ghost use Rattle.al_stmts.specs.Walking.{case_after, case_head, for_head, loop_words, parameter_declared, while_walked};
+ghost use Rattle.al_stmts.specs.WalkedViews.{choosing_model};
 
 use crate::analyzer::Analyzer;
 use crate::choices::{all_choices, right_choices};
 use al_base::{NoMemory, Place};
 use al_base_fault::CheckResult;
-use al_stmts::{CaseChoices, LoopRange, LoopWords, for_scheme, while_scheme};
-use al_stmts_walked::WalkedAlternatives;
+use al_stmts::{CaseChoices, LoopRange, LoopWords, WalkedAlternatives, for_scheme, while_scheme};
 use al_tree::{Alternative, DiscreteRange, Expression, Identifier};
 use al_view_typed::{LoopScheme, Typed};
 use std::alloc::Global;

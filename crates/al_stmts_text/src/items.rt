@@ -3,12 +3,12 @@ ghost use Rattle.std.specs.Prelude.{◌≡◌, IfOk};
 ghost use Rattle.al_query.specs.Reads.{FromAnswers};
 ghost use Rattle.al_tree.specs.DeclarationViews.{common_model, protected_model, specification_model, task_model};
 ghost use Rattle.al_tree.specs.Lexemes.{place_label};
-ghost use Rattle.al_stmts_walked.specs.Walking.{declared_part};
-ghost use Rattle.al_stmts_walked.specs.WalkedViews.{part_model};
+ghost use Rattle.al_stmts.specs.Walking.{declared_part};
+ghost use Rattle.al_stmts.specs.WalkedViews.{part_model};
 
 use crate::analyzer::Analyzer;
 use al_base::{NoMemory, Place};
-use al_stmts_walked::WalkedPart;
+use al_stmts::WalkedPart;
 use al_tree::{CommonDeclaration, ProtectedDefinition, Specification, TaskDeclaration};
 use std::alloc::Global;
 

@@ -9,15 +9,14 @@ ghost use Rattle.al_view_typed.specs.ExpressionViews.{typed_model};
 ghost use Rattle.al_view_typed.specs.StatementTrees.{StatementFormTree as forms};
 ghost use Rattle.al_view_typed.specs.StatementTrees.StatementTree.{Numbered};
 ghost use Rattle.al_view_typed.specs.StatementViews.{statement_model};
-ghost use Rattle.al_stmts_walked.specs.Steps.{alone_of, Enclosing};
-ghost use Rattle.al_stmts_walked.specs.Walking.{statement_walked, maybe_condition, alone_at};
-ghost use Rattle.al_stmts_walked.specs.WalkedViews.{one_model};
+ghost use Rattle.al_stmts.specs.Steps.{alone_of, Enclosing};
+ghost use Rattle.al_stmts.specs.Walking.{statement_walked, maybe_condition, alone_at};
+ghost use Rattle.al_stmts.specs.WalkedViews.{one_model};
 
 use crate::analyzer::Analyzer;
 use al_base::NoMemory;
 use al_base_fault::CheckResult;
-use al_stmts::{delay, null};
-use al_stmts_walked::{Enclosing, WalkedStatement};
+use al_stmts::{Enclosing, WalkedStatement, delay, null};
 use al_tree::{DelayStatement, ExitStatement, Expression};
 use al_view_typed::{Typed, TypedStatement};
 

@@ -2,15 +2,15 @@
 ghost use Rattle.std.specs.Prelude.{◌≡◌, IfOk, OnOk};
 ghost use Rattle.al_query.specs.Reads.{FromAnswers};
 ghost use Rattle.al_tree.specs.Lexemes.{place_label};
-ghost use Rattle.al_stmts_walked.specs.Steps.{block_of, broken_by};
-ghost use Rattle.al_stmts_walked.specs.Units.{parts_completed};
-ghost use Rattle.al_stmts_walked.specs.Walking.{closed, region_left};
-ghost use Rattle.al_stmts_walked.specs.WalkedViews.{inside_model, one_model, part_model};
+ghost use Rattle.al_stmts.specs.Steps.{block_of, broken_by};
+ghost use Rattle.al_stmts.specs.Units.{parts_completed};
+ghost use Rattle.al_stmts.specs.Walking.{closed, region_left};
+ghost use Rattle.al_stmts.specs.WalkedViews.{inside_model, one_model, part_model};
 
 use crate::analyzer::Analyzer;
 use al_base::{NoMemory, Place};
 use al_base_fault::Fault;
-use al_stmts_walked::{WalkedInside, WalkedPart, WalkedStatement};
+use al_stmts::{WalkedInside, WalkedPart, WalkedStatement};
 use std::alloc::Global;
 
 /// The region of a statement that was walked over is left (ARM 8.1).

@@ -9,16 +9,14 @@ ghost use Rattle.al_tree.specs.ExpressionViews.{expression_model};
 ghost use Rattle.al_tree.specs.Lexemes.{place_label};
 ghost use Rattle.al_view_typed.specs.StatementViews.{statement_model};
 ghost use Rattle.al_stmts.specs.Simple.{returned};
-ghost use Rattle.al_stmts_loops.specs.Exits.{EnclosingLoops};
-ghost use Rattle.al_stmts_walked.specs.Walking.{alone_at, is_function, result_at, return_walked, statement_walked};
-ghost use Rattle.al_stmts_walked.specs.WalkedViews.{one_model};
+ghost use Rattle.al_stmts.specs.Exits.{EnclosingLoops};
+ghost use Rattle.al_stmts.specs.Walking.{alone_at, is_function, result_at, return_walked, statement_walked};
+ghost use Rattle.al_stmts.specs.WalkedViews.{one_model};
 
 use crate::analyzer::Analyzer;
 use al_base::{NoMemory, Place};
 use al_base_fault::{CheckResult, CheckRule, Fault};
-use al_stmts::{ReturnContext, return_statement};
-use al_stmts_loops::EnclosingBody;
-use al_stmts_walked::{Enclosing, WalkedStatement};
+use al_stmts::{Enclosing, EnclosingBody, ReturnContext, WalkedStatement, return_statement};
 use al_tree::{Expression, ReturnStatement};
 use al_view_typed::TypedStatement;
 

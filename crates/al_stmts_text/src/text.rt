@@ -7,11 +7,11 @@ ghost use Rattle.al_tree.specs.ExpressionViews.{expression_model};
 ghost use Rattle.al_tree.specs.Lexemes.{identifier_label, place_label};
 ghost use Rattle.al_tree.specs.StatementViews.{alternative_model, alternatives_of, block_model, body_model, branch_model, case_model, elsif_model, elsifs_of, else_of, handled_model, if_model, item_model, items_of, loop_model, more_statements_of, named_end_model, operation_bodies_of, operation_body_model, statement_model, statements_model};
 ghost use Rattle.al_view_typed.specs.StatementViews.{scheme_model};
-ghost use Rattle.al_stmts_walked.specs.Steps.{in_loop};
-ghost use Rattle.al_stmts_walked.specs.Views.{effects_model};
-ghost use Rattle.al_stmts_walked.specs.Walking.{alternative_walked, alternatives_walked, body_walked, branch_walked, closed, elsifs_walked, else_walked, end_of, entry_walked, for_walked, handled_walked, inner_block_walked, inner_loop_walked, inside_after, item_walked, items_walked, loop_walked, more_walked, operation_walked, operations_walked, part_after, statement_walked, statements_walked, task_walked, walked_after, walked_body};
+ghost use Rattle.al_stmts.specs.Steps.{in_loop};
+ghost use Rattle.al_stmts.specs.Views.{effects_model};
+ghost use Rattle.al_stmts.specs.Walking.{alternative_walked, alternatives_walked, body_walked, branch_walked, closed, elsifs_walked, else_walked, end_of, entry_walked, for_walked, handled_walked, inner_block_walked, inner_loop_walked, inside_after, item_walked, items_walked, loop_walked, more_walked, operation_walked, operations_walked, part_after, statement_walked, statements_walked, task_walked, walked_after, walked_body};
 ghost use Rattle.al_stmts_text.specs.Parts.{all_alternatives, all_branches, declared_entered, declared_headed, declared_inside, object_walked, opened_walked, subprogram_entered, subprogram_headed, subprogram_inside};
-ghost use Rattle.al_stmts_walked.specs.WalkedViews.{all_model, branching_model, choosing_model, inside_model, one_model, part_model};
+ghost use Rattle.al_stmts.specs.WalkedViews.{all_model, branching_model, choosing_model, inside_model, one_model, part_model};
 
 use crate::analyzer::Analyzer;
 use crate::assignments::walk_assignment;
@@ -24,12 +24,10 @@ use crate::regions::{broken_loop, close_part, finish_block, left_region};
 use crate::returns::walk_return;
 use al_base::{NoMemory, Place};
 use al_base_fault::CheckResult;
-use al_stmts_loops::no_return_fault;
-use al_stmts_returns::has_return;
-use al_stmts_walked::{
+use al_stmts::{
     BodyExtent, Enclosing, WalkedAlternatives, WalkedBranches, WalkedInside, WalkedPart,
-    WalkedStatement, WalkedStatements, end_of, end_of_named, named_extent, named_line,
-    subprogram_extent,
+    WalkedStatement, WalkedStatements, end_of, end_of_named, has_return, named_extent, named_line,
+    no_return_fault, subprogram_extent,
 };
 use al_tree::{
     Alternative, BlockStatement, Branch, CaseStatement, DeclaredStatements, ElsifBranch,

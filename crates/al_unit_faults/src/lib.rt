@@ -2,13 +2,28 @@
 //! and bodies that don't fit.
 #![tactic(auto)]
 
+mod by_file;
 mod cycles;
 mod dependents;
+mod faultless;
 pub mod laws;
 mod listing;
+mod obsolete;
+mod obsolete_laws;
 mod order;
+pub mod order_laws;
+mod ordering;
 mod parts;
+mod places;
 mod private;
+mod reaching;
+mod steps;
+mod wanted;
 
+pub use by_file::units;
 pub use dependents::Dependents;
 pub use listing::{FileFaults, faults, faults_by_file};
+pub use obsolete::obsolete;
+pub use obsolete_laws::{obsolete_are_listed, units_are_held};
+pub use ordering::dependence_order;
+pub use reaching::reachable;

@@ -19,7 +19,7 @@ use al_base::{Name, NoMemory, UnitKey, UnitKind};
 use std::alloc::Global;
 
 /// Where a step from a unit leads.
-#[derive(Clone, Copy, Debug, PartialEq, Eq)]
+#[derive(Clone, Copy)]
 pub(crate) enum Step {
     /// To what it depends on.
     Dependence,

@@ -2,7 +2,7 @@
 use al_base::{Name, Place};
 
 /// What a compilation unit is (ARM 10.1.1, 10.1.3).
-#[derive(Clone, Copy, Debug, PartialEq, Eq)]
+#[derive(Clone, Copy)]
 pub enum UnitForm {
     PackageDeclaration,
     SubprogramDeclaration,
@@ -12,7 +12,6 @@ pub enum UnitForm {
 }
 
 /// The name of a unit in lower case, and where it stands: its first identifier.
-#[derive(Debug)]
 pub struct Mention {
     pub name: Name,
     pub place: Place,
@@ -25,7 +24,6 @@ impl Drop for Mention {
 }
 
 /// What a compilation unit says of itself.
-#[derive(Debug)]
 pub struct Header {
     /// Of a subunit with that of its parent body in front (ARM 10.1.3(8)).
     pub name: Name,

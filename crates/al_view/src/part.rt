@@ -6,7 +6,7 @@ use al_base::{Name, NoMemory};
 use std::alloc::Global;
 
 /// A part of a unit, whose declarations can be asked for.
-#[derive(Debug, Drop)]
+#[derive(Drop)]
 pub enum Part {
     /// The visible part (ARM 7.1(6), 8.2(5)); of a subprogram its profile.
     Visible,

@@ -4,7 +4,7 @@ ghost use Rattle.std.specs.Prelude.{◌≡◌, ◌≤◌, nat_le, Some, None, if
 use std::marker::Model;
 
 /// A priority of a task or a ceiling of a protected object (ARM D.1, D.3): 0 to 30, and nothing else.
-#[derive(Clone, Copy, Debug, PartialEq, Eq)]
+#[derive(Clone, Copy)]
 pub struct Priority {
     level: u8,
 }

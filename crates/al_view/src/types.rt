@@ -11,13 +11,13 @@ use std::marker::Model;
 use std::rc::Rc;
 
 /// The value of a static expression (ARM 4.9): the word that stands for it. Of an enumeration value it is the position.
-#[derive(Clone, Copy, Debug, PartialEq, Eq)]
+#[derive(Clone, Copy)]
 pub struct StaticValue {
     pub word: i64,
 }
 
 /// The bounds of a range (ARM 3.5(4)), as words.
-#[derive(Clone, Copy, Debug, PartialEq, Eq)]
+#[derive(Clone, Copy)]
 pub struct Bounds {
     pub low: i64,
     pub high: i64,

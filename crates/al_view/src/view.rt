@@ -161,7 +161,7 @@ impl Drop for LiteralView {
 }
 
 /// The mode of a formal parameter (ARM 6.1(16)).
-#[derive(Clone, Copy, Debug, PartialEq, Eq)]
+#[derive(Clone, Copy)]
 pub enum Mode {
     In,
     InOut,

@@ -13,7 +13,7 @@ use al_view::{
 use std::alloc::Global;
 
 /// A predefined operator (ARM 4.5), by its sign.
-#[derive(Clone, Copy, Debug, PartialEq, Eq)]
+#[derive(Clone, Copy)]
 pub enum OperatorSymbol {
     And,
     Or,
@@ -36,7 +36,7 @@ pub enum OperatorSymbol {
 }
 
 /// What an operator of a type takes and gives.
-#[derive(Clone, Copy, Debug, PartialEq, Eq)]
+#[derive(Clone, Copy)]
 pub enum OperatorProfile {
     /// A value of the type, to one of the type.
     Unary,

@@ -36,7 +36,7 @@ pub struct Labels {
 }
 
 /// An operator in front of its operand (ARM 4.5.4, 4.5.6).
-#[derive(Clone, Copy, Debug, PartialEq, Eq)]
+#[derive(Clone, Copy)]
 pub enum UnaryOperator {
     Plus,
     Minus,
@@ -45,7 +45,7 @@ pub enum UnaryOperator {
 }
 
 /// An operator between its operands (ARM 4.5.1 to 4.5.6).
-#[derive(Clone, Copy, Debug, PartialEq, Eq)]
+#[derive(Clone, Copy)]
 pub enum BinaryOperator {
     And,
     Or,
@@ -70,14 +70,14 @@ pub enum BinaryOperator {
 }
 
 /// A short-circuit control form (ARM 4.5.1(1)).
-#[derive(Clone, Copy, Debug, PartialEq, Eq)]
+#[derive(Clone, Copy)]
 pub enum ShortCircuit {
     AndThen,
     OrElse,
 }
 
 /// What makes a value of one type of a value of another, or of the same.
-#[derive(Clone, Copy, Debug, PartialEq, Eq)]
+#[derive(Clone, Copy)]
 pub enum Conversion {
     /// A type conversion (ARM 4.6).
     ToType,

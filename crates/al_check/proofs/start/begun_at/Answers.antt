@@ -3,8 +3,8 @@ use Rattle.al_base.specs.declared.unit_key.UnitKey.{UnitKey}
 use Rattle.al_decl_judged.specs.declared.progress.Progress.{Progress}
 use Rattle.al_query.specs.declared.answer.Completion.{Completion}
 use Rattle.al_scope.specs.Places.{Place}
-use Rattle.al_scope_seen.specs.declared.hiding.PrivateName.{PrivateName}
-use Rattle.al_scope_unit.specs.declared.own.OwnText.{OwnText}
+use Rattle.al_scope.specs.declared.seen_hiding.PrivateName.{PrivateName}
+use Rattle.al_scope.specs.declared.own.OwnText.{OwnText}
 use Rattle.al_unit_header.specs.PrivateTypes.{private_types}
 use Rattle.al_unit_header.specs.Units.{header_of}
 use Rattle.al_tree.specs.UnitViews.{library_item_model, unit_model}

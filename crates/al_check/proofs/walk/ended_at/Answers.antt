@@ -1,5 +1,5 @@
 use Rattle.std.proofs.Common.{ap, ◌∙◌}
-use Rattle.al_stmts_walked.specs.WalkedViews.{inside_model}
+use Rattle.al_stmts.specs.WalkedViews.{inside_model}
 use Rattle.al_check_made.specs.Ended.{ended}
 use Rattle.al_check_made.specs.declared.after.EndedText.{EndedText}
 use Rattle.al_check.specs.Ada.{ended_text}

@@ -1,5 +1,5 @@
 use Rattle.std.proofs.Common.{ap, ◌∙◌}
-use Rattle.al_stmts_walked.specs.Steps.{Inside}
+use Rattle.al_stmts.specs.Steps.{Inside}
 use Rattle.al_check_here.specs.Ends.{ends_of}
 use Rattle.al_check_here.specs.declared.state.CheckState.{CheckState}
 use Rattle.al_check.proofs.walk.private_part_from.Goals as goal

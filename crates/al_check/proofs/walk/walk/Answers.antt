@@ -1,7 +1,7 @@
 use Rattle.std.proofs.Common.{◌≡◌, ap}
 use Rattle.al_tree.specs.UnitViews.{library_item_model}
-use Rattle.al_stmts_walked.specs.Units.{unit_walked}
-use Rattle.al_stmts_walked.specs.WalkedViews.{inside_model}
+use Rattle.al_stmts.specs.Units.{unit_walked}
+use Rattle.al_stmts.specs.WalkedViews.{inside_model}
 use Rattle.al_check_reading.specs.Ada.{ada}
 use Rattle.al_check.specs.Ada.{ended_after}
 use Rattle.al_check.proofs.UnitResult.{agrees_too, if_both, if_ok, told_here}

@@ -1,6 +1,6 @@
 use Rattle.std.proofs.Common.{ap, ◌∙◌}
 use Rattle.al_tree.specs.UnitViews.{library_item_model, unit_model}
-use Rattle.al_stmts_walked.specs.Units.{unit_walked}
+use Rattle.al_stmts.specs.Units.{unit_walked}
 use Rattle.al_check_here.specs.declared.state.CheckState.{CheckState}
 use Rattle.al_check_reading.specs.Ada.{ada}
 use Rattle.al_check_made.specs.declared.after.UnitFacts.{UnitFacts}

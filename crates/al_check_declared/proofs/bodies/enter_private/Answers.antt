@@ -1,6 +1,6 @@
 use Rattle.std.proofs.Common.{Bool, ap, sym, ◌∙◌, if◌then◌else◌}
 use Rattle.al_check_here.specs.PartsHere.{private_begun}
-use Rattle.al_scope_unit.specs.UnitPlaces.{private_regions}
+use Rattle.al_scope.specs.UnitPlaces.{private_regions}
 use Rattle.al_check_declared.specs.DeclarationsHere.{with_regions}
 use Rattle.al_check_declared.proofs.bodies.enter_private.Goals as goal
 

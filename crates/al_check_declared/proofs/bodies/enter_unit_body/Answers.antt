@@ -2,7 +2,7 @@ use Rattle.std.proofs.Common.{Bool, Some, ap, sym, ◌∙◌, if◌then◌else�
 use Rattle.al_check_here.specs.BodiesHere.{whole_entered}
 use Rattle.al_check_here.specs.declared.state.AnalyzedHeading.{AnalyzedHeading}
 use Rattle.al_check_here.specs.declared.state.CheckState.{CheckState}
-use Rattle.al_scope_unit.specs.UnitPlaces.{private_regions}
+use Rattle.al_scope.specs.UnitPlaces.{private_regions}
 use Rattle.al_check_declared.specs.DeclarationsHere.{with_regions}
 use Rattle.al_check_declared.specs.EnteredHere.{visible_heading}
 use Rattle.al_check_declared.proofs.Composed.{on_ok}

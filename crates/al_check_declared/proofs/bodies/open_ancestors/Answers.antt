@@ -2,7 +2,7 @@ use Rattle.std.proofs.Common.{ap}
 use Rattle.al_check_here.specs.Standings.{with_here}
 use Rattle.al_decl.specs.Regions.{in_regions}
 use Rattle.al_scope.specs.Places.{Place}
-use Rattle.al_scope_unit.specs.UnitPlaces.{private_regions}
+use Rattle.al_scope.specs.UnitPlaces.{private_regions}
 use Rattle.al_check_declared.proofs.Composed.{on_if_ok, place-is}
 use Rattle.al_check_declared.proofs.bodies.open_ancestors.Goals as goal
 

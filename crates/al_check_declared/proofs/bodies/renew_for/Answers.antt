@@ -1,5 +1,5 @@
 use Rattle.std.proofs.Common.{Bool, ap, sym, ◌∙◌, if◌then◌else◌}
-use Rattle.al_check_objects.specs.OpenObjects.{renewed}
+use Rattle.al_check_declared.specs.OpenObjects.{renewed}
 use Rattle.al_check_declared.proofs.Composed.{on_ok}
 use Rattle.al_check_declared.proofs.bodies.renew_for.Goals as goal
 

@@ -1,6 +1,6 @@
 use Rattle.std.proofs.Common.{ℕ, List, Option, ap, ◌∙◌}
 use Rattle.al_tree.specs.DeclarationViews.{pragma_model}
-use Rattle.al_scope_uses.specs.Pragmas.{pragma_fault}
+use Rattle.al_scope_context.specs.Pragmas.{pragma_fault}
 use Rattle.al_check_declared.specs.DeclarationsHere.{pragma_settled}
 use Rattle.al_check_declared.proofs.Composed.{if_ok}
 use Rattle.al_check_declared.proofs.declarations.pragma.Goals as goal

@@ -5,7 +5,7 @@ use Rattle.al_base_fault.specs.declared.fault.Fault.{Fault}
 use Rattle.al_query.specs.declared.answer.UseClause.{UseClause}
 use Rattle.al_scope.specs.Places.{Place}
 use Rattle.al_tree.specs.DeclarationViews.{use_model}
-use Rattle.al_scope_uses.specs.UsesAt.{used_in, uses_at}
+use Rattle.al_scope_context.specs.UsesAt.{used_in, uses_at}
 use Rattle.al_check_here.specs.Standings.{with_here}
 use Rattle.al_check_declared.specs.DeclarationsHere.{uses_read, uses_settled}
 use Rattle.al_check_declared.proofs.Composed.{if_ok, place-is}

@@ -1,9 +1,9 @@
 use Rattle.std.proofs.Common.{◌≡◌, ℕ, ℤ, pos, ◌<◌, ◌<ℤ◌, zero, suc, Bool, true, false, List, [], ◌∷◌, get_or, refl, arith}
 use Rattle.std.proofs.lemmas.Int.{ints}
 use Rattle.al_view.specs.declared.types.Bounds.{Bounds}
-use Rattle.al_stmts_choices.specs.Choosing.{OthersIsAloneAndLast}
-use Rattle.al_stmts_choices.specs.Values.{holds, times_chosen}
-use Rattle.al_stmts_choices.proofs.ApartLemmas.{apart_once}
+use Rattle.al_stmts.specs.Choosing.{OthersIsAloneAndLast}
+use Rattle.al_stmts.specs.Values.{holds, times_chosen}
+use Rattle.al_stmts.proofs.ApartLemmas.{apart_once}
 use Rattle.al_check_example_laws.specs.NominalSubtypes.{between, one_and_two, subtype}
 use Rattle.al_check_example_laws.proofs.laws.nominal_subtypes_decide.Goals as goal
 

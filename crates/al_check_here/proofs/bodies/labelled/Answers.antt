@@ -1,7 +1,7 @@
 use Rattle.std.proofs.Common.{ℕ, map, ap, ◌∙◌}
 use Rattle.al_view_typed.specs.StatementViews.{statement_model}
 use Rattle.al_view_typed.specs.UnitTrees.{elaboration_model}
-use Rattle.al_stmts_walked.specs.Views.{effects_model}
+use Rattle.al_stmts.specs.Views.{effects_model}
 use Rattle.al_check_here.specs.BodiesHere.{labelled_body}
 use Rattle.al_check_here.specs.Stacks.{innermost}
 use Rattle.al_check_here.proofs.Lists.{if_ok}

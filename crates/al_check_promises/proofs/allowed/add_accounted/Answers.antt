@@ -5,8 +5,8 @@ use Rattle.al_view.specs.ViewUses.{view_uses}
 use Rattle.al_view.specs.declared.link.LinkSymbol.{LinkSymbol}
 use Rattle.al_view_typed.specs.UnitTrees.{unit_model}
 use Rattle.al_query_outcome.specs.Tables.{interface_of}
-use Rattle.al_view_used.specs.Links.{Gains}
-use Rattle.al_view_used.proofs.Gained.{gains_both}
+use Rattle.al_check_promises.specs.Links.{Gains}
+use Rattle.al_check_promises.proofs.Gained.{gains_both}
 use Rattle.al_check_promises.specs.SelfChecks.{defined, left_shown}
 use Rattle.al_check_promises.proofs.Joined.{flat_viewed}
 use Rattle.al_check_promises.proofs.allowed.add_accounted.Goals as goal

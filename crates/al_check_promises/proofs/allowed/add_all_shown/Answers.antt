@@ -1,5 +1,5 @@
 use Rattle.al_view.specs.ViewUses.{view_uses}
-use Rattle.al_view_used.proofs.Gained.{gains_more}
+use Rattle.al_check_promises.proofs.Gained.{gains_more}
 use Rattle.al_check_promises.proofs.allowed.add_all_shown.Goals as goal
 
 pub loop-view-preserved : goal.loop-view-preserved

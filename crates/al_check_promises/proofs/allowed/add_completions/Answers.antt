@@ -1,5 +1,5 @@
 use Rattle.al_view.specs.ViewUses.{view_uses}
-use Rattle.al_view_used.proofs.Gained.{gains_more}
+use Rattle.al_check_promises.proofs.Gained.{gains_more}
 use Rattle.al_check_promises.proofs.allowed.add_completions.Goals as goal
 
 pub loop-completion-preserved : goal.loop-completion-preserved

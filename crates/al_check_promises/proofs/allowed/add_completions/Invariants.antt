@@ -1,7 +1,7 @@
 use Rattle.std.proofs.Common.{take}
 use Rattle.std.specs.List.{flat_map}
 use Rattle.al_view.specs.ViewUses.{view_uses}
-use Rattle.al_view_used.specs.Links.{Gains}
+use Rattle.al_check_promises.specs.Links.{Gains}
 use Rattle.al_check_promises.proofs.allowed.add_completions.Given as goal
 
 abbrev pub invariant-loop-completion : goal.invariant-loop-completion

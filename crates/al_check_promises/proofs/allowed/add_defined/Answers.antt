@@ -5,8 +5,8 @@ use Rattle.al_view.specs.declared.link.LinkKind.TheVariants.{Code}
 use Rattle.al_view_typed.specs.UnitTrees.{unit_model}
 use Rattle.al_view_typed.specs.Uses.{unit_defines}
 use Rattle.al_query_outcome.specs.declared.interface.StubDeclarations.{StubDeclarations}
-use Rattle.al_view_used.specs.Links.{Gains}
-use Rattle.al_view_used.proofs.Gained.{gains_both}
+use Rattle.al_check_promises.specs.Links.{Gains}
+use Rattle.al_check_promises.proofs.Gained.{gains_both}
 use Rattle.al_check_promises.proofs.allowed.add_defined.Goals as goal
 
 pub returns : goal.returns

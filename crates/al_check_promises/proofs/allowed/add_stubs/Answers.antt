@@ -1,6 +1,6 @@
 use Rattle.al_view.specs.ViewUses.{link}
 use Rattle.al_view.specs.declared.link.LinkKind.TheVariants.{Code}
-use Rattle.al_view_used.proofs.Gained.{gains_symbol}
+use Rattle.al_check_promises.proofs.Gained.{gains_symbol}
 use Rattle.al_check_promises.proofs.allowed.add_stubs.Goals as goal
 
 pub loop-stub-preserved : goal.loop-stub-preserved

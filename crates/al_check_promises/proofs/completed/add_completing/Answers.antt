@@ -7,7 +7,7 @@ use Rattle.std.proofs.Common.{if◌then◌else◌}
 use Rattle.al_view_typed.specs.UnitTrees.{unit_model}
 use Rattle.al_view_typed.specs.Uses.{unit_defines}
 use Rattle.al_query_outcome.specs.Tables.{interface_of}
-use Rattle.al_view_used.specs.Links.{Gains}
+use Rattle.al_check_promises.specs.Links.{Gains}
 use Rattle.al_check_promises.specs.SelfChecks.{defined}
 use Rattle.al_check_promises.proofs.completed.add_completing.Goals as goal
 

@@ -2,7 +2,7 @@ use Rattle.std.proofs.Common.{ℕ, List, [], ap, arith, ◌∙◌}
 use Rattle.std.specs.List.{flat_map, list_all}
 use Rattle.al_view.specs.ViewUses.{view_uses}
 use Rattle.al_view.specs.declared.view.ViewKind.{ViewKind}
-use Rattle.al_view_used.proofs.Listed.{all_given, ends}
+use Rattle.al_check_promises.proofs.Listed.{all_given, ends}
 use Rattle.al_check_promises.proofs.Items.{goes_on, stops_at}
 use Rattle.al_check_promises.proofs.interfaces.declared_pass.Goals as goal
 

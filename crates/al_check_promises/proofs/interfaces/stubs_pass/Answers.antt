@@ -1,6 +1,6 @@
 use Rattle.std.specs.List.{list_all}
 use Rattle.al_query_outcome.specs.Defines.{declared_uses}
-use Rattle.al_view_used.proofs.Listed.{all_given, ends, stops}
+use Rattle.al_check_promises.proofs.Listed.{all_given, ends, stops}
 use Rattle.al_check_promises.proofs.interfaces.stubs_pass.Goals as goal
 
 pub returns-then-not-declared_pass : goal.returns-then-not-declared_pass

@@ -1,6 +1,6 @@
 use Rattle.std.specs.List.{list_all}
 use Rattle.al_view.specs.ViewUses.{view_uses}
-use Rattle.al_view_used.proofs.Listed.{all_given, ends, stops}
+use Rattle.al_check_promises.proofs.Listed.{all_given, ends, stops}
 use Rattle.al_check_promises.proofs.interfaces.views_pass.Goals as goal
 
 pub returns-then-not-view_passes : goal.returns-then-not-view_passes

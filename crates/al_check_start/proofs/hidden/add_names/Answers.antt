@@ -1,7 +1,7 @@
 use Rattle.std.proofs.Common.{◌≡◌, ◌++◌, ◌∙◌, List, ℕ, arith, take, ap, map, sym}
 use Rattle.std.proofs.lemmas.List.{take_all}
 use Rattle.al_scope.proofs.HidingLemmas.{append-none}
-use Rattle.al_scope_seen.proofs.Lists.{map_after}
+use Rattle.al_scope.proofs.Lists.{map_after}
 use Rattle.al_check_start.specs.UnitsAt.{named_in}
 use Rattle.al_check_start.proofs.hidden.add_names.Goals as goal
 

@@ -4,7 +4,7 @@ use Rattle.al_query.specs.Answers.{names_told}
 use Rattle.al_query.specs.declared.query.Property.TheVariants.{Context}
 use Rattle.al_query.specs.declared.query.Query.TheVariants.{Of}
 use Rattle.al_check_start.specs.UnitsAt.{named_in}
-use Rattle.al_scope_seen.proofs.Outcomes.{on_ok}
+use Rattle.al_scope.proofs.Outcomes.{on_ok}
 use Rattle.al_check_start.proofs.hidden.add_unit.Goals as goal
 
 pub returns-clause-answered : goal.returns-clause-answered

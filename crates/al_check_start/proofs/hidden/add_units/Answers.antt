@@ -3,7 +3,7 @@ use Rattle.std.specs.List.{flat_map}
 use Rattle.std.proofs.lemmas.List.{take_all}
 use Rattle.al_base.specs.declared.unit_key.UnitKey.{UnitKey}
 use Rattle.al_scope.proofs.HidingLemmas.{append-none}
-use Rattle.al_scope_seen.proofs.Lists.{flat_more}
+use Rattle.al_scope.proofs.Lists.{flat_more}
 use Rattle.al_check_start.specs.UnitsAt.{private_names_of}
 use Rattle.al_check_start.proofs.hidden.add_units.Goals as goal
 

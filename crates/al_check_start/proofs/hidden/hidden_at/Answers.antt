@@ -1,7 +1,7 @@
 use Rattle.std.proofs.Common.{◌∙◌, ℕ, List, ap, sym}
 use Rattle.std.specs.List.{flat_map}
 use Rattle.al_base.specs.declared.unit_key.UnitKind.{UnitKind}
-use Rattle.al_scope_unit.specs.UnitPlaces.{ancestor_units}
+use Rattle.al_scope.specs.UnitPlaces.{ancestor_units}
 use Rattle.al_check_start.specs.UnitsAt.{hidden_of, private_names_of}
 use Rattle.al_check_start.proofs.Steps.{if_ok}
 use Rattle.al_check_start.proofs.hidden.hidden_at.Goals as goal

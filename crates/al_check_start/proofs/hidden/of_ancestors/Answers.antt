@@ -1,6 +1,6 @@
 use Rattle.std.proofs.Common.{◌++◌, ◌∙◌, List, ap}
 use Rattle.std.specs.List.{flat_map}
-use Rattle.al_scope_seen.specs.declared.hiding.PrivateName.{PrivateName}
+use Rattle.al_scope.specs.declared.seen_hiding.PrivateName.{PrivateName}
 use Rattle.al_check_start.specs.UnitsAt.{private_names_of}
 use Rattle.al_check_start.proofs.hidden.of_ancestors.Goals as goal
 

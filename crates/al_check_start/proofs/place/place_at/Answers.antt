@@ -3,7 +3,7 @@ use Rattle.al_base.specs.declared.unit_key.UnitKey.{UnitKey}
 use Rattle.al_scope.specs.Places.{Place}
 use Rattle.al_scope.specs.declared.region.Region.{Region}
 use Rattle.al_scope_context.specs.Contexts.{all_mentioned, mentioned, packaged}
-use Rattle.al_scope_unit.specs.UnitPlaces.{mentioned_names, unit_regions}
+use Rattle.al_scope.specs.UnitPlaces.{mentioned_names, unit_regions}
 use Rattle.al_check_start.proofs.Steps.{place-is}
 use Rattle.al_check_start.proofs.place.place_at.Goals as goal
 

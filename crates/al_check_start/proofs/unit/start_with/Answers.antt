@@ -4,9 +4,9 @@ use Rattle.al_decl_judged.specs.declared.progress.Progress.{Progress}
 use Rattle.al_query.specs.declared.answer.Completion.{Completion}
 use Rattle.al_scope.specs.Places.{Place}
 use Rattle.al_tree.specs.UnitViews.{library_item_model}
-use Rattle.al_scope_seen.specs.Seen.{completions_seen_at}
-use Rattle.al_scope_seen.specs.declared.hiding.PrivateName.{PrivateName}
-use Rattle.al_scope_unit.specs.declared.own.OwnText.{OwnText}
+use Rattle.al_scope.specs.Seen.{completions_seen_at}
+use Rattle.al_scope.specs.declared.seen_hiding.PrivateName.{PrivateName}
+use Rattle.al_scope.specs.declared.own.OwnText.{OwnText}
 use Rattle.al_check_start.specs.UnitsAt.{depth_of, hidden_at, own_text, own_view, place_at, progress_at, waiting}
 use Rattle.al_check_start.specs.declared.unit.UnitStart.{UnitStart}
 use Rattle.al_check_start.proofs.unit.start_with.Goals as goal

@@ -1,5 +1,5 @@
 use Rattle.std.proofs.Common.{List, ap, ◌∙◌}
-use Rattle.al_scope_seen.specs.Seen.{completions_seen_at}
+use Rattle.al_scope.specs.Seen.{completions_seen_at}
 use Rattle.al_check_start.proofs.Steps.{if_ok}
 use Rattle.al_check_start.proofs.waiting.visible_waiting.Goals as goal
 

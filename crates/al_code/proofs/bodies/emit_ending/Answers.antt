@@ -1,6 +1,6 @@
 use Rattle.al_view_typed.specs.UnitTrees.{elaboration_model}
-use Rattle.al_code_output.specs.declared.piece.Construct.TheVariants as construct
-use Rattle.al_code_output.proofs.Closing.{closed_steps}
+use Rattle.al_code.specs.declared.piece.Construct.TheVariants as construct
+use Rattle.al_code.proofs.Closing.{closed_steps}
 use Rattle.al_code.specs.Routines.{ending_code}
 use Rattle.al_code.proofs.bodies.emit_ending.Goals as goal
 

@@ -1,6 +1,6 @@
 use Rattle.std.proofs.Common.{sym}
 use Rattle.al_code.specs.Routines.{formal_code}
-use Rattle.al_code_output.proofs.Writing.{written_nothing, written_all}
+use Rattle.al_code.proofs.Writing.{written_nothing, written_all}
 use Rattle.al_code.proofs.Lists.{written_copied}
 use Rattle.al_code.proofs.bodies.emit_formals.Goals as goal
 

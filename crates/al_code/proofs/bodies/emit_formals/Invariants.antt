@@ -1,6 +1,6 @@
 use Rattle.std.proofs.Common.{◌≡◌, take}
 use Rattle.std.specs.List.{flat_map}
-use Rattle.al_code_output.specs.Written.{written}
+use Rattle.al_code.specs.Written.{written}
 use Rattle.al_code.specs.Routines.{formal_code}
 use Rattle.al_code.proofs.bodies.emit_formals.Given as goal
 

@@ -1,7 +1,7 @@
 use Rattle.std.proofs.Common.{sym}
 use Rattle.al_view_typed.specs.DeclarationTrees.{component_value_model}
 use Rattle.al_code.specs.Declarations.{component_code}
-use Rattle.al_code_output.proofs.Writing.{written_nothing, written_more}
+use Rattle.al_code.proofs.Writing.{written_nothing, written_more}
 use Rattle.al_code.proofs.Lists.{written_mapped}
 use Rattle.al_code.proofs.declarations.emit_components.Goals as goal
 

@@ -2,7 +2,7 @@ use Rattle.std.proofs.Common.{sym}
 use Rattle.std.specs.Prelude.{option_map}
 use Rattle.al_view_typed.specs.ExpressionViews.{value_model}
 use Rattle.al_code.specs.Declarations.{object_code}
-use Rattle.al_code_output.proofs.Writing.{written_nothing, written_more, written_all}
+use Rattle.al_code.proofs.Writing.{written_nothing, written_more, written_all}
 use Rattle.al_code.proofs.declarations.emit_objects.Goals as goal
 
 pub loop-place-init : goal.loop-place-init

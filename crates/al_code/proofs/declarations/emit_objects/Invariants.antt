@@ -1,6 +1,6 @@
 use Rattle.std.proofs.Common.{◌≡◌, take}
 use Rattle.std.specs.List.{flat_map}
-use Rattle.al_code_output.specs.Written.{written}
+use Rattle.al_code.specs.Written.{written}
 use Rattle.std.specs.Prelude.{option_map}
 use Rattle.al_view_typed.specs.ExpressionViews.{value_model}
 use Rattle.al_code.specs.Declarations.{object_code}

@@ -2,7 +2,7 @@ use Rattle.std.proofs.Common.{sym, get_or}
 use Rattle.std.proofs.lemmas.List.{get_or_default}
 use Rattle.al_view_typed.specs.ExpressionViews.{value_model}
 use Rattle.al_code.specs.Declarations.{seed_code}
-use Rattle.al_code_output.proofs.Writing.{written_nothing, written_more, written_all}
+use Rattle.al_code.proofs.Writing.{written_nothing, written_more, written_all}
 use Rattle.al_code.proofs.declarations.emit_seeds.Goals as goal
 
 pub loop-word-init : goal.loop-word-init

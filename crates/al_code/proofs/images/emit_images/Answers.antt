@@ -1,7 +1,7 @@
 use Rattle.std.proofs.Common.{sym}
 use Rattle.al_view_typed.specs.StatementViews.{piece_model}
 use Rattle.al_code.specs.Images.{image_code}
-use Rattle.al_code_output.proofs.Writing.{written_nothing, written_more}
+use Rattle.al_code.proofs.Writing.{written_nothing, written_more}
 use Rattle.al_code.proofs.Lists.{written_mapped}
 use Rattle.al_code.proofs.images.emit_images.Goals as goal
 

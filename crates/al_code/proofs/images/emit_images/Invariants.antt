@@ -1,7 +1,7 @@
 use Rattle.std.proofs.Common.{◌≡◌, take}
 use Rattle.std.specs.List.{flat_map}
 use Rattle.al_view_typed.specs.StatementViews.{piece_model}
-use Rattle.al_code_output.specs.Written.{written}
+use Rattle.al_code.specs.Written.{written}
 use Rattle.al_code.specs.Images.{image_code}
 use Rattle.al_code.proofs.images.emit_images.Given as goal
 

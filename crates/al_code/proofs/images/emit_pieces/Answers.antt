@@ -3,8 +3,8 @@ use Rattle.std.specs.Prelude.{sum_by}
 use Rattle.std.proofs.lemmas.List.{at_drop_all}
 use Rattle.al_view_typed.specs.StatementViews.{piece_model}
 use Rattle.al_view_typed.specs.declared.statement.Piece.{Piece}
-use Rattle.al_code_output.specs.Written.{written}
-use Rattle.al_code_output.proofs.Writing.{written_nothing}
+use Rattle.al_code.specs.Written.{written}
+use Rattle.al_code.proofs.Writing.{written_nothing}
 use Rattle.al_code.specs.Images.{is_image, pieces_code}
 use Rattle.al_code.proofs.Lists.{images_turn, pieces_more}
 use Rattle.al_code.proofs.images.emit_pieces.Goals as goal

@@ -1,7 +1,7 @@
 use Rattle.std.proofs.Common.{◌≡◌, map, drop}
 use Rattle.std.specs.Prelude.{sum_by}
 use Rattle.al_view_typed.specs.StatementViews.{piece_model}
-use Rattle.al_code_output.specs.Written.{written}
+use Rattle.al_code.specs.Written.{written}
 use Rattle.al_code.specs.Images.{is_image, pieces_code}
 use Rattle.al_code.proofs.images.emit_pieces.Given as goal
 

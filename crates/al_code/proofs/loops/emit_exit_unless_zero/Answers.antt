@@ -1,4 +1,4 @@
-use Rattle.al_code_expr.proofs.Lists.{guarded_steps}
+use Rattle.al_code.proofs.ExprLists.{guarded_steps}
 use Rattle.al_code.specs.Loops.{exit_code}
 use Rattle.al_code.proofs.loops.emit_exit_unless_zero.Goals as goal
 

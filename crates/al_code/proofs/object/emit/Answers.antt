@@ -1,6 +1,6 @@
 use Rattle.std.proofs.Common.{Option, ap, ◌∙◌}
 use Rattle.al_view_typed.specs.UnitTrees.{unit_model}
-use Rattle.al_code_output.specs.Written.{Buffer, written}
+use Rattle.al_code.specs.Written.{Buffer, written}
 use Rattle.al_code.specs.Routines.{unit_code}
 use Rattle.al_code.proofs.Objects.{object_large, object_small, unit_keeps, unit_lines}
 use Rattle.al_code.proofs.object.emit.Goals as goal

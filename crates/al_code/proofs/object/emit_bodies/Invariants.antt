@@ -1,7 +1,7 @@
 use Rattle.std.proofs.Common.{◌≡◌, take}
 use Rattle.std.specs.List.{flat_map}
 use Rattle.al_view_typed.specs.UnitTrees.{body_model}
-use Rattle.al_code_output.specs.Written.{written}
+use Rattle.al_code.specs.Written.{written}
 use Rattle.al_code.specs.Routines.{body_code}
 use Rattle.al_code.proofs.object.emit_bodies.Given as goal
 

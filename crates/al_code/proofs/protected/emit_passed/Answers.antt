@@ -1,5 +1,5 @@
-use Rattle.al_code_output.proofs.Closing.{then_steps}
-use Rattle.al_code_expr.proofs.Lists.{guarded_steps}
+use Rattle.al_code.proofs.Closing.{then_steps}
+use Rattle.al_code.proofs.ExprLists.{guarded_steps}
 use Rattle.al_code.proofs.protected.emit_passed.Goals as goal
 
 pub returns : goal.returns

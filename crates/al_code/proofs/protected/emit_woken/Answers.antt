@@ -1,6 +1,6 @@
 use Rattle.al_instr.specs.declared.numbers.Protected.TheVariants.{Wake}
-use Rattle.al_code_output.proofs.Closing.{then_steps}
-use Rattle.al_code_expr.proofs.Lists.{guarded_steps}
+use Rattle.al_code.proofs.Closing.{then_steps}
+use Rattle.al_code.proofs.ExprLists.{guarded_steps}
 use Rattle.al_code.specs.Routines.{act_code, entry_call_code}
 use Rattle.al_code.proofs.protected.emit_woken.Goals as goal
 

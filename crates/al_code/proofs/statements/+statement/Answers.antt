@@ -3,11 +3,11 @@ use Rattle.std.proofs.lemmas.Bool.Decides.{nat_tests}
 use Rattle.al_view_typed.specs.StatementTrees.{StatementsTree as statements_trees, BranchesTree as branches_trees, AlternativesTree as alternatives_trees}
 use Rattle.al_view_typed.specs.StatementViews.{alternative_model, branch_model, statement_model, statements_of}
 use Rattle.al_view_typed.proofs.StatementsMade.{case_made, if_made, loop_made}
-use Rattle.al_code_output.specs.declared.piece.Construct.TheVariants as construct
-use Rattle.al_code_output.proofs.Writing.{written_append, written_nothing, written_more}
-use Rattle.al_code_output.proofs.Closing.{closed_steps, repeated_steps, then_steps}
-use Rattle.al_code_expr.specs.Pieces.{join}
-use Rattle.al_code_expr.proofs.Lists.{guarded_steps, written_listed}
+use Rattle.al_code.specs.declared.piece.Construct.TheVariants as construct
+use Rattle.al_code.proofs.Writing.{written_append, written_nothing, written_more}
+use Rattle.al_code.proofs.Closing.{closed_steps, repeated_steps, then_steps}
+use Rattle.al_code.specs.ExprPieces.{join}
+use Rattle.al_code.proofs.ExprLists.{guarded_steps, written_listed}
 use Rattle.al_code.specs.Loops.{while_code}
 use Rattle.al_code.specs.Statements.{alternative_code, alternatives_code, branch_code, branches_code, statement_code, statements_code}
 use Rattle.al_code.proofs.Layers.{alternative_layers, branch_layers}

@@ -1,7 +1,7 @@
 use Rattle.std.proofs.Common.{◌≡◌, take}
 use Rattle.std.specs.List.{flat_map}
 use Rattle.al_view_typed.specs.StatementViews.{alternative_model, branch_model, statement_model}
-use Rattle.al_code_output.specs.Written.{written}
+use Rattle.al_code.specs.Written.{written}
 use Rattle.al_code.specs.Statements.{alternative_code, branch_code, statement_code}
 use Rattle.al_code.proofs.statements.+statement.Given as goal
 

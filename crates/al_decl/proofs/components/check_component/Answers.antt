@@ -4,7 +4,7 @@ use Rattle.al_decl.specs.Declaring.{begun}
 use Rattle.al_decl.specs.Inner.{made_visible}
 use Rattle.al_decl.specs.Defining.{defining_names}
 use Rattle.al_tree.specs.DeclarationViews.{component_model}
-use Rattle.al_decl.specs.Components.{named_parts, parts_behind}
+use Rattle.al_decl.specs.Components.{named_parts, parts_of_both}
 use Rattle.al_decl.specs.Founds.{found_model}
 use Rattle.al_decl.proofs.Outcomes.{on_ok}
 use Rattle.al_decl.proofs.components.check_component.Goals as goal
@@ -17,7 +17,7 @@ returns-clause-answered g c =
     (λ answered t h.
     let made = answered t h in
     let R = g.R.PartAnalyzer.reading c.args.analyzer.now t in
-    (made.0, made.1 ∙ ap (λ (ns : List DefiningName). parts_behind (found_model c.args.found.now) (named_parts R t c.args.scope.now k ns)) same))
+    (made.0, made.1 ∙ ap (λ (ns : List DefiningName). parts_of_both (found_model c.args.found.now) (named_parts R t c.args.scope.now k ns)) same))
     c.named_parts.ensures.answered
 
 pub returns-clause-scope : goal.returns-clause-scope

@@ -1,12 +1,12 @@
 use Rattle.std.proofs.Common.{List, Option, Result, map, ap, ◌∙◌}
-use Rattle.al_decl_type.specs.declared.record.Part.{Part}
+use Rattle.al_decl_judged.specs.declared.record.Part.{Part}
 use Rattle.al_decl.specs.Inner.{made_visible}
 use Rattle.al_base_fault.specs.Judging.{map_ok, unless}
 use Rattle.al_base_fault.specs.declared.fault.Fault.{Fault}
 use Rattle.al_scope.specs.Places.{Place}
 use Rattle.al_tree.specs.DeclarationViews.{component_model}
 use Rattle.al_view.specs.declared.view.SubtypeView.{SubtypeView}
-use Rattle.al_decl.specs.Components.{names_fault, part, parts_behind}
+use Rattle.al_decl.specs.Components.{names_fault, part, parts_of_both}
 use Rattle.al_decl.specs.Founds.{found_model}
 use Rattle.al_decl.proofs.Outcomes.{on_ok}
 use Rattle.al_decl.proofs.components.named_parts.Goals as goal
@@ -23,8 +23,8 @@ returns-clause-answered g c =
     let make = λ (s : SubtypeView). map (part s) names in (
       fault.0,
       c.in_ok-add.ensures
-          ∙ ap (λ (d : Option Fault). parts_behind found (unless d (map_ok make c.in_ok-of.of))) fault.1
-          ∙ ap (λ (s : Result SubtypeView Fault). parts_behind found (unless (names_fault t c.args.scope.now names) (map_ok make s))) (of.1 ∙ ap (λ (p : Place). R.indication p (component_model c.args.component.now).subtype) c.in_ok-begin.ensures.begun),
+          ∙ ap (λ (d : Option Fault). parts_of_both found (unless d (map_ok make c.in_ok-of.of))) fault.1
+          ∙ ap (λ (s : Result SubtypeView Fault). parts_of_both found (unless (names_fault t c.args.scope.now names) (map_ok make s))) (of.1 ∙ ap (λ (p : Place). R.indication p (component_model c.args.component.now).subtype) c.in_ok-begin.ensures.begun),
     ))
     c.make_visible.ensures.made
 

@@ -1,6 +1,6 @@
 use Rattle.std.proofs.Common.{List, Option, Result, Ok, [], ap, ◌∙◌}
 use Rattle.al_decl.specs.Checking.{finished, with_scope}
-use Rattle.al_decl_type.specs.declared.record.Part.{Part}
+use Rattle.al_decl_judged.specs.declared.record.Part.{Part}
 use Rattle.al_decl_judged.specs.TypeKinds.{record_declared}
 use Rattle.al_decl.specs.TypeNames.{type_begun}
 use Rattle.al_base_fault.specs.declared.fault.Fault.{Fault}

@@ -1,11 +1,11 @@
 use Rattle.std.proofs.Common.{List, Result, map, sym, ap, ◌∙◌}
-use Rattle.al_decl_type.specs.declared.record.Part.{Part}
+use Rattle.al_decl_judged.specs.declared.record.Part.{Part}
 use Rattle.al_base_fault.specs.declared.fault.Fault.{Fault}
 use Rattle.al_scope.specs.Places.{Place}
 use Rattle.al_tree.specs.DeclarationViews.{component_model, components_model}
 use Rattle.al_tree.specs.declared.declaration.ComponentDeclaration.{ComponentDeclaration}
 use Rattle.al_tree.specs.declared.declaration.Components.{Components}
-use Rattle.al_decl.specs.Components.{after_component, component_list, component_parts, parts_after, parts_behind}
+use Rattle.al_decl.specs.Components.{after_component, component_list, component_parts, parts_after, parts_of_both}
 use Rattle.al_decl.specs.Founds.{found_model}
 use Rattle.al_decl.proofs.Outcomes.{on_ok}
 use Rattle.al_decl.proofs.record.check_parts.Goals as goal
@@ -21,7 +21,7 @@ returns-in_ok-check_component-in-Declared-clause-answered g c =
     let scope = c.args.scope.now in
     let k = component_model c.in-Declared.first in
     let others = c.as_slice-others.result.now in
-    let both = parts_behind so_far (component_parts R t scope k) in (
+    let both = parts_of_both so_far (component_parts R t scope k) in (
       first.0,
       later.1
           ∙ ap (λ (r : Result (List Part) Fault). parts_after R t c.check_component.new.scope r (map component_model others)) first.1

@@ -1,6 +1,6 @@
 use Rattle.std.proofs.Common.{List, Option, Result, Ok, [], ap, ◌∙◌}
 use Rattle.al_decl.specs.Checking.{finished, with_scope}
-use Rattle.al_decl_type.specs.declared.record.Part.{Part}
+use Rattle.al_decl_judged.specs.declared.record.Part.{Part}
 use Rattle.al_decl_judged.specs.TypeKinds.{record_declared}
 use Rattle.al_decl.specs.Inner.{in_region}
 use Rattle.al_decl.specs.declared.env.Environment.{Environment}

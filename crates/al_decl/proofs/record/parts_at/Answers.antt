@@ -1,5 +1,5 @@
 use Rattle.std.proofs.Common.{List, Result, ap, ◌∙◌}
-use Rattle.al_decl_type.specs.declared.record.Part.{Part}
+use Rattle.al_decl_judged.specs.declared.record.Part.{Part}
 use Rattle.al_decl.specs.Inner.{in_region}
 use Rattle.al_base_fault.specs.declared.fault.Fault.{Fault}
 use Rattle.al_tree.specs.DeclarationViews.{components_model}

@@ -1,5 +1,5 @@
 use Rattle.std.proofs.Common.{List, ap, ◌∙◌}
-use Rattle.al_decl_type.specs.declared.declaration.Declaration.{Declaration}
+use Rattle.al_decl_judged.specs.declared.declaration.Declaration.{Declaration}
 use Rattle.al_decl_judged.specs.declared.progress.Progress.{Progress}
 use Rattle.al_decl.specs.Declaring.{with_declarations}
 use Rattle.al_decl.specs.declared.env.Environment.{Environment}

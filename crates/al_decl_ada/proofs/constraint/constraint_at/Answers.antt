@@ -1,10 +1,10 @@
 use Rattle.std.proofs.Common.{Some, Result, ap, ◌∙◌, sym}
-use Rattle.al_decl_type.specs.declared.subtype.StaticRange.{StaticRange}
+use Rattle.al_decl_judged.specs.declared.subtype_views.StaticRange.{StaticRange}
 use Rattle.al_base_fault.specs.declared.fault.Fault.{Fault}
 use Rattle.al_query.proofs.AskLemmas.{asks_none}
 use Rattle.al_query.specs.Asked.{OfKnown, by_some_name}
 use Rattle.al_decl_ada.specs.SubtypesAt.{constraint_at}
-use Rattle.al_overload_prefixes.specs.TermsAt.{range_names}
+use Rattle.al_overload_values.specs.TermsAt.{range_names}
 use Rattle.al_tree.specs.DeclarationViews.{range_model}
 use Rattle.al_overload_values.specs.Surroundings.{site_model, site_units}
 use Rattle.al_view.specs.declared.view.SubtypeView.{SubtypeView}

@@ -1,10 +1,10 @@
 use Rattle.std.proofs.Common.{Result, ap, ◌∙◌}
 use Rattle.al_base.specs.declared.place.Place.{Place}
 use Rattle.al_base_fault.specs.declared.fault.Fault.{Fault}
-use Rattle.al_overload_keys.specs.Places.{first_place}
+use Rattle.al_overload_lookup.specs.Places.{first_place}
 use Rattle.al_decl_ada.specs.Complete.{completed}
 use Rattle.al_decl_ada.specs.SubtypesAt.{index_of_marked}
-use Rattle.al_overload_prefixes.proofs.Composed.{if_ok}
+use Rattle.al_overload_values.proofs.Composed.{if_ok}
 use Rattle.al_query.proofs.AskLemmas.{asks_then}
 use Rattle.al_query.specs.Asked.{OfKnown, by_some_name}
 use Rattle.al_tree.specs.DeclarationViews.{range_model}

@@ -2,9 +2,9 @@ use Rattle.std.proofs.Common.{None, Result, ap, ◌∙◌}
 use Rattle.al_base.specs.declared.place.Place.{Place}
 use Rattle.al_decl_judged.specs.Indications.{index_of_mark}
 use Rattle.al_base_fault.specs.declared.fault.Fault.{Fault}
-use Rattle.al_overload_prefixes.proofs.Composed.{if_ok}
+use Rattle.al_overload_values.proofs.Composed.{if_ok}
 use Rattle.al_tree.specs.ExpressionViews.{expression_model}
-use Rattle.al_overload_keys.specs.Places.{first_place}
+use Rattle.al_overload_lookup.specs.Places.{first_place}
 use Rattle.al_view.specs.declared.view.SubtypeView.{SubtypeView}
 use Rattle.al_decl_ada.specs.Complete.{completed}
 use Rattle.al_decl_ada.proofs.index.single_index.Goals as goal

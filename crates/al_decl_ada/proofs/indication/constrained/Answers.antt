@@ -1,5 +1,5 @@
 use Rattle.std.proofs.Common.{Option, Result, ap, ◌∙◌}
-use Rattle.al_decl_type.specs.declared.subtype.StaticRange.{StaticRange}
+use Rattle.al_decl_judged.specs.declared.subtype_views.StaticRange.{StaticRange}
 use Rattle.al_decl_judged.specs.Indications.{indication}
 use Rattle.al_base_fault.specs.declared.fault.Fault.{Fault}
 use Rattle.al_decl_ada.proofs.indication.constrained.Goals as goal

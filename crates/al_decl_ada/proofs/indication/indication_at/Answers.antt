@@ -7,9 +7,9 @@ use Rattle.al_decl_ada.proofs.Forms.{constrained_holds, unconstrained_holds}
 use Rattle.al_decl_ada.specs.Complete.{completed}
 use Rattle.al_decl_ada.specs.SubtypesAt.{constrained_at}
 use Rattle.al_tree_syntax.specs.DeclarationTrees.{RangeTree}
-use Rattle.al_overload_prefixes.proofs.Composed.{if_ok}
-use Rattle.al_overload_prefixes.specs.CompoundNames.{name_text}
-use Rattle.al_overload_prefixes.specs.TermsAt.{mark_at}
+use Rattle.al_overload_values.proofs.Composed.{if_ok}
+use Rattle.al_overload_values.specs.CompoundNames.{name_text}
+use Rattle.al_overload_values.specs.TermsAt.{mark_at}
 use Rattle.al_tree.specs.DeclarationViews.{compound_model, range_model}
 use Rattle.al_overload_values.specs.Surroundings.{site_model, site_units}
 use Rattle.al_view.specs.declared.view.SubtypeView.{SubtypeView}

@@ -1,5 +1,5 @@
 use Rattle.std.proofs.Common.{subst, sym, ap, ◌∙◌}
-use Rattle.al_decl_completion.specs.declared.specification.Specification.{Specification}
+use Rattle.al_decl_profile.specs.declared.specification.Specification.{Specification}
 use Rattle.al_decl_profile.specs.Bodies.{IsWaiting}
 use Rattle.al_decl_profile.specs.Profiles.{specification_of}
 use Rattle.al_decl_profile.specs.declared.body.Completing.{Completing}

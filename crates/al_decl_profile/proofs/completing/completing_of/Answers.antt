@@ -1,8 +1,8 @@
 use Rattle.std.proofs.Common.{◌≡◌, ℕ, List, IfOk, Result, Ok, Err, subst, sym, ◌∙◌, rules}
-use Rattle.al_decl_completion.specs.Completing.{Completes, IsFirst}
-use Rattle.al_decl_completion.specs.declared.specification.BodyHead.{BodyHead}
-use Rattle.al_decl_completion.specs.declared.specification.BodyHead.TheVariants as heads
-use Rattle.al_decl_completion.specs.declared.specification.Specification.{Specification}
+use Rattle.al_decl_profile.specs.Completing.{Completes, IsFirst}
+use Rattle.al_decl_profile.specs.declared.specification.BodyHead.{BodyHead}
+use Rattle.al_decl_profile.specs.declared.specification.BodyHead.TheVariants as heads
+use Rattle.al_decl_profile.specs.declared.specification.Specification.{Specification}
 use Rattle.al_decl_profile.specs.Completions.{IsCompletedAt}
 use Rattle.al_decl_profile.specs.Profiles.{specification_of}
 use Rattle.al_view.specs.declared.view.ViewKind.TheVariants.{OfSubprogram}

@@ -1,6 +1,6 @@
 use Rattle.std.proofs.Common.{◌≡◌, ℕ, List, Option, Some, ap, ◌∙◌}
 use Rattle.al_base.specs.declared.place.Place.{Place}
-use Rattle.al_stmts_loops.specs.Ends.{end_fault}
+use Rattle.al_stmts.specs.Ends.{end_fault}
 use Rattle.al_decl_protected.proofs.object.object_end.Goals as goal
 
 end_so : (n m : List ℕ) (e x : Option (Place × List ℕ)) → n ≡ m → e ≡ x → end_fault (Some n) e ≡ end_fault (Some m) x

@@ -2,16 +2,16 @@ use Rattle.std.proofs.Common.{ℕ, List, IfSome, map, sym, subst}
 use Rattle.al_base.specs.Batch.{key_of}
 use Rattle.al_bind.specs.Binding.{IsElaboration}
 use Rattle.al_unit_graph.specs.Headers.{Library}
-use Rattle.al_unit_order.specs.Read.{AreHeaded, NameParentBodies}
+use Rattle.al_unit_faults.specs.Read.{AreHeaded, NameParentBodies}
 use Rattle.al_query_store.specs.Keyed.{settled_at}
 use Rattle.al_engine_refresh.specs.Builds.{results_of}
-use Rattle.al_engine_batch.specs.Renewals.{KeepsPartition}
-use Rattle.al_engine_rebuild.specs.Prepared.{IsPrepared}
-use Rattle.al_engine_rebuild.specs.Renewed.{IsCleanBut}
-use Rattle.al_engine_recheck.specs.Edits.{AreEdits, units_of}
-use Rattle.al_engine_graph.specs.Graphs.{HaveSameHeaders}
-use Rattle.al_engine_graph.specs.Kept.{IsGraphOf}
-use Rattle.al_engine_graph.specs.declared.graph.UnitGraph.{UnitGraph}
+use Rattle.al_engine.specs.BatchRenewals.{KeepsPartition}
+use Rattle.al_engine.specs.Prepared.{IsPrepared}
+use Rattle.al_engine.specs.Renewed.{IsCleanBut}
+use Rattle.al_engine.specs.RecheckEdits.{AreEdits, units_of}
+use Rattle.al_engine.specs.GraphGraphs.{HaveSameHeaders}
+use Rattle.al_engine.specs.Kept.{IsGraphOf}
+use Rattle.al_engine.specs.declared.graph.UnitGraph.{UnitGraph}
 use Rattle.al_engine.specs.Graphs.{IsOrdered}
 use Rattle.al_engine.specs.States.{IsSettledBy}
 use Rattle.al_engine.proofs.Keeping.{partition-for}

@@ -1,4 +1,4 @@
-use Rattle.al_engine_recheck.proofs.SameLemmas.{as-before}
+use Rattle.al_engine.proofs.RecheckSameLemmas.{as-before}
 use Rattle.al_engine.proofs.building.build_or_cancel.Goals as goal
 
 pub returns-in-Err-clause-err : goal.returns-in-Err-clause-err

@@ -1,7 +1,7 @@
 use Rattle.std.proofs.Common.{ℕ, List, sym, subst}
 use Rattle.al_query_store.specs.Keyed.{settled_at}
-use Rattle.al_engine_recheck.specs.Rechecks.{setting_of}
-use Rattle.al_engine_batch.specs.Batches.{IsCompiled}
+use Rattle.al_engine.specs.Rechecks.{setting_of}
+use Rattle.al_engine.specs.Batches.{IsCompiled}
 use Rattle.al_engine.proofs.building.build_read.Goals as goal
 
 pub finish-requires-clause-law : goal.finish-requires-clause-law

@@ -5,17 +5,17 @@ use Rattle.al_base.specs.FileNames.{file_name_of}
 use Rattle.al_unit_map.specs.Units.{at_unit}
 use Rattle.al_unit_graph.specs.Headers.{Library}
 use Rattle.al_query_store.specs.Keyed.{settled_at}
-use Rattle.al_engine_graph.specs.Graphs.{HaveSameHeaders}
-use Rattle.al_engine_graph.specs.Kept.{IsGraphOf}
-use Rattle.al_engine_graph.specs.Texts.{HaveTextsBut}
-use Rattle.al_engine_graph.specs.declared.graph.UnitGraph.{UnitGraph}
-use Rattle.al_engine_batch.specs.Renewals.{KeepsPartition}
+use Rattle.al_engine.specs.GraphGraphs.{HaveSameHeaders}
+use Rattle.al_engine.specs.Kept.{IsGraphOf}
+use Rattle.al_engine.specs.Texts.{HaveTextsBut}
+use Rattle.al_engine.specs.declared.graph.UnitGraph.{UnitGraph}
+use Rattle.al_engine.specs.BatchRenewals.{KeepsPartition}
 use Rattle.al_engine_refresh.specs.Builds.{results_of}
-use Rattle.al_engine_recheck.specs.Edits.{AreEdits, units_of}
+use Rattle.al_engine.specs.RecheckEdits.{AreEdits, units_of}
 use Rattle.al_engine.specs.Edits.{AreEditedIn}
 use Rattle.al_engine.specs.States.{IsSettledBy}
-use Rattle.al_engine_rebuild.specs.Renewed.{IsCleanBut}
-use Rattle.al_engine.proofs.Edited.{all-made, base-of-none, clean-but, each-found, edited-alone, entered-of, made-entries}
+use Rattle.al_engine.specs.Renewed.{IsCleanBut}
+use Rattle.al_engine.proofs.EditedThere.{all-made, base-of-none, clean-but, each-found, edited-alone, entered-of, made-entries}
 use Rattle.al_engine.proofs.Keeping.{entries-keep}
 use Rattle.al_engine.proofs.Taken.{some_has}
 use Rattle.al_engine.proofs.edits.edited_now.Goals as goal

@@ -1,9 +1,9 @@
 use Rattle.std.proofs.Common.{◌≡◌, ◌++◌, ◌∷◌, ◌+◌, ◌∙◌, ℕ, List, [], take, get_or, sym, ap, subst}
 use Rattle.std.proofs.lemmas.List.{take_all, take_more}
 use Rattle.al_query_store.specs.Keyed.{settled_at}
-use Rattle.al_engine_recheck.specs.declared.edited.EditedUnit.{EditedUnit}
+use Rattle.al_engine.specs.declared.edited.EditedUnit.{EditedUnit}
 use Rattle.al_engine.specs.Edits.{AreEditedIn, IsEdited}
-use Rattle.al_engine.proofs.Edited.{none-edited, one-edited}
+use Rattle.al_engine.proofs.EditedThere.{none-edited, one-edited}
 use Rattle.al_engine.proofs.edits.edited_units.Goals as goal
 
 pub loop-file-init : goal.loop-file-init

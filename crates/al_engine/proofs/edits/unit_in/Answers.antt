@@ -2,7 +2,7 @@ use Rattle.std.proofs.Common.{Bor, ap, sym, ◌∙◌}
 use Rattle.std.specs.Option.{option_map}
 use Rattle.al_unit_graph.specs.Views.{header_model}
 use Rattle.al_unit_graph.specs.declared.header.Header.{Header}
-use Rattle.al_engine.proofs.Edited.{holds-alone}
+use Rattle.al_engine.proofs.EditedThere.{holds-alone}
 use Rattle.al_engine.proofs.edits.unit_in.Goals as goal
 
 pub returns-in_ok-unit_of-in-Some : goal.returns-in_ok-unit_of-in-Some

@@ -1,6 +1,6 @@
 use Rattle.std.proofs.Common.{IfSome}
-use Rattle.al_engine_graph.specs.Graphs.{HaveSameHeaders}
-use Rattle.al_engine_graph.specs.Texts.{HaveTextsBut}
+use Rattle.al_engine.specs.GraphGraphs.{HaveSameHeaders}
+use Rattle.al_engine.specs.Texts.{HaveTextsBut}
 use Rattle.al_engine.proofs.Taken.{some_has}
 use Rattle.al_engine.proofs.graphs.alike.Goals as goal
 

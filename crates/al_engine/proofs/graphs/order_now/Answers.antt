@@ -3,7 +3,7 @@ use Rattle.std.specs.Cmp.Lexicographic.{bytes_decides}
 use Rattle.std.specs.Prelude.{MatchOption}
 use Rattle.al_base.specs.Batch.{key_of}
 use Rattle.al_bind.specs.Binding.{IsElaboration}
-use Rattle.al_engine_graph.specs.Graphs.{HaveSameHeaders}
+use Rattle.al_engine.specs.GraphGraphs.{HaveSameHeaders}
 use Rattle.al_engine.specs.Graphs.{IsOrdered}
 use Rattle.al_engine.proofs.Keeping.{some-is}
 use Rattle.al_engine.proofs.Taken.{order_stays, some_has}

@@ -1,5 +1,5 @@
-use Rattle.al_engine_graph.specs.Graphs.{HaveSameHeaders}
-use Rattle.al_engine_graph.specs.Texts.{HaveTextsBut}
+use Rattle.al_engine.specs.GraphGraphs.{HaveSameHeaders}
+use Rattle.al_engine.specs.Texts.{HaveTextsBut}
 use Rattle.al_engine.proofs.Taken.{some_has}
 use Rattle.al_engine.proofs.graphs.with_last.Goals as goal
 

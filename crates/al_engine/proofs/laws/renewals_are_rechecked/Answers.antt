@@ -1,4 +1,4 @@
-use Rattle.al_engine.proofs.Renewing.{renewals_are_rechecked}
+use Rattle.al_engine.proofs.RenewingThere.{renewals_are_rechecked}
 use Rattle.al_engine.proofs.laws.renewals_are_rechecked.Goals as goal
 
 pub returns : goal.returns

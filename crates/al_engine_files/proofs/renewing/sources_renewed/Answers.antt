@@ -6,8 +6,8 @@ use Rattle.al_base.proofs.HeldFiles.{held_text, short_name}
 use Rattle.al_unit_graph.specs.Headers.{Library, Source}
 use Rattle.al_unit_graph.specs.Views.{source_model}
 use Rattle.al_unit.specs.Libraries.{library_of, texts_of}
-use Rattle.al_engine_graph.specs.Graphs.{HaveSameHeaders, contents_at}
-use Rattle.al_engine_graph.specs.Texts.{HaveTextsBut}
+use Rattle.al_engine.specs.GraphGraphs.{HaveSameHeaders, contents_at}
+use Rattle.al_engine.specs.Texts.{HaveTextsBut}
 use Rattle.al_engine_files.proofs.EditedFile.{edited_so, named-file, never-gone, now_is}
 use Rattle.al_engine_files.proofs.renewing.sources_renewed.Goals as goal
 

@@ -7,7 +7,7 @@ use Rattle.al_base.specs.Files.{IsFile, Texts, name_cmp}
 use Rattle.al_base.proofs.HeldFiles.{short_name, held_at}
 use Rattle.al_unit.specs.Libraries.{library_of, source_of}
 use Rattle.al_unit.proofs.LibraryLemmas.{next_source, no_library}
-use Rattle.al_engine_graph.proofs.Files.{stepped}
+use Rattle.al_engine.proofs.Files.{stepped}
 use Rattle.al_engine_files.specs.AdaFiles.{IsKnown, WereRead}
 use Rattle.al_engine_files.proofs.OfTexts.{known_item, more_known}
 use Rattle.al_engine_files.proofs.sources.read_each.Goals as goal

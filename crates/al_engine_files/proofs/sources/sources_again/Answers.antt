@@ -1,8 +1,8 @@
 use Rattle.std.proofs.Common.{◌≡◌, ap, sym, subst, ◌∙◌}
 use Rattle.std.specs.Map.{keys_of}
 use Rattle.al_unit_graph.specs.Headers.{Library}
-use Rattle.al_engine_graph.specs.Graphs.{HaveSameHeaders}
-use Rattle.al_engine_graph.specs.Texts.{HaveTextsBut}
+use Rattle.al_engine.specs.GraphGraphs.{HaveSameHeaders}
+use Rattle.al_engine.specs.Texts.{HaveTextsBut}
 use Rattle.al_engine_files.proofs.OfTexts.{read_as_before}
 use Rattle.al_engine_files.proofs.sources.sources_again.Goals as goal
 

@@ -2,7 +2,7 @@ use Rattle.std.proofs.Common.{◌∙◌, false, sym, is_some}
 use Rattle.al_unit_map.specs.Units.{at_unit}
 use Rattle.al_view.proofs.SymbolLemmas.{both}
 use Rattle.al_query_store.specs.Keyed.{leaving, state, with_reached}
-use Rattle.al_engine_keep.specs.Staying.{is_there}
+use Rattle.al_engine_refresh.specs.Staying.{is_there}
 use Rattle.al_engine_refresh.specs.Moving.{left_out}
 use Rattle.al_engine_refresh.proofs.HandleLemmas.{on_ok}
 use Rattle.al_engine_refresh.proofs.LeftLemmas.{left_out-leaves, left_out-stays, left_out-turns, turned-as, turned-still}

@@ -4,7 +4,7 @@ use Rattle.al_query.specs.Known.{has_unit}
 use Rattle.al_query_outcome.specs.Equations.{IsSetting}
 use Rattle.al_query_store.specs.Keyed.{now_at, settled_at}
 use Rattle.al_entries.specs.EntryLaw.{AllKeepLaw}
-use Rattle.al_engine_keep.specs.Moves.{IsLeft, has_moved}
+use Rattle.al_engine_refresh.specs.Moves.{IsLeft, has_moved}
 use Rattle.al_engine_refresh.specs.Builds.{raised, setting}
 use Rattle.al_engine_refresh.specs.Handling.{within}
 use Rattle.al_engine_refresh.specs.Moving.{IsCompared, IsSteady, MarksFollow}

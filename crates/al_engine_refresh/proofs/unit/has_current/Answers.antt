@@ -1,6 +1,6 @@
 use Rattle.std.proofs.Common.{◌≡◌, ◌↔◌, ◌∙◌, sym, ap, subst, Some, None, Option, IsTrue, is_some}
 use Rattle.std.specs.Option.{option_copied}
-use Rattle.al_query_slots.specs.declared.slots.Held.{Held}
+use Rattle.al_query_store.specs.declared.slots.Held.{Held}
 use Rattle.al_query_store.specs.Keyed.{entry_of, state}
 use Rattle.al_entries.specs.EntryLaw.{HasCurrent}
 use Rattle.al_entries.specs.Stored.{Stored}

@@ -1,6 +1,6 @@
 use Rattle.std.proofs.Common.{◌≡◌, length}
 use Rattle.std.specs.Prelude.{option_map}
-use Rattle.al_overload_choice.specs.Counts.{plain}
+use Rattle.al_overload.specs.Counts.{plain}
 use Rattle.al_overload_heads.specs.Chains.{chained_head, chained_universal}
 use Rattle.al_overload_heads.specs.Parts.{nominal}
 use Rattle.al_overload_heads.proofs.chain.chained.Given as goal

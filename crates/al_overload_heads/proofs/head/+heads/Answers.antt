@@ -1,8 +1,8 @@
 use Rattle.std.proofs.Common.{rules, List, map, length, sym, ap, ◌∙◌}
 use Rattle.std.specs.Option.{option_and_then}
-use Rattle.al_overload_choice.specs.Counts.{plain_all}
-use Rattle.al_overload_term.specs.TermViews.{term_model, terms_of}
-use Rattle.al_overload_term.specs.declared.term.Term.{Term}
+use Rattle.al_overload.specs.Counts.{plain_all}
+use Rattle.al_overload_heads.specs.TermViews.{term_model, terms_of}
+use Rattle.al_overload_heads.specs.declared.term.Term.{Term}
 use Rattle.al_overload_heads.specs.Aggregates.{positional}
 use Rattle.al_overload_heads.specs.Heads.{head_of, heads_of, possible}
 use Rattle.al_overload_heads.proofs.HeadsMade.{aggregate_built, head_by}

@@ -1,11 +1,11 @@
 use Rattle.std.proofs.Common.{◌≡◌, ◌≤◌, None, map, take}
-use Rattle.al_overload_choice.specs.Counts.{plain}
+use Rattle.al_overload.specs.Counts.{plain}
 use Rattle.al_overload_heads.specs.Chains.{chained_head, chained_universal}
 use Rattle.al_overload_heads.specs.Heads.{head_of, plain_head}
 use Rattle.al_overload_heads.specs.Parts.{part_of}
 use Rattle.al_overload_heads.specs.Universal.{is_universal}
-use Rattle.al_overload_term.specs.TermViews.{term_model}
-use Rattle.al_overload_term.specs.declared.term.Term.{size-Term}
+use Rattle.al_overload_heads.specs.TermViews.{term_model}
+use Rattle.al_overload_heads.specs.declared.term.Term.{size-Term}
 use Rattle.al_overload_heads.proofs.head.+heads.Given as goal
 
 abbrev pub invariant-each-loop-term : goal.invariant-each-loop-term

@@ -2,13 +2,13 @@ use Rattle.std.proofs.Common.{◌≡◌, IfOk, None, subst}
 use Rattle.al_base.specs.declared.place.Place.{Place}
 use Rattle.al_base_fault.specs.Judging.{map_ok}
 use Rattle.al_overload.specs.Meanings.{resolved}
-use Rattle.al_overload_choice.specs.Counts.{label_of, plain}
-use Rattle.al_overload_choice.specs.Labelling.{Tree}
-use Rattle.al_overload_choice.specs.declared.types.Expected.{Expected}
+use Rattle.al_overload.specs.Counts.{label_of, plain}
+use Rattle.al_overload.specs.Labelling.{Tree}
+use Rattle.al_overload.specs.declared.types.Expected.{Expected}
 use Rattle.al_overload_heads.specs.Heads.{bounds_head}
 use Rattle.al_overload_heads.specs.Interpreting.{numbers_in}
-use Rattle.al_overload_term.specs.TermViews.{term_model}
-use Rattle.al_overload_term.specs.Places.{first_place}
+use Rattle.al_overload_heads.specs.TermViews.{term_model}
+use Rattle.al_overload_heads.specs.Places.{first_place}
 use Rattle.al_overload_heads.proofs.interpret.interpret_bounds.Goals as goal
 
 pub returns : goal.returns

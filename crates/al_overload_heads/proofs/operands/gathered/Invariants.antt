@@ -1,5 +1,5 @@
 use Rattle.std.proofs.Common.{◌≡◌, length, map}
-use Rattle.al_overload_choice.specs.Counts.{plain, plain_all}
+use Rattle.al_overload.specs.Counts.{plain, plain_all}
 use Rattle.al_overload_heads.specs.Heads.{trees_of}
 use Rattle.al_overload_heads.proofs.Gathered.{before}
 use Rattle.al_overload_heads.proofs.operands.gathered.Given as goal

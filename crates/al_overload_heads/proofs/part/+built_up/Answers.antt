@@ -1,7 +1,7 @@
 use Rattle.std.proofs.Common.{◌/◌, arith}
 use Rattle.al_overload_heads.proofs.PartLemmas.{halves}
 use Rattle.al_overload_heads.proofs.part.+built_up.Goals as goal
-use Rattle.al_overload_term.specs.TermViews.{term_model}
+use Rattle.al_overload_heads.specs.TermViews.{term_model}
 
 pub returns : goal.returns
 returns t c =

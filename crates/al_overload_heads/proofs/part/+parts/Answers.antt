@@ -1,6 +1,6 @@
 use Rattle.al_overload_heads.proofs.PartLemmas.{from_first}
 use Rattle.al_overload_heads.proofs.part.+parts.Goals as goal
-use Rattle.al_overload_term.specs.TermViews.{term_model}
+use Rattle.al_overload_heads.specs.TermViews.{term_model}
 
 pub inner_part-returns : goal.inner_part-returns
 inner_part-returns t c =

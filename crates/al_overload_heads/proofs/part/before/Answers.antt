@@ -3,7 +3,7 @@ use Rattle.std.specs.Prelude.{option_map}
 use Rattle.al_overload_heads.specs.PartChains.{link_of}
 use Rattle.al_overload_heads.proofs.PartLemmas.{before_next}
 use Rattle.al_overload_heads.proofs.part.before.Goals as goal
-use Rattle.al_overload_term.specs.TermViews.{term_model}
+use Rattle.al_overload_heads.specs.TermViews.{term_model}
 
 pub loop-count-preserved : goal.loop-count-preserved
 loop-count-preserved c =

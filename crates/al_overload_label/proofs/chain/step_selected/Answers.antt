@@ -1,9 +1,9 @@
 use Rattle.std.proofs.Common.{ap}
-use Rattle.al_overload_choice.specs.Counts.{label_of}
-use Rattle.al_overload_choice.specs.Labelling.{Label}
+use Rattle.al_overload.specs.Counts.{label_of}
+use Rattle.al_overload.specs.Labelling.{Label}
 use Rattle.std.proofs.Common.{Option}
-use Rattle.al_overload_term.specs.TermViews.{term_model}
-use Rattle.al_overload_types.specs.Leaves.{labelled}
+use Rattle.al_overload_heads.specs.TermViews.{term_model}
+use Rattle.al_overload_nodes.specs.Leaves.{labelled}
 use Rattle.al_overload_label.specs.Readings.{reading}
 use Rattle.al_overload_label.proofs.ChainLemmas.{selected_step}
 use Rattle.al_overload_label.proofs.chain.step_selected.Goals as goal

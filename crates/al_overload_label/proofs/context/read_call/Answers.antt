@@ -1,4 +1,4 @@
-use Rattle.al_overload_choice.specs.Counts.{label_of}
+use Rattle.al_overload.specs.Counts.{label_of}
 use Rattle.al_overload_label.proofs.TermKinds.{applied_call}
 use Rattle.al_overload_label.proofs.context.read_call.Goals as goal
 

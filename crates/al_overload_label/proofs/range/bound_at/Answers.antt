@@ -1,13 +1,13 @@
 use Rattle.std.proofs.Common.{Option, ap, ◌∙◌}
-use Rattle.al_overload_choice.specs.Counts.{label_of}
-use Rattle.al_overload_choice.specs.Labelling.{Label}
+use Rattle.al_overload.specs.Counts.{label_of}
+use Rattle.al_overload.specs.Labelling.{Label}
 use Rattle.al_overload_label.specs.Readings.{reading}
-use Rattle.al_overload_types.specs.Leaves.{labelled}
+use Rattle.al_overload_nodes.specs.Leaves.{labelled}
 use Rattle.al_overload_label.proofs.PairMade.{bound_is}
 use Rattle.al_overload_label.proofs.range.bound_at.Goals as goal
 use Rattle.al_overload_nodes.specs.Views.{reading_model}
-use Rattle.al_overload_term.specs.TermViews.{term_model}
-use Rattle.al_overload_types.specs.Seen.{told_model}
+use Rattle.al_overload_heads.specs.TermViews.{term_model}
+use Rattle.al_overload_nodes.specs.Seen.{told_model}
 use Rattle.al_base_fault.specs.Judging.{map_ok}
 use Rattle.al_view_typed.specs.ExpressionViews.{typed_model}
 

@@ -1,16 +1,16 @@
 use Rattle.std.proofs.Common.{◌≡◌, Result, sym, ap, ◌∙◌}
-use Rattle.al_overload_choice.specs.Counts.{label_of}
+use Rattle.al_overload.specs.Counts.{label_of}
 use Rattle.al_base_fault.specs.Judging.{map_ok}
 use Rattle.al_base_fault.specs.declared.fault.Fault.{Fault}
-use Rattle.al_overload_term.specs.TermViews.{term_model}
+use Rattle.al_overload_heads.specs.TermViews.{term_model}
 use Rattle.al_view_typed.specs.ExpressionViews.{typed_model}
 use Rattle.al_view_typed.specs.declared.expression.Typed.{Typed}
 use Rattle.al_overload_nodes.proofs.Seen.{both_model}
-use Rattle.al_overload_term.specs.Places.{first_place}
+use Rattle.al_overload_heads.specs.Places.{first_place}
 use Rattle.al_overload_label.specs.Static.{checked_as}
 use Rattle.al_overload_nodes.specs.Views.{pair_model as typed_pair_model}
-use Rattle.al_overload_types.specs.Seen.{told_model}
-use Rattle.al_overload_types.specs.FromAnswers.{DeterminedType, pair_type}
+use Rattle.al_overload_nodes.specs.Seen.{told_model}
+use Rattle.al_overload_nodes.specs.FromAnswers.{DeterminedType, pair_type}
 use Rattle.al_overload_label.specs.Ranges.{bound_at, found_type, pair_of}
 use Rattle.al_overload_label.specs.declared.range.FoundType.{FoundType}
 use Rattle.al_overload_label.proofs.PairMade.{pair_is}

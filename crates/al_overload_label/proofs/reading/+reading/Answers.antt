@@ -1,23 +1,23 @@
 use Rattle.std.proofs.Common.{◌≡◌, false, map, Option, sym, ap, subst, ◌∙◌, arith, Box, Global}
 use Rattle.std.specs.Option.{option_copied, option_map_or}
 use Rattle.std.specs.Prelude.{option_map}
-use Rattle.al_overload_choice.specs.Counts.{label_of, labels_of}
-use Rattle.al_overload_choice.specs.Labelling.{Label}
+use Rattle.al_overload.specs.Counts.{label_of, labels_of}
+use Rattle.al_overload.specs.Labelling.{Label}
 use Rattle.al_overload_heads.specs.Parts.{nominal}
 use Rattle.al_overload_nodes.specs.Gathering.{no_parts}
 use Rattle.al_overload_nodes.specs.Views.{actuals_model, reading_model, values_model}
 use Rattle.al_overload_nodes.specs.declared.node.Reading.{Reading}
-use Rattle.al_overload_term.specs.Places.{first_place}
-use Rattle.al_overload_term.specs.TermViews.{term_model, terms_of}
-use Rattle.al_overload_term.specs.Terms.{TermTree as trees}
-use Rattle.al_overload_term.specs.declared.term.Term.{Term, size-Term}
-use Rattle.al_overload_term.specs.declared.term.Term.TheViews.{sized-Infix, sized-ShortCircuit}
-use Rattle.al_overload_types.specs.Leaves.Application.{CallOf, ElementOf, ElementOfPart, Misapplied}
-use Rattle.al_overload_types.specs.FromAnswers.{test_type, types_in}
+use Rattle.al_overload_heads.specs.Places.{first_place}
+use Rattle.al_overload_heads.specs.TermViews.{term_model, terms_of}
+use Rattle.al_overload_heads.specs.Terms.{TermTree as trees}
+use Rattle.al_overload_heads.specs.declared.term.Term.{Term, size-Term}
+use Rattle.al_overload_heads.specs.declared.term.Term.TheViews.{sized-Infix, sized-ShortCircuit}
+use Rattle.al_overload_nodes.specs.Leaves.Application.{CallOf, ElementOf, ElementOfPart, Misapplied}
+use Rattle.al_overload_nodes.specs.FromAnswers.{test_type, types_in}
 use Rattle.al_overload_label.specs.Chains.{IsBelow, stepped}
 use Rattle.al_overload_label.specs.Readings.{actuals_read, operand_read, reading, values_read}
 use Rattle.al_overload_label.specs.Variables.{variable_as}
-use Rattle.al_overload_types.specs.Leaves.{labelled}
+use Rattle.al_overload_nodes.specs.Leaves.{labelled}
 use Rattle.al_overload_label.specs.OperandLabels.{operand_labels}
 use Rattle.al_overload_label.proofs.OperandLabels.{after_is}
 use Rattle.al_overload_label.specs.declared.chain.Step.{Step}

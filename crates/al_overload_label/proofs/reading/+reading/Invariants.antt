@@ -1,8 +1,8 @@
 use Rattle.std.proofs.Common.{◌≡◌, ◌≤◌, map, drop}
-use Rattle.al_overload_choice.specs.Counts.{label_of, labels_of}
-use Rattle.al_overload_term.specs.Places.{first_place}
-use Rattle.al_overload_term.specs.TermViews.{term_model, terms_of}
-use Rattle.al_overload_term.specs.declared.term.Term.{size-Term}
+use Rattle.al_overload.specs.Counts.{label_of, labels_of}
+use Rattle.al_overload_heads.specs.Places.{first_place}
+use Rattle.al_overload_heads.specs.TermViews.{term_model, terms_of}
+use Rattle.al_overload_heads.specs.declared.term.Term.{size-Term}
 use Rattle.al_overload_nodes.specs.Gathering.{no_parts}
 use Rattle.al_overload_nodes.specs.Views.{actuals_model, values_model}
 use Rattle.al_overload_heads.specs.Universal.{is_universal}

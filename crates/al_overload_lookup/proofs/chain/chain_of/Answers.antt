@@ -1,5 +1,5 @@
 use Rattle.al_overload_lookup.proofs.Chained.{first_link, pushed_below}
-use Rattle.al_overload_keys.specs.Keys.{key_of}
+use Rattle.al_overload_lookup.specs.Keys.{key_of}
 use Rattle.al_overload_lookup.specs.TextNames.{names_in}
 use Rattle.al_tree.specs.ExpressionViews.{expression_model}
 use Rattle.al_overload_lookup.proofs.chain.chain_of.Goals as goal

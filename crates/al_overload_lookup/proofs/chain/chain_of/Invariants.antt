@@ -1,5 +1,5 @@
 use Rattle.std.proofs.Common.{◌≡◌, ◌++◌}
-use Rattle.al_overload_keys.specs.Keys.{key_of}
+use Rattle.al_overload_lookup.specs.Keys.{key_of}
 use Rattle.al_overload_lookup.specs.Chains.{AreWithin, chained_names}
 use Rattle.al_overload_lookup.specs.TextNames.{names_in}
 use Rattle.al_tree.specs.ExpressionViews.{expression_model}

@@ -1,5 +1,5 @@
 use Rattle.std.proofs.Common.{ℕ, List, ◌++◌, ap, ◌∙◌}
-use Rattle.al_overload_keys.specs.Keys.{dotted}
+use Rattle.al_overload_lookup.specs.Keys.{dotted}
 use Rattle.al_overload_lookup.specs.Lookups.{with_each}
 use Rattle.al_view.specs.declared.view.ViewKind.{ViewKind}
 use Rattle.al_overload_lookup.proofs.lookup.find_selected.Goals as goal

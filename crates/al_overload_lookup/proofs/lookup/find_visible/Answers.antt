@@ -1,10 +1,10 @@
 use Rattle.std.proofs.Common.{[], ◌∷◌, List, ap, ◌∙◌}
-use Rattle.al_overload_keys.specs.declared.names.Names.{Names}
+use Rattle.al_overload_lookup.specs.declared.names.Names.{Names}
 use Rattle.al_overload_lookup.specs.Lookups.{with_views}
 use Rattle.al_query.proofs.AskLemmas.{asks_of-wider, asks_then, by_name-some}
 use Rattle.al_query.specs.Asked.{OfKnown, by_name, by_some_name}
 use Rattle.al_scope.specs.Places.{place_units}
-use Rattle.al_scope_seen.specs.Seen.{all_seen_at}
+use Rattle.al_scope.specs.Seen.{all_seen_at}
 use Rattle.al_view.specs.Named.{Declarations}
 use Rattle.al_view.specs.declared.view.ViewKind.{ViewKind}
 use Rattle.al_overload_lookup.proofs.lookup.find_visible.Goals as goal

@@ -1,5 +1,5 @@
 use Rattle.std.proofs.Common.{◌≡◌, ◌≤◌, ℕ, List, false, length, sym, subst, ap, ◌∙◌}
-use Rattle.al_overload_keys.specs.Keys.{is_none}
+use Rattle.al_overload_lookup.specs.Keys.{is_none}
 use Rattle.al_overload_lookup.proofs.Shorts.{past, short_more}
 use Rattle.al_overload_lookup.specs.Lookups.{looked_up}
 use Rattle.al_overload_lookup.specs.Pieces.{is_past, piece_name}

@@ -3,7 +3,7 @@ use Rattle.std.specs.Prelude.{option_map}
 use Rattle.al_query.proofs.AskLemmas.{asks_none}
 use Rattle.al_query.specs.Asked.{OfKnown, by_some_name}
 use Rattle.al_scope.specs.Places.{place_units}
-use Rattle.al_scope_seen.specs.Seen.{all_seen_at}
+use Rattle.al_scope.specs.Seen.{all_seen_at}
 use Rattle.al_view.specs.declared.view.ViewKind.{ViewKind}
 use Rattle.al_overload_lookup.proofs.select.seen_if_any.Goals as goal
 

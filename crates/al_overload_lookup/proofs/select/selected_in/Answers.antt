@@ -1,13 +1,13 @@
 use Rattle.std.proofs.Common.{List, [], ◌∷◌, Option, Some, None, ap, ◌∙◌}
 use Rattle.std.specs.Option.{option_map}
 use Rattle.al_overload_lookup.proofs.Asked.{package-known, selected-among, within-among}
-use Rattle.al_scope_seen.proofs.Outcomes.{if_ok}
+use Rattle.al_scope.proofs.Outcomes.{if_ok}
 use Rattle.al_overload_lookup.specs.Lookups.{asked_units, construct_of, selected_by, selected_in}
 use Rattle.al_query.proofs.AskLemmas.{asks_none, asks_of-left, asks_of-units, asks_of-wider, asks_then, by_name-some}
 use Rattle.al_query.specs.Asked.{OfKnown, by_name, by_some_name}
 use Rattle.al_scope.specs.Expanded.{selected_parts, within_parts}
 use Rattle.al_scope.specs.Places.{part_units, place_units}
-use Rattle.al_scope_seen.specs.Seen.{all_seen_at}
+use Rattle.al_scope.specs.Seen.{all_seen_at}
 use Rattle.al_view.specs.declared.symbol.Symbol.{Symbol}
 use Rattle.al_view.specs.declared.view.ViewKind.{ViewKind}
 use Rattle.al_overload_lookup.proofs.select.selected_in.Goals as goal

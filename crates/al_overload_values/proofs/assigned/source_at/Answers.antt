@@ -2,7 +2,7 @@ use Rattle.std.proofs.Common.{Result, ap, ◌∙◌}
 use Rattle.al_overload_heads.specs.declared.part.Nominal.{Nominal}
 use Rattle.al_base_fault.specs.Judging.{next}
 use Rattle.al_base_fault.specs.declared.fault.Fault.{Fault}
-use Rattle.al_overload_prefixes.proofs.Composed.{asks_more, if_ok}
+use Rattle.al_overload_values.proofs.Composed.{asks_more, if_ok}
 use Rattle.al_tree.specs.ExpressionViews.{expression_model}
 use Rattle.al_overload_values.specs.Surroundings.{site_model, site_units}
 use Rattle.al_overload_values.specs.ValuesAt.{source_checked}

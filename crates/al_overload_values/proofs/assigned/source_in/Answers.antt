@@ -4,7 +4,7 @@ use Rattle.al_base_fault.specs.Judging.{next}
 use Rattle.al_base_fault.specs.declared.fault.Fault.{Fault}
 use Rattle.al_query.proofs.AskLemmas.{asks_none}
 use Rattle.al_query.specs.Asked.{OfKnown, by_some_name}
-use Rattle.al_overload_prefixes.proofs.Composed.{if_ok}
+use Rattle.al_overload_values.proofs.Composed.{if_ok}
 use Rattle.al_tree.specs.ExpressionViews.{expression_model}
 use Rattle.al_overload_values.specs.Surroundings.{site_model, site_units}
 use Rattle.al_overload_values.specs.ValuesAt.{source_checked}

@@ -1,6 +1,6 @@
 use Rattle.std.proofs.Common.{List, None, ap, ◌∙◌}
 use Rattle.al_overload.specs.declared.context.Context.TheVariants as contexts
-use Rattle.al_overload_prefixes.proofs.Composed.{if_ok}
+use Rattle.al_overload_values.proofs.Composed.{if_ok}
 use Rattle.al_tree.specs.ExpressionViews.{expression_model}
 use Rattle.al_overload_values.specs.Surroundings.{site_model}
 use Rattle.al_overload_values.specs.ValuesAt.{value_at}

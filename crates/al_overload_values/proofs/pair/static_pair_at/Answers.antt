@@ -2,9 +2,9 @@ use Rattle.std.proofs.Common.{Result, ap, ◌∙◌}
 use Rattle.al_base_fault.specs.Judging.{next, unless}
 use Rattle.al_base_fault.specs.declared.fault.Fault.{Fault}
 use Rattle.al_overload_label.specs.Ranges.{static_bounds_checked}
-use Rattle.al_overload_prefixes.specs.TextsAt.{With}
-use Rattle.al_overload_term.specs.Terms.{TermTree}
-use Rattle.al_overload_prefixes.proofs.Composed.{if_ok}
+use Rattle.al_overload_values.specs.TextsAt.{With}
+use Rattle.al_overload_heads.specs.Terms.{TermTree}
+use Rattle.al_overload_values.proofs.Composed.{if_ok}
 use Rattle.al_overload_values.proofs.pair.static_pair_at.Goals as goal
 
 pub returns-clause-answered : goal.returns-clause-answered

@@ -1,4 +1,4 @@
-use Rattle.al_query_slots.proofs.CountLemmas.{both_count, fewer_count, one_count}
+use Rattle.al_query_store.proofs.CountLemmas.{both_count, fewer_count, one_count}
 use Rattle.al_query_store.specs.Changes.{same_spot}
 use Rattle.al_query_store.proofs.SpotLemmas.{spot_equiv, spot_one}
 use Rattle.al_query_store.proofs.laws.counts_are_one.Goals as goal

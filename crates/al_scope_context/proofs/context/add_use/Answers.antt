@@ -5,7 +5,7 @@ use Rattle.std.proofs.Common.{List, Result}
 use Rattle.al_base_fault.specs.Judging.{map_ok}
 use Rattle.al_base_fault.specs.declared.fault.Fault.{Fault}
 use Rattle.al_query.specs.declared.answer.UseClause.{UseClause}
-use Rattle.al_scope_uses.specs.UsesAt.{uses_at}
+use Rattle.al_scope_context.specs.UsesAt.{uses_at}
 use Rattle.al_scope_context.specs.Contexts.{with_uses}
 use Rattle.al_scope_context.proofs.Steps.{used-item}
 use Rattle.al_scope_context.proofs.context.add_use.Goals as goal

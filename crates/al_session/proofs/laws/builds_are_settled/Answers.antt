@@ -1,5 +1,5 @@
 use Rattle.al_unit.specs.Libraries.{library_of}
-use Rattle.al_query_predefined.specs.PredefinedUnits.{predefined_answer}
+use Rattle.al_engine_files.specs.PredefinedUnits.{predefined_answer}
 use Rattle.al_session.specs.Settled.{is_settled}
 use Rattle.al_session.proofs.laws.builds_are_settled.Goals as goal
 

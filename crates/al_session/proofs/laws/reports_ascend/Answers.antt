@@ -2,7 +2,7 @@ use Rattle.std.proofs.Common.{subst}
 use Rattle.std.specs.Prelude.{IfSome}
 use Rattle.al_base.specs.FileLaws.{Ascend}
 use Rattle.al_unit.specs.Libraries.{library_of}
-use Rattle.al_query_predefined.specs.PredefinedUnits.{predefined_answer}
+use Rattle.al_engine_files.specs.PredefinedUnits.{predefined_answer}
 use Rattle.al_session.specs.EngineMeanings.{Compiles}
 use Rattle.al_session.proofs.Reports.{gave_ascend}
 use Rattle.al_session.proofs.laws.reports_ascend.Goals as goal

@@ -1,7 +1,7 @@
 use Rattle.std.proofs.Common.{subst}
 use Rattle.std.specs.Prelude.{IfSome}
 use Rattle.al_unit.specs.Libraries.{library_of}
-use Rattle.al_query_predefined.specs.PredefinedUnits.{predefined_answer}
+use Rattle.al_engine_files.specs.PredefinedUnits.{predefined_answer}
 use Rattle.al_session.specs.EngineMeanings.{Compiles}
 use Rattle.al_session.proofs.Obeyed.{gave_obeys}
 use Rattle.al_session.proofs.order_laws.builds_obey.Goals as goal

@@ -1,8 +1,8 @@
 -- What the choices are held against is the selector's.
 use Rattle.std.proofs.Common.{◌↔◌, IfOk, IsTrue, List, Option, subst}
-use Rattle.al_stmts_choices.specs.Choosing.{AreRight}
-use Rattle.al_stmts_choices.specs.declared.choice.Choice.{Choice}
-use Rattle.al_stmts_choices.specs.declared.choice.Selector.{Selector}
+use Rattle.al_stmts.specs.Choosing.{AreRight}
+use Rattle.al_stmts.specs.declared.choice.Choice.{Choice}
+use Rattle.al_stmts.specs.declared.choice.Selector.{Selector}
 use Rattle.al_stmts.specs.Cases.{RightFor}
 use Rattle.al_stmts.proofs.cases.choices_are_right.Goals as goal
 

@@ -2,7 +2,7 @@ use Rattle.std.proofs.Common.{◌≡◌, ap, subst, sym}
 use Rattle.al_query.proofs.AskLemmas.{asks_none}
 use Rattle.al_query.specs.Asked.{OfKnown, by_some_name}
 use Rattle.al_stmts_ranges.specs.ChoicesAt.{choice_at}
-use Rattle.al_overload_prefixes.proofs.Composed.{if_ok}
+use Rattle.al_overload_values.proofs.Composed.{if_ok}
 use Rattle.al_tree.specs.StatementViews.{choice_model}
 use Rattle.al_tree.specs.declared.statement.Choice.{Choice}
 use Rattle.al_overload_values.specs.Surroundings.{site_model, site_units}

@@ -2,7 +2,7 @@ use Rattle.std.proofs.Common.{◌≡◌}
 use Rattle.al_stmts_ranges.specs.ChoicesAt.{discrete_choice}
 use Rattle.al_decl_ada.proofs.Forms.{bounds_hold, marked_holds, sole_holds}
 use Rattle.al_tree_syntax.specs.DeclarationTrees.{DiscreteRangeTree}
-use Rattle.al_overload_prefixes.proofs.Composed.{if_ok}
+use Rattle.al_overload_values.proofs.Composed.{if_ok}
 use Rattle.al_overload_values.specs.Surroundings.{site_model}
 use Rattle.al_stmts_ranges.proofs.choice.discrete_choice.Goals as goal
 

@@ -1,9 +1,9 @@
 use Rattle.std.proofs.Common.{Result, ap, ◌∙◌}
 use Rattle.al_base.specs.declared.place.Place.{Place}
-use Rattle.al_decl_type.specs.declared.subtype.StaticRange.{StaticRange}
+use Rattle.al_decl_judged.specs.declared.subtype_views.StaticRange.{StaticRange}
 use Rattle.al_base_fault.specs.Judging.{next}
 use Rattle.al_base_fault.specs.declared.fault.Fault.{Fault}
-use Rattle.al_overload_keys.specs.Places.{first_place}
+use Rattle.al_overload_lookup.specs.Places.{first_place}
 use Rattle.al_stmts_ranges.specs.ChoicesAt.{marked_choice}
 use Rattle.al_tree.specs.ExpressionViews.{expression_model}
 use Rattle.al_view.specs.declared.view.SubtypeView.{SubtypeView}

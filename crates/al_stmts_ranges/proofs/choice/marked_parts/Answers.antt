@@ -1,9 +1,9 @@
 use Rattle.std.proofs.Common.{Result, ap, ◌∙◌}
-use Rattle.al_decl_type.specs.declared.subtype.StaticRange.{StaticRange}
+use Rattle.al_decl_judged.specs.declared.subtype_views.StaticRange.{StaticRange}
 use Rattle.al_base_fault.specs.Judging.{both}
 use Rattle.al_base_fault.specs.declared.fault.Fault.{Fault}
 use Rattle.al_stmts_ranges.specs.ChoicesAt.{static_choice}
-use Rattle.al_overload_prefixes.proofs.Composed.{asks_more}
+use Rattle.al_overload_values.proofs.Composed.{asks_more}
 use Rattle.al_tree.specs.DeclarationViews.{range_model}
 use Rattle.al_overload_values.specs.Surroundings.{site_model, site_units}
 use Rattle.al_view.specs.declared.view.SubtypeView.{SubtypeView}

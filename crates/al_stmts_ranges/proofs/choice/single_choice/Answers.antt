@@ -2,7 +2,7 @@ use Rattle.std.proofs.Common.{Result, ap, ◌∙◌}
 use Rattle.al_base_fault.specs.Judging.{next}
 use Rattle.al_base_fault.specs.declared.fault.Fault.{Fault}
 use Rattle.al_stmts_ranges.specs.ChoicesAt.{read_choice}
-use Rattle.al_overload_prefixes.specs.TextsAt.{With}
+use Rattle.al_overload_values.specs.TextsAt.{With}
 use Rattle.al_overload_readings.specs.Readings.{ReadTree}
 use Rattle.al_stmts_ranges.proofs.choice.single_choice.Goals as goal
 

@@ -1,7 +1,7 @@
 use Rattle.std.proofs.Common.{ap, ◌∙◌}
 use Rattle.al_overload.specs.declared.context.Context.{Context}
 use Rattle.al_decl_ada.specs.SubtypesAt.{static_at}
-use Rattle.al_overload_prefixes.proofs.Composed.{if_ok}
+use Rattle.al_overload_values.proofs.Composed.{if_ok}
 use Rattle.al_tree.specs.DeclarationViews.{range_model}
 use Rattle.al_overload_values.specs.Surroundings.{site_model}
 use Rattle.al_stmts_ranges.proofs.choice.static_choice.Goals as goal

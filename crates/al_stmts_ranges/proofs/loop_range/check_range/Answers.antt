@@ -3,7 +3,7 @@ use Rattle.al_base_fault.specs.Judging.{map_ok}
 use Rattle.al_stmts_ranges.specs.LoopsAt.{found_range_model, loop_range_checked}
 use Rattle.al_decl_ada.proofs.Forms.{bounds_hold, marked_holds, sole_holds}
 use Rattle.al_tree_syntax.specs.DeclarationTrees.{DiscreteRangeTree}
-use Rattle.al_overload_prefixes.proofs.Composed.{if_ok}
+use Rattle.al_overload_values.proofs.Composed.{if_ok}
 use Rattle.al_overload_values.specs.Surroundings.{site_model}
 use Rattle.al_stmts_ranges.proofs.loop_range.check_range.Goals as goal
 

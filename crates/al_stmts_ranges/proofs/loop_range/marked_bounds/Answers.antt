@@ -2,14 +2,14 @@ use Rattle.std.proofs.Common.{Option, Result, ap, ◌∙◌}
 use Rattle.al_base.specs.declared.place.Place.{Place}
 use Rattle.al_base_fault.specs.Judging.{both, next, map_ok}
 use Rattle.al_base_fault.specs.declared.fault.Fault.{Fault}
-use Rattle.al_overload_keys.specs.Places.{first_place}
+use Rattle.al_overload_lookup.specs.Places.{first_place}
 use Rattle.al_stmts_ranges.specs.LoopsAt.{discrete, marked_model}
 use Rattle.al_stmts_ranges.proofs.Seen.{seen_both}
-use Rattle.al_overload_prefixes.specs.TextsAt.{With, terms_with_model}
-use Rattle.al_overload_term.specs.Terms.{TermTree}
-use Rattle.al_overload_term.specs.declared.term.Term.{Term}
-use Rattle.al_overload_prefixes.proofs.Composed.{asks_more}
-use Rattle.al_overload_prefixes.specs.TermsAt.{mark_at}
+use Rattle.al_overload_values.specs.TextsAt.{With, terms_with_model}
+use Rattle.al_overload_heads.specs.Terms.{TermTree}
+use Rattle.al_overload_heads.specs.declared.term.Term.{Term}
+use Rattle.al_overload_values.proofs.Composed.{asks_more}
+use Rattle.al_overload_values.specs.TermsAt.{mark_at}
 use Rattle.al_tree.specs.ExpressionViews.{expression_model}
 use Rattle.al_overload_values.specs.Surroundings.{site_model, site_units}
 use Rattle.al_view.specs.declared.types.Bounds.{Bounds}

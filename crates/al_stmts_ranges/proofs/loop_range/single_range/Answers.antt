@@ -2,7 +2,7 @@ use Rattle.std.proofs.Common.{Result, ap, ◌∙◌}
 use Rattle.al_base.specs.declared.place.Place.{Place}
 use Rattle.al_base_fault.specs.Judging.{next}
 use Rattle.al_base_fault.specs.declared.fault.Fault.{Fault}
-use Rattle.al_overload_keys.specs.Places.{first_place}
+use Rattle.al_overload_lookup.specs.Places.{first_place}
 use Rattle.al_stmts_ranges.specs.LoopsAt.{whole_range}
 use Rattle.al_tree.specs.ExpressionViews.{expression_model}
 use Rattle.al_view.specs.declared.view.SubtypeView.{SubtypeView}

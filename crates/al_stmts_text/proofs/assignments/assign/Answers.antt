@@ -1,7 +1,7 @@
 use Rattle.std.proofs.Common.{ap, ◌∙◌}
 use Rattle.al_base.specs.declared.place.Place.{Place}
 use Rattle.al_base_fault.specs.Judging.{map_ok}
-use Rattle.al_overload_keys.specs.Places.{first_place}
+use Rattle.al_overload_lookup.specs.Places.{first_place}
 use Rattle.al_stmts.specs.Simple.{assigned, target_model}
 use Rattle.al_tree.specs.ExpressionViews.{expression_model}
 use Rattle.al_view_typed.specs.ExpressionViews.{typed_model}

@@ -1,6 +1,6 @@
 use Rattle.std.proofs.Common.{ap, ◌∙◌}
 use Rattle.al_tree.specs.ExpressionViews.{expression_model}
-use Rattle.al_stmts_walked.specs.Walking.{assigned_at}
+use Rattle.al_stmts.specs.Walking.{assigned_at}
 use Rattle.al_stmts_text.proofs.MadeOfRead.{if_ok, target_read}
 use Rattle.al_stmts_text.proofs.assignments.check_assignment.Goals as goal
 

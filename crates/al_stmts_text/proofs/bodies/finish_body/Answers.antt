@@ -1,5 +1,5 @@
-use Rattle.al_stmts_walked.specs.Views.{effects_model}
-use Rattle.al_stmts_walked.specs.WalkedViews.{inside_model}
+use Rattle.al_stmts.specs.Views.{effects_model}
+use Rattle.al_stmts.specs.WalkedViews.{inside_model}
 use Rattle.al_stmts_text.proofs.BodySteps.{ended}
 use Rattle.al_stmts_text.proofs.Read.{if_ok}
 use Rattle.al_stmts_text.proofs.bodies.finish_body.Goals as goal

@@ -1,5 +1,5 @@
-use Rattle.al_stmts_walked.specs.Views.{effects_model}
-use Rattle.al_stmts_walked.specs.WalkedViews.{part_model}
+use Rattle.al_stmts.specs.Views.{effects_model}
+use Rattle.al_stmts.specs.WalkedViews.{part_model}
 use Rattle.al_stmts_text.proofs.BodySteps.{object_made}
 use Rattle.al_stmts_text.proofs.bodies.finish_object.Goals as goal
 

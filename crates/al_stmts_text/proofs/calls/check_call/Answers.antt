@@ -1,9 +1,9 @@
 use Rattle.std.proofs.Common.{ap, ◌∙◌}
 use Rattle.al_base.specs.declared.place.Place.{Place}
 use Rattle.al_base_fault.specs.Judging.{map_ok}
-use Rattle.al_overload_keys.specs.Places.{first_place}
+use Rattle.al_overload_lookup.specs.Places.{first_place}
 use Rattle.al_tree.specs.ExpressionViews.{expression_model}
-use Rattle.al_stmts_walked.specs.Walking.{call_effect}
+use Rattle.al_stmts.specs.Walking.{call_effect}
 use Rattle.al_stmts_text.specs.PerformedViews.{call_effect_model}
 use Rattle.al_stmts_text.proofs.MadeOfRead.{alone_by}
 use Rattle.al_stmts_text.proofs.calls.check_call.Goals as goal

@@ -4,7 +4,7 @@ use Rattle.al_query.specs.Reads.{FromAnswers}
 use Rattle.al_tree.specs.ExpressionViews.{expression_model}
 use Rattle.al_stmts_text.proofs.ChoiceFolds.{alternative_step}
 use Rattle.al_stmts_text.proofs.choices.add_alternatives.Given as goal
-use Rattle.al_stmts_walked.specs.Readings.{giving}
+use Rattle.al_stmts.specs.Readings.{giving}
 
 abbrev pub invariant-loop-alternative : goal.invariant-loop-alternative
 invariant-loop-alternative g l = record {

@@ -1,8 +1,8 @@
 use Rattle.std.proofs.Common.{Result, ap, ◌∙◌}
-use Rattle.al_stmts_choices.specs.declared.choice.Choice.{Choice}
+use Rattle.al_stmts.specs.declared.choice.Choice.{Choice}
 use Rattle.al_base_fault.specs.declared.fault.Fault.{Fault}
 use Rattle.al_stmts.specs.Cases.{with_choice}
-use Rattle.al_stmts_walked.specs.Readings.{giving}
+use Rattle.al_stmts.specs.Readings.{giving}
 use Rattle.al_stmts_text.proofs.Read.{as_made, goes_on, on_ok}
 use Rattle.al_stmts_text.proofs.choices.add_choice.Goals as goal
 

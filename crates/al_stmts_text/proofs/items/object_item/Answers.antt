@@ -1,4 +1,4 @@
-use Rattle.al_stmts_walked.specs.Steps.{part_of}
+use Rattle.al_stmts.specs.Steps.{part_of}
 use Rattle.al_stmts_text.proofs.Read.{made_of}
 use Rattle.al_stmts_text.proofs.items.object_item.Goals as goal
 

@@ -1,7 +1,7 @@
 use Rattle.std.proofs.Common.{Option, Some, Result}
 use Rattle.al_base_fault.specs.declared.fault.Fault.{Fault}
 use Rattle.al_view_typed.specs.ExpressionTrees.{TypedTree}
-use Rattle.al_stmts_walked.specs.Readings.{giving}
+use Rattle.al_stmts.specs.Readings.{giving}
 use Rattle.al_stmts_text.proofs.Read.{goes_on}
 use Rattle.al_stmts_text.proofs.plain.exit_condition.Goals as goal
 

@@ -4,8 +4,8 @@ use Rattle.al_base_fault.specs.declared.fault.Fault.{Fault}
 use Rattle.al_stmts.specs.Simple.{exited}
 use Rattle.al_tree.specs.Lexemes.{identifier_label}
 use Rattle.al_view_typed.specs.ExpressionTrees.{TypedTree}
-use Rattle.al_stmts_walked.specs.Steps.{alone_of, name_of}
-use Rattle.al_stmts_walked.specs.Readings.{giving}
+use Rattle.al_stmts.specs.Steps.{alone_of, name_of}
+use Rattle.al_stmts.specs.Readings.{giving}
 use Rattle.al_stmts_text.proofs.Read.{as_made, goes_on, if_ok}
 use Rattle.al_stmts_text.proofs.plain.walk_exit.Goals as goal
 

@@ -1,6 +1,6 @@
 use Rattle.std.proofs.Common.{ap, ◌∙◌}
-use Rattle.al_stmts_walked.specs.Steps.{broken_by}
-use Rattle.al_stmts_walked.specs.Readings.{giving}
+use Rattle.al_stmts.specs.Steps.{broken_by}
+use Rattle.al_stmts.specs.Readings.{giving}
 use Rattle.al_stmts_text.proofs.Read.{as_made}
 use Rattle.al_stmts_text.proofs.regions.broken_loop.Goals as goal
 

@@ -1,5 +1,5 @@
-use Rattle.al_stmts_walked.specs.Steps.{closed_by}
-use Rattle.al_stmts_walked.specs.WalkedViews.{part_model}
+use Rattle.al_stmts.specs.Steps.{closed_by}
+use Rattle.al_stmts.specs.WalkedViews.{part_model}
 use Rattle.al_stmts_text.proofs.Read.{made_of}
 use Rattle.al_stmts_text.proofs.regions.complete_parts.Goals as goal
 

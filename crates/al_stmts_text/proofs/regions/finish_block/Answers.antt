@@ -1,7 +1,7 @@
 use Rattle.std.proofs.Common.{ap, ◌∙◌}
-use Rattle.al_stmts_walked.specs.Steps.{Walked}
-use Rattle.al_stmts_walked.specs.Walking.{region_left}
-use Rattle.al_stmts_walked.specs.Readings.{giving}
+use Rattle.al_stmts.specs.Steps.{Walked}
+use Rattle.al_stmts.specs.Walking.{region_left}
+use Rattle.al_stmts.specs.Readings.{giving}
 use Rattle.al_stmts_text.proofs.Read.{if_ok}
 use Rattle.al_stmts_text.proofs.regions.finish_block.Goals as goal
 

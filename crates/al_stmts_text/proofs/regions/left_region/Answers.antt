@@ -1,6 +1,6 @@
 use Rattle.std.proofs.Common.{ap}
-use Rattle.al_stmts_walked.specs.WalkedViews.{one_model}
-use Rattle.al_stmts_walked.specs.Readings.{giving}
+use Rattle.al_stmts.specs.WalkedViews.{one_model}
+use Rattle.al_stmts.specs.Readings.{giving}
 use Rattle.al_stmts_text.proofs.regions.left_region.Goals as goal
 
 pub returns-in-Ok-clause-answered : goal.returns-in-Ok-clause-answered

@@ -1,5 +1,5 @@
 use Rattle.std.proofs.Common.{◌≡◌, true, sym}
-use Rattle.al_stmts_walked.specs.Walking.{is_function}
+use Rattle.al_stmts.specs.Walking.{is_function}
 use Rattle.al_stmts_text.proofs.returns.any_value_returned.Goals as goal
 
 pub returns-then-is_function-clause-answered : goal.returns-then-is_function-clause-answered

@@ -2,7 +2,7 @@ use Rattle.std.proofs.Common.{ℕ, Option, Result, drop, map, refl, sym, ap, ◌
 use Rattle.std.specs.Prelude.{option_map}
 use Rattle.al_base_fault.specs.declared.fault.Fault.{Fault}
 use Rattle.al_base_fault.specs.Judging.{map_ok}
-use Rattle.al_stmts_loops.specs.Exits.{without_innermost}
+use Rattle.al_stmts.specs.Exits.{without_innermost}
 use Rattle.al_tree.proofs.StatementsMade.{block_declare_block_model, block_plain_block_model, item_body_model, item_common_model, item_protected_body_model, item_protected_model, item_stub_model, item_subprogram_model, item_task_body_model, item_task_model, loop_for_loop_model, loop_plain_loop_model, loop_while_loop_model, statement_assignment_model, statement_block_model, statement_branching_model, statement_call_model, statement_case_model, statement_delay_model, statement_exit_model, statement_looping_model, statement_null_model, statement_returning_model, operation_body_entry_model, operation_body_subprogram_model}
 use Rattle.al_tree.specs.DeclarationViews.{specification_model}
 use Rattle.al_tree.specs.ExpressionViews.{expression_model}
@@ -12,10 +12,10 @@ use Rattle.al_tree.specs.declared.statement.SubprogramBody.{out-SubprogramBody}
 use Rattle.al_tree.specs.StatementViews.{item_model, items_of, named_end_model, statements_model}
 use Rattle.al_view_typed.specs.StatementTrees.{SchemeTree}
 use Rattle.al_view_typed.specs.StatementViews.{scheme_model}
-use Rattle.al_stmts_walked.specs.Steps.{Enclosing, Walked, block_of, in_loop, inside_of, loop_of, no_part}
-use Rattle.al_stmts_walked.specs.Views.{effects_model}
-use Rattle.al_stmts_walked.specs.Walking.{end_of, for_walked, loop_walked, named_line, region_left, statements_walked}
-use Rattle.al_stmts_walked.specs.WalkedViews.{all_model, branching_model, choosing_model, part_model}
+use Rattle.al_stmts.specs.Steps.{Enclosing, Walked, block_of, in_loop, inside_of, loop_of, no_part}
+use Rattle.al_stmts.specs.Views.{effects_model}
+use Rattle.al_stmts.specs.Walking.{end_of, for_walked, loop_walked, named_line, region_left, statements_walked}
+use Rattle.al_stmts.specs.WalkedViews.{all_model, branching_model, choosing_model, part_model}
 use Rattle.al_stmts_text.proofs.Folds.{alternative_added, alternative_step, alternatives_folded, alternatives_stop, branch_added, branch_step, branches_folded, branches_stop, item_added, item_step, items_folded, items_stop, operation_added, operation_step, operations_folded, operations_stop, statement_added, statement_step, statements_folded, statements_stop}
 use Rattle.al_stmts_text.proofs.Made.{alternative_made, alternatives_all, after_made, after_stops, body_read, branch_made, branches_all, case_made, entered_made, entry_read, handled_made, if_made, inside_made, object_read, object_refused, opened_made, otherwise_made, part_made, statements_made, task_read}
 use Rattle.al_stmts_text.proofs.Loops.{ends, step}

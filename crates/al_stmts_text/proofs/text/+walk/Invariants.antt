@@ -1,7 +1,7 @@
 use Rattle.std.proofs.Common.{◌≡◌, drop}
 use Rattle.std.specs.Prelude.{fold}
 use Rattle.al_query.specs.Reads.{FromAnswers}
-use Rattle.al_stmts_walked.specs.WalkedViews.{all_model, branching_model, choosing_model, part_model}
+use Rattle.al_stmts.specs.WalkedViews.{all_model, branching_model, choosing_model, part_model}
 use Rattle.al_stmts_text.proofs.Folds.{alternative_step, branch_step, item_step, operation_step, statement_step}
 use Rattle.al_stmts_text.proofs.text.+walk.Given as goal
 

@@ -1,6 +1,6 @@
 use Rattle.std.proofs.Common.{Bool, ap}
 use Rattle.al_check_here.proofs.Lists.{if_ok}
-use Rattle.al_stmts_walked.specs.Readings.{giving}
+use Rattle.al_stmts.specs.Readings.{giving}
 use Rattle.al_check_reading.specs.Ada.{ada}
 use Rattle.al_check_reading.proofs.analyzer.AdaAnalyzerAnalyzer.are_right.Goals as goal
 

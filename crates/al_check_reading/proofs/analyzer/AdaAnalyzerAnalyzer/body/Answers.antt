@@ -1,7 +1,7 @@
 use Rattle.std.proofs.Common.{ap}
 use Rattle.al_view_typed.specs.UnitTrees.{BodyTree}
 use Rattle.al_check_here.proofs.Lists.{if_ok}
-use Rattle.al_stmts_walked.specs.Readings.{giving}
+use Rattle.al_stmts.specs.Readings.{giving}
 use Rattle.al_check_reading.specs.Ada.{ada}
 use Rattle.al_check_reading.proofs.analyzer.AdaAnalyzerAnalyzer.body.Goals as goal
 

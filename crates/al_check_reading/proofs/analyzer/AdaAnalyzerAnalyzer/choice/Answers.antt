@@ -1,8 +1,8 @@
 use Rattle.std.proofs.Common.{Result, ap}
-use Rattle.al_stmts_choices.specs.declared.choice.Choice.{Choice}
+use Rattle.al_stmts.specs.declared.choice.Choice.{Choice}
 use Rattle.al_base_fault.specs.declared.fault.Fault.{Fault}
 use Rattle.al_check_here.proofs.Lists.{if_ok}
-use Rattle.al_stmts_walked.specs.Readings.{giving}
+use Rattle.al_stmts.specs.Readings.{giving}
 use Rattle.al_check_reading.specs.Ada.{ada}
 use Rattle.al_check_reading.proofs.analyzer.AdaAnalyzerAnalyzer.choice.Goals as goal
 

@@ -1,6 +1,6 @@
 use Rattle.std.proofs.Common.{Option, ap}
 use Rattle.al_base_fault.specs.declared.fault.Fault.{Fault}
-use Rattle.al_stmts_walked.specs.Readings.{giving}
+use Rattle.al_stmts.specs.Readings.{giving}
 use Rattle.al_check_reading.specs.Ada.{ada}
 use Rattle.al_check_reading.proofs.analyzer.AdaAnalyzerAnalyzer.incomplete.Goals as goal
 

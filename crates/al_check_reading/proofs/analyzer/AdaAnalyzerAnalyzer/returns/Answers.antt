@@ -1,6 +1,6 @@
 use Rattle.std.proofs.Common.{ap}
 use Rattle.al_stmts.specs.declared.simple.ReturnContext.{ReturnContext}
-use Rattle.al_stmts_walked.specs.Readings.{giving}
+use Rattle.al_stmts.specs.Readings.{giving}
 use Rattle.al_check_reading.specs.Ada.{ada}
 use Rattle.al_check_reading.proofs.analyzer.AdaAnalyzerAnalyzer.returns.Goals as goal
 

@@ -1,6 +1,6 @@
 use Rattle.std.proofs.Common.{◌≡◌, ℕ, List, map, ap, ◌∙◌}
 use Rattle.std.specs.Prelude.{option_map}
-use Rattle.al_decl_type.specs.TypeLists.{joined}
+use Rattle.al_decl_judged.specs.TypeLists.{joined}
 use Rattle.al_view.specs.declared.types.Component.{Component}
 use Rattle.al_view.specs.declared.types.TypeView.{TypeView}
 use Rattle.al_view_typed.specs.DeclarationTrees.{ComponentValueTree, component_value_model}

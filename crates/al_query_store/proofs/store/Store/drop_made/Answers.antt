@@ -1,7 +1,7 @@
 use Rattle.std.proofs.Common.{◌≡◌, ◌∙◌, sym, ap, subst, refl, ℕ, Some, None, List, Option, if◌then◌else◌}
 use Rattle.al_base.specs.declared.unit_key.UnitKey.{UnitKey}
 use Rattle.al_view.specs.Symbols.{same_unit}
-use Rattle.al_query_slots.specs.declared.slots.Held.{Held}
+use Rattle.al_query_store.specs.declared.slots.Held.{Held}
 use Rattle.al_query_store.specs.declared.cell.Cell.{Cell}
 use Rattle.al_query_store.specs.Keyed.{Changes, State, cell_at, made_key, seen, state, under, with_slots, without_made}
 use Rattle.al_query_store.proofs.StateLemmas.{state-seen, Turns, after, cells-without_made, settled-stays, seen-without_made, state-turned, turned, unchanged}

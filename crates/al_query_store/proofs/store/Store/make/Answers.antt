@@ -1,8 +1,8 @@
 use Rattle.std.proofs.Common.{◌≡◌, ◌∙◌, sym, ap, refl, true, Some, None, List, Option, if◌then◌else◌}
 use Rattle.al_base.specs.declared.unit_key.UnitKey.{UnitKey}
 use Rattle.al_view.specs.Symbols.{same_unit}
-use Rattle.al_query_slots.specs.Stored.{fresh}
-use Rattle.al_query_slots.specs.declared.slots.Held.{Held}
+use Rattle.al_query_store.specs.Stored.{fresh}
+use Rattle.al_query_store.specs.declared.slots.Held.{Held}
 use Rattle.al_query_store.specs.declared.cell.Cell.{Cell}
 use Rattle.al_query_store.specs.Keyed.{State, cell_at, made_key, seen, state, under, with_slots}
 use Rattle.al_query_store.proofs.StateLemmas.{state-seen, Turns, after, cells-with_made, here-stored, made-apart, no-made-key, seen-with_made, settled-apart, state-turned, turned-there}

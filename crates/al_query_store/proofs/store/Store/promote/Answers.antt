@@ -1,8 +1,8 @@
 use Rattle.std.proofs.Common.{◌≡◌, ◌∙◌, sym, ap, subst, refl, ℕ, Some, None, List, Option, option_map, if◌then◌else◌}
 use Rattle.al_base.specs.declared.unit_key.UnitKey.{UnitKey}
 use Rattle.al_view.specs.Symbols.{same_unit}
-use Rattle.al_query_slots.specs.Stored.{settled}
-use Rattle.al_query_slots.specs.declared.slots.Held.{Held}
+use Rattle.al_query_store.specs.Stored.{settled}
+use Rattle.al_query_store.specs.declared.slots.Held.{Held}
 use Rattle.al_query_store.specs.declared.cell.Cell.{Cell}
 use Rattle.al_query_store.specs.Keyed.{Changes, State, cell_at, made_key, seen, settled_key, state, under, with_slots, promoted}
 use Rattle.al_query_store.proofs.StateLemmas.{state-seen, Turns, cells-promoted, key-there, no-settled-key, seen-promoted, state-turned, stored-promoted, turned-there, unchanged}

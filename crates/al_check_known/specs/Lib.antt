@@ -1,2 +1,0 @@
-pub mod PrivateNames
-pub mod Starts

@@ -1,4 +1,0 @@
-pub mod ObjectRegions
-pub mod Barriers
-pub mod OpenObjects
-pub mod Laws

@@ -1,0 +1,18 @@
+-- Where jumps lead whose ends aren't there yet.
+use Rattle.std.specs.Prelude.{zero, suc, Option, Some, None}
+use Rattle.al_code.specs.declared.piece.Target.{Target}
+use Rattle.al_code.specs.declared.piece.Target.TheVariants as target
+use Rattle.al_code.specs.declared.piece.Construct.{Construct}
+use Rattle.al_code.specs.declared.piece.Construct.TheVariants as construct
+
+-- the same target seen from outside of a construct; none where it is the end of that
+abbrev pub outside : Construct → Target → Option Target
+outside construct.Test target.Next = None
+outside construct.Test t = Some t
+outside construct.Choice target.Join = None
+outside construct.Choice t = Some t
+outside construct.Routine target.Routine = None
+outside construct.Routine t = Some t
+outside construct.Loop (target.Loop zero) = None
+outside construct.Loop (target.Loop (suc loops)) = Some (target.Loop loops)
+outside construct.Loop t = Some t

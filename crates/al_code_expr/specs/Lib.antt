@@ -1,5 +1,0 @@
-pub mod Pieces
-pub mod Templates
-pub mod Codeless
-pub mod Chains
-pub mod Parts

@@ -1,5 +1,0 @@
-use Rattle.al_code_output.proofs.Beyond.{text_beyond}
-use Rattle.al_code_output.proofs.output.Output.emit_text.Goals as goal
-
-pub returns-then-text-gt-MAX_CODE : goal.returns-then-text-gt-MAX_CODE
-returns-then-text-gt-MAX_CODE c = text_beyond c.args.self.now c.args.text.now c.if-text-gt-MAX_CODE.true

@@ -1,7 +1,0 @@
-use Rattle.std.proofs.Common.{◌≡◌, All, map, take}
-use Rattle.al_instr.specs.Codes.{IsName}
-use Rattle.al_code_output.specs.Pieces.{printed}
-use Rattle.al_code_output.proofs.text.printed_names.Given as goal
-
-abbrev pub invariant-loop-name : goal.invariant-loop-name
-invariant-loop-name l = record { value : l.words ≡ map printed (take l.name-index l.names); fits : All IsName l.words }

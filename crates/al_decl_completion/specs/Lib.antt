@@ -1,4 +1,0 @@
-pub mod Uncompleted
-pub mod Completing
-pub mod Conformance
-pub mod LoneBodies

@@ -1,5 +1,0 @@
-use Rattle.al_decl_type.proofs.LayoutLemmas.{components_are_apart}
-use Rattle.al_decl_type.proofs.laws.components_are_apart.Goals as goal
-
-pub returns : goal.returns
-returns c = components_are_apart

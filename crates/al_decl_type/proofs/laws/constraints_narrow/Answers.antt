@@ -1,5 +1,0 @@
-use Rattle.al_decl_type.proofs.RangeLemmas.{constraints_narrow}
-use Rattle.al_decl_type.proofs.laws.constraints_narrow.Goals as goal
-
-pub returns : goal.returns
-returns c = constraints_narrow

@@ -1,5 +1,0 @@
-use Rattle.al_decl_type.proofs.RangeLemmas.{indexes_lie_inside}
-use Rattle.al_decl_type.proofs.laws.indexes_lie_inside.Goals as goal
-
-pub returns : goal.returns
-returns c = indexes_lie_inside

@@ -1,5 +1,0 @@
-use Rattle.al_decl_type.proofs.NumberLemmas.{numbers_count_homonyms}
-use Rattle.al_decl_type.proofs.laws.numbers_count_homonyms.Goals as goal
-
-pub returns : goal.returns
-returns c = numbers_count_homonyms

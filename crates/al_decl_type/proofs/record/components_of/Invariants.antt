@@ -1,6 +1,0 @@
-use Rattle.std.proofs.Common.{◌≡◌, take}
-use Rattle.al_decl_type.specs.Types.{components_of}
-use Rattle.al_decl_type.proofs.record.components_of.Given as goal
-
-abbrev pub invariant-loop-part : goal.invariant-loop-part
-invariant-loop-part l = l.components ≡ components_of (take l.part-index l.parts)

@@ -1,9 +1,0 @@
-pub mod Homonyms
-pub mod Laws
-pub mod Layouts
-pub mod Objects
-pub mod Subtypes
-pub mod TypeDeclarations
-pub mod TypeLists
-pub mod Types
-pub mod WordCounts

@@ -1,0 +1,73 @@
+use Rattle.std.proofs.Common.{[], ℕ, List, Option, IfSome, map, ap, sym, subst, true, false, ◌≡◌, ◌∙◌}
+use Rattle.std.specs.Prelude.{MatchOption}
+use Rattle.al_base.specs.declared.unit_key.UnitKey.{UnitKey}
+use Rattle.al_unit_faults.specs.FilesSeen.{file_faults_model}
+use Rattle.al_query.specs.Known.{has_unit}
+use Rattle.al_query_store.specs.Keyed.{now_at, settled_at}
+use Rattle.al_entries.specs.Stored.{Stored}
+use Rattle.al_engine.specs.Objects.{AreCoded}
+use Rattle.al_engine.specs.Plans.{IsPlanned}
+use Rattle.al_engine.specs.BatchRenewals.{KeepsPartition}
+use Rattle.al_engine_refresh.specs.Moves.{Entries}
+use Rattle.al_engine_refresh.specs.Found.{findings_of}
+use Rattle.al_engine_refresh.specs.Builds.{results_of}
+use Rattle.al_engine.specs.Rechecks.{IsUpdated}
+use Rattle.al_engine.specs.RecheckEdits.{units_of}
+use Rattle.al_engine.specs.declared.edited.EditedUnit.{EditedUnit}
+use Rattle.al_engine.proofs.RebuildClean.{AreSound, clean-now}
+use Rattle.al_engine.proofs.Left.{known-of, of-edited, others-left, renewed-by, settled-left}
+use Rattle.al_engine.specs.Renewed.{IsCleanBut}
+use Rattle.al_engine.proofs.rebuilding.prepare.Goals as goal
+
+pub plan_now-requires-clause-faults : goal.plan_now-requires-clause-faults
+plan_now-requires-clause-faults g c = ap (map file_faults_model) c.as_slice-faults.ensures.value ∙ c.requires.graph.faults
+
+pub plan_now-requires-clause-coded : goal.plan_now-requires-clause-coded
+plan_now-requires-clause-coded g c = subst (λ (e : Entries). AreCoded (now_at e)) (sym c.entries-entries.ensures) (λ u e is. (c.in_ok-given.ensures.updated.rechecked.law u e is).code)
+
+pub plan_now-requires-clause-clean : goal.plan_now-requires-clause-clean
+plan_now-requires-clause-clean g c = λ is.
+    let old = settled_at c.args.cache.now.store in
+    let new = c.check_library.new.cache.store in
+    let found = c.renewed_units-edits.result in
+    let names = c.renewed_units-edits.ensures in
+    let but = of-edited c.args.edited.now c.in_ok-given.given.is_renewal (λ (edits : List EditedUnit). IsCleanBut c.args.sources.now old (units_of edits)) found names c.requires.clean in
+    let renewed = renewed-by c.args.edited.now c.in_ok-given.given.is_renewal old (now_at new) found names c.in_ok-given.ensures.renewed in
+    subst (λ (e : Entries). findings_of c.args.sources.now (results_of (now_at e)) ≡ []) (sym c.entries-entries.ensures)
+    (clean-now c.args.sources.now old (now_at new) found but renewed (subst (λ (e : Entries). MatchOption found ⊥ (λ edits. AreSound (now_at e) edits.now)) c.entries-entries.ensures is))
+
+pub plan_now-requires-clause-others : goal.plan_now-requires-clause-others
+plan_now-requires-clause-others g c =
+    let old = c.args.cache.now.store in
+    let new = c.check_library.new.cache.store in
+    let found = c.renewed_units-edits.result in
+    let renewed = renewed-by c.args.edited.now c.in_ok-given.given.is_renewal (settled_at old) (now_at new) found c.renewed_units-edits.ensures c.in_ok-given.ensures.renewed in
+    subst (λ (e : Entries). IfSome found (λ edits. (w : UnitKey) → has_unit (units_of edits.now) w ≡ false → now_at e w ≡ settled_at e w)) (sym c.entries-entries.ensures)
+    (others-left old new c.in_ok-given.ensures.left found renewed)
+
+pub plan_now-requires-clause-partition : goal.plan_now-requires-clause-partition
+plan_now-requires-clause-partition g c =
+    let old = c.args.cache.now.store in
+    let new = c.check_library.new.cache.store in
+    let found = c.renewed_units-edits.result in
+    subst (λ (e : Entries). IfSome c.args.known (λ _. IfSome found (λ _. KeepsPartition c.args.sources.now (results_of (settled_at e)) c.args.main.now c.args.before.now))) (sym c.entries-entries.ensures)
+    (subst (λ (at : UnitKey → Option Stored). IfSome c.args.known (λ _. IfSome found (λ _. KeepsPartition c.args.sources.now (results_of at) c.args.main.now c.args.before.now))) (λ i u. sym (settled-left old new c.in_ok-given.ensures.left u) i)
+    (known-of c.args.edited.now c.in_ok-given.given.is_renewal (KeepsPartition c.args.sources.now (results_of (settled_at old)) c.args.main.now c.args.before.now) c.args.known found c.renewed_units-edits.ensures c.requires.partition))
+
+pub returns-clause-prepared : goal.returns-clause-prepared
+returns-clause-prepared g c =
+    let new = c.check_library.new.cache.store in
+    let planned = subst (λ (e : Entries). IsPlanned c.args.sources.now (results_of (now_at e)) c.args.main.now c.args.before.now c.in_ok-planned.planned) c.entries-entries.ensures c.in_ok-planned.ensures in
+    let given = c.in_ok-given.given in
+    let parts = c.into_parts-checked.ensures in
+    let update : (List UnitKey → ℕ → Type 0) = λ us n. IsUpdated g.C.UnitCheck.meaning g.C.Text.ReadText.header (g.P.Answers.table c.args.predefined.now) c.args.sources.now c.args.cache.now.store new us n in
+    record {
+      updated =
+          subst (λ (us : List UnitKey). update us c.into_parts-checked.result.1) (ap (λ it. it.0.items) (sym parts))
+          (subst (λ (n : ℕ). update given.checked.items n) (ap (λ it. it.1) (sym parts)) c.in_ok-given.ensures.updated);
+      is_planned = planned;
+      closed =
+          c.partitions_are_closed.ensures g.C.UnitCheck.meaning g.C.Text.ReadText.header (g.P.Answers.table c.args.predefined.now) c.args.sources.now c.args.graph.now.order.items c.requires.headed c.requires.bodies c.requires.predefined c.requires.graph.order
+          _ (now_at new) _ c.in_ok-given.ensures.updated.rechecked c.args.main.now c.args.before.now c.in_ok-planned.planned planned;
+      law = c.in_ok-given.ensures.law;
+    }

@@ -1,0 +1,19 @@
+-- Which texts of a library are as they were.
+use Rattle.std.specs.Prelude.{◌≡◌, ℕ, List, []}
+use Rattle.std.specs.List.{Contains}
+use Rattle.std.specs.Option.{option_map_or}
+use Rattle.al_unit_graph.specs.Headers.{Library}
+use Rattle.al_unit_graph.specs.Library.{source_at}
+use Rattle.al_engine.specs.declared.alike.Edited.{Edited}
+
+-- the text of a file; no bytes where there is no such file
+abbrev pub text_in : Library → List ℕ → List ℕ
+text_in lib file = option_map_or (λ source. source.text) (source_at lib file) []
+
+-- whether a file may have another text
+abbrev pub may_differ : Edited → List ℕ → Type 0
+may_differ edited file = Contains edited.files.items file
+
+-- all others have the text that they had
+abbrev pub HaveTextsBut : Library → Library → Edited → Type 0
+HaveTextsBut old new edited = (file : List ℕ) → (may_differ edited file → ⊥) → text_in old file ≡ text_in new file

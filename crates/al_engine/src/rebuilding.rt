@@ -1,0 +1,290 @@
+// A build of a library's units over what is kept of them.
+ghost use Rattle.std.specs.Prelude.{ℕ, ◌≡◌, ◌∷◌, [], true, false, List, IfOk, IfSome, IsTrue, MatchOption, None, OnErr, OnOk, length, map};
+ghost use Rattle.std.specs.List.{list_all};
+ghost use Rattle.std.specs.Map.{keys_of};
+ghost use Rattle.al_base.specs.Batch.{key_of};
+ghost use Rattle.al_base.specs.declared.unit_key.UnitKey.{UnitKey};
+ghost use Rattle.al_bind.specs.Binding.{IsElaboration};
+ghost use Rattle.al_unit_faults.specs.FilesSeen.{file_faults_model};
+ghost use Rattle.al_unit_faults.specs.GraphFaults.{file_faults};
+ghost use Rattle.al_view.specs.Symbols.{same_unit};
+ghost use Rattle.al_query.specs.Known.{has_unit};
+ghost use Rattle.al_unit_graph.specs.Headers.{Header, Library};
+ghost use Rattle.al_unit_faults.specs.Read.{AreHeaded, NameParentBodies};
+ghost use Rattle.al_query.specs.declared.answer.AnswerKind.{AnswerKind};
+ghost use Rattle.al_query.specs.declared.query.Query.{Query};
+ghost use Rattle.al_query_outcome.specs.Equations.{is_sound};
+ghost use Rattle.al_entries.specs.EntryLaw.{AllKeepLaw};
+ghost use Rattle.al_query_store.specs.Keyed.{now_at, settled_at};
+ghost use Rattle.al_engine_refresh.specs.Moves.{Entries, IsLeft};
+ghost use Rattle.al_engine.specs.Kept.{IsGraphOf};
+ghost use Rattle.al_engine_refresh.specs.Settings.{ArePredefined};
+ghost use Rattle.al_engine_refresh.specs.Builds.{raised, results_of};
+ghost use Rattle.al_engine_refresh.specs.Found.{findings_of};
+ghost use Rattle.al_engine.specs.Objects.{AreCoded};
+ghost use Rattle.al_engine.specs.Patches.{IsPatched, linked_in};
+ghost use Rattle.al_engine.specs.Plans.{IsClosedPlan, IsPlanned};
+ghost use Rattle.al_engine.specs.BatchRenewals.{KeepsPartition};
+ghost use Rattle.al_engine.specs.Rechecks.{AreReady, will_be};
+ghost use Rattle.al_engine.specs.RecheckEdits.{AreEdits, units_of};
+ghost use Rattle.al_engine.specs.Prepared.{IsPrepared};
+ghost use Rattle.al_engine.specs.Rebuilds.{IsKept, IsRebuilt};
+ghost use Rattle.al_engine.specs.Renewed.{IsCleanBut};
+
+use crate::closed_laws::partitions_are_closed;
+use crate::{
+    Compiled, EditedUnit, Planned, UnitCache, UnitGraph, check_library, link, plan, renewed,
+};
+use al_base::{NoMemory, UnitKey};
+use al_engine_refresh::{KeptEntries, has_sound};
+use al_query::Answers;
+use al_query_outcome::UnitCheck;
+use al_unit_faults::FileFaults;
+use al_unit_graph::Sources;
+use al_view::Seq;
+use std::alloc::Global;
+
+/// What a build gives.
+pub struct Rebuilt {
+    /// What compiling the files gives for the main unit.
+    pub compiled: Compiled,
+    /// The units that were checked, by unit and kind.
+    pub checked: Seq<UnitKey>,
+    /// How many stored answers were compared with those of now, to 2^64-1.
+    pub compared: usize,
+    /// Of how many units code was written into the image of the build before.
+    pub patched: usize,
+}
+
+impl Drop for Rebuilt {
+    fn drop(self) {
+        let Rebuilt {
+            compiled: _,
+            checked: _,
+            compared: _,
+            patched: _,
+        } = self;
+    }
+}
+
+impl Rebuilt {
+    /// What stands before the first build: no image. It takes no memory.
+    pub fn nothing(alloc: Global) -> Rebuilt
+        ensures { linked_in result.compiled ≡ None }
+    {
+        Rebuilt {
+            compiled: Compiled::Faulty(Vec::new(alloc)),
+            checked: Seq::empty(alloc),
+            compared: 0,
+            patched: 0,
+        }
+    }
+}
+
+/// A build that is done but for the image: what is to be linked, the units that were checked, by unit and kind, and how many stored answers
+/// were compared.
+pub struct PreparedBuild {
+    pub planned: Planned,
+    pub checked: Vec<UnitKey>,
+    pub compared: usize,
+}
+
+impl Drop for PreparedBuild {
+    fn drop(self) {
+        let PreparedBuild {
+            planned: _,
+            checked: _,
+            compared: _,
+        } = self;
+    }
+}
+
+/// The units that alone were edited, where all others have the entries that they had.
+fn renewed_units(edited: &Option<Vec<EditedUnit>>, is_renewal: bool) -> Option<&[EditedUnit]>
+    ensures { IfSome result (λ edits. IsTrue is_renewal × MatchOption edited.now ⊥ (λ e. e.items ≡ edits.now)) }
+{
+    match edited {
+        Some(edits) => if is_renewal {
+            Some(edits.as_slice())
+        } else {
+            None
+        },
+        None => None,
+    }
+}
+
+/// Whether these units are without faults.
+fn are_sound(entries: &KeptEntries, edits: &[EditedUnit]) -> bool
+    ensures { result ≡ list_all (λ e. is_sound (results_of (now_at entries.now) e.unit)) edits.now }
+{
+    edits.iter().all(|edited| has_sound(entries, &edited.unit))
+}
+
+/// Whether some units alone have other entries than before, and these are without faults.
+fn is_clean(entries: &KeptEntries, renewed: Option<&[EditedUnit]>) -> bool
+    ensures { IsTrue result → MatchOption renewed.entry ⊥ (λ edits. (u : UnitKey) → has_unit (units_of edits.now) u ≡ true → is_sound (results_of (now_at entries.now) u) ≡ true) }
+{
+    match renewed {
+        Some(edits) => are_sound(entries, edits),
+        None => false,
+    }
+}
+
+/// The one unit that alone has another entry than before.
+fn alone_in(renewed: Option<&[EditedUnit]>) -> Option<&UnitKey>
+    ensures { IfSome result (λ unit. MatchOption renewed.entry ⊥ (λ edits. units_of edits.now ≡ unit.now ∷ [])) }
+{
+    let edits = renewed?;
+    let (edited, others) = edits.split_first()?;
+    if others.is_empty() {
+        Some(&edited.unit)
+    } else {
+        None
+    }
+}
+
+/// What is to be linked where one unit alone has another entry than before, without faults, and the order of elaboration is known: all but the
+/// object of that unit is as in the last build. None where it isn't so.
+fn renewed_plan(
+    alloc: Global,
+    sources: &Sources,
+    entries: &KeptEntries,
+    main: &[u8],
+    known: Option<&[UnitKey]>,
+    unit: Option<&UnitKey>,
+    before: &Compiled,
+) -> Result<Option<Planned>, NoMemory>
+    requires coded { AreCoded (now_at entries.now) }
+    requires clean { findings_of sources.now (results_of (now_at entries.now)) ≡ [] }
+    requires others { IfSome unit (λ u. (w : UnitKey) → same_unit u.now w ≡ false → now_at entries.now w ≡ settled_at entries.now w) }
+    requires partition { IfSome known (λ _. IfSome unit (λ _. KeepsPartition sources.now (results_of (settled_at entries.now)) main.now before.now)) }
+    ensures { IfOk result (λ found. IfSome found (IsPlanned sources.now (results_of (now_at entries.now)) main.now before.now)) }
+{
+    let Some(_order) = known else {
+        return Ok(None);
+    };
+    match unit {
+        Some(unit) => renewed(alloc, sources, entries, main, before, unit),
+        None => Ok(None),
+    }
+}
+
+/// What compiling the files gives for a main unit, up to the image, as `plan` gives it. Where some units alone have other entries than
+/// before, without faults, no fault is looked for; and where it is one, what the last build gave is used again.
+fn plan_now(
+    alloc: Global,
+    sources: &Sources,
+    entries: &KeptEntries,
+    faults: &[FileFaults],
+    main: &[u8],
+    known: Option<&[UnitKey]>,
+    edits: Option<&[EditedUnit]>,
+    before: &Compiled,
+) -> Result<Planned, NoMemory>
+    requires faults { map file_faults_model faults.now ≡ map (λ file. (file, file_faults sources.now file)) (keys_of sources.now) }
+    requires coded { AreCoded (now_at entries.now) }
+    requires known { IfSome known (λ order. IsElaboration sources.now main.now (map key_of order.now)) }
+    requires clean { MatchOption edits ⊥ (λ e. (u : UnitKey) → has_unit (units_of e.now) u ≡ true → is_sound (results_of (now_at entries.now) u) ≡ true) → findings_of sources.now (results_of (now_at entries.now)) ≡ [] }
+    requires others { IfSome edits (λ e. (w : UnitKey) → has_unit (units_of e.now) w ≡ false → now_at entries.now w ≡ settled_at entries.now w) }
+    requires partition { IfSome known (λ _. IfSome edits (λ _. KeepsPartition sources.now (results_of (settled_at entries.now)) main.now before.now)) }
+    ensures { IfOk result (IsPlanned sources.now (results_of (now_at entries.now)) main.now before.now) }
+{
+    let clean = is_clean(entries, edits);
+    if clean {
+        let unit = alone_in(edits);
+        let found = renewed_plan(alloc, sources, entries, main, known, unit, before)?;
+        if let Some(planned) = found {
+            return Ok(planned);
+        }
+    }
+    let planned = plan(alloc, sources, entries, faults, main, known, clean)?;
+    Ok(planned)
+}
+
+/// Does all of a build of a main unit but for its image: each unit is checked that is reached and has no entry for its text, or one with
+/// an answer that differs now, and what all units give then is compiled. The library's graph is given, and the order of elaboration
+/// where it is known; and the units that alone were edited since a build that found nothing wrong, and what compiling gave in that build. What the
+/// last build settled stays as it is.
+/// - `prepared`: which units were checked, what compiling gives up to the image, which entries there will be. Where there is something to
+///   link, its units define the main subprogram's code and all that they use.
+/// - `counted`: so many checks were made.
+///
+/// # Errors
+///
+/// `NoMemory` where memory was wanted and not given. The count of checks may have risen, and entries may have been made that are let go by
+/// `cancel`.
+pub fn prepare<C: UnitCheck, P: Answers>(
+    alloc: Global,
+    cache: &mut UnitCache<C>,
+    predefined: &P,
+    sources: &Sources,
+    main: &[u8],
+    graph: &UnitGraph,
+    known: Option<&[UnitKey]>,
+    edited: &Option<Vec<EditedUnit>>,
+    before: &Compiled,
+) -> Result<PreparedBuild, NoMemory>
+    requires headed { AreHeaded C.Text.header sources.now }
+    requires bodies { NameParentBodies sources.now }
+    requires predefined { ArePredefined (P.table predefined.now) }
+    requires graph { IsGraphOf sources.now graph.now }
+    requires known { IfSome known (λ order. IsElaboration sources.now main.now (map key_of order.now)) }
+    requires ready { AreReady (P.table predefined.now) cache.old.store }
+    requires edited { IfSome edited.now (λ edits. AreEdits C.meaning C.Text.header (P.table predefined.now) sources.now cache.old.store edits.items) }
+    requires clean { IfSome edited.now (λ edits. IsCleanBut sources.now (settled_at cache.old.store) (units_of edits.items)) }
+    requires partition { IfSome known (λ _. IfSome edited.now (λ _. KeepsPartition sources.now (results_of (settled_at cache.old.store)) main.now before.now)) }
+    ensures prepared { IfOk result (λ p. IsPrepared C.meaning C.Text.header (P.table predefined.now) sources.now main.now before.now cache.old.store p.planned cache.new.store p.checked.items p.compared) }
+    ensures counted { IfOk result (λ p. C.count cache.new.checker ≡ raised (C.count cache.old.checker) (length p.checked.items)) }
+    ensures left { IsLeft cache.old.store cache.new.store }
+{
+    partitions_are_closed();
+    let given = check_library(cache, predefined, sources, graph, edited)?;
+    let edits = renewed_units(edited, given.is_renewal);
+    let (checked, compared) = given.into_parts();
+    let faults = graph.faults.as_slice();
+    let entries = cache.entries();
+    let planned = plan_now(alloc, sources, entries, faults, main, known, edits, before)?;
+    Ok(PreparedBuild {
+        planned,
+        checked,
+        compared,
+    })
+}
+
+impl PreparedBuild {
+    /// Ends a build. The image comes last of all that takes memory: it is linked in the place of the last build's, where that gave one.
+    /// Then the entries that were made are settled, whether something is wrong with the files or not.
+    /// - `rebuilt`: which units were checked, what compiling gives, which entries there are then; what is kept of the units then, and how
+    ///   many stored answers were compared.
+    /// - `patched`: of how many units code was written into the image.
+    ///
+    /// # Errors
+    ///
+    /// `NoMemory` where memory was wanted and not given. What the last build gave is as before, and so is what is kept, once the build
+    /// is cancelled.
+    pub fn finish<C: UnitCheck>(
+        self,
+        alloc: Global,
+        cache: &mut UnitCache<C>,
+        gave: &mut Rebuilt,
+    ) -> Result<(), NoMemory>
+        requires law { AllKeepLaw C.meaning C.Text.header (will_be cache.old.store) }
+        requires closed { IsClosedPlan gave.old.compiled self.planned }
+        ensures rebuilt { OnOk result ((header : List ℕ → Header) (predefined : Query → AnswerKind) (lib : Library) (main : List ℕ) (old : Entries) → IsLeft old cache.old.store → IsPrepared C.meaning header predefined lib main gave.old.compiled old self.planned cache.old.store self.checked.items self.compared → (is : IsRebuilt C.meaning header predefined lib main (settled_at old) (settled_at cache.new.store) gave.new) × IsKept predefined lib old cache.new.store is.made gave.new) }
+        ensures patched { OnOk result (IsPatched (linked_in gave.old.compiled) (linked_in gave.new.compiled) gave.new.patched) }
+        ensures checked { OnOk result (gave.new.checked ≡ self.checked.items) }
+        ensures checker { cache.new.checker ≡ cache.old.checker }
+        ensures err { OnErr result ((cache.new.store ≡ cache.old.store) × (gave.new ≡ gave.old)) }
+    {
+        let PreparedBuild {
+            planned,
+            checked,
+            compared,
+        } = self;
+        gave.patched = link(alloc, planned, &mut gave.compiled)?;
+        gave.checked = Seq::new(checked);
+        gave.compared = compared;
+        cache.settle();
+        Ok(())
+    }
+}

@@ -1,7 +1,0 @@
-use Rattle.std.proofs.Common.{map}
-use Rattle.al_engine_batch.specs.ObjectsSeen.{object_model}
-use Rattle.al_engine_batch.proofs.RenewLemmas.{FoundTo}
-use Rattle.al_engine_batch.proofs.renewing.place_of.Given as goal
-
-abbrev pub invariant-loop-at : goal.invariant-loop-at
-invariant-loop-at l = FoundTo (object_model l.unit) (map object_model l.objects) l.at l.found

@@ -1,3 +1,0 @@
-mod Ascending
-pub mod FoundLemmas
-mod Sorting

@@ -1,5 +1,0 @@
-mod Bases
-pub mod Files
-mod SameUnits
-mod SameFaults
-mod SamePartitions

@@ -1,5 +1,0 @@
-use Rattle.al_engine_graph.proofs.SamePartitions.{graphs_go_by_headers}
-use Rattle.al_engine_graph.proofs.laws.graphs_go_by_headers.Goals as goal
-
-pub returns : goal.returns
-returns c = graphs_go_by_headers

@@ -1,4 +1,0 @@
-pub mod Graphs
-pub mod Headers
-pub mod Kept
-pub mod Texts

@@ -1,9 +1,0 @@
-use Rattle.al_engine_rebuild.proofs.Placing.{only_needed, stands}
-use Rattle.al_engine_rebuild.proofs.link_needed_laws.needed_are_placed.Goals as goal
-
-pub returns : goal.returns
-returns c = λ lib main items placed whole elaboration are.
-    record {
-      stand = stands lib main whole.named whole.faultless whole.direct_there items placed elaboration are;
-      needed = only_needed lib main whole.named whole.faultless whole.direct_there items placed elaboration are;
-    }

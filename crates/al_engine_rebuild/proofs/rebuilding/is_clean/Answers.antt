@@ -1,7 +1,0 @@
-use Rattle.std.proofs.Common.{sym, ◌∙◌}
-use Rattle.al_query_store.specs.Keyed.{now_at}
-use Rattle.al_engine_rebuild.proofs.Clean.{each-sound}
-use Rattle.al_engine_rebuild.proofs.rebuilding.is_clean.Goals as goal
-
-pub returns-in-Some : goal.returns-in-Some
-returns-in-Some c = λ is. rw c.in-Some.is (each-sound (now_at c.args.entries.now) c.in-Some.edits.now (sym c.are_sound.ensures ∙ is))

@@ -1,4 +1,0 @@
-use Rattle.al_engine_recheck.proofs.kept_units.UnitCache.keep_the_law.Goals as goal
-
-pub returns : goal.returns
-returns g c = rw (← c.self.view_is) c.self.invariant

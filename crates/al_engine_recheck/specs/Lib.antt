@@ -1,4 +1,0 @@
-pub mod Rechecks
-pub mod UnitCache
-pub mod Edits
-pub mod Walks

@@ -1,0 +1,17 @@
+use Rattle.std.proofs.Common.{map, ap, ◌∙◌}
+use Rattle.std.proofs.lemmas.List.{take_all}
+use Rattle.std.specs.List.{flat_map}
+use Rattle.al_unit_faults.specs.FilesSeen.{file_faults_model}
+use Rattle.al_query_store.specs.Keyed.{now_at}
+use Rattle.al_engine_refresh.specs.Builds.{results_of}
+use Rattle.al_engine_refresh.proofs.FoundLemmas.{all_told, told_in}
+use Rattle.al_engine_refresh.proofs.files.findings_of.Goals as goal
+
+pub returns : goal.returns
+returns c =
+    let lib = c.args.sources.now in
+    let f = results_of (now_at c.args.entries.now) in
+    c.loop-file.invariant
+    ∙ ap (λ fs. flat_map (told_in lib f) (map file_faults_model fs)) (take_all c.loop-file.file-index c.args.faults.now c.loop-file-test.false)
+    ∙ ap (flat_map (told_in lib f)) c.requires
+    ∙ all_told lib f

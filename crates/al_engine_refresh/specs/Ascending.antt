@@ -1,0 +1,14 @@
+-- The order of what is found wrong.
+use Rattle.std.specs.Prelude.{Option}
+use Rattle.std.specs.List.Sorted.{IsStrictlySortedBy}
+use Rattle.std.specs.Map.{keys_of}
+use Rattle.al_base.specs.Files.{name_cmp}
+use Rattle.al_base.specs.declared.unit_key.UnitKey.{UnitKey}
+use Rattle.al_unit_graph.specs.Headers.{Library}
+use Rattle.al_unit_faults.specs.Orders.{finding_cmp}
+use Rattle.al_query_outcome.specs.Results.{Outcome}
+use Rattle.al_engine_refresh.specs.Found.{findings_of}
+
+-- where the names of the files ascend, what is found ascends by file, place and number, so nothing is told twice
+abbrev pub FindingsAscend : Type 0
+FindingsAscend = (lib : Library) (f : UnitKey → Option Outcome) → IsStrictlySortedBy name_cmp (keys_of lib) → IsStrictlySortedBy finding_cmp (findings_of lib f)

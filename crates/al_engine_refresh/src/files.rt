@@ -1,0 +1,129 @@
+// What is found in the files.
+ghost use Rattle.std.specs.Prelude.{◌≡◌, ◌++◌, map, Some, IfOk, OnOk};
+ghost use Rattle.std.specs.Map.{keys_of};
+ghost use Rattle.std.specs.Option.{option_copied, option_map};
+ghost use Rattle.al_base.specs.Batch.{finding_of};
+ghost use Rattle.al_unit_graph.specs.Headers.{key_of_unit};
+ghost use Rattle.al_unit_graph.specs.Views.{contents_model, header_model};
+ghost use Rattle.al_unit_faults.specs.FilesSeen.{file_faults_model};
+ghost use Rattle.al_unit_faults.specs.GraphFaults.{file_faults};
+ghost use Rattle.al_query_store.specs.Keyed.{now_at};
+ghost use Rattle.al_query_outcome.specs.Equations.{unit_named};
+ghost use Rattle.al_query_outcome.specs.Results.{checked_model};
+ghost use Rattle.al_entries.specs.Stored.{outcome_of};
+ghost use Rattle.al_engine_refresh.specs.Builds.{results_of};
+ghost use Rattle.al_engine_refresh.specs.Found.{contents_findings, findings_of, outcome_findings, told_of};
+
+use crate::KeptEntries;
+use crate::finding::{add, add_all, add_ascending};
+use al_base::{Diagnostic, Name, NoMemory, Place, UnitKey};
+use al_entries::Entry;
+use al_query_outcome::Checked;
+use al_unit_faults::FileFaults;
+use al_unit_graph::{Contents, Header, Sources, kind_of};
+use std::alloc::Global;
+
+/// The key of the unit with this header.
+fn key_of_header(alloc: Global, header: &Header) -> Result<UnitKey, NoMemory>
+    ensures { IfOk result (λ key. key ≡ unit_named (key_of_unit (header_model header.now))) }
+{
+    Ok(UnitKey {
+        name: Name::from_slice(alloc, header.name.as_slice())?,
+        kind: kind_of(header.form),
+    })
+}
+
+/// Adds what the check of a unit found.
+fn add_checked(
+    alloc: Global,
+    file: &[u8],
+    checked: &Checked,
+    found: &mut Vec<Diagnostic>,
+) -> Result<(), NoMemory>
+    ensures { OnOk result (map finding_of found.new.items ≡ map finding_of found.old.items ++ outcome_findings file.now (Some (checked_model checked.now))) }
+{
+    match checked {
+        Checked::Faulty(faults) => add_ascending(alloc, file, faults.as_slice(), found),
+        Checked::Sound(_, _) => Ok(()),
+    }
+}
+
+/// Adds what the outcome of a unit says; where it has none, that it depends on faults.
+fn add_outcome(
+    alloc: Global,
+    file: &[u8],
+    held: Option<&Entry>,
+    found: &mut Vec<Diagnostic>,
+) -> Result<(), NoMemory>
+    ensures { OnOk result (map finding_of found.new.items ≡ map finding_of found.old.items ++ outcome_findings file.now (option_map outcome_of (option_copied held.entry))) }
+{
+    match held {
+        None => add(alloc, file, Place { line: 1, col: 1 }, 208, found),
+        Some(entry) => add_checked(alloc, file, entry.checked(), found),
+    }
+}
+
+/// Adds what the text of a file and the outcome of its unit say.
+fn add_contents(
+    alloc: Global,
+    entries: &KeptEntries,
+    file: &[u8],
+    contents: &Contents,
+    found: &mut Vec<Diagnostic>,
+) -> Result<(), NoMemory>
+    ensures { OnOk result (map finding_of found.new.items ≡ map finding_of found.old.items ++ contents_findings (results_of (now_at entries.now)) file.now (contents_model contents.now)) }
+{
+    match contents {
+        Contents::Headed(header) => {
+            let key = key_of_header(alloc, header)?;
+            add_outcome(alloc, file, entries.get(&key), found)
+        }
+        Contents::Unread(place, code) => add(alloc, file, *place, *code, found),
+    }
+}
+
+/// Adds what is found in a file that has these faults among the others.
+fn add_file(
+    alloc: Global,
+    sources: &Sources,
+    entries: &KeptEntries,
+    file: &[u8],
+    faults: &[Diagnostic],
+    found: &mut Vec<Diagnostic>,
+) -> Result<(), NoMemory>
+    ensures { OnOk result (map finding_of found.new.items ≡ map finding_of found.old.items ++ told_of sources.now (results_of (now_at entries.now)) file.now (map finding_of faults.now)) }
+{
+    if !faults.is_empty() {
+        return add_all(alloc, faults, found);
+    }
+    match sources.source_at(file) {
+        Some(source) => add_contents(alloc, entries, file, &source.contents, found),
+        None => Ok(()),
+    }
+}
+
+/// All that is wrong with the files of a library, by file, place and number: what is wrong with their units among one another, and
+/// else what the texts are, or what the outcomes of the units say.
+pub fn findings_of(
+    alloc: Global,
+    sources: &Sources,
+    entries: &KeptEntries,
+    faults: &[FileFaults],
+) -> Result<Vec<Diagnostic>, NoMemory>
+    requires { map file_faults_model faults.now ≡ map (λ file. (file, file_faults sources.now file)) (keys_of sources.now) }
+    ensures { IfOk result (λ found. map finding_of found.items ≡ findings_of sources.now (results_of (now_at entries.now))) }
+{
+    let mut found = Vec::new(alloc);
+    for file in faults {
+        let name = file.file.as_slice();
+        add_file(
+            alloc,
+            sources,
+            entries,
+            name,
+            file.faults.as_slice(),
+            &mut found,
+        )?;
+    }
+    Ok(found)
+}

@@ -1,0 +1,191 @@
+// Entries of units while a build goes on.
+ghost use Rattle.std.specs.Prelude.{◌≡◌, [], true, IfOk, IsTrue, OnErr, OnOk, None, is_some};
+ghost use Rattle.std.specs.Map.{keys_of};
+ghost use Rattle.std.specs.Option.{option_copied};
+ghost use Rattle.al_base.specs.declared.unit_key.UnitKey.{UnitKey};
+ghost use Rattle.al_view.specs.Symbols.{same_unit};
+ghost use Rattle.al_unit_map.specs.Units.{at_unit};
+ghost use Rattle.al_entries.specs.Stored.{log_of};
+ghost use Rattle.al_engine_refresh.specs.Moves.{has_moved};
+ghost use Rattle.al_query_store.specs.Changes.{AreMarkedAsBefore, ComparesUnit, HasAnswers, with_made};
+ghost use Rattle.al_query_store.specs.Keyed.{Changes, SameStates, base_state, cancelled_state, kept_state, leaving, now_at, settled_state, state, with_reached};
+
+use al_base::{NoMemory, UnitKey};
+use al_entries::Entry;
+use al_query::Answers;
+use al_query_store::{Held, Store};
+use al_view::copied_unit;
+use std::alloc::Global;
+use std::marker::Model;
+
+/// Entries of units, with marks for their answers: as the last build settled them, and as a build made them since. Which units moved since
+/// the last build is noted, so that a build's end looks at no other.
+pub struct KeptEntries {
+    alloc: Global,
+    store: Store<Entry>,
+    moved: Vec<UnitKey>,
+}
+
+// Written out, as a crate above then lets entries go by this call, and needn't prove again how each kind of tree is let go.
+impl Drop for KeptEntries {
+    fn drop(self) {
+        let KeptEntries {
+            alloc: _,
+            store: _,
+            moved: _,
+        } = self;
+    }
+}
+
+impl Model for KeptEntries {
+    ghost use Rattle.std.specs.Prelude.{List};
+    ghost use Rattle.std.specs.Coded.{codes};
+    ghost use Rattle.al_base.specs.declared.unit_key.UnitKey.{UnitKey};
+    ghost use Rattle.al_view_typed.specs.contracts.expression.Typed as expression;
+    ghost use Rattle.al_view_typed.specs.contracts.statement.TypedStatement as statement;
+    ghost use Rattle.al_entries.specs.Stored.{Stored};
+    ghost use Rattle.al_query_store.specs.Keyed.{State};
+    ghost use Rattle.al_engine_refresh.specs.Moves.{AreQuietBut};
+
+    ghost Value = { List (UnitKey × State Stored) };
+
+    ghost coded = { Prim.hlevel (codes, expression.the_row.coded, statement.the_row.coded) };
+
+    ghost view = { λ k. k.store };
+
+    ghost invariant = { λ k. AreQuietBut k.moved.items k.store };
+}
+
+impl KeptEntries {
+    /// No entry. It takes no memory.
+    pub fn new(alloc: Global) -> Self
+        ensures { result ≡ [] }
+    {
+        KeptEntries {
+            alloc,
+            store: Store::new(alloc),
+            moved: Vec::new(alloc),
+        }
+    }
+
+    /// The settled entry of a unit, with its marks. It takes no memory.
+    pub fn settled(&self, unit: &UnitKey) -> Option<&Held<Entry>>
+        ensures { option_copied result ≡ (state self.now unit.now).settled }
+    {
+        self.store.settled(unit)
+    }
+
+    /// The entry of now of a unit that is reached: the one that was made, or else the settled one. It takes no memory.
+    pub fn get(&self, unit: &UnitKey) -> Option<&Entry>
+        ensures { option_copied result ≡ now_at self.now unit.now }
+    {
+        self.store.get(unit)
+    }
+
+    /// Whether a unit is reached now. It takes no memory.
+    pub fn is_reached(&self, unit: &UnitKey) -> bool
+        ensures { result ≡ (state self.now unit.now).is_reached }
+    {
+        self.store.is_reached(unit)
+    }
+
+    /// The units of which there is something, in order.
+    pub fn units(&self) -> Result<Vec<UnitKey>, NoMemory>
+        ensures { IfOk result (λ units. units.items ≡ keys_of self.now) }
+    {
+        self.store.units()
+    }
+
+    /// Whether a unit moved since the last build. It takes no memory.
+    pub fn has_moved(&self, unit: &UnitKey) -> bool
+        ensures { result ≡ has_moved self.now unit.now }
+    {
+        self.store.has_moved(unit)
+    }
+
+    /// Holds an entry that was made of a unit, which is reached. It has no mark set.
+    ///
+    /// # Errors
+    ///
+    /// `NoMemory` where memory was wanted and not given: all is as before.
+    pub fn make(&mut self, unit: &UnitKey, entry: Entry) -> Result<(), NoMemory>
+        requires { (state self.old unit.now).made ≡ None }
+        ensures ok { OnOk result (Changes (with_made log_of entry) unit.now self.old self.new) }
+        ensures err { OnErr result (SameStates self.old self.new) }
+    {
+        let moved = copied_unit(self.alloc, unit)?;
+        self.moved.push(moved)?;
+        self.store.make(unit, entry)?;
+        Ok(())
+    }
+
+    /// A unit of which there is something is reached now, or it isn't.
+    ///
+    /// # Errors
+    ///
+    /// `NoMemory` where memory was wanted and not given: all is as before.
+    pub fn reach(&mut self, unit: &UnitKey, is_reached: bool) -> Result<(), NoMemory>
+        requires { is_some (at_unit self.old unit.now) ≡ true }
+        ensures ok { OnOk result (Changes (with_reached is_reached) unit.now self.old self.new) }
+        ensures err { OnErr result (SameStates self.old self.new) }
+    {
+        let moved = copied_unit(self.alloc, unit)?;
+        self.moved.push(moved)?;
+        self.store.reach(unit, is_reached);
+        Ok(())
+    }
+
+    /// A unit of which there is something leaves the library.
+    ///
+    /// # Errors
+    ///
+    /// `NoMemory` where memory was wanted and not given: all is as before.
+    pub fn leave(&mut self, unit: &UnitKey) -> Result<(), NoMemory>
+        requires { is_some (at_unit self.old unit.now) ≡ true }
+        ensures ok { OnOk result (Changes leaving unit.now self.old self.new) }
+        ensures err { OnErr result (SameStates self.old self.new) }
+    {
+        let moved = copied_unit(self.alloc, unit)?;
+        self.moved.push(moved)?;
+        self.store.leave(unit);
+        Ok(())
+    }
+
+    /// Compares the answers of settled entries to the questions of a unit with those of now, and marks each by whether it differs. It tells
+    /// how many were compared.
+    ///
+    /// # Errors
+    ///
+    /// `NoMemory` where memory was wanted and not given: all is the same but for marks of now.
+    pub fn mark<A: Answers>(&mut self, unit: &UnitKey, asked: &A) -> Result<usize, NoMemory>
+        ensures marked { OnOk result (ComparesUnit log_of (A.table asked.now) unit.now self.old self.new) }
+        ensures counted { IfOk result (λ n. HasAnswers log_of (λ u. true) (λ u. same_unit u unit.now) self.old n) }
+        ensures base { (u : UnitKey) → base_state (state self.new u) ≡ base_state (state self.old u) }
+    {
+        self.store.mark(unit, asked)
+    }
+
+    /// Whether it is known that no mark of now of a settled entry is another one than the last build's. It takes no memory.
+    pub fn is_untouched(&self) -> bool
+        ensures { IsTrue result → AreMarkedAsBefore self.now }
+    {
+        self.store.is_untouched()
+    }
+
+    /// A build has answered: what it made is settled, what it reached is what the last build reached, who leaves is gone, and its marks are
+    /// those of the last build. It takes no memory.
+    pub fn settle(&mut self)
+        ensures { (u : UnitKey) → state self.new u ≡ kept_state (settled_state (state self.old u)) }
+    {
+        self.store.settle(self.moved.as_slice());
+        self.moved.clear();
+    }
+
+    /// A build found no memory: what it made is let go, and all is as the last build left it. It takes no memory.
+    pub fn cancel(&mut self)
+        ensures { (u : UnitKey) → state self.new u ≡ base_state (cancelled_state (state self.old u)) }
+    {
+        self.store.cancel(self.moved.as_slice());
+        self.moved.clear();
+    }
+}

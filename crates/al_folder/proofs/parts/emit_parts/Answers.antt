@@ -1,0 +1,22 @@
+use Rattle.std.proofs.Common.{◌∙◌, append_assoc, arith}
+use Rattle.std.proofs.lemmas.List.{take_all}
+use Rattle.al_base.specs.Batch.{key_of}
+use Rattle.al_folder.specs.Parts.{part_line}
+use Rattle.al_folder.proofs.ToldLines.{lines_more}
+use Rattle.al_folder.proofs.parts.emit_parts.Goals as goal
+
+pub loop-key-preserved : goal.loop-key-preserved
+loop-key-preserved g c = record {
+  adds = λ start before wrote.
+      let more = lines_more part_line key_of c.args.keys.now c.loop-key.key-index c.key-item.result (omega arith) c.key-item.is in
+      let so_far = c.emit_part_line-so_far.ensures.adds start _ (c.loop-key.invariant.adds start before wrote) in
+      rw more (rw append_assoc at so_far);
+  room = λ ok.
+      let one = c.emit_part_line-so_far.ensures.faults ok in
+      let before = c.loop-key.invariant.room one.0 in
+      (before.0, one.1 ∙ before.1);
+}
+
+pub returns-clause-adds : goal.returns-clause-adds
+returns-clause-adds g c = λ start before wrote.
+    rw (take_all c.loop-key.key-index c.args.keys.now (omega arith)) at (c.loop-key.invariant.adds start before wrote)

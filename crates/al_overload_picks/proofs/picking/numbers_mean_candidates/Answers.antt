@@ -1,5 +1,0 @@
-use Rattle.al_overload_picks.proofs.PickLemmas.{numbers_mean}
-use Rattle.al_overload_picks.proofs.picking.numbers_mean_candidates.Goals as goal
-
-pub returns : goal.returns
-returns c = numbers_mean

@@ -1,6 +1,0 @@
-use Rattle.std.proofs.Common.{◌≡◌, drop}
-use Rattle.al_overload_picks.specs.Types.{placed}
-use Rattle.al_overload_picks.proofs.types.placed.Given as goal
-
-abbrev pub invariant-loop-component : goal.invariant-loop-component
-invariant-loop-component l = placed l.name (drop l.component-index l.components) l.left ≡ placed l.name l.components l.fn.offsets

@@ -1,5 +1,0 @@
-pub mod Composed
-pub mod Compounds
-pub mod Faults
-pub mod Marks
-pub mod Seen

@@ -1,6 +1,0 @@
-use Rattle.std.proofs.Common.{◌≡◌, map, take}
-use Rattle.al_overload_put.specs.Puts.{upper}
-use Rattle.al_overload_put.proofs.text.images.Given as goal
-
-abbrev pub invariant-loop-name : goal.invariant-loop-name
-invariant-loop-name l = l.images ≡ map upper (take l.name-index l.names)

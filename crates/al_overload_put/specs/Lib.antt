@@ -1,3 +1,0 @@
-pub mod Puts
-pub mod Seen
-pub mod Worklists

@@ -1,5 +1,0 @@
-pub mod Noted
-pub mod Texts
-pub mod RangeTerms
-pub mod Laws
-pub mod Chains

@@ -1,8 +1,0 @@
-use Rattle.std.proofs.Common.{◌≡◌, ◌≤◌}
-use Rattle.al_overload_heads.specs.Universal.{is_universal}
-use Rattle.al_overload_term.specs.TermViews.{term_model}
-use Rattle.al_overload_term.specs.declared.term.Term.{size-Term}
-use Rattle.al_overload_types.proofs.determined.+is_universal.Given as goal
-
-abbrev pub invariant-loop-rest : goal.invariant-loop-rest
-invariant-loop-rest l = (is_universal (term_model l.rest) ≡ is_universal (term_model l.fn.term)) × (size-Term l.rest ≤ size-Term l.fn.term)

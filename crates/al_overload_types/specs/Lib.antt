@@ -1,3 +1,0 @@
-pub mod FromAnswers
-pub mod Leaves
-pub mod Seen

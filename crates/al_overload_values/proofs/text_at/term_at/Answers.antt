@@ -1,0 +1,11 @@
+use Rattle.std.proofs.Common.{ap, ◌∙◌}
+use Rattle.al_overload_lookup.specs.Keys.{denoted}
+use Rattle.al_overload_lookup.specs.declared.names.Names.{Names}
+use Rattle.al_overload_readings.specs.Texts.{term_of}
+use Rattle.al_tree.specs.ExpressionViews.{expression_model}
+use Rattle.al_overload_values.proofs.text_at.term_at.Goals as goal
+
+pub returns-clause-answered : goal.returns-clause-answered
+returns-clause-answered g c t h =
+    let answered = c.in_ok-names.ensures.answered t h in
+    (answered.0, c.in_ok-checked.ensures ∙ ap (λ (n : Names). term_of (denoted n) (expression_model c.args.expression.now)) answered.1)

@@ -1,5 +1,0 @@
-use Rattle.al_query_slots.proofs.TestLemmas.{marks-test}
-use Rattle.al_query_slots.proofs.laws.marks_are_tests.Goals as goal
-
-pub returns : goal.returns
-returns c t log marks tell = marks-test t log marks tell

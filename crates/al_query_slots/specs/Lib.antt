@@ -1,4 +1,0 @@
-pub mod Marked
-pub mod Stored
-pub mod Counting
-pub mod Marking

@@ -1,0 +1,8 @@
+// Where an answer is stored.
+
+/// Where an answer is stored: the key of an entry, and the place of the answer in the entry's log.
+#[derive(Clone, Copy, PartialEq, Eq, PartialOrd, Ord)]
+pub struct Place {
+    pub entry: usize,
+    pub at: usize,
+}

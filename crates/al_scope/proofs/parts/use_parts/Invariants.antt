@@ -1,0 +1,16 @@
+use Rattle.std.proofs.Common.{◌≡◌, length, take}
+use Rattle.std.specs.List.{flat_map}
+use Rattle.al_query.specs.Asked.{AsksOf, by_property}
+use Rattle.al_query.specs.Reads.{FromAnswers}
+use Rattle.al_scope.specs.Places.{part_units}
+use Rattle.al_scope.specs.UnitPlaces.{part_uses, with_clauses}
+use Rattle.al_scope.proofs.parts.use_parts.Given as goal
+
+abbrev pub invariant-loop-part : goal.invariant-loop-part
+invariant-loop-part g l = record {
+  asks : AsksOf (part_units (take l.part-index l.parts)) by_property l.fn.recorder.log l.recorder.log;
+  asked : l.recorder.asked ≡ l.fn.recorder.asked;
+  answered : FromAnswers l.fn.recorder.log l.recorder.log (λ t. l.scope.regions ≡ with_clauses (flat_map (part_uses t) (take l.part-index l.parts)) l.fn.scope.regions);
+  depth : length l.scope.regions ≡ length l.fn.scope.regions;
+  mentioned : l.scope.mentioned ≡ l.fn.scope.mentioned;
+}

@@ -1,0 +1,13 @@
+use Rattle.std.proofs.Common.{◌≡◌, take}
+use Rattle.al_scope.specs.Seen.{all_seen_at}
+use Rattle.al_query.specs.Asked.{AsksOf, by_some_name}
+use Rattle.al_query.specs.Reads.{FromAnswers}
+use Rattle.al_scope.specs.Places.{place_units}
+use Rattle.al_scope.proofs.seen.all_seen_at.Given as goal
+
+abbrev pub invariant-loop-view : goal.invariant-loop-view
+invariant-loop-view g l = record {
+  asked : l.recorder.asked ≡ l.fn.recorder.asked;
+  answered : FromAnswers l.fn.recorder.log l.recorder.log (λ t. l.seen ≡ all_seen_at t l.scope (take l.view-index l.views));
+  asks : AsksOf (place_units l.scope) by_some_name l.fn.recorder.log l.recorder.log;
+}

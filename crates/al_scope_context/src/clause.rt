@@ -1,0 +1,199 @@
+// Use clauses (ARM 8.4).
+ghost use Rattle.std.specs.Prelude.{◌≡◌, ◌<◌, true, false, map, length, IfOk, OnOk};
+ghost use Rattle.al_base_fault.specs.Judging.{fault_in, map_ok};
+ghost use Rattle.al_query.specs.Reads.{FromAnswers};
+ghost use Rattle.al_tree.specs.DeclarationViews.{compound_model, use_model};
+ghost use Rattle.al_scope_context.specs.UsesAt.{added, opened_at, opened_from, package_opened, type_opened, used_in, uses_at};
+
+use crate::opened_package::package_at;
+use al_base::{NoMemory, UnitKey};
+use al_base_fault::{CheckResult, Fault};
+use al_overload_values::name_mark_at;
+use al_query::{Answers, Recorder, UseClause};
+use al_scope::{Scope, use_each};
+use al_tree::CompoundName;
+use al_view::{Seq, SubtypeView};
+use std::alloc::Global;
+
+/// The operators of the type of a mark (ARM 8.4(4)).
+fn of_type(
+    alloc: Global,
+    mark: CheckResult<SubtypeView>,
+) -> Result<CheckResult<UseClause>, NoMemory>
+    ensures { IfOk result (λ clause. clause ≡ map_ok type_opened mark) }
+{
+    match mark {
+        Ok(mark) => {
+            let base = mark.subtype.base.copy(alloc)?;
+            Ok(Ok(UseClause::Type(base)))
+        }
+        Err(fault) => Ok(Err(fault)),
+    }
+}
+
+/// The visible part of a package (ARM 8.4(3)).
+fn of_package(unit: CheckResult<UnitKey>) -> CheckResult<UseClause>
+    ensures { result ≡ map_ok package_opened unit }
+{
+    match unit {
+        Ok(unit) => Ok(UseClause::Package(unit)),
+        Err(fault) => Err(fault),
+    }
+}
+
+/// The operators of the type that a mark names.
+fn opened_type<A: Answers>(
+    alloc: Global,
+    scope: &Scope,
+    packages: &[UnitKey],
+    name: &CompoundName,
+    recorder: &mut Recorder<A>,
+) -> Result<CheckResult<UseClause>, NoMemory>
+    ensures asked { recorder.new.asked ≡ recorder.old.asked }
+    ensures answered { IfOk result (λ clause. FromAnswers recorder.old.log recorder.new.log (λ t. clause ≡ opened_at t scope.now packages.now true (compound_model name.now))) }
+{
+    let mark = name_mark_at(alloc, scope, packages, name, recorder)?;
+    let clause = of_type(alloc, mark)?;
+    Ok(clause)
+}
+
+/// The visible part of the package that a name denotes.
+fn opened_package<A: Answers>(
+    alloc: Global,
+    scope: &Scope,
+    packages: &[UnitKey],
+    name: &CompoundName,
+    recorder: &mut Recorder<A>,
+) -> Result<CheckResult<UseClause>, NoMemory>
+    ensures asked { recorder.new.asked ≡ recorder.old.asked }
+    ensures answered { IfOk result (λ clause. FromAnswers recorder.old.log recorder.new.log (λ t. clause ≡ opened_at t scope.now packages.now false (compound_model name.now))) }
+{
+    let unit = package_at(alloc, scope, packages, name, recorder)?;
+    let clause = of_package(unit);
+    Ok(clause)
+}
+
+/// What one name of a use clause opens.
+fn opened_by<A: Answers>(
+    alloc: Global,
+    scope: &Scope,
+    packages: &[UnitKey],
+    of_type: bool,
+    name: &CompoundName,
+    recorder: &mut Recorder<A>,
+) -> Result<CheckResult<UseClause>, NoMemory>
+    ensures asked { recorder.new.asked ≡ recorder.old.asked }
+    ensures answered { IfOk result (λ clause. FromAnswers recorder.old.log recorder.new.log (λ t. clause ≡ opened_at t scope.now packages.now of_type (compound_model name.now))) }
+{
+    if of_type {
+        return opened_type(alloc, scope, packages, name, recorder);
+    }
+    opened_package(alloc, scope, packages, name, recorder)
+}
+
+/// One more clause, if it is right; else its fault.
+fn add_clause(
+    clauses: &mut Seq<UseClause>,
+    clause: CheckResult<UseClause>,
+) -> Result<Option<Fault>, NoMemory>
+    ensures fault { IfOk result (λ fault. fault ≡ fault_in clause) }
+    ensures added { OnOk result (clauses.new ≡ added clauses.old clause) }
+{
+    match clause {
+        Ok(clause) => {
+            clauses.push(clause)?;
+            Ok(None)
+        }
+        Err(fault) => Ok(Some(fault)),
+    }
+}
+
+/// What these names open, after what others do; the first fault.
+fn opened_from<A: Answers>(
+    alloc: Global,
+    scope: &Scope,
+    packages: &[UnitKey],
+    of_type: bool,
+    done: Seq<UseClause>,
+    names: &[CompoundName],
+    recorder: &mut Recorder<A>,
+) -> Result<CheckResult<Seq<UseClause>>, NoMemory>
+    ensures asked { recorder.new.asked ≡ recorder.old.asked }
+    ensures answered { IfOk result (λ clauses. FromAnswers recorder.old.log recorder.new.log (λ t. clauses ≡ opened_from t scope.now packages.now of_type done (map compound_model names.now))) }
+{
+    let mut clauses = done;
+    for name in names {
+        let clause = opened_by(alloc, scope, packages, of_type, name, recorder)?;
+        let fault = add_clause(&mut clauses, clause)?;
+        if let Some(fault) = fault {
+            return Ok(Err(fault));
+        }
+    }
+    Ok(Ok(clauses))
+}
+
+/// What a use clause opens at a place, where these packages are mentioned: E401 where a name isn't visible, E404 at what is no package, of a
+/// use type clause at what is no subtype (ARM 8.4(3, 4)).
+pub fn uses_at<A: Answers>(
+    alloc: Global,
+    scope: &Scope,
+    packages: &[UnitKey],
+    clause: &al_tree::UseClause,
+    recorder: &mut Recorder<A>,
+) -> Result<CheckResult<Seq<UseClause>>, NoMemory>
+    ensures asked { recorder.new.asked ≡ recorder.old.asked }
+    ensures answered { IfOk result (λ clauses. FromAnswers recorder.old.log recorder.new.log (λ t. clauses ≡ uses_at t scope.now packages.now (use_model clause.now))) }
+{
+    let of_type = clause.of_type;
+    let name = &clause.names.first;
+    let opened = opened_by(alloc, scope, packages, of_type, name, recorder)?;
+    let mut first = Seq::empty(alloc);
+    let fault = add_clause(&mut first, opened)?;
+    if let Some(fault) = fault {
+        return Ok(Err(fault));
+    }
+    let others = clause.names.others.as_slice();
+    let all = opened_from(alloc, scope, packages, of_type, first, others, recorder)?;
+    Ok(all)
+}
+
+/// What is opened is opened from here on in the innermost region.
+fn use_judged(
+    alloc: Global,
+    scope: &mut Scope,
+    clauses: &CheckResult<Seq<UseClause>>,
+) -> Result<(), NoMemory>
+    requires { 0 < length scope.old.regions }
+    ensures regions { OnOk result (scope.new.regions ≡ used_in clauses.now scope.old.regions) }
+    ensures depth { length scope.new.regions ≡ length scope.old.regions }
+    ensures mentioned { scope.new.mentioned ≡ scope.old.mentioned }
+{
+    match clauses {
+        Ok(clauses) => {
+            use_each(alloc, scope, clauses.as_slice())?;
+            Ok(())
+        }
+        Err(_) => Ok(()),
+    }
+}
+
+/// A use clause in the innermost region of a place, where these packages are mentioned: what it opens is opened from there on (ARM 8.4(6)).
+/// E401 where a name isn't visible, E404 at what is no package, of a use type clause at what is no subtype; then nothing is opened.
+pub fn use_at<A: Answers>(
+    alloc: Global,
+    scope: &mut Scope,
+    packages: &[UnitKey],
+    clause: &al_tree::UseClause,
+    recorder: &mut Recorder<A>,
+) -> Result<CheckResult<Seq<UseClause>>, NoMemory>
+    requires { 0 < length scope.old.regions }
+    ensures asked { recorder.new.asked ≡ recorder.old.asked }
+    ensures answered { IfOk result (λ clauses. FromAnswers recorder.old.log recorder.new.log (λ t. clauses ≡ uses_at t scope.old packages.now (use_model clause.now))) }
+    ensures regions { IfOk result (λ clauses. scope.new.regions ≡ used_in clauses scope.old.regions) }
+    ensures depth { length scope.new.regions ≡ length scope.old.regions }
+    ensures mentioned { scope.new.mentioned ≡ scope.old.mentioned }
+{
+    let clauses = uses_at(alloc, scope, packages, clause, recorder)?;
+    use_judged(alloc, scope, &clauses)?;
+    Ok(clauses)
+}

@@ -1,4 +1,0 @@
-pub mod Asked
-pub mod Lists
-pub mod Outcomes
-pub mod Stays

@@ -1,6 +1,0 @@
-use Rattle.std.proofs.Common.{◌≡◌, map, take}
-use Rattle.al_scope_seen.specs.Recasts.{recast_component}
-use Rattle.al_scope_seen.proofs.recast.recast_components.Given as goal
-
-abbrev pub invariant-loop-component : goal.invariant-loop-component
-invariant-loop-component l = l.made ≡ map (recast_component l.recasts) (take l.component-index l.of)

@@ -1,3 +1,0 @@
-pub mod Recasts
-pub mod Seen
-pub mod Hidden

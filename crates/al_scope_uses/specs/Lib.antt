@@ -1,2 +1,0 @@
-pub mod UsesAt
-pub mod Pragmas

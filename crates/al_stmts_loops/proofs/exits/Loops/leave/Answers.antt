@@ -1,8 +1,0 @@
--- The last one of the list is the innermost one.
-use Rattle.std.proofs.Common.{arith, ap, ◌∙◌}
-use Rattle.al_stmts_loops.specs.Exits.{without_innermost}
-use Rattle.al_stmts_loops.proofs.LoopLemmas.{innermost_taken}
-use Rattle.al_stmts_loops.proofs.exits.Loops.leave.Goals as goal
-
-pub returns : goal.returns
-returns c = innermost_taken _ _ c.pop.result c.pop.ensures.items (λ lt. c.pop.ensures.variant.1 (omega arith)) ∙ ap without_innermost c.self.view_is

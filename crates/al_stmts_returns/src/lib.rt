@@ -1,6 +1,0 @@
-//! Whether a return statement stands among statements.
-#![tactic(auto)]
-
-mod walk;
-
-pub use walk::has_return;

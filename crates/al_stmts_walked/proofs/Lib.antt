@@ -1,4 +1,0 @@
-pub mod Behind
-pub mod Choosing
-pub mod Dotted
-pub mod Joined

@@ -1,6 +1,0 @@
-use Rattle.std.proofs.Common.{◌∙◌}
-use Rattle.al_stmts_walked.proofs.Joined.{joined_first}
-use Rattle.al_stmts_walked.proofs.statements.WalkedStatements.first.Goals as goal
-
-pub returns-in-Ok : goal.returns-in-Ok
-returns-in-Ok c = c.in-Ok.ensures ∙ joined_first _ _ c.new-all.ensures

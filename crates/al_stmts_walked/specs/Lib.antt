@@ -1,9 +1,0 @@
-pub mod Examples
-pub mod Laws
-pub mod Readings
-pub mod Spelled
-pub mod Steps
-pub mod Units
-pub mod Views
-pub mod WalkedViews
-pub mod Walking

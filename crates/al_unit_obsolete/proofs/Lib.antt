@@ -1,7 +1,0 @@
-pub mod UnitLemmas
-pub mod TraceLemmas
-pub mod ListLaws
-pub mod WantedLemmas
-pub mod ListingLemmas
-pub mod NumberLemmas
-pub mod StepLemmas

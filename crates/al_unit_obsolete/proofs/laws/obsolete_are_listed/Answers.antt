@@ -1,8 +1,0 @@
-use Rattle.al_unit_obsolete.proofs.ListLaws.{obsolete_are_listed, obsolete_ascend}
-use Rattle.al_unit_obsolete.proofs.laws.obsolete_are_listed.Goals as goal
-
-pub returns-clause-listed : goal.returns-clause-listed
-returns-clause-listed c = obsolete_are_listed
-
-pub returns-clause-ascend : goal.returns-clause-ascend
-returns-clause-ascend c = obsolete_ascend

@@ -1,9 +1,0 @@
-use Rattle.std.proofs.Common.{◌≡◌, length, take}
-use Rattle.al_unit_obsolete.proofs.StepLemmas.{HasSteps}
-use Rattle.al_unit_obsolete.proofs.wanted.WantedFiles.graph.Given as goal
-
-abbrev pub invariant-loop-from : goal.invariant-loop-from
-invariant-loop-from l = record {
-  count : length l.graph ≡ length l.self.names.items;
-  steps : HasSteps l.graph (take l.from-index l.self.steps.items);
-}

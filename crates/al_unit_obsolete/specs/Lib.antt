@@ -1,3 +1,0 @@
-pub mod Units
-pub mod Obsolete
-pub mod Wanted

@@ -1,5 +1,0 @@
-use Rattle.al_unit_order.proofs.SoundUnits.{all_there}
-use Rattle.al_unit_order.proofs.laws.faultless_units_are_there.Goals as goal
-
-pub returns : goal.returns
-returns c = all_there

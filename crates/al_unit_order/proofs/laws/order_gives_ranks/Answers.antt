@@ -1,5 +1,0 @@
-use Rattle.al_unit_order.proofs.Ranks.{order_gives_ranks}
-use Rattle.al_unit_order.proofs.laws.order_gives_ranks.Goals as goal
-
-pub returns : goal.returns
-returns c = order_gives_ranks

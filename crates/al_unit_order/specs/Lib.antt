@@ -1,4 +1,0 @@
-pub mod Reached
-pub mod Steps
-pub mod Read
-pub mod Laws

@@ -1,5 +1,0 @@
-pub mod Gained
-pub mod Layers
-pub mod Listed
-pub mod Prefixes
-pub mod Same
