@@ -8,12 +8,12 @@ ghost use Rattle.adabuild.specs.declared.failure.Failure.TheVariants.{Memory};
 use crate::failure::Failure;
 use al_base::{Files, NoMemory, Refusal};
 use al_check::{AdaCheck, ada_check};
-use al_check_text::AdaText;
-use al_check_text::laws::headers_are_read;
 use al_engine::{Compiled, Engine};
 use al_engine_files::query_predefined_laws::units_are_predefined;
 use al_engine_files::{AdaFiles, PredefinedUnits};
 use al_query_outcome::UnitCheck;
+use al_unit::AdaText;
+use al_unit::check_text_laws::headers_are_read;
 use std::alloc::Global;
 
 /// A library of Ada units.

@@ -1,4 +1,8 @@
-pub mod Graphs
-pub mod Searches
-pub mod Walks
 pub mod Closing
+pub mod Graphs
+pub mod Orders
+pub mod Placings
+pub mod Relations
+pub mod Searches
+pub mod Ties
+pub mod Walks

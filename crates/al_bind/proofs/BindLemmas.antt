@@ -7,9 +7,9 @@ use Rattle.al_base.specs.Batch.{Key}
 use Rattle.al_base_graph.specs.Graphs.{Step, with_step}
 use Rattle.al_base_graph.proofs.Members.{first_or_later, nowhere}
 use Rattle.al_base_graph.proofs.StepLemmas.{Step-added, Step-kept, length-with_step}
-use Rattle.al_base_order.specs.Orders.{IsOrder}
-use Rattle.al_base_order.specs.Ties.{IsFault, graph_from}
-use Rattle.al_base_order.specs.declared.edge.Edge.{Edge}
+use Rattle.al_base_graph.specs.Orders.{IsOrder}
+use Rattle.al_base_graph.specs.Ties.{IsFault, graph_from}
+use Rattle.al_base_graph.specs.declared.edge.Edge.{Edge}
 use Rattle.al_unit_graph.specs.Headers.{Library}
 use Rattle.al_bind.specs.Numbers.{TellsEdge, nodes_among}
 

@@ -9,11 +9,11 @@ use Rattle.std.proofs.lemmas.Map.Lookups.{exact_bytes}
 use Rattle.al_base.specs.Batch.{Key}
 use Rattle.al_base.specs.Files.{name_cmp}
 use Rattle.al_base_graph.specs.Graphs.{Step}
-use Rattle.al_base_order.specs.Relations.{IsOrderBy}
-use Rattle.al_base_order.specs.Ties.{AreLines, IsFault, graph_from}
-use Rattle.al_base_order.specs.declared.edge.Edge.{Edge}
-use Rattle.al_base_order.proofs.LawLemmas.{one_cycle}
-use Rattle.al_base_order.proofs.TieLemmas.{step_tied}
+use Rattle.al_base_graph.specs.Relations.{IsOrderBy}
+use Rattle.al_base_graph.specs.Ties.{AreLines, IsFault, graph_from}
+use Rattle.al_base_graph.specs.declared.edge.Edge.{Edge}
+use Rattle.al_base_graph.proofs.LawLemmas.{one_cycle}
+use Rattle.al_base_graph.proofs.TieLemmas.{step_tied}
 use Rattle.al_unit_graph.specs.Headers.{Library}
 use Rattle.al_unit_graph.specs.Needed.{ListsUnits, Needed}
 use Rattle.al_unit_graph.specs.Orders.{key_cmp}

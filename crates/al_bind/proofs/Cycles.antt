@@ -3,11 +3,11 @@ use Rattle.std.proofs.Common.{◌≡◌, ◌↔◌, ◌⊎◌, inl, inr, ℕ, �
 use Rattle.std.specs.List.{Contains, HoldsAt}
 use Rattle.std.proofs.lemmas.List.{same_lists}
 use Rattle.al_base_graph.specs.Graphs.{Step}
-use Rattle.al_base_order.specs.Orders.{EachHasOneBefore, IsCycle, IsLeast, IsStuck, IsStuckWalk, next_in}
-use Rattle.al_base_order.specs.Ties.{AreLines, IsBetween, IsLine, IsUpto, rank_of}
-use Rattle.al_base_order.specs.declared.edge.Reason.{Reason}
-use Rattle.al_base_order.specs.declared.edge.Reason.TheVariants.{Depends, Elaborate, ElaborateAll}
-use Rattle.al_base_order.specs.declared.edge.Edge.{Edge}
+use Rattle.al_base_graph.specs.Orders.{EachHasOneBefore, IsCycle, IsLeast, IsStuck, IsStuckWalk, next_in}
+use Rattle.al_base_graph.specs.Ties.{AreLines, IsBetween, IsLine, IsUpto, rank_of}
+use Rattle.al_base_graph.specs.declared.edge.Reason.{Reason}
+use Rattle.al_base_graph.specs.declared.edge.Reason.TheVariants.{Depends, Elaborate, ElaborateAll}
+use Rattle.al_base_graph.specs.declared.edge.Edge.{Edge}
 
 least_same : (P Q : ℕ → Type 0) → ((a : ℕ) → P a ↔ Q a) → (a : ℕ) → IsLeast P a → IsLeast Q a
 least_same P Q same a is = ((same a).0 is.0, λ b q. is.1 b ((same b).1 q))

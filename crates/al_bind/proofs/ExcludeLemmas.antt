@@ -7,12 +7,12 @@ use Rattle.std.specs.declared.cmp.Ordering.TheVariants.{Less}
 use Rattle.std.proofs.lemmas.Map.Keys.{Less-from_sorted, sorted_tail}
 use Rattle.al_base.specs.Batch.{Key}
 use Rattle.al_base_graph.proofs.Members.{nowhere, first, later, first_or_later}
-use Rattle.al_base_order.specs.Relations.{IsOrderBy}
-use Rattle.al_base_order.specs.Ties.{graph_from}
-use Rattle.al_base_order.proofs.LawLemmas.{cycle_stuck}
-use Rattle.al_base_order.proofs.PlacingLemmas.{stuck_within}
-use Rattle.al_base_order.proofs.RelationLemmas.{none_held}
-use Rattle.al_base_order.proofs.TieLemmas.{step_tied}
+use Rattle.al_base_graph.specs.Relations.{IsOrderBy}
+use Rattle.al_base_graph.specs.Ties.{graph_from}
+use Rattle.al_base_graph.proofs.LawLemmas.{cycle_stuck}
+use Rattle.al_base_graph.proofs.PlacingLemmas.{stuck_within}
+use Rattle.al_base_graph.proofs.RelationLemmas.{none_held}
+use Rattle.al_base_graph.proofs.TieLemmas.{step_tied}
 use Rattle.al_unit_graph.specs.Orders.{key_cmp}
 use Rattle.al_bind.specs.Laws.{OrderExcludesCycle}
 use Rattle.al_bind.specs.Numbers.{ComesAfter, nodes_among}

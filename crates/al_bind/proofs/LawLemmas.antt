@@ -6,10 +6,10 @@ use Rattle.std.proofs.lemmas.List.Concat.{get_or-flat_map}
 use Rattle.std.proofs.lemmas.List.Folds.{length-flat_map-take}
 use Rattle.al_base.specs.Batch.{Key}
 use Rattle.al_base.specs.declared.unit_key.UnitKind.TheVariants.{Decl, Body, Sub}
-use Rattle.al_base_order.specs.declared.edge.Edge.{Edge}
-use Rattle.al_base_order.specs.declared.edge.Reason.{Reason}
-use Rattle.al_base_order.proofs.PlacingLemmas.{place_in}
-use Rattle.al_base_order.proofs.RelationLemmas.{stands_before}
+use Rattle.al_base_graph.specs.declared.edge.Edge.{Edge}
+use Rattle.al_base_graph.specs.declared.edge.Reason.{Reason}
+use Rattle.al_base_graph.proofs.PlacingLemmas.{place_in}
+use Rattle.al_base_graph.proofs.RelationLemmas.{stands_before}
 use Rattle.al_unit_graph.specs.Headers.{Library}
 use Rattle.al_unit_graph.proofs.Lists.{into_filter}
 use Rattle.al_bind.specs.Binding.{IsElaboration, items_at, items_of, key_at}

@@ -9,9 +9,9 @@ use Rattle.std.proofs.lemmas.Bool.{cases_lt}
 use Rattle.std.proofs.lemmas.List.{take_all, take_more_same}
 use Rattle.std.proofs.lemmas.Map.Lookups.{CmpEqualImpliesEq, btree_set_from_contains}
 use Rattle.std.proofs.lemmas.Map.Views.{btree_set_contains_iff}
-use Rattle.al_base_order.specs.Orders.{IsLeast}
-use Rattle.al_base_order.specs.Relations.{IsFree, IsOrderBy}
-use Rattle.al_base_order.proofs.LawLemmas.{one_least}
+use Rattle.al_base_graph.specs.Orders.{IsLeast}
+use Rattle.al_base_graph.specs.Relations.{IsFree, IsOrderBy}
+use Rattle.al_base_graph.proofs.LawLemmas.{one_least}
 
 module _ (count : ℕ) (Before : ℕ → ℕ → Type 0) where
   same_upto : (xs ys : List ℕ) → IsOrderBy count Before xs → IsOrderBy count Before ys → (n : ℕ) → n ≤ length xs → n ≤ length ys → take n xs ≡ take n ys

@@ -12,14 +12,14 @@ use Rattle.al_base_graph.specs.Graphs.{Reaches}
 use Rattle.al_base_graph.specs.Graphs.Reaches.{here, further}
 use Rattle.al_base_graph.proofs.Members.{nowhere, first, later, first_or_later}
 use Rattle.al_base_graph.proofs.ReachLemmas.{Reaches-trans}
-use Rattle.al_base_order.specs.Orders.{IsOrder}
-use Rattle.al_base_order.specs.Relations.{IsOrderBy}
-use Rattle.al_base_order.specs.Ties.{graph_from}
-use Rattle.al_base_order.specs.declared.edge.Edge.{Edge}
-use Rattle.al_base_order.specs.declared.edge.Reason.{Reason}
-use Rattle.al_base_order.specs.declared.edge.Reason.TheVariants.{Depends, Elaborate, ElaborateAll}
-use Rattle.al_base_order.proofs.RelationLemmas.{steps_suffice}
-use Rattle.al_base_order.proofs.TieLemmas.{step_tied}
+use Rattle.al_base_graph.specs.Orders.{IsOrder}
+use Rattle.al_base_graph.specs.Relations.{IsOrderBy}
+use Rattle.al_base_graph.specs.Ties.{graph_from}
+use Rattle.al_base_graph.specs.declared.edge.Edge.{Edge}
+use Rattle.al_base_graph.specs.declared.edge.Reason.{Reason}
+use Rattle.al_base_graph.specs.declared.edge.Reason.TheVariants.{Depends, Elaborate, ElaborateAll}
+use Rattle.al_base_graph.proofs.RelationLemmas.{steps_suffice}
+use Rattle.al_base_graph.proofs.TieLemmas.{step_tied}
 use Rattle.al_unit_graph.specs.Headers.{Library}
 use Rattle.al_unit_graph.specs.Dependence.{DependsOn, direct}
 use Rattle.al_unit_graph.specs.Dependence.DependsOn.{directly, through}

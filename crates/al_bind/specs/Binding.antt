@@ -3,10 +3,10 @@ use Rattle.std.specs.Prelude.{◌≡◌, ℕ, List, [], ◌∷◌, length, map, 
 use Rattle.std.specs.List.{flat_map}
 use Rattle.al_base.specs.Batch.{Key, key_of}
 use Rattle.al_base.specs.declared.unit_key.UnitKind.TheVariants.{Decl, Body, Sub}
-use Rattle.al_base_order.specs.Relations.{IsOrderBy}
-use Rattle.al_base_order.specs.Ties.{IsFault}
-use Rattle.al_base_order.specs.declared.edge.Edge.{Edge}
-use Rattle.al_base_order.specs.declared.edge.Reason.{Reason}
+use Rattle.al_base_graph.specs.Relations.{IsOrderBy}
+use Rattle.al_base_graph.specs.Ties.{IsFault}
+use Rattle.al_base_graph.specs.declared.edge.Edge.{Edge}
+use Rattle.al_base_graph.specs.declared.edge.Reason.{Reason}
 use Rattle.al_unit_graph.specs.Headers.{Library}
 use Rattle.al_bind.specs.Elaboration.{is_pair}
 use Rattle.al_bind.specs.Faults.{IsComplete, IsLack}

@@ -2,7 +2,7 @@
 use Rattle.std.specs.Prelude.{◌≡◌, ◌⊎◌, ℕ, List, map}
 use Rattle.std.proofs.Common.{inl, inr}
 use Rattle.al_base.specs.Batch.{Key}
-use Rattle.al_base_order.specs.declared.edge.Reason.{Reason}
+use Rattle.al_base_graph.specs.declared.edge.Reason.{Reason}
 use Rattle.al_unit_graph.specs.Headers.{Library}
 use Rattle.al_bind.specs.Binding.{IsBindFault, IsElaboration, line_model}
 use Rattle.al_bind.specs.declared.binding.BindFault.{BindFault}

@@ -3,15 +3,15 @@ use Rattle.std.specs.Prelude.{◌≡◌, ◌≢◌, ◌↔◌, ◌⊎◌, ℕ, �
 use Rattle.std.specs.List.{Contains, filter}
 use Rattle.al_base.specs.Batch.{Key, key_of}
 use Rattle.al_base.specs.declared.unit_key.UnitKind.TheVariants.{Decl, Body, Sub}
-use Rattle.al_base_order.specs.declared.edge.Edge.{Edge}
-use Rattle.al_base_order.specs.declared.edge.Reason.{Reason}
-use Rattle.al_base_order.specs.declared.edge.Reason.TheVariants.{ElaborateAll}
+use Rattle.al_base_graph.specs.declared.edge.Edge.{Edge}
+use Rattle.al_base_graph.specs.declared.edge.Reason.{Reason}
+use Rattle.al_base_graph.specs.declared.edge.Reason.TheVariants.{ElaborateAll}
 use Rattle.al_unit_graph.specs.Headers.{Library}
 use Rattle.al_unit_graph.specs.Library.{is_unit}
 use Rattle.al_unit_graph.specs.Needed.{Needed, ListsUnits}
 use Rattle.al_unit_graph.specs.Orders.{key_cmp}
 use Rattle.std.specs.List.Sorted.{IsStrictlySortedBy}
-use Rattle.al_base_order.specs.Ties.{IsBetween}
+use Rattle.al_base_graph.specs.Ties.{IsBetween}
 use Rattle.al_bind.specs.Elaboration.{Carries, IsItem, IsPartOf, is_pair, node_of}
 use Rattle.al_bind.specs.declared.places.End.{End}
 use Rattle.al_bind.specs.declared.places.Places.{Places}

@@ -1,7 +1,7 @@
 -- An elaboration order obeys each dependence and each pragma.
 use Rattle.std.specs.Prelude.{ℕ, List}
 use Rattle.al_base.specs.Batch.{Key}
-use Rattle.al_base_order.specs.declared.edge.Reason.{Reason}
+use Rattle.al_base_graph.specs.declared.edge.Reason.{Reason}
 use Rattle.al_unit_graph.specs.Headers.{Library}
 use Rattle.al_unit_faults.specs.Read.{NameParentBodies}
 use Rattle.al_bind.specs.Binding.{IsElaboration}

@@ -2,8 +2,8 @@
 use Rattle.std.specs.Prelude.{◌≡◌, ◌≢◌, ◌⊎◌, List}
 use Rattle.std.specs.List.{Contains}
 use Rattle.al_base.specs.Batch.{Key}
-use Rattle.al_base_order.specs.declared.edge.Reason.{Reason}
-use Rattle.al_base_order.specs.declared.edge.Reason.TheVariants.{Depends}
+use Rattle.al_base_graph.specs.declared.edge.Reason.{Reason}
+use Rattle.al_base_graph.specs.declared.edge.Reason.TheVariants.{Depends}
 use Rattle.al_unit_graph.specs.Headers.{Library}
 use Rattle.al_unit_graph.specs.Dependence.{DependsOn, direct}
 use Rattle.al_bind.specs.Elaboration.{Wants}

@@ -12,7 +12,7 @@ use crate::edges::{Extent, ties_of};
 use crate::lacking::{MissingItem, first_lack};
 use crate::places::{Places, copy_of, is_pair};
 use al_base::{Name, NoMemory, UnitKey, UnitKind};
-use al_base_order::{Edge, Reason, order_of_ties};
+use al_base_graph::{Edge, Reason, order_of_ties};
 use al_unit_graph::Sources;
 use std::alloc::Global;
 

@@ -3,8 +3,8 @@ ghost use Rattle.std.specs.Prelude.{◌≡◌, ◌↔◌, ◌⊎◌, map, IfOk, 
 ghost use Rattle.std.specs.List.{Contains};
 ghost use Rattle.al_base.specs.Batch.{key_of, Key};
 ghost use Rattle.al_base.specs.declared.unit_key.UnitKind.TheVariants.{Body};
-ghost use Rattle.al_base_order.specs.declared.edge.Reason.TheVariants.{Depends, Elaborate, ElaborateAll};
-ghost use Rattle.al_base_order.specs.declared.edge.Edge.{Edge};
+ghost use Rattle.al_base_graph.specs.declared.edge.Reason.TheVariants.{Depends, Elaborate, ElaborateAll};
+ghost use Rattle.al_base_graph.specs.declared.edge.Edge.{Edge};
 ghost use Rattle.al_bind.specs.declared.edges.Extent.TheVariants.{Steps};
 ghost use Rattle.al_unit_graph.specs.Needed.{Needed, ListsUnits};
 ghost use Rattle.al_bind.specs.Numbers.{Adds, ArePlaces, IsFor, IsForAll, OneOf, TellsWant, TiesBy, TiesFrom};
@@ -13,7 +13,7 @@ ghost use Rattle.al_bind.specs.Steps.{ArePlaced, IsTold, WantsTold};
 use crate::parts::parts_of;
 use crate::places::{End, Places};
 use al_base::{Name, NoMemory, UnitKey, UnitKind};
-use al_base_order::{Edge, Reason};
+use al_base_graph::{Edge, Reason};
 use al_unit_graph::Sources;
 use std::alloc::Global;
 

@@ -3,8 +3,8 @@ ghost use Rattle.std.specs.Prelude.{◌≡◌, ◌≢◌, ℕ, IsTrue, List, Som
 ghost use Rattle.std.specs.List.{Contains};
 ghost use Rattle.al_base.specs.Batch.{Key};
 ghost use Rattle.al_base.specs.declared.unit_key.UnitKind.TheVariants.{Decl, Body};
-ghost use Rattle.al_base_order.specs.declared.edge.Reason.{Reason};
-ghost use Rattle.al_base_order.specs.declared.edge.Reason.TheVariants.{ElaborateAll};
+ghost use Rattle.al_base_graph.specs.declared.edge.Reason.{Reason};
+ghost use Rattle.al_base_graph.specs.declared.edge.Reason.TheVariants.{ElaborateAll};
 ghost use Rattle.al_unit_graph.specs.Headers.{Header, Library};
 ghost use Rattle.al_unit_graph.specs.Library.{unit_at};
 ghost use Rattle.al_unit_graph.specs.Needed.{Needed};

@@ -10,7 +10,7 @@ pub mod order_laws;
 mod parts;
 mod places;
 
-pub use al_base_order::Reason;
+pub use al_base_graph::Reason;
 pub use binding::{BindFault, Line, bind};
 pub use lacking::{MissingItem, first_lack};
 pub use parts::parts_of;

@@ -14,7 +14,7 @@ use Rattle.al_base_fault.specs.Judging.{next, unless}
 use Rattle.al_base_fault.specs.declared.check_rule.CheckRule.{CheckRule}
 use Rattle.al_base_fault.specs.declared.check_rule.CheckRule.TheVariants.{Duplicate, MissingCompletion, NotConformant, NotStatic, OutOfLimits, NotAllowedHere, BadPragma, EndName, NoValue, NotComplete, NotVisible, NoInterpretation, Ambiguous, WrongKind, StaticFailure, NotAVariable, BadReturn, BadExit, BadChoices, NoReturn, NotLibraryLevel, SecondEntry, BadBarrier, OwnOperation, NotYet}
 use Rattle.al_base_fault.specs.declared.fault.Fault.{Fault}
-use Rattle.al_base_faults.specs.FaultLists.{all_faults}
+use Rattle.al_stmts.specs.FaultLists.{all_faults}
 use Rattle.al_tree_syntax.specs.UnitTrees.{CompilationUnitTree}
 use Rattle.al_view.specs.declared.view.ViewKind.{ViewKind}
 use Rattle.al_query.specs.Reads.{Table}
@@ -28,11 +28,11 @@ use Rattle.al_check_bounded.specs.Verdicts.Verdict.{Wrong}
 use Rattle.al_check_here.specs.Ends.{ends_told}
 use Rattle.al_check_start.specs.UnitsAt.{completed_at, name_fault, start_after, start_with, unit_at}
 use Rattle.al_check_start.specs.declared.unit.UnitStart.{UnitStart}
-use Rattle.al_check_made.specs.Ended.{ended, right_at, viewed}
-use Rattle.al_check_made.specs.Made.{fault_in, faults_in, or_not_yet, unless_wrong}
-use Rattle.al_check_made.specs.Said.{own_view}
-use Rattle.al_check_made.specs.declared.after.EndedText.{EndedText}
-use Rattle.al_check_made.specs.declared.after.UnitFacts.{UnitFacts}
+use Rattle.al_check_bounded.specs.Ended.{ended, right_at, viewed}
+use Rattle.al_check_bounded.specs.Made.{fault_in, faults_in, or_not_yet, unless_wrong}
+use Rattle.al_check_bounded.specs.Said.{own_view}
+use Rattle.al_check_bounded.specs.declared.after.EndedText.{EndedText}
+use Rattle.al_check_bounded.specs.declared.after.UnitFacts.{UnitFacts}
 use Rattle.al_check.specs.Ada.{ended_text, item_walked, round_of, verdict_from}
 
 -- ---- faults

@@ -38,11 +38,11 @@ use Rattle.al_check_bounded.specs.Verdicts.{NamesWithin, Verdict}
 use Rattle.al_check_here.specs.Ends.{ends_told}
 use Rattle.al_check_start.specs.UnitsAt.{completed_at, name_fault, start_after, start_with, unit_at}
 use Rattle.al_check_start.specs.declared.unit.UnitStart.{UnitStart}
-use Rattle.al_check_made.specs.Ended.{ended, right_at, viewed}
-use Rattle.al_check_made.specs.Made.{faults_in, unless_wrong}
-use Rattle.al_check_made.specs.Said.{own_view, said}
-use Rattle.al_check_made.specs.declared.after.EndedText.{EndedText}
-use Rattle.al_check_made.specs.declared.after.UnitFacts.{UnitFacts}
+use Rattle.al_check_bounded.specs.Ended.{ended, right_at, viewed}
+use Rattle.al_check_bounded.specs.Made.{faults_in, unless_wrong}
+use Rattle.al_check_bounded.specs.Said.{own_view, said}
+use Rattle.al_check_bounded.specs.declared.after.EndedText.{EndedText}
+use Rattle.al_check_bounded.specs.declared.after.UnitFacts.{UnitFacts}
 use Rattle.al_check.specs.Ada.{ended_text, item_walked, round_of, verdict_from}
 
 -- ---- the units of with clauses

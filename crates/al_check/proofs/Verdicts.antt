@@ -5,7 +5,7 @@ use Rattle.al_base.specs.declared.unit_key.UnitKey.{UnitKey}
 use Rattle.al_tree_syntax.specs.UnitTrees.{CompilationUnitTree}
 use Rattle.al_query.specs.Reads.{Table}
 use Rattle.al_base_fault.specs.declared.fault.Fault.{Fault}
-use Rattle.al_base_faults.specs.FaultLists.{all_faults}
+use Rattle.al_stmts.specs.FaultLists.{all_faults}
 use Rattle.al_view_typed.specs.UnitTrees.{UnitTree}
 use Rattle.al_view.specs.declared.view.ViewKind.{ViewKind}
 use Rattle.al_query_outcome.specs.declared.interface.UnitInterface.{UnitInterface}
@@ -15,11 +15,11 @@ use Rattle.al_check_bounded.specs.Verdicts.Verdict.{Wrong, Right}
 use Rattle.al_check_here.specs.Ends.{ends_told}
 use Rattle.al_check_start.specs.UnitsAt.{unit_at}
 use Rattle.al_check_start.specs.declared.unit.UnitStart.{UnitStart}
-use Rattle.al_check_made.specs.Ended.{ended, right_at, viewed}
-use Rattle.al_check_made.specs.Made.{fault_in, faults_in, or_not_yet, unless_wrong}
-use Rattle.al_check_made.specs.Said.{own_view}
-use Rattle.al_check_made.specs.declared.after.EndedText.{EndedText}
-use Rattle.al_check_made.specs.declared.after.UnitFacts.{UnitFacts}
+use Rattle.al_check_bounded.specs.Ended.{ended, right_at, viewed}
+use Rattle.al_check_bounded.specs.Made.{fault_in, faults_in, or_not_yet, unless_wrong}
+use Rattle.al_check_bounded.specs.Said.{own_view}
+use Rattle.al_check_bounded.specs.declared.after.EndedText.{EndedText}
+use Rattle.al_check_bounded.specs.declared.after.UnitFacts.{UnitFacts}
 use Rattle.al_check.specs.Ada.{ada_verdict, ended_text, item_faults, item_walked, round_of, verdict_from}
 use Rattle.al_check.proofs.FromAnswers.{start_own}
 use Rattle.al_check.specs.Laws.{ItemFaultsAreReported, SoundUnitsHaveNoFault, StartFaultsAreReported}

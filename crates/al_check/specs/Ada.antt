@@ -7,7 +7,7 @@ use Rattle.al_unit_header.specs.Units.{header_of}
 use Rattle.al_unit_graph.specs.Headers.{Header}
 use Rattle.al_query.specs.Reads.{Table}
 use Rattle.al_base_fault.specs.declared.fault.Fault.{Fault}
-use Rattle.al_base_faults.specs.declared.fault_list.FaultList.{FaultList}
+use Rattle.al_stmts.specs.declared.fault_list.FaultList.{FaultList}
 use Rattle.al_scope.specs.declared.seen_hiding.PrivateName.{PrivateName}
 use Rattle.al_scope.specs.declared.own.OwnText.{OwnText}
 use Rattle.al_view.specs.Named.{Declarations}
@@ -26,12 +26,12 @@ use Rattle.al_check_here.specs.declared.ends.Ends.{Ends}
 use Rattle.al_check_here.specs.declared.state.CheckState.{CheckState}
 use Rattle.al_check_here.specs.declared.state.UnitText.{UnitText}
 use Rattle.al_check_reading.specs.Ada.{ada}
-use Rattle.al_check_made.specs.Constants.{predefined, the_memory}
-use Rattle.al_check_made.specs.Ended.{ended}
-use Rattle.al_check_made.specs.Lines.{item_line}
-use Rattle.al_check_made.specs.Made.{fault_in}
-use Rattle.al_check_made.specs.declared.after.EndedText.{EndedText}
-use Rattle.al_check_made.specs.declared.after.UnitFacts.{UnitFacts}
+use Rattle.al_check_bounded.specs.Constants.{predefined, the_memory}
+use Rattle.al_check_bounded.specs.Ended.{ended}
+use Rattle.al_check_bounded.specs.Lines.{item_line}
+use Rattle.al_check_bounded.specs.Made.{fault_in}
+use Rattle.al_check_bounded.specs.declared.after.EndedText.{EndedText}
+use Rattle.al_check_bounded.specs.declared.after.UnitFacts.{UnitFacts}
 
 -- ---- where the item of a unit begins that starts so
 

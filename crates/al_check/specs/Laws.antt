@@ -4,13 +4,13 @@ use Rattle.al_base.specs.declared.unit_key.UnitKey.{UnitKey}
 use Rattle.al_tree_syntax.specs.UnitTrees.{CompilationUnitTree}
 use Rattle.al_query.specs.Reads.{Table}
 use Rattle.al_base_fault.specs.declared.fault.Fault.{Fault}
-use Rattle.al_base_faults.specs.FaultLists.{all_faults}
+use Rattle.al_stmts.specs.FaultLists.{all_faults}
 use Rattle.al_view_typed.specs.UnitTrees.{UnitTree}
 use Rattle.al_query_outcome.specs.declared.interface.UnitInterface.{UnitInterface}
 use Rattle.al_check_bounded.specs.Verdicts.Verdict.{Wrong, Right}
 use Rattle.al_check_start.specs.UnitsAt.{unit_at}
 use Rattle.al_check_start.specs.declared.unit.UnitStart.{UnitStart}
-use Rattle.al_check_made.specs.Made.{fault_in, faults_in}
+use Rattle.al_check_bounded.specs.Made.{fault_in, faults_in}
 use Rattle.al_check.specs.Ada.{ada_verdict, item_faults}
 
 -- a fault of the context clause or of the defining name is told, alone

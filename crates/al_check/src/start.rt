@@ -4,8 +4,8 @@ ghost use Rattle.al_tree.specs.UnitViews.{unit_model};
 ghost use Rattle.al_check.specs.Ada.{round_of, standing_of, text_of, without_withs};
 
 use al_base::{NoMemory, UnitKey};
+use al_check_bounded::{UnitFacts, item_line, predefined_everywhere};
 use al_check_here::{CheckState, UnitText};
-use al_check_made::{UnitFacts, item_line, predefined_everywhere};
 use al_check_start::UnitStart;
 use al_overload_nodes::Labeller;
 use al_scope::{OwnText, PrivateName};

@@ -11,9 +11,8 @@ ghost use Rattle.al_check.specs.Ada.{ended_after, ended_text, item_walked_with, 
 
 use crate::start::{Begun, begun_at};
 use al_base::NoMemory;
-use al_check_bounded::{UnitResult, UnitVerdict};
+use al_check_bounded::{EndedText, UnitFacts, UnitResult, UnitVerdict, found_after};
 use al_check_here::{CheckState, Ends, into_ends, into_private_part};
-use al_check_made::{EndedText, UnitFacts, found_after};
 use al_check_reading::AdaAnalyzer;
 use al_check_start::{UnitStart, check_unit};
 use al_query::{Answers, Recorder};

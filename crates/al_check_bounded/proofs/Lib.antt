@@ -4,6 +4,7 @@ pub mod BoundsNameLemmas
 pub mod Grounds
 pub mod Joined
 pub mod LeftLemmas
+pub mod MadeLemmas
 pub mod NameLemmas
 pub mod Naming
 pub mod Reading

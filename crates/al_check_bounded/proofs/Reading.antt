@@ -11,7 +11,7 @@ use Rattle.al_query_outcome.specs.ReadsLaw.{NamesOnly, named_by}
 use Rattle.al_query_outcome.specs.Results.{Outcome, Faulty}
 use Rattle.al_check_promises.specs.Laws.{NotYetIsReported, Promised}
 use Rattle.al_check_promises.specs.SelfChecks.{not_checked}
-use Rattle.al_check_text.specs.Texts.{HeadersAreRead, UnitsAreRead, header_in, unit_in}
+use Rattle.al_unit.specs.Texts.{HeadersAreRead, UnitsAreRead, header_in, unit_in}
 use Rattle.al_check_bounded.specs.Verdicts.{Verdict}
 use Rattle.al_check_bounded.specs.Within.{IsChecked, meaning_within}
 use Rattle.al_check_bounded.proofs.Naming.{faulty_names}

@@ -1,7 +1,12 @@
 pub mod Bounding
+pub mod Constants
+pub mod Ended
 pub mod LeftHere
+pub mod Lines
+pub mod Made
 pub mod Meanings
 pub mod Questions
+pub mod Said
 pub mod Segments
 pub mod UnitLists
 pub mod Verdicts

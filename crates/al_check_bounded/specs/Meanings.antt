@@ -6,7 +6,7 @@ use Rattle.al_unit_graph.specs.Headers.{Header}
 use Rattle.al_query.specs.Reads.{Table}
 use Rattle.al_query_outcome.specs.Results.{Outcome, Faulty}
 use Rattle.al_check_promises.specs.SelfChecks.{not_checked}
-use Rattle.al_check_text.specs.Texts.{unit_in}
+use Rattle.al_unit.specs.Texts.{unit_in}
 use Rattle.al_check_bounded.specs.Verdicts.{Verdict}
 use Rattle.al_check_bounded.specs.Within.{meaning_within}
 

@@ -5,16 +5,16 @@ ghost use Rattle.al_base_shortage.specs.Counts.{one_more};
 ghost use Rattle.al_query_outcome.specs.Results.{checked_model};
 ghost use Rattle.al_check_bounded.specs.Within.{IsChecked};
 ghost use Rattle.al_query_outcome.specs.Words.{words_of};
-ghost use Rattle.al_check_text.specs.Texts.{header_in};
+ghost use Rattle.al_unit.specs.Texts.{header_in};
 ghost use Rattle.al_check_bounded.specs.Meanings.{text_meaning};
 
 use crate::UnitFinder;
 use crate::texts::check_text;
 use al_base::{NoMemory, UnitKey};
 use al_base_shortage::one_more;
-use al_check_text::AdaText;
 use al_query::{Answers, Recorder};
 use al_query_outcome::{Checked, UnitCheck};
+use al_unit::AdaText;
 use std::alloc::Global;
 
 /// Checks units with whoever finds what their texts say, and counts the checks.

@@ -6,7 +6,7 @@ ghost use Rattle.al_unit_header.specs.Units as headers;
 ghost use Rattle.al_query_outcome.specs.ReadsLaw.{AsksByNames, AsksOthers};
 ghost use Rattle.al_query_outcome.specs.Results.{checked_model};
 ghost use Rattle.al_query_outcome.specs.Words.{words_of};
-ghost use Rattle.al_check_text.specs.Texts.{header_in, unit_in};
+ghost use Rattle.al_unit.specs.Texts.{header_in, unit_in};
 ghost use Rattle.al_check_bounded.specs.Within.{IsChecked};
 ghost use Rattle.al_check_bounded.specs.Meanings.{text_meaning};
 
@@ -14,10 +14,10 @@ use crate::{UnitFinder, check_within};
 use al_base::{NoMemory, UnitKey};
 use al_check_promises::laws::faults_are_reported;
 use al_check_promises::not_checked;
-use al_check_text::laws::{headers_are_read, units_are_read};
-use al_check_text::{AdaText, ReadUnit};
 use al_query::{Answers, Recorder};
 use al_query_outcome::Checked;
+use al_unit::check_text_laws::{headers_are_read, units_are_read};
+use al_unit::{AdaText, ReadUnit};
 use std::alloc::Global;
 
 /// The check of a unit with this text, in which this unit was read.

@@ -10,7 +10,7 @@ use Rattle.al_base_fault.specs.declared.fault.Fault.{Fault}
 use Rattle.al_query.specs.declared.answer.Completion.{Completion}
 use Rattle.al_scope.specs.Places.{Place}
 use Rattle.al_scope.specs.declared.region.Region.{Region}
-use Rattle.al_decl_profile.specs.declared.heading.Heading.{Heading}
+use Rattle.al_decl_judged.specs.declared.heading.Heading.{Heading}
 use Rattle.al_view_typed.specs.DeclarationTrees.{DeclarationTree}
 use Rattle.al_view.specs.Named.{Declarations}
 use Rattle.al_view.specs.declared.symbol.Symbol.{Symbol}
@@ -20,7 +20,7 @@ use Rattle.al_check_here.specs.declared.state.AnalyzedHeading.{AnalyzedHeading}
 use Rattle.al_check_here.specs.declared.state.BodyRole.{BodyRole}
 use Rattle.al_check_here.specs.declared.state.OpenObject.{OpenObject}
 use Rattle.al_check_declared.specs.OpenObjects.{is_of_object, renewed_in}
-use Rattle.al_decl_profile.specs.Headings.{is_function}
+use Rattle.al_decl_judged.specs.Headings.{is_function}
 use Rattle.al_check_declared.specs.EnteredHere.{nested_body}
 use Rattle.al_decl.specs.Checking.{at_place}
 use Rattle.al_decl_judged.specs.declared.names.DefiningName.{DefiningName}

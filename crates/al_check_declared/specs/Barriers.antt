@@ -4,7 +4,7 @@ use Rattle.std.specs.Str.{bytes_eq}
 use Rattle.al_base_fault.specs.declared.check_rule.CheckRule.TheVariants.{BadBarrier}
 use Rattle.al_base_fault.specs.Faults.{fault_at}
 use Rattle.al_base_fault.specs.declared.fault.Fault.{Fault}
-use Rattle.al_decl_profile.specs.Completing.{is_entry}
+use Rattle.al_decl_judged.specs.Completing.{is_entry}
 use Rattle.al_overload_lookup.specs.Keys.{key_of}
 use Rattle.al_overload_lookup.specs.Places.{first_place}
 use Rattle.al_tree_syntax.specs.ExpressionTrees.{ExpressionTree}

@@ -7,8 +7,8 @@ use Rattle.al_check_here.specs.declared.state.AnalyzedHeading.{AnalyzedHeading}
 use Rattle.al_check_here.specs.declared.state.CheckState.{CheckState}
 use Rattle.al_check_declared.specs.OpenObjects.{is_of_object, renewed}
 use Rattle.al_base_fault.specs.Judging.{map_ok}
-use Rattle.al_decl_profile.specs.declared.heading.ReturnedPart.{ReturnedPart}
-use Rattle.al_decl_profile.specs.declared.heading.ReturnedPart.TheVariants.{NoValue, Value}
+use Rattle.al_decl_judged.specs.declared.heading.ReturnedPart.{ReturnedPart}
+use Rattle.al_decl_judged.specs.declared.heading.ReturnedPart.TheVariants.{NoValue, Value}
 use Rattle.al_scope.specs.Seen.{subtype_seen_at}
 use Rattle.al_query.specs.Reads.{Table}
 use Rattle.al_scope.specs.Places.{Place}

@@ -9,14 +9,14 @@ use Rattle.al_check_here.specs.declared.state.BodyRole.{BodyRole}
 use Rattle.al_check_here.specs.declared.state.BodyRole.TheVariants as roles
 use Rattle.al_check_here.specs.declared.state.CheckState.{CheckState}
 use Rattle.al_decl_completes.specs.CompletingFound.{completing_found}
-use Rattle.al_decl_profile.specs.LoneBodies.{stub_fault}
+use Rattle.al_decl_judged.specs.LoneBodies.{stub_fault}
 use Rattle.al_decl.specs.Placing.{body_placed, head_duplicate}
 use Rattle.al_decl.specs.declared.env.Environment.{Environment}
 use Rattle.al_decl.specs.Heads.{heading_read}
 use Rattle.al_base_fault.specs.declared.fault.Fault.{Fault}
 use Rattle.al_query.specs.Reads.{Table}
-use Rattle.al_decl_profile.specs.Profiles.{specification_of}
-use Rattle.al_decl_profile.specs.declared.heading.Heading.{Heading}
+use Rattle.al_decl_judged.specs.Profiles.{specification_of}
+use Rattle.al_decl_judged.specs.declared.heading.Heading.{Heading}
 use Rattle.al_tree_syntax.specs.DeclarationTrees.{SpecificationTree}
 use Rattle.al_view_typed.specs.DeclarationTrees.{DeclarationTree}
 use Rattle.al_view.specs.declared.symbol.Symbol.{Symbol}

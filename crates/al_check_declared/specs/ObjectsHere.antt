@@ -9,13 +9,13 @@ use Rattle.al_check_here.specs.declared.state.BodyRole.TheVariants as roles
 use Rattle.al_check_here.specs.declared.state.CheckState.{CheckState}
 use Rattle.al_check_declared.specs.OpenObjects.{barrier_fault_here, object_opened}
 use Rattle.al_decl_completes.specs.CompletingFound.{completing_found}
-use Rattle.al_decl_profile.specs.declared.specification.BodyHead.{BodyHead}
-use Rattle.al_decl_profile.specs.declared.specification.BodyHead.TheVariants as heads
+use Rattle.al_decl_judged.specs.declared.specification.BodyHead.{BodyHead}
+use Rattle.al_decl_judged.specs.declared.specification.BodyHead.TheVariants as heads
 use Rattle.al_decl.specs.declared.env.Environment.{Environment}
 use Rattle.al_decl_judged.specs.declared.names.DefiningName.{DefiningName}
 use Rattle.al_decl.specs.Defining.{defined}
-use Rattle.al_decl_profile.specs.Profiles.{specification_of}
-use Rattle.al_decl_profile.specs.declared.heading.Heading.{Heading}
+use Rattle.al_decl_judged.specs.Profiles.{specification_of}
+use Rattle.al_decl_judged.specs.declared.heading.Heading.{Heading}
 use Rattle.al_decl_protected.specs.Bodies.{Named, named_body}
 use Rattle.al_decl_protected.specs.Objects.{protected_checked}
 use Rattle.al_decl_protected.specs.Operations.{bare_head}

@@ -10,7 +10,7 @@ use Rattle.al_check_here.specs.declared.state.CheckState.{CheckState}
 use Rattle.al_check_here.specs.declared.state.OpenObject.{OpenObject}
 use Rattle.al_decl.specs.Regions.{outside_of, set_aside}
 use Rattle.al_decl.specs.declared.env.Environment.{Environment}
-use Rattle.al_decl_profile.specs.Headings.{is_function}
+use Rattle.al_decl_judged.specs.Headings.{is_function}
 use Rattle.al_decl_protected.specs.Bodies.{operations_waiting}
 use Rattle.al_tree_syntax.specs.ExpressionTrees.{ExpressionTree}
 use Rattle.al_tree_syntax.specs.StatementTrees.{OperationBodiesTree}

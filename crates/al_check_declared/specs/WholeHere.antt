@@ -14,10 +14,10 @@ use Rattle.al_base_fault.specs.declared.fault.Fault.{Fault}
 use Rattle.al_query.specs.Reads.{Table}
 use Rattle.al_query.specs.declared.answer.Completion.{Completion}
 use Rattle.al_scope.specs.Places.{Place, with_mentioned}
-use Rattle.al_decl_profile.specs.Bodies.{body_declared}
-use Rattle.al_decl_profile.specs.Profiles.{specification_of}
-use Rattle.al_decl_profile.specs.Subprograms.{subprogram_declared}
-use Rattle.al_decl_profile.specs.declared.heading.Heading.{Heading}
+use Rattle.al_decl_judged.specs.Bodies.{body_declared}
+use Rattle.al_decl_judged.specs.Profiles.{specification_of}
+use Rattle.al_decl_judged.specs.Subprograms.{subprogram_declared}
+use Rattle.al_decl_judged.specs.declared.heading.Heading.{Heading}
 use Rattle.al_tree_syntax.specs.DeclarationTrees.{SpecificationTree}
 use Rattle.al_view_typed.specs.DeclarationTrees.{DeclarationTree}
 use Rattle.al_view.specs.declared.symbol.Symbol.{Symbol}

@@ -11,7 +11,7 @@ use crate::{is_of_object, renew_region};
 use al_base::NoMemory;
 use al_base_fault::CheckResult;
 use al_check_here::{AnalyzedHeading, CheckState, begin_private, enter_nested, enter_whole};
-use al_decl_profile::ReturnedPart;
+use al_decl_judged::ReturnedPart;
 use al_query::{Answers, Recorder};
 use al_scope::{Scope, enter_private_part, subtype_seen_at};
 use al_view::SubtypeView;

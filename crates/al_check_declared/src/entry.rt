@@ -1,7 +1,7 @@
 // The entry of a protected object with its barrier.
 ghost use Rattle.std.specs.Prelude.{◌≡◌, map, IfOk};
 ghost use Rattle.al_check_declared.specs.Barriers.{entry_among, entry_by, entry_of, first_barrier, own_barrier, own_entry};
-ghost use Rattle.al_decl_profile.specs.Completing.{is_entry};
+ghost use Rattle.al_decl_judged.specs.Completing.{is_entry};
 ghost use Rattle.al_tree.specs.StatementViews.{operation_bodies_of, operation_body_model};
 
 use crate::barrier::barrier_of;

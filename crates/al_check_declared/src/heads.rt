@@ -12,7 +12,7 @@ use crate::settled::{Effects, settle_head, settle_operation, settle_stub};
 use al_base::NoMemory;
 use al_base_fault::Fault;
 use al_check_here::{CheckState, stub_names};
-use al_decl_profile::{Heading, stub_fault};
+use al_decl_judged::{Heading, stub_fault};
 use al_query::{Answers, Recorder};
 use al_stmts::first_line;
 use al_tree::Specification;

@@ -1,4 +1,4 @@
-//! Declarations, heads, stubs and bodies of a text where the check of its unit stands.
+//! Declarations, heads, stubs and bodies of a text where the check of its unit stands, and the objects that they declare.
 #![tactic(auto)]
 
 mod barrier;

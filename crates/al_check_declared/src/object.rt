@@ -13,7 +13,7 @@ use al_base::NoMemory;
 use al_base_fault::Fault;
 use al_check_here::{AnalyzedHeading, BodyRole, CheckState, OpenObject, leave_region, leave_to};
 use al_decl::{Environment, Outside, set_aside};
-use al_decl_profile::is_function;
+use al_decl_judged::is_function;
 use al_decl_protected::operations_waiting;
 use al_overload_readings::protected_of;
 use al_tree::{Expression, OperationBody};

@@ -16,7 +16,7 @@ use al_base_fault::unless;
 use al_check_here::{BodyRole, CheckState, settle_effect};
 use al_decl::defining_name;
 use al_decl_ada::AdaPartAnalyzer;
-use al_decl_profile::BodyHead;
+use al_decl_judged::BodyHead;
 use al_decl_protected::{check_named_body, check_protected, check_task};
 use al_query::{Answers, Recorder};
 use al_tree::{Expression, Identifier, OperationBody, ProtectedDefinition, TaskDeclaration};

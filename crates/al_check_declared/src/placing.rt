@@ -13,7 +13,7 @@ use al_base_fault::{CheckResult, Fault};
 use al_check_here::CheckState;
 use al_decl::{Environment, PlacedBody, has_right_marks, heading_at, place_body};
 use al_decl_ada::AdaPartAnalyzer;
-use al_decl_profile::Heading;
+use al_decl_judged::Heading;
 use al_query::{Answers, Recorder};
 use al_tree::Specification;
 use al_view_predefined::StandardTypes;

@@ -5,8 +5,8 @@ ghost use Rattle.al_decl.specs.Checking.{at_place};
 ghost use Rattle.al_decl.specs.Bodies.{placed_model};
 ghost use Rattle.al_decl_judged.specs.Declaring.{declared_model};
 ghost use Rattle.al_base_fault.specs.Judging.{map_ok};
-ghost use Rattle.al_decl_profile.specs.Bodies.{new_body_model};
-ghost use Rattle.al_decl_profile.specs.Subprograms.{joined_waiting};
+ghost use Rattle.al_decl_judged.specs.Bodies.{new_body_model};
+ghost use Rattle.al_decl_judged.specs.Subprograms.{joined_waiting};
 ghost use Rattle.al_view_typed.specs.DeclarationTrees.{declaration_model};
 ghost use Rattle.al_stmts.specs.Views.{effects_model};
 ghost use Rattle.al_check_declared.specs.DeclarationsHere.{faulty_here, no_place, pragma_settled, uses_settled};
@@ -24,8 +24,7 @@ use al_check_here::{
     AnalyzedHeading, BodyRole, CheckState, add_stub, add_uses, effect_list, end_list,
 };
 use al_decl::PlacedBody;
-use al_decl_judged::{Declaration, Declared, DefiningName};
-use al_decl_profile::{Heading, NewBody};
+use al_decl_judged::{Declaration, Declared, DefiningName, Heading, NewBody};
 use al_decl_protected::{NamedBody, bare_head};
 use al_query::UseClause;
 use al_scope::Scope;

@@ -12,7 +12,7 @@ use crate::settled::{Effects, settle_own, settle_whole};
 use al_base::NoMemory;
 use al_check_here::CheckState;
 use al_decl_completes::unit_completing;
-use al_decl_profile::{Heading, declare_body, declare_subprogram};
+use al_decl_judged::{Heading, declare_body, declare_subprogram};
 use al_query::{Answers, Recorder};
 use al_stmts::first_line;
 use al_tree::Specification;

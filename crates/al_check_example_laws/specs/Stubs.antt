@@ -8,10 +8,10 @@ use Rattle.al_view.specs.declared.view.ViewKind.TheVariants.{OfSubprogram}
 use Rattle.al_view.specs.ViewUses.{link}
 use Rattle.al_view.specs.declared.link.LinkKind.TheVariants.{Code}
 use Rattle.al_query.specs.declared.answer.Completion.{Completion}
-use Rattle.al_decl_profile.specs.Completing.{Completes, IsFirst, is_entry}
-use Rattle.al_decl_profile.specs.declared.specification.BodyHead.TheVariants as head
-use Rattle.al_decl_profile.specs.declared.specification.Returned.TheVariants.{NoValue}
-use Rattle.al_decl_profile.specs.declared.specification.Specification.{Specification}
+use Rattle.al_decl_judged.specs.Completing.{Completes, IsFirst, is_entry}
+use Rattle.al_decl_judged.specs.declared.specification.BodyHead.TheVariants as head
+use Rattle.al_decl_judged.specs.declared.specification.Returned.TheVariants.{NoValue}
+use Rattle.al_decl_judged.specs.declared.specification.Specification.{Specification}
 use Rattle.al_query_outcome.specs.Defines.{IsStubs}
 use Rattle.al_query_outcome.specs.declared.interface.StubDeclarations.{StubDeclarations}
 use Rattle.al_query_outcome.specs.declared.interface.UnitInterface.{UnitInterface}

@@ -12,11 +12,11 @@ use Rattle.al_base_fault.specs.declared.fault.Fault.{Fault}
 use Rattle.al_stmts.specs.declared.returns.EnclosingBody.{EnclosingBody}
 use Rattle.al_stmts.specs.declared.returns.EnclosingBody.TheVariants as bodies
 use Rattle.al_stmts.specs.declared.simple.ReturnContext.{ReturnContext}
-use Rattle.al_decl_profile.specs.Frames.{entered, formal_words, left_body, new_formal}
-use Rattle.al_decl_profile.specs.declared.frame.NewFormal.{NewFormal}
-use Rattle.al_decl_profile.specs.declared.heading.Heading.{Heading}
-use Rattle.al_decl_profile.specs.declared.heading.ReturnedPart.{ReturnedPart}
-use Rattle.al_decl_profile.specs.declared.heading.ReturnedPart.TheVariants.{NoValue, Value}
+use Rattle.al_decl_judged.specs.Frames.{entered, formal_words, left_body, new_formal}
+use Rattle.al_decl_judged.specs.declared.frame.NewFormal.{NewFormal}
+use Rattle.al_decl_judged.specs.declared.heading.Heading.{Heading}
+use Rattle.al_decl_judged.specs.declared.heading.ReturnedPart.{ReturnedPart}
+use Rattle.al_decl_judged.specs.declared.heading.ReturnedPart.TheVariants.{NoValue, Value}
 use Rattle.al_stmts.specs.declared.extent.BodyExtent.{BodyExtent}
 use Rattle.al_view_typed.specs.DeclarationTrees.{DeclarationTree}
 use Rattle.al_view_typed.specs.StatementTrees.{StatementTree}

@@ -2,8 +2,8 @@
 use Rattle.std.specs.Prelude.{ℕ, List, [], ◌∷◌, ◌++◌, None, codes, fold, length, if◌then◌else◌}
 use Rattle.al_query_outcome.specs.declared.interface.StubDeclarations.{StubDeclarations}
 use Rattle.al_query.specs.declared.answer.UseClause.{UseClause}
-use Rattle.al_decl_profile.specs.Subprograms.{subprogram_view}
-use Rattle.al_decl_profile.specs.declared.heading.Heading.{Heading}
+use Rattle.al_decl_judged.specs.Subprograms.{subprogram_view}
+use Rattle.al_decl_judged.specs.declared.heading.Heading.{Heading}
 use Rattle.al_view.specs.Interfaces.{with_view}
 use Rattle.al_view.specs.Named.{Declarations}
 use Rattle.al_view.specs.declared.part.Part.TheVariants as part

@@ -8,7 +8,7 @@ use Rattle.al_decl_judged.specs.declared.progress.Progress.{Progress}
 use Rattle.al_decl.specs.declared.env.Environment.{Environment}
 use Rattle.al_query.specs.declared.answer.Completion.{Completion}
 use Rattle.al_scope.specs.Places.{Place}
-use Rattle.al_decl_profile.specs.Frames.{from_word}
+use Rattle.al_decl_judged.specs.Frames.{from_word}
 use Rattle.al_scope.specs.declared.own.OwnText.{OwnText}
 use Rattle.al_view.specs.declared.part.Part.{Part}
 use Rattle.al_view.specs.declared.part.Part.TheVariants as part

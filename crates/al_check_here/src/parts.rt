@@ -6,7 +6,7 @@ ghost use Rattle.al_check_here.specs.PartsHere.{before_stub, in_statements, priv
 
 use crate::state::{CheckState, UseHere};
 use al_base::{Name, NoMemory};
-use al_decl_profile::{Heading, subprogram_view};
+use al_decl_judged::{Heading, subprogram_view};
 use al_query::UseClause;
 use al_query_outcome::StubDeclarations;
 use al_view::{Interface, Part, Symbol, View, copied_unit};

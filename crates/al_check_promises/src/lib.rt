@@ -1,4 +1,4 @@
-//! What the check of a unit promises of its result, tested at its end.
+//! What the check of a unit promises of its result, tested at its end, and what of other units a labelled unit uses.
 #![tactic(auto)]
 
 mod allowed;

@@ -1,7 +1,7 @@
 -- What follows from a result, and from the words of what was read.
 use Rattle.std.proofs.Common.{◌≡◌, ℕ, IfOk, Result, Ok, Err, ap, ◌∙◌, rules}
 use Rattle.al_base_fault.specs.declared.fault.Fault.{Fault}
-use Rattle.al_overload_label.specs.Ranges.{FoundTree}
+use Rattle.al_overload_nodes.specs.Ranges.{FoundTree}
 use Rattle.al_base_fault.specs.Judging.{map_ok}
 use Rattle.al_stmts_ranges.specs.LoopsAt.{FoundRangeTree}
 use Rattle.al_stmts.specs.LoopForms.{RangeTree}

@@ -10,7 +10,7 @@ use Rattle.al_check_here.specs.RegionsHere.{in_block, in_loop, out_of_block, wit
 use Rattle.al_check_here.specs.Standings.{is_nowhere, is_whole, with_word, word_of}
 use Rattle.al_check_here.specs.declared.state.CheckState.{CheckState}
 use Rattle.al_check_reading.specs.ValuesHere.{choice_here, condition_here, loop_range_here, moment_here, call_effect_here, result_here, selector_here, source_here, target_here, whole_here}
-use Rattle.al_decl_profile.specs.Uncompleted.{missing_fault}
+use Rattle.al_decl_judged.specs.Uncompleted.{missing_fault}
 use Rattle.al_tree_grammar.specs.Grammar.{Label}
 use Rattle.al_base_fault.specs.declared.fault.Fault.{Fault}
 use Rattle.al_overload_lookup.specs.Places.{place_of}

@@ -4,7 +4,7 @@ use Rattle.std.specs.Prelude.{ℕ, Option, Some, None, Result, Ok, Err}
 use Rattle.al_stmts.specs.declared.choice.Choice.{Choice}
 use Rattle.al_base_fault.specs.Judging.{map_ok}
 use Rattle.al_base_fault.specs.declared.fault.Fault.{Fault}
-use Rattle.al_overload_label.specs.Ranges.{FoundTree}
+use Rattle.al_overload_nodes.specs.Ranges.{FoundTree}
 use Rattle.al_stmts_ranges.specs.PerformedAt.{call_effect_at}
 use Rattle.al_query.specs.Reads.{Table}
 use Rattle.al_stmts_ranges.specs.ChoicesAt.{all_values, selected_at, whole_at}

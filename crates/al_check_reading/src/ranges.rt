@@ -11,7 +11,7 @@ use crate::values::site;
 use al_base::NoMemory;
 use al_base_fault::CheckResult;
 use al_check_here::{CheckState, LoopType};
-use al_overload_label::FoundType;
+use al_overload_nodes::FoundType;
 use al_query::{Answers, Recorder};
 use al_stmts::LoopRange;
 use al_stmts_ranges::{FoundRange, all_values, loop_range_at};

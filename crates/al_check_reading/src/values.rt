@@ -6,7 +6,7 @@ ghost use Rattle.al_query.specs.Reads.{FromAnswers};
 ghost use Rattle.al_stmts_text.specs.PerformedViews.{call_effect_model};
 ghost use Rattle.al_tree.specs.ExpressionViews.{expression_model};
 ghost use Rattle.al_view_typed.specs.ExpressionViews.{typed_model};
-ghost use Rattle.al_overload_label.specs.RangesSeen.{found_model};
+ghost use Rattle.al_overload_nodes.specs.RangesSeen.{found_model};
 ghost use Rattle.al_check_here.specs.Stacks.{innermost};
 ghost use Rattle.al_check_reading.specs.ValuesHere.{condition_here, moment_here, call_effect_here, result_from, result_here, result_of, selector_here, source_here, surroundings, target_here, value_found};
 ghost use Rattle.al_overload_values.specs.Surroundings.{site_model};
@@ -15,7 +15,7 @@ use al_base::NoMemory;
 use al_base_fault::CheckResult;
 use al_check_declared::not_yet_fault;
 use al_check_here::CheckState;
-use al_overload_label::DeterminedValue;
+use al_overload_nodes::DeterminedValue;
 use al_overload_values::{
     Site, condition_at, moment_at, result_at, selector_at, source_at, target_at,
 };

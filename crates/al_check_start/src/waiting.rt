@@ -9,8 +9,7 @@ ghost use Rattle.al_tree.specs.UnitViews.{library_item_model};
 ghost use Rattle.al_check_start.specs.UnitsAt.{call_depth, completion, depth_of, homonyms_at, progress_at, waiting};
 
 use al_base::{Name, NoMemory, UnitKey, UnitKind};
-use al_decl_judged::{Homonyms, Progress, Words};
-use al_decl_profile::Uncompleted;
+use al_decl_judged::{Homonyms, Progress, Uncompleted, Words};
 use al_query::{Answers, Completion, Property, Query, Recorder};
 use al_query_outcome::last_of;
 use al_scope::{Scope, completions_seen_at};

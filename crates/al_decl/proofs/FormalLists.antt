@@ -6,7 +6,7 @@ use Rattle.al_decl_judged.proofs.NameLemmas.{front_more}
 use Rattle.al_decl.specs.PartReadings.{PartReading}
 use Rattle.al_scope.specs.Places.{Place, entered}
 use Rattle.al_scope.specs.declared.region.Region.{Region}
-use Rattle.al_decl_profile.specs.declared.heading.FormalPart.{FormalPart}
+use Rattle.al_decl_judged.specs.declared.heading.FormalPart.{FormalPart}
 use Rattle.al_tree_syntax.specs.DeclarationTrees.{FormalTree}
 use Rattle.al_tree.specs.DeclarationViews.{formal_model}
 use Rattle.al_tree.specs.declared.declaration.Formal.{Formal}

@@ -7,7 +7,7 @@ use Rattle.al_decl.specs.declared.env.Environment.{Environment}
 use Rattle.al_base_fault.specs.Judging.{map_ok}
 use Rattle.al_base_fault.specs.declared.fault.Fault.{Fault}
 use Rattle.al_query.specs.declared.answer.Completion.{Completion}
-use Rattle.al_decl_profile.specs.Subprograms.{joined_waiting}
+use Rattle.al_decl_judged.specs.Subprograms.{joined_waiting}
 use Rattle.al_view_typed.specs.DeclarationTrees.{DeclarationTree}
 use Rattle.al_view.specs.declared.symbol.Symbol.{Symbol}
 use Rattle.al_decl.specs.Placing.{body_after, subprogram_after, with_awaiting}

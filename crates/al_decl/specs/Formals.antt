@@ -7,7 +7,7 @@ use Rattle.al_decl.specs.Defining.{defining_names}
 use Rattle.al_base_fault.specs.declared.fault.Fault.{Fault}
 use Rattle.al_decl.specs.PartReadings.{PartReading}
 use Rattle.al_scope.specs.Places.{Place}
-use Rattle.al_decl_profile.specs.declared.heading.FormalPart.{FormalPart}
+use Rattle.al_decl_judged.specs.declared.heading.FormalPart.{FormalPart}
 use Rattle.al_tree_syntax.specs.DeclarationTrees.{FormalPartTree, FormalTree}
 use Rattle.al_view.specs.declared.view.Mode.{Mode}
 use Rattle.al_view.specs.declared.view.Mode.TheVariants.{In, InOut, Out}

@@ -6,9 +6,9 @@ use Rattle.al_tree_grammar.specs.Grammar.{Label}
 use Rattle.al_overload_lookup.specs.Places.{place_of}
 use Rattle.al_decl.specs.PartReadings.{PartReading}
 use Rattle.al_scope.specs.Places.{Place}
-use Rattle.al_decl_profile.specs.declared.heading.Heading.{Heading}
-use Rattle.al_decl_profile.specs.declared.heading.ReturnedPart.{ReturnedPart}
-use Rattle.al_decl_profile.specs.declared.heading.ReturnedPart.TheVariants.{NoValue, Value}
+use Rattle.al_decl_judged.specs.declared.heading.Heading.{Heading}
+use Rattle.al_decl_judged.specs.declared.heading.ReturnedPart.{ReturnedPart}
+use Rattle.al_decl_judged.specs.declared.heading.ReturnedPart.TheVariants.{NoValue, Value}
 use Rattle.al_tree_syntax.specs.DeclarationTrees.{CompoundNameTree, FormalPartTree, FormalTree, SpecificationTree}
 use Rattle.al_tree_syntax.specs.DeclarationTrees.SpecificationTree.{ProcedureSpecification, FunctionSpecification}
 use Rattle.al_decl.specs.Formals.{after_formals, formal_list, formals_read}

@@ -14,13 +14,13 @@ use Rattle.al_decl.specs.PartReadings.{PartReading}
 use Rattle.al_query.specs.declared.answer.AnswerKind.{AnswerKind}
 use Rattle.al_query.specs.declared.answer.Completion.{Completion}
 use Rattle.al_query.specs.declared.query.Query.{Query}
-use Rattle.al_decl_profile.specs.Bodies.{body_declared}
-use Rattle.al_decl_profile.specs.Subprograms.{subprogram_declared, subprogram_view}
-use Rattle.al_decl_profile.specs.declared.body.Completing.{Completing}
-use Rattle.al_decl_profile.specs.declared.heading.FormalPart.{FormalPart}
-use Rattle.al_decl_profile.specs.declared.heading.Heading.{Heading}
-use Rattle.al_decl_profile.specs.declared.heading.ReturnedPart.{ReturnedPart}
-use Rattle.al_decl_profile.specs.declared.heading.ReturnedPart.TheVariants.{NoValue, Value}
+use Rattle.al_decl_judged.specs.Bodies.{body_declared}
+use Rattle.al_decl_judged.specs.Subprograms.{subprogram_declared, subprogram_view}
+use Rattle.al_decl_judged.specs.declared.body.Completing.{Completing}
+use Rattle.al_decl_judged.specs.declared.heading.FormalPart.{FormalPart}
+use Rattle.al_decl_judged.specs.declared.heading.Heading.{Heading}
+use Rattle.al_decl_judged.specs.declared.heading.ReturnedPart.{ReturnedPart}
+use Rattle.al_decl_judged.specs.declared.heading.ReturnedPart.TheVariants.{NoValue, Value}
 use Rattle.al_tree_syntax.specs.DeclarationTrees.{SpecificationTree}
 use Rattle.al_view_typed.specs.DeclarationTrees.{DeclarationTree}
 use Rattle.al_view.specs.declared.symbol.Symbol.{Symbol}

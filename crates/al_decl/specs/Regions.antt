@@ -5,8 +5,8 @@ use Rattle.al_decl.specs.Inner.{in_region}
 use Rattle.al_decl.specs.declared.env.Environment.{Environment}
 use Rattle.al_scope.specs.Places.{Place, entered_construct}
 use Rattle.al_scope.specs.declared.region.Region.{Region}
-use Rattle.al_decl_profile.specs.Frames.{entered, formal_declarations, with_formals}
-use Rattle.al_decl_profile.specs.declared.frame.NewFormal.{NewFormal}
+use Rattle.al_decl_judged.specs.Frames.{entered, formal_declarations, with_formals}
+use Rattle.al_decl_judged.specs.declared.frame.NewFormal.{NewFormal}
 use Rattle.al_view.specs.declared.symbol.Symbol.{Symbol}
 use Rattle.al_decl.specs.declared.block.Outside.{Outside}
 

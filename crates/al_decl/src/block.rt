@@ -4,7 +4,7 @@ ghost use Rattle.al_decl.specs.Regions.{block_entered, outside_of, set_aside, ta
 
 use crate::{Environment, enter_region};
 use al_base::NoMemory;
-use al_decl_profile::Uncompleted;
+use al_decl_judged::Uncompleted;
 use al_view::Interface;
 use std::alloc::Global;
 use std::mem;

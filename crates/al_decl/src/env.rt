@@ -3,8 +3,7 @@ ghost use Rattle.std.specs.Prelude.{◌≡◌, ◌<◌, length, OnOk};
 ghost use Rattle.al_decl.specs.Declaring.{begun, begun_one, with_declaration, with_declarations};
 
 use al_base::NoMemory;
-use al_decl_judged::{Declaration, DefiningName, Progress};
-use al_decl_profile::Uncompleted;
+use al_decl_judged::{Declaration, DefiningName, Progress, Uncompleted};
 use al_scope::Scope;
 use al_view::Interface;
 

@@ -1,4 +1,4 @@
-//! Declarations of objects, numbers, types and subtypes at a place, by whoever reads their parts.
+//! Declarations of objects, numbers, types, subtypes, subprograms and their bodies at a place, by whoever reads their parts.
 #![tactic(auto)]
 
 mod analyzer;

@@ -11,7 +11,7 @@ use crate::subprogram_homograph::head_duplicate;
 use crate::{Environment, PartAnalyzer, finish, heading_at};
 use al_base::NoMemory;
 use al_base_fault::CheckResult;
-use al_decl_profile::{Heading, declare_subprogram};
+use al_decl_judged::{Heading, declare_subprogram};
 use al_query::{Answers, Recorder};
 use al_tree::Specification;
 use al_view_predefined::StandardTypes;

@@ -3,12 +3,12 @@ ghost use Rattle.std.specs.Prelude.{◌≡◌, ◌<◌, length, IfOk, OnOk};
 ghost use Rattle.std.specs.List.{filter_map};
 ghost use Rattle.al_decl.specs.Declaring.{with_declarations};
 ghost use Rattle.al_decl.specs.Regions.{outside_of, subprogram_entered, with_formals_declared};
-ghost use Rattle.al_decl_profile.specs.Frames.{formal_words, new_formal};
+ghost use Rattle.al_decl_judged.specs.Frames.{formal_words, new_formal};
 
 use crate::Environment;
 use crate::block::{Outside, set_aside};
 use al_base::NoMemory;
-use al_decl_profile::{Formals, Heading, NewFormal, declare_formals, enter_body, new_formals};
+use al_decl_judged::{Formals, Heading, NewFormal, declare_formals, enter_body, new_formals};
 use al_view::{Seq, Symbol};
 use al_view_predefined::StandardTypes;
 use al_view_typed::FormalWords;

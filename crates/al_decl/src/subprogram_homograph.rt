@@ -4,14 +4,13 @@ ghost use Rattle.std.specs.List.{list_all};
 ghost use Rattle.al_decl.specs.Placing.{has_right_marks, head_duplicate, head_view, is_right_return};
 ghost use Rattle.al_decl.specs.Declaring.{duplicate};
 ghost use Rattle.al_query.specs.Reads.{FromAnswers};
-ghost use Rattle.al_decl_profile.specs.Subprograms.{subprogram_view};
+ghost use Rattle.al_decl_judged.specs.Subprograms.{subprogram_view};
 ghost use Rattle.al_view.specs.declared.symbol.Symbol.{Symbol};
 
 use crate::{Environment, duplicate, overloaded_duplicate};
 use al_base::{Name, NoMemory};
 use al_base_fault::Fault;
-use al_decl_judged::Progress;
-use al_decl_profile::{FormalPart, Heading, ReturnedPart, subprogram_view};
+use al_decl_judged::{FormalPart, Heading, Progress, ReturnedPart, subprogram_view};
 use al_query::{Answers, Recorder};
 use al_view::{Symbol, View, copied_unit};
 use al_view_predefined::StandardTypes;

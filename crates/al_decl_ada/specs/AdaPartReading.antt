@@ -1,8 +1,8 @@
 -- What the parts of declarations are where they stand (ARM 3.2.2, 3.3.1, 3.3.2, 3.5.4, 3.6). Their names are looked up by a table of answers.
 use Rattle.std.specs.Prelude.{List, [], Option, Some, None, Result}
 use Rattle.al_base.specs.declared.unit_key.UnitKey.{UnitKey}
-use Rattle.al_overload_heads.specs.Parts.{nominal}
-use Rattle.al_overload_heads.specs.declared.everywhere.Predefined.{Predefined}
+use Rattle.al_overload.specs.Parts.{nominal}
+use Rattle.al_overload.specs.declared.everywhere.Predefined.{Predefined}
 use Rattle.al_base_fault.specs.declared.fault.Fault.{Fault}
 use Rattle.al_overload.specs.declared.context.Context.TheVariants as contexts
 use Rattle.al_decl.specs.PartReadings.{PartReading}

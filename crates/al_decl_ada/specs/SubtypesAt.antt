@@ -8,7 +8,7 @@ use Rattle.al_decl_judged.specs.StaticPieces.{static_range}
 use Rattle.al_base_fault.specs.Judging.{next}
 use Rattle.al_base_fault.specs.declared.fault.Fault.{Fault}
 use Rattle.al_overload_lookup.specs.Places.{first_place, place_of}
-use Rattle.al_overload_label.specs.Ranges.{PairTree}
+use Rattle.al_overload_nodes.specs.Ranges.{PairTree}
 use Rattle.al_overload.specs.declared.context.Context.{Context}
 use Rattle.al_overload.specs.declared.context.Context.TheVariants as contexts
 use Rattle.al_overload_values.specs.TextsAt.{range_with_at}

@@ -1,7 +1,7 @@
 // Ranges whose bounds must be static.
 ghost use Rattle.std.specs.Prelude.{◌≡◌, IfOk};
 ghost use Rattle.al_base_fault.specs.Judging.{next, map_ok};
-ghost use Rattle.al_overload_label.specs.RangesSeen.{pair_model};
+ghost use Rattle.al_overload_nodes.specs.RangesSeen.{pair_model};
 ghost use Rattle.al_overload.specs.declared.context.Context.TheVariants as contexts;
 ghost use Rattle.al_query.specs.Asked.{AsksOf, by_some_name};
 ghost use Rattle.al_query.specs.Reads.{FromAnswers};
@@ -15,8 +15,7 @@ use al_base::NoMemory;
 use al_base_fault::CheckResult;
 use al_decl_judged::{StaticRange, static_range};
 use al_overload::{Context, value_type};
-use al_overload_label::Pair;
-use al_overload_nodes::Labeller;
+use al_overload_nodes::{Labeller, Pair};
 use al_overload_values::{Site, static_pair_at};
 use al_query::{Answers, Recorder};
 use al_tree::Range;

@@ -1,7 +1,7 @@
 // Values and bounds of declarations.
 ghost use Rattle.std.specs.Prelude.{◌≡◌, IfOk, Some};
 ghost use Rattle.al_decl_ada.specs.AdaPartReading.{bound_at, initial_at, number_at, priority_at};
-ghost use Rattle.al_overload_heads.specs.Parts.{nominal};
+ghost use Rattle.al_overload.specs.Parts.{nominal};
 ghost use Rattle.al_base_fault.specs.Judging.{map_ok};
 ghost use Rattle.al_overload.specs.declared.context.Context.TheVariants as contexts;
 ghost use Rattle.al_query.specs.Reads.{FromAnswers};
@@ -13,8 +13,7 @@ ghost use Rattle.al_overload_values.specs.ValuesAt.{checked_at};
 
 use al_base::NoMemory;
 use al_base_fault::CheckResult;
-use al_overload::{Context, value_type};
-use al_overload_heads::Nominal;
+use al_overload::{Context, Nominal, value_type};
 use al_overload_nodes::Labeller;
 use al_overload_values::{Site, checked_at, no_types, static_checked_at};
 use al_query::{Answers, Recorder};

@@ -5,13 +5,13 @@ use Rattle.std.specs.Str.{bytes_eq}
 use Rattle.std.proofs.lemmas.Bool.{false≢true, true≢false}
 use Rattle.std.proofs.lemmas.Int.{ints}
 use Rattle.std.proofs.lemmas.Slice.Eq.{bytes_eq-Decides}
-use Rattle.al_decl_profile.specs.Completing.{Completes, IsBodyOf, is_entry}
-use Rattle.al_decl_profile.specs.Conformance.{Conforms, EachWith, FormalConforms, FormalIsOf, HasTypesOf, MarkConforms, MarkIsOf, ReturnedConforms, ReturnedIsOf}
-use Rattle.al_decl_profile.specs.declared.specification.BodyHead.TheVariants as head
-use Rattle.al_decl_profile.specs.declared.specification.Formal.{Formal}
-use Rattle.al_decl_profile.specs.declared.specification.Returned.{Returned}
-use Rattle.al_decl_profile.specs.declared.specification.Returned.TheVariants.{NoValue, Value}
-use Rattle.al_decl_profile.specs.declared.specification.Specification.{Specification}
+use Rattle.al_decl_judged.specs.Completing.{Completes, IsBodyOf, is_entry}
+use Rattle.al_decl_judged.specs.Conformance.{Conforms, EachWith, FormalConforms, FormalIsOf, HasTypesOf, MarkConforms, MarkIsOf, ReturnedConforms, ReturnedIsOf}
+use Rattle.al_decl_judged.specs.declared.specification.BodyHead.TheVariants as head
+use Rattle.al_decl_judged.specs.declared.specification.Formal.{Formal}
+use Rattle.al_decl_judged.specs.declared.specification.Returned.{Returned}
+use Rattle.al_decl_judged.specs.declared.specification.Returned.TheVariants.{NoValue, Value}
+use Rattle.al_decl_judged.specs.declared.specification.Specification.{Specification}
 use Rattle.al_query.specs.declared.answer.Completion.{Completion}
 use Rattle.al_view.specs.Symbols.{same_symbol}
 use Rattle.al_view.specs.declared.types.Bounds.{Bounds}

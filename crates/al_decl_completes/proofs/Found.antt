@@ -5,18 +5,18 @@ use Rattle.std.specs.List.{All}
 use Rattle.std.proofs.lemmas.Bool.{false_from_ne_true}
 use Rattle.al_base.specs.declared.place.Place.{Place}
 use Rattle.al_base_fault.specs.declared.check_rule.CheckRule.TheVariants.{NotConformant}
-use Rattle.al_decl_profile.specs.Completing.{Completes, IsFirst}
-use Rattle.al_decl_profile.specs.LoneBodies.{lone_body_fault}
-use Rattle.al_decl_profile.specs.declared.specification.BodyHead.TheVariants as head
-use Rattle.al_decl_profile.specs.declared.specification.Specification.{Specification}
+use Rattle.al_decl_judged.specs.Completing.{Completes, IsFirst}
+use Rattle.al_decl_judged.specs.LoneBodies.{lone_body_fault}
+use Rattle.al_decl_judged.specs.declared.specification.BodyHead.TheVariants as head
+use Rattle.al_decl_judged.specs.declared.specification.Specification.{Specification}
 use Rattle.al_decl_judged.specs.declared.names.DefiningName.{DefiningName}
 use Rattle.al_base_fault.specs.Faults.{fault_at}
 use Rattle.al_base_fault.specs.declared.fault.Fault.{Fault}
 use Rattle.al_query.specs.declared.answer.Completion.{Completion}
-use Rattle.al_decl_profile.specs.Bodies.{IsWaiting}
-use Rattle.al_decl_profile.specs.Completions.{IsCompleted, IsCompleting, IsConformance}
-use Rattle.al_decl_profile.specs.declared.body.Completing.{Completing}
-use Rattle.al_decl_profile.specs.declared.body.Completing.TheVariants.{Declared, Alone}
+use Rattle.al_decl_judged.specs.Bodies.{IsWaiting}
+use Rattle.al_decl_judged.specs.Completions.{IsCompleted, IsCompleting, IsConformance}
+use Rattle.al_decl_judged.specs.declared.body.Completing.{Completing}
+use Rattle.al_decl_judged.specs.declared.body.Completing.TheVariants.{Declared, Alone}
 use Rattle.al_view.specs.declared.symbol.Symbol.{Symbol}
 use Rattle.al_view.specs.declared.view.ObjectPlace.{ObjectPlace}
 use Rattle.al_view.specs.declared.view.Profile.{Profile}

@@ -2,14 +2,14 @@
 use Rattle.std.specs.Prelude.{ℕ, suc, zero, Bool, true, List, [], ◌∷◌, Option, Some, None, if◌then◌else◌}
 use Rattle.al_base.specs.declared.place.Place.{Place}
 use Rattle.al_base_fault.specs.declared.check_rule.CheckRule.TheVariants.{NotConformant}
-use Rattle.al_decl_profile.specs.LoneBodies.{lone_body_fault}
-use Rattle.al_decl_profile.specs.declared.specification.Specification.{Specification}
+use Rattle.al_decl_judged.specs.LoneBodies.{lone_body_fault}
+use Rattle.al_decl_judged.specs.declared.specification.Specification.{Specification}
 use Rattle.al_decl_judged.specs.declared.names.DefiningName.{DefiningName}
 use Rattle.al_base_fault.specs.Faults.{fault_at}
 use Rattle.al_base_fault.specs.declared.fault.Fault.{Fault}
 use Rattle.al_query.specs.declared.answer.Completion.{Completion}
-use Rattle.al_decl_profile.specs.declared.body.Completing.{Completing}
-use Rattle.al_decl_profile.specs.declared.body.Completing.TheVariants.{Declared, Alone}
+use Rattle.al_decl_judged.specs.declared.body.Completing.{Completing}
+use Rattle.al_decl_judged.specs.declared.body.Completing.TheVariants.{Declared, Alone}
 use Rattle.al_view.specs.declared.view.Profile.{Profile}
 use Rattle.al_view.specs.declared.view.ViewKind.{ViewKind}
 use Rattle.al_view.specs.declared.view.ViewKind.TheVariants.{OfSubprogram}

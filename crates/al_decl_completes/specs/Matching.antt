@@ -1,11 +1,11 @@
 -- Tests that decide whether a specification has the types of a profile, and whether it conforms to it (ARM 6.3.1, 8.3(8)).
 use Rattle.std.specs.Prelude.{ℕ, Bool, true, false, not, ◌&&◌, List, [], ◌∷◌, Option, Some, None, int_le}
 use Rattle.std.specs.Str.{bytes_eq}
-use Rattle.al_decl_profile.specs.Completing.{is_entry}
-use Rattle.al_decl_profile.specs.declared.specification.Formal.{Formal}
-use Rattle.al_decl_profile.specs.declared.specification.Returned.{Returned}
-use Rattle.al_decl_profile.specs.declared.specification.Returned.TheVariants.{NoValue, Value}
-use Rattle.al_decl_profile.specs.declared.specification.Specification.{Specification}
+use Rattle.al_decl_judged.specs.Completing.{is_entry}
+use Rattle.al_decl_judged.specs.declared.specification.Formal.{Formal}
+use Rattle.al_decl_judged.specs.declared.specification.Returned.{Returned}
+use Rattle.al_decl_judged.specs.declared.specification.Returned.TheVariants.{NoValue, Value}
+use Rattle.al_decl_judged.specs.declared.specification.Specification.{Specification}
 use Rattle.al_query.specs.declared.answer.Completion.{Completion}
 use Rattle.al_view.specs.Symbols.{same_symbol}
 use Rattle.al_view.specs.declared.types.Bounds.{Bounds}

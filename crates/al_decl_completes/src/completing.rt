@@ -1,11 +1,11 @@
 // Which declaration a body completes (ARM 3.11.1, 6.3.1).
 ghost use Rattle.std.specs.Prelude.{◌≡◌, IfOk};
-ghost use Rattle.al_decl_profile.specs.Bodies.{IsWaiting};
-ghost use Rattle.al_decl_profile.specs.Profiles.{specification_of};
+ghost use Rattle.al_decl_judged.specs.Bodies.{IsWaiting};
+ghost use Rattle.al_decl_judged.specs.Profiles.{specification_of};
 ghost use Rattle.al_decl_completes.specs.CompletingFound.{completing_found};
 
 use al_base::NoMemory;
-use al_decl_profile::{Completing, Heading, Uncompleted};
+use al_decl_judged::{Completing, Heading, Uncompleted};
 use std::alloc::Global;
 
 /// What a body or a stub is to the declarations that wait: it completes the first of them that has its name and its types, and E303 stands at its name
@@ -21,5 +21,5 @@ pub fn completing_of(
     ensures found { IfOk result (λ completing. completing ≡ completing_found uncompleted.now heading.now.name (specification_of heading.now) may_declare has_homograph) }
     ensures waiting { IfOk result (λ completing. IsWaiting uncompleted.now completing) }
 {
-    al_decl_profile::completing_of(alloc, uncompleted, heading, may_declare, has_homograph)
+    al_decl_judged::completing_of(alloc, uncompleted, heading, may_declare, has_homograph)
 }

@@ -1,13 +1,13 @@
 // The body of a unit that is one subprogram (ARM 10.1.1, 10.1.3).
 ghost use Rattle.std.specs.Prelude.{◌≡◌, ◌<◌, length, IfOk};
-ghost use Rattle.al_decl_profile.specs.Bodies.{IsWaiting};
-ghost use Rattle.al_decl_profile.specs.Profiles.{specification_of};
+ghost use Rattle.al_decl_judged.specs.Bodies.{IsWaiting};
+ghost use Rattle.al_decl_judged.specs.Profiles.{specification_of};
 ghost use Rattle.al_view.specs.declared.view.ViewKind.TheVariants.{OfSubprogram};
 ghost use Rattle.al_decl_completes.specs.CompletingFound.{conformance, unit_completing, view_completed};
 
 use al_base::{NoMemory, Place};
 use al_base_fault::{CheckRule, Fault};
-use al_decl_profile::{
+use al_decl_judged::{
     Completing, Heading, Specification, Uncompleted, conformance_fault, copied_flag,
     specification_of,
 };

@@ -1,4 +1,7 @@
+pub mod CompletingLemmas
 pub mod DeclarationLemmas
+pub mod EachLemmas
+pub mod FormalLemmas
 pub mod HomonymLemmas
 pub mod JudgedLemmas
 pub mod Layers
@@ -10,6 +13,7 @@ pub mod ObjectLemmas
 pub mod PlaceLemmas
 pub mod RangeLemmas
 pub mod Same
+pub mod SignatureLemmas
 pub mod SymbolsOf
 pub mod TypeDeclarationLemmas
 pub mod TypeLemmas

@@ -6,7 +6,7 @@ use Rattle.al_decl.specs.Declaring.{in_innermost}
 use Rattle.al_decl.specs.declared.env.Environment.{Environment}
 use Rattle.al_decl_judged.specs.Progressing.{symbol_of, with_counted}
 use Rattle.al_decl_judged.specs.declared.progress.Progress.{Progress}
-use Rattle.al_decl_profile.specs.declared.heading.Heading.{Heading}
+use Rattle.al_decl_judged.specs.declared.heading.Heading.{Heading}
 use Rattle.al_scope.specs.Places.{with_declared}
 use Rattle.al_view.specs.declared.symbol.Symbol.{Symbol}
 use Rattle.al_view.specs.declared.view.Operation.{Operation}

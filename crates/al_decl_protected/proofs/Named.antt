@@ -4,9 +4,9 @@ use Rattle.std.specs.Prelude.{slice_get, if◌then◌else◌, MatchOption}
 use Rattle.std.specs.List.{All}
 use Rattle.std.proofs.lemmas.Bool.{false_from_ne_true}
 use Rattle.std.specs.Str.{bytes_eq}
-use Rattle.al_decl_profile.specs.Completing.{Completes, IsBodyOf, IsFirst}
-use Rattle.al_decl_profile.specs.declared.specification.BodyHead.{BodyHead}
-use Rattle.al_decl_profile.specs.declared.specification.BodyHead.TheVariants as heads
+use Rattle.al_decl_judged.specs.Completing.{Completes, IsBodyOf, IsFirst}
+use Rattle.al_decl_judged.specs.declared.specification.BodyHead.{BodyHead}
+use Rattle.al_decl_judged.specs.declared.specification.BodyHead.TheVariants as heads
 use Rattle.al_query.specs.declared.answer.Completion.{Completion}
 use Rattle.al_view.specs.declared.view.ViewKind.{ViewKind}
 use Rattle.al_view.specs.declared.view.ViewKind.TheVariants.{OfProtected, OfSubprogram, OfTask}

@@ -6,10 +6,10 @@ use Rattle.al_base.specs.declared.place.Place.{Place as TextPlace}
 use Rattle.al_base_fault.specs.declared.check_rule.CheckRule.TheVariants.{Duplicate, NotConformant}
 use Rattle.al_base_fault.specs.Faults.{fault_at}
 use Rattle.al_base_fault.specs.declared.fault.Fault.{Fault}
-use Rattle.al_decl_profile.specs.Completing.{is_entry}
-use Rattle.al_decl_profile.specs.Uncompleted.{with_declared}
-use Rattle.al_decl_profile.specs.declared.specification.BodyHead.{BodyHead}
-use Rattle.al_decl_profile.specs.declared.specification.BodyHead.TheVariants as heads
+use Rattle.al_decl_judged.specs.Completing.{is_entry}
+use Rattle.al_decl_judged.specs.Uncompleted.{with_declared}
+use Rattle.al_decl_judged.specs.declared.specification.BodyHead.{BodyHead}
+use Rattle.al_decl_judged.specs.declared.specification.BodyHead.TheVariants as heads
 use Rattle.al_decl.specs.Declaring.{duplicate}
 use Rattle.al_decl.specs.declared.env.Environment.{Environment}
 use Rattle.al_decl_judged.specs.declared.names.DefiningName.{DefiningName}

@@ -6,17 +6,17 @@ use Rattle.al_base_fault.specs.declared.check_rule.CheckRule.TheVariants.{Second
 use Rattle.al_base_fault.specs.Faults.{earlier, fault_at}
 use Rattle.al_base_fault.specs.Judging.{next, unless}
 use Rattle.al_base_fault.specs.declared.fault.Fault.{Fault}
-use Rattle.al_decl_profile.specs.Completing.{is_entry}
+use Rattle.al_decl_judged.specs.Completing.{is_entry}
 use Rattle.al_decl.specs.Heads.{heading_read}
 use Rattle.al_decl.specs.Declaring.{in_innermost}
 use Rattle.al_decl.specs.declared.env.Environment.{Environment}
 use Rattle.al_decl_judged.specs.Progressing.{symbol_of, with_counted}
 use Rattle.al_decl_judged.specs.declared.names.DefiningName.{DefiningName}
 use Rattle.al_decl.specs.Defining.{defined}
-use Rattle.al_decl_profile.specs.Headings.{heading_fault}
-use Rattle.al_decl_profile.specs.Profiles.{profile_of, profile_types}
-use Rattle.al_decl_profile.specs.declared.heading.Heading.{Heading}
-use Rattle.al_decl_profile.specs.declared.heading.ReturnedPart.TheVariants.{NoValue}
+use Rattle.al_decl_judged.specs.Headings.{heading_fault}
+use Rattle.al_decl_judged.specs.Profiles.{profile_of, profile_types}
+use Rattle.al_decl_judged.specs.declared.heading.Heading.{Heading}
+use Rattle.al_decl_judged.specs.declared.heading.ReturnedPart.TheVariants.{NoValue}
 use Rattle.al_decl.specs.PartReadings.{PartReading}
 use Rattle.al_decl.specs.Placing.{head_duplicate}
 use Rattle.al_query.specs.Reads.{Table}

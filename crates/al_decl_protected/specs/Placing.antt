@@ -1,7 +1,7 @@
 -- Declarations of tasks and protected objects are visible from their end on, and wait for their bodies (ARM 9.1(8), 9.4(8)).
 use Rattle.std.specs.Prelude.{ℕ, List, [], ◌∷◌, Option, Some}
 use Rattle.al_decl.specs.Checking.{after}
-use Rattle.al_decl_profile.specs.Uncompleted.{with_declared}
+use Rattle.al_decl_judged.specs.Uncompleted.{with_declared}
 use Rattle.al_decl.specs.declared.env.Environment.{Environment}
 use Rattle.al_decl_judged.specs.Declaring.{DeclaredTree}
 use Rattle.al_decl.specs.Placing.{with_awaiting}

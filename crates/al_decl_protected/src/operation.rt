@@ -2,7 +2,7 @@
 ghost use Rattle.std.specs.Prelude.{◌≡◌, ◌<◌, ◌++◌, ◌∷◌, [], length, map, IfOk, OnOk, Some};
 ghost use Rattle.std.specs.List.{list_any};
 ghost use Rattle.al_decl.specs.Checking.{with_progress, with_scope};
-ghost use Rattle.al_decl_profile.specs.Completing.{is_entry};
+ghost use Rattle.al_decl_judged.specs.Completing.{is_entry};
 ghost use Rattle.al_decl_judged.specs.Progressing.{symbol_of, with_counted};
 ghost use Rattle.al_decl.specs.Defining.{defined};
 ghost use Rattle.al_decl.specs.Declaring.{in_innermost};
@@ -18,8 +18,9 @@ ghost use Rattle.al_view.specs.declared.view.ViewKind.TheVariants.{OfSubprogram}
 use al_base::{Name, NoMemory, Place};
 use al_base_fault::{CheckResult, CheckRule, Fault, earlier};
 use al_decl::{Environment, PartAnalyzer, defining_name, head_duplicate, heading_at};
-use al_decl_judged::DefiningName;
-use al_decl_profile::{Heading, ReturnedPart, heading_fault, profile_of, profile_types};
+use al_decl_judged::{
+    DefiningName, Heading, ReturnedPart, heading_fault, profile_of, profile_types,
+};
 use al_query::{Answers, Recorder};
 use al_scope::Scope;
 use al_tree::{Identifier, ProtectedOperation};

@@ -11,8 +11,8 @@ use Rattle.al_base.specs.Files.{Texts}
 use Rattle.al_unit_graph.specs.Headers.{Header, Library}
 use Rattle.al_unit_graph.specs.Orders.{key_cmp}
 use Rattle.al_query_outcome.specs.Equations.{is_reached, table}
-use Rattle.al_entries.specs.EntryLaw.{HasCurrent, TextMeaning}
-use Rattle.al_entries.specs.Stored.{Stored}
+use Rattle.al_engine_refresh.specs.EntryLaw.{HasCurrent, TextMeaning}
+use Rattle.al_engine_refresh.specs.Stored.{Stored}
 use Rattle.al_engine_refresh.specs.Builds.{raised, results_of, text_of}
 use Rattle.al_engine_refresh.specs.Staying.{is_there, or_else, staying}
 use Rattle.al_engine.specs.Rechecks.{AreReady, setting_of}

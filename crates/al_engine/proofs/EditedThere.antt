@@ -13,7 +13,7 @@ use Rattle.al_unit_graph.specs.Headers.{Contents, Header, Headed, Library, Sourc
 use Rattle.al_unit_graph.specs.Library.{held, is_rightly_named, is_unit, source_at, unit_at, unit_in}
 use Rattle.al_unit_faults.specs.GraphFaults.{file_faults}
 use Rattle.al_unit_faults.proofs.UnitLemmas.{at_key}
-use Rattle.al_unit_map.specs.Units.{at_unit}
+use Rattle.al_query_store.specs.Units.{at_unit}
 use Rattle.al_unit_faults.specs.Reached.{is_faultless}
 use Rattle.al_view.specs.Symbols.{same_unit}
 use Rattle.al_view.proofs.SymbolLemmas.{both, same_unit-one}
@@ -23,8 +23,8 @@ use Rattle.al_query.specs.declared.answer.AnswerKind.{AnswerKind}
 use Rattle.al_query.specs.declared.query.Query.{Query}
 use Rattle.al_query_outcome.specs.Equations.{unit_named}
 use Rattle.al_query_outcome.specs.Results.{Outcome}
-use Rattle.al_entries.specs.EntryLaw.{TextMeaning}
-use Rattle.al_entries.specs.Stored.{Stored, outcome_of}
+use Rattle.al_engine_refresh.specs.EntryLaw.{TextMeaning}
+use Rattle.al_engine_refresh.specs.Stored.{Stored, outcome_of}
 use Rattle.al_engine_refresh.specs.Builds.{results_of, text_of}
 use Rattle.al_engine_refresh.specs.Found.{contents_findings, file_findings, findings_of, outcome_findings}
 use Rattle.al_engine_refresh.specs.Staying.{is_there}

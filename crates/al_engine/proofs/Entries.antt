@@ -20,8 +20,8 @@ use Rattle.al_query_outcome.specs.Equations.{KeepsReads, Meaning, Setting, Solve
 use Rattle.al_query_outcome.specs.ReadsLaw.{FaultsFit, UsesOnly}
 use Rattle.al_query_outcome.specs.Results.{Outcome, Faulty, Sound}
 use Rattle.al_query_outcome.specs.declared.interface.UnitInterface.{UnitInterface}
-use Rattle.al_entries.specs.EntryLaw.{HasCurrent, IsCurrent, KeepsLaw, TextMeaning}
-use Rattle.al_entries.specs.Stored.{Stored, outcome_of}
+use Rattle.al_engine_refresh.specs.EntryLaw.{HasCurrent, IsCurrent, KeepsLaw, TextMeaning}
+use Rattle.al_engine_refresh.specs.Stored.{Stored, outcome_of}
 use Rattle.al_engine_refresh.specs.Builds.{results_of, text_of}
 use Rattle.al_engine_refresh.proofs.Kept.{current-kept, kept, kept-keeps, kept-log}
 use Rattle.al_engine.specs.Rechecks.{IsRechecked, setting_of}

@@ -8,8 +8,8 @@ use Rattle.al_query.specs.declared.query.Query.{Query}
 use Rattle.al_query_store.specs.Keyed.{settled_at}
 use Rattle.al_query_outcome.specs.Results.{Outcome}
 use Rattle.al_engine_refresh.specs.Builds.{results_of}
-use Rattle.al_entries.specs.EntryLaw.{TextMeaning}
-use Rattle.al_entries.specs.Stored.{Stored}
+use Rattle.al_engine_refresh.specs.EntryLaw.{TextMeaning}
+use Rattle.al_engine_refresh.specs.Stored.{Stored}
 use Rattle.al_engine.specs.Batches.{IsBatch}
 use Rattle.al_engine.specs.Replies.{ReplyIsOne, reply_of}
 use Rattle.al_engine.specs.Rebuilds.{IsRebuilt}

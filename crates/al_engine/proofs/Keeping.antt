@@ -13,8 +13,8 @@ use Rattle.al_engine.specs.Placed.{ArePlaced, AreSubunits, item, nothing}
 use Rattle.al_query.specs.declared.answer.AnswerKind.{AnswerKind}
 use Rattle.al_query.specs.declared.query.Query.{Query}
 use Rattle.al_query_outcome.specs.Results.{Outcome}
-use Rattle.al_entries.specs.EntryLaw.{TextMeaning}
-use Rattle.al_entries.specs.Stored.{Stored}
+use Rattle.al_engine_refresh.specs.EntryLaw.{TextMeaning}
+use Rattle.al_engine_refresh.specs.Stored.{Stored}
 use Rattle.al_engine_refresh.specs.Builds.{results_of}
 use Rattle.al_engine.specs.GraphGraphs.{HaveOneGraph}
 use Rattle.al_engine.specs.Batches.{IsBatch}

@@ -6,8 +6,8 @@ use Rattle.al_query_store.specs.Stored.{base}
 use Rattle.al_query_store.specs.declared.slots.Held.{Held}
 use Rattle.al_query_store.specs.Keyed.{State, entry_of, kept_state, settled_at, settled_state, state}
 use Rattle.al_unit_graph.specs.Headers.{Header, Library}
-use Rattle.al_entries.specs.EntryLaw.{AllKeepLaw, KeepsLaw, TextMeaning}
-use Rattle.al_entries.specs.Stored.{Stored}
+use Rattle.al_engine_refresh.specs.EntryLaw.{AllKeepLaw, KeepsLaw, TextMeaning}
+use Rattle.al_engine_refresh.specs.Stored.{Stored}
 use Rattle.al_engine_refresh.specs.Moves.{Entries, left_by_last}
 use Rattle.al_engine_refresh.specs.Staying.{is_there, or_else, staying}
 use Rattle.al_engine.specs.Rechecks.{will_be}

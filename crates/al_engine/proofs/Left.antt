@@ -7,7 +7,7 @@ use Rattle.al_view.specs.Symbols.{same_unit}
 use Rattle.al_query_store.specs.Stored.{base}
 use Rattle.al_query_store.specs.declared.slots.Held.{Held}
 use Rattle.al_query_store.specs.Keyed.{State, entry_of, now_at, settled_at, state}
-use Rattle.al_entries.specs.Stored.{Stored}
+use Rattle.al_engine_refresh.specs.Stored.{Stored}
 use Rattle.al_engine_refresh.specs.Moves.{Entries, IsLeft}
 use Rattle.al_query.specs.Known.{has_unit}
 use Rattle.al_engine_refresh.proofs.Following.{turned-unit}

@@ -18,7 +18,7 @@ use Rattle.al_query_store.specs.declared.slots.Held.{Held}
 use Rattle.al_query_store.specs.Keyed.{State, before_at, entry_of, first_of, now_at, state}
 use Rattle.al_query_store.proofs.TellLemmas.{tells-alike}
 use Rattle.al_unit_graph.specs.Headers.{Header, Library}
-use Rattle.al_entries.specs.Stored.{Stored, log_of, outcome_of}
+use Rattle.al_engine_refresh.specs.Stored.{Stored, log_of, outcome_of}
 use Rattle.al_engine_refresh.specs.Moves.{Entries, left_by_last}
 use Rattle.al_engine_refresh.specs.Staying.{is_there}
 use Rattle.al_engine_refresh.specs.Builds.{StandsAfter}

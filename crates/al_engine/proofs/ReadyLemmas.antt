@@ -14,8 +14,8 @@ use Rattle.al_query_store.specs.declared.slots.Held.{Held}
 use Rattle.al_query_store.specs.Keyed.{State, before_at, entry_of, first_of, kept_state, now_at, or_settled, settled_state, state}
 use Rattle.al_query_store.proofs.TellLemmas.{tells-alike}
 use Rattle.al_unit_graph.specs.Headers.{Header, Library}
-use Rattle.al_entries.specs.EntryLaw.{HasCurrent, TextMeaning}
-use Rattle.al_entries.specs.Stored.{Stored, log_of, outcome_of}
+use Rattle.al_engine_refresh.specs.EntryLaw.{HasCurrent, TextMeaning}
+use Rattle.al_engine_refresh.specs.Stored.{Stored, log_of, outcome_of}
 use Rattle.al_engine_refresh.specs.Moves.{Entries, left_by_last}
 use Rattle.al_engine_refresh.specs.Builds.{results_of, text_of}
 use Rattle.al_engine_refresh.specs.Moving.{last_table, now_table}

@@ -10,7 +10,7 @@ use Rattle.al_base.specs.declared.unit_key.UnitKey.{UnitKey}
 use Rattle.al_unit_graph.specs.Headers.{Library}
 use Rattle.al_query.specs.Known.{has_unit}
 use Rattle.al_query_outcome.specs.Equations.{is_sound}
-use Rattle.al_entries.specs.Stored.{Stored, outcome_of}
+use Rattle.al_engine_refresh.specs.Stored.{Stored, outcome_of}
 use Rattle.al_engine_refresh.specs.Builds.{results_of}
 use Rattle.al_engine_refresh.specs.Found.{findings_of}
 use Rattle.al_engine.specs.RecheckEdits.{IsRenewal, units_of}

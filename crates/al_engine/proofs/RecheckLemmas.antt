@@ -16,8 +16,8 @@ use Rattle.al_unit_graph.proofs.OrderLemmas.{in_order_ascends}
 use Rattle.al_query_outcome.proofs.Members.{contains-has, has-contains}
 use Rattle.al_query_outcome.specs.Equations.{Setting, is_reached, table}
 use Rattle.al_query_outcome.specs.Results.{Outcome}
-use Rattle.al_entries.specs.EntryLaw.{HasCurrent, TextMeaning}
-use Rattle.al_entries.specs.Stored.{Stored, outcome_of}
+use Rattle.al_engine_refresh.specs.EntryLaw.{HasCurrent, TextMeaning}
+use Rattle.al_engine_refresh.specs.Stored.{Stored, outcome_of}
 use Rattle.al_engine_refresh.specs.Builds.{IsBuilt, IsOrder, NeedsCheck, Picked, StandsAfter, left, no_units, results_of, taken, text_of}
 use Rattle.al_engine_refresh.specs.Staying.{is_there, or_else, staying}
 use Rattle.al_engine.specs.Rechecks.{AreSettled, IsRechecked}

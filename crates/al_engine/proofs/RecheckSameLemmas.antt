@@ -9,7 +9,7 @@ use Rattle.al_query.specs.declared.query.Query.{Query}
 use Rattle.al_query_outcome.specs.Equations.{entry}
 use Rattle.al_query_store.specs.Keyed.{SameStates, State, before_at, entry_of, settled_at, state}
 use Rattle.al_query_store.proofs.TellLemmas.{tells-alike}
-use Rattle.al_entries.specs.Stored.{Stored, log_of, outcome_of}
+use Rattle.al_engine_refresh.specs.Stored.{Stored, log_of, outcome_of}
 use Rattle.al_engine_refresh.specs.Moves.{Entries, IsLeft, left_by_last}
 use Rattle.al_engine_refresh.specs.Moving.{last_table}
 use Rattle.al_engine.specs.Rechecks.{AreReady}

@@ -15,8 +15,8 @@ use Rattle.al_query.specs.declared.query.Query.{Query}
 use Rattle.al_query_outcome.specs.Equations.{IsSetting, Setting, is_reached, is_sound, table, unit_named}
 use Rattle.al_query_outcome.specs.Results.{Outcome}
 use Rattle.al_query_outcome.proofs.Names.{tested}
-use Rattle.al_entries.specs.EntryLaw.{AllKeepLaw, HasCurrent, KeepsLaw, TextMeaning}
-use Rattle.al_entries.specs.Stored.{Stored, outcome_of}
+use Rattle.al_engine_refresh.specs.EntryLaw.{AllKeepLaw, HasCurrent, KeepsLaw, TextMeaning}
+use Rattle.al_engine_refresh.specs.Stored.{Stored, outcome_of}
 use Rattle.al_engine_refresh.specs.Builds.{IsBuilt, NeedsCheck, Picked, has_sound_dependences, left, no_units, results_of, taken, text_of}
 use Rattle.al_engine_refresh.specs.Progress.{Fits, Progress, Valid}
 use Rattle.al_engine_refresh.proofs.BuildLemmas.{finish}

@@ -5,7 +5,7 @@ use Rattle.al_unit_graph.specs.Headers.{Header, Library}
 use Rattle.al_query.specs.declared.answer.AnswerKind.{AnswerKind}
 use Rattle.al_query.specs.declared.query.Query.{Query}
 use Rattle.al_query_store.specs.Keyed.{SameStates}
-use Rattle.al_entries.specs.EntryLaw.{TextMeaning}
+use Rattle.al_engine_refresh.specs.EntryLaw.{TextMeaning}
 use Rattle.al_engine_refresh.specs.Moves.{Entries}
 use Rattle.al_engine.proofs.RecheckSameLemmas.{before-same, ready-same, settled-same}
 use Rattle.al_engine.specs.declared.graph.UnitGraph.{UnitGraph}

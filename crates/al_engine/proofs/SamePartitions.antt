@@ -4,10 +4,10 @@ use Rattle.std.specs.Option.{is_some, option_map_or}
 use Rattle.std.specs.List.{Contains, filter, flat_map}
 use Rattle.al_base.specs.Batch.{Key}
 use Rattle.al_base.specs.declared.unit_key.UnitKind.TheVariants.{Decl, Body, Sub}
-use Rattle.al_base_order.specs.Relations.{IsFree, IsOrderBy}
-use Rattle.al_base_order.specs.Ties.{IsFault}
-use Rattle.al_base_order.specs.declared.edge.Edge.{Edge}
-use Rattle.al_base_order.specs.declared.edge.Reason.{Reason}
+use Rattle.al_base_graph.specs.Relations.{IsFree, IsOrderBy}
+use Rattle.al_base_graph.specs.Ties.{IsFault}
+use Rattle.al_base_graph.specs.declared.edge.Edge.{Edge}
+use Rattle.al_base_graph.specs.declared.edge.Reason.{Reason}
 use Rattle.al_unit_graph.specs.Headers.{Library}
 use Rattle.al_unit_graph.specs.Library.{is_kind}
 use Rattle.al_unit_graph.specs.Dependence.{DependsOn, directly, through}

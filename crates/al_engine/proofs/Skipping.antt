@@ -18,8 +18,8 @@ use Rattle.al_query.proofs.KnownLemmas.{has_unit-first, has_unit-left}
 use Rattle.al_query_outcome.specs.Equations.{IsSetting, Setting, is_reached, is_sound, table, unit_named}
 use Rattle.al_query_outcome.specs.Results.{Outcome}
 use Rattle.al_query_outcome.proofs.Names.{tested}
-use Rattle.al_entries.specs.EntryLaw.{AllKeepLaw, HasCurrent, KeepsLaw, TextMeaning}
-use Rattle.al_entries.specs.Stored.{Stored, outcome_of}
+use Rattle.al_engine_refresh.specs.EntryLaw.{AllKeepLaw, HasCurrent, KeepsLaw, TextMeaning}
+use Rattle.al_engine_refresh.specs.Stored.{Stored, outcome_of}
 use Rattle.al_engine_refresh.specs.Staying.{is_there}
 use Rattle.al_engine_refresh.specs.Builds.{NeedsCheck, Picked, StandsAfter, has_sound_dependences, left, no_units, results_of, taken, text_of}
 use Rattle.al_engine_refresh.specs.Handling.{within}

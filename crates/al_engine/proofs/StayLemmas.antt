@@ -7,7 +7,7 @@ use Rattle.al_unit_graph.specs.Headers.{Library}
 use Rattle.al_query_store.specs.Stored.{base}
 use Rattle.al_query_store.specs.declared.slots.Held.{Held}
 use Rattle.al_query_store.specs.Keyed.{State, entry_of, first_of, now_at, or_settled, settled_at, settled_state, state}
-use Rattle.al_entries.specs.Stored.{Stored}
+use Rattle.al_engine_refresh.specs.Stored.{Stored}
 use Rattle.al_engine_refresh.specs.Moves.{Entries, IsLeft}
 use Rattle.al_engine_refresh.specs.Staying.{is_there, or_else, staying}
 use Rattle.al_engine_refresh.specs.Moving.{AreLeaving, AreMade}

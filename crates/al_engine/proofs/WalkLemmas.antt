@@ -28,8 +28,8 @@ use Rattle.al_query_store.specs.declared.slots.Held.{Held}
 use Rattle.al_query_store.proofs.TestLemmas.{marks-test}
 use Rattle.al_query_store.specs.Changes.{AreMarkedAsBefore, with_made}
 use Rattle.al_query_store.specs.Keyed.{State, entry_of, first_of, now_at, settled_at, state}
-use Rattle.al_entries.specs.EntryLaw.{AllKeepLaw, HasCurrent, IsCurrent, KeepsLaw, TextMeaning}
-use Rattle.al_entries.specs.Stored.{Stored, log_of, outcome_of}
+use Rattle.al_engine_refresh.specs.EntryLaw.{AllKeepLaw, HasCurrent, IsCurrent, KeepsLaw, TextMeaning}
+use Rattle.al_engine_refresh.specs.Stored.{Stored, log_of, outcome_of}
 use Rattle.al_engine_refresh.specs.Moves.{Entries, IsLeft, has_moved}
 use Rattle.al_engine_refresh.specs.Staying.{is_there}
 use Rattle.al_engine_refresh.specs.Builds.{IsBuilt, IsOrder, Picked, has_sound_dependences, no_units, present, raised, results_of, text_of}

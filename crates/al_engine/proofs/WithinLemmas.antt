@@ -17,7 +17,7 @@ use Rattle.al_query_store.specs.Changes.{HasAnswers, Spot, answer_of, asks, same
 use Rattle.al_query_store.specs.Keyed.{State, differ, kept_state, settled_at, settled_state, state}
 use Rattle.al_query_store.proofs.SpotLemmas.{spot_equiv, spot_one}
 use Rattle.al_unit_graph.specs.Headers.{Library}
-use Rattle.al_entries.specs.Stored.{Stored, log_of}
+use Rattle.al_engine_refresh.specs.Stored.{Stored, log_of}
 use Rattle.al_engine_refresh.specs.Moves.{Entries, IsLeft, has_moved}
 use Rattle.al_engine_refresh.specs.Staying.{is_there}
 use Rattle.al_engine_refresh.specs.Builds.{raised}

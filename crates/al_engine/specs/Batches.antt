@@ -7,7 +7,7 @@ use Rattle.al_unit_graph.specs.Headers.{Library}
 use Rattle.al_bind.specs.Binding.{IsBindFault}
 use Rattle.al_query_outcome.specs.Equations.{Setting, Solves}
 use Rattle.al_query_outcome.specs.Results.{Outcome}
-use Rattle.al_entries.specs.EntryLaw.{TextMeaning}
+use Rattle.al_engine_refresh.specs.EntryLaw.{TextMeaning}
 use Rattle.al_engine_refresh.specs.Builds.{with_texts}
 use Rattle.al_engine_refresh.specs.Found.{findings_of}
 use Rattle.al_engine.specs.Partitions.{IsProgram, IsTooLarge}

@@ -6,7 +6,7 @@ use Rattle.al_query_store.specs.Keyed.{settled_at}
 use Rattle.al_query.specs.declared.answer.AnswerKind.{AnswerKind}
 use Rattle.al_query.specs.declared.query.Query.{Query}
 use Rattle.al_engine_refresh.specs.Builds.{raised}
-use Rattle.al_entries.specs.EntryLaw.{TextMeaning}
+use Rattle.al_engine_refresh.specs.EntryLaw.{TextMeaning}
 use Rattle.al_engine.specs.Patches.{IsPatched, linked_in}
 use Rattle.al_engine.specs.Rebuilds.{IsKept, IsRebuilt}
 use Rattle.al_engine.specs.States.{Built, Held, linked_last}

@@ -6,10 +6,10 @@ use Rattle.al_base.specs.FileNames.{file_name_of}
 use Rattle.al_base.specs.declared.unit_key.UnitKey.{UnitKey}
 use Rattle.al_unit_graph.specs.Headers.{Library}
 use Rattle.al_unit_graph.specs.Library.{is_unit}
-use Rattle.al_unit_map.specs.Units.{at_unit}
+use Rattle.al_query_store.specs.Units.{at_unit}
 use Rattle.al_query.specs.Known.{has_unit}
 use Rattle.std.specs.Prelude.{Option}
-use Rattle.al_entries.specs.Stored.{Stored}
+use Rattle.al_engine_refresh.specs.Stored.{Stored}
 use Rattle.al_engine.specs.declared.graph.UnitGraph.{UnitGraph}
 use Rattle.al_engine_refresh.specs.Builds.{text_of}
 use Rattle.al_engine.specs.RecheckEdits.{IsForAnother, units_of}

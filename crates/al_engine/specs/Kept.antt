@@ -9,7 +9,7 @@ use Rattle.al_unit_graph.specs.Dependence.{direct}
 use Rattle.al_unit_graph.specs.Headers.{Library}
 use Rattle.al_unit_faults.specs.FilesSeen.{file_faults_model}
 use Rattle.al_unit_faults.specs.GraphFaults.{file_faults}
-use Rattle.al_unit_map.specs.Units.{at_unit}
+use Rattle.al_query_store.specs.Units.{at_unit}
 use Rattle.al_unit_faults.specs.Reached.{IsDependenceOrder, is_faultless}
 use Rattle.al_engine.specs.declared.graph.UnitGraph.{UnitGraph}
 

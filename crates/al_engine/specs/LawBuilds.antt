@@ -4,7 +4,7 @@ use Rattle.al_base.specs.Files.{Texts}
 use Rattle.al_unit_graph.specs.Headers.{Header, Library}
 use Rattle.al_query.specs.declared.answer.AnswerKind.{AnswerKind}
 use Rattle.al_query.specs.declared.query.Query.{Query}
-use Rattle.al_entries.specs.EntryLaw.{TextMeaning}
+use Rattle.al_engine_refresh.specs.EntryLaw.{TextMeaning}
 use Rattle.al_engine.specs.Replies.{Reply, reply_of}
 use Rattle.al_engine.specs.Builds.{IsBuild}
 use Rattle.al_engine.specs.States.{Built, Held}

@@ -9,7 +9,7 @@ use Rattle.al_link.specs.Units.{AreWithin, UnitObject}
 use Rattle.al_link_image.specs.Images.{is_name_byte}
 use Rattle.al_query_outcome.specs.ReadsLaw.{HasCode}
 use Rattle.al_query_outcome.specs.Results.{Outcome, Faulty, Sound}
-use Rattle.al_entries.specs.Stored.{Stored, outcome_of}
+use Rattle.al_engine_refresh.specs.Stored.{Stored, outcome_of}
 
 -- a unit with the object that its labelled tree is compiled to
 abbrev pub WithObject : Type 0

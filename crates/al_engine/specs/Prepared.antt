@@ -7,7 +7,7 @@ use Rattle.al_query.specs.declared.query.Query.{Query}
 use Rattle.al_query_store.specs.Keyed.{now_at}
 use Rattle.al_engine_refresh.specs.Moves.{Entries}
 use Rattle.al_engine_refresh.specs.Builds.{results_of}
-use Rattle.al_entries.specs.EntryLaw.{AllKeepLaw, TextMeaning}
+use Rattle.al_engine_refresh.specs.EntryLaw.{AllKeepLaw, TextMeaning}
 use Rattle.al_engine.specs.Rechecks.{IsUpdated, will_be}
 use Rattle.al_engine.specs.Plans.{IsClosedPlan, IsPlanned}
 use Rattle.al_engine.specs.declared.compiled.Compiled.{Compiled}

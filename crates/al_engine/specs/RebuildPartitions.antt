@@ -7,8 +7,8 @@ use Rattle.al_query.specs.declared.query.Query.{Query}
 use Rattle.al_unit_graph.specs.Headers.{Header, Library}
 use Rattle.al_unit_faults.specs.Reached.{IsDependenceOrder}
 use Rattle.al_unit_faults.specs.Read.{AreHeaded, NameParentBodies}
-use Rattle.al_entries.specs.EntryLaw.{TextMeaning}
-use Rattle.al_entries.specs.Stored.{Stored}
+use Rattle.al_engine_refresh.specs.EntryLaw.{TextMeaning}
+use Rattle.al_engine_refresh.specs.Stored.{Stored}
 use Rattle.al_engine_refresh.specs.Builds.{results_of}
 use Rattle.al_engine_refresh.specs.Settings.{ArePredefined}
 use Rattle.al_engine.specs.Rechecks.{IsRechecked, setting_of}

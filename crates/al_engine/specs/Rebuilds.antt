@@ -9,8 +9,8 @@ use Rattle.al_query_store.specs.Changes.{HasAnswers}
 use Rattle.al_query_store.specs.Keyed.{before_at, differ, settled_at, state}
 use Rattle.al_engine_refresh.specs.Moves.{Entries}
 use Rattle.al_engine_refresh.specs.Builds.{raised, results_of}
-use Rattle.al_entries.specs.EntryLaw.{TextMeaning}
-use Rattle.al_entries.specs.Stored.{Stored, log_of}
+use Rattle.al_engine_refresh.specs.EntryLaw.{TextMeaning}
+use Rattle.al_engine_refresh.specs.Stored.{Stored, log_of}
 use Rattle.al_engine_refresh.specs.Staying.{is_there, staying}
 use Rattle.al_engine.specs.Rechecks.{AreReady, IsRechecked, setting_of}
 use Rattle.al_engine.specs.Batches.{IsBatch, IsCompiled}

@@ -12,8 +12,8 @@ use Rattle.al_query.specs.Known.{has_unit}
 use Rattle.al_query.specs.declared.answer.AnswerKind.{AnswerKind}
 use Rattle.al_query.specs.declared.query.Query.{Query}
 use Rattle.al_query_outcome.specs.Equations.{IsSetting}
-use Rattle.al_entries.specs.EntryLaw.{TextMeaning}
-use Rattle.al_entries.specs.Stored.{Stored}
+use Rattle.al_engine_refresh.specs.EntryLaw.{TextMeaning}
+use Rattle.al_engine_refresh.specs.Stored.{Stored}
 use Rattle.al_query_store.specs.Keyed.{settled_at}
 use Rattle.al_engine_refresh.specs.Moves.{Entries}
 use Rattle.al_engine_refresh.specs.Builds.{text_of}

@@ -11,8 +11,8 @@ use Rattle.al_query.specs.declared.answer.AnswerKind.{AnswerKind}
 use Rattle.al_query.specs.declared.query.Query.{Query}
 use Rattle.al_query_outcome.specs.Equations.{IsSetting, Setting, Solves, is_reached, table}
 use Rattle.al_query_outcome.specs.Results.{Outcome}
-use Rattle.al_entries.specs.EntryLaw.{AllKeepLaw, HasCurrent, TextMeaning}
-use Rattle.al_entries.specs.Stored.{Stored, log_of}
+use Rattle.al_engine_refresh.specs.EntryLaw.{AllKeepLaw, HasCurrent, TextMeaning}
+use Rattle.al_engine_refresh.specs.Stored.{Stored, log_of}
 use Rattle.al_engine_refresh.specs.Builds.{IsOrder, NeedsCheck, results_of, setting, text_of, with_texts}
 use Rattle.al_query_store.specs.Changes.{AreMarked}
 use Rattle.al_query_store.specs.Keyed.{before_at, entry_of, kept_state, now_at, settled_at, settled_state, state}

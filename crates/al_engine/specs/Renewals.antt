@@ -11,8 +11,8 @@ use Rattle.al_query.specs.Known.{has_unit}
 use Rattle.al_query.specs.Reads.{Agrees}
 use Rattle.al_query.specs.declared.answer.AnswerKind.{AnswerKind}
 use Rattle.al_query.specs.declared.query.Query.{Query}
-use Rattle.al_entries.specs.EntryLaw.{IsCurrent, KeepsLaw, TextMeaning}
-use Rattle.al_entries.specs.Stored.{Stored}
+use Rattle.al_engine_refresh.specs.EntryLaw.{IsCurrent, KeepsLaw, TextMeaning}
+use Rattle.al_engine_refresh.specs.Stored.{Stored}
 use Rattle.al_engine_refresh.specs.Builds.{has_sound_dependences, present, results_of, text_of}
 use Rattle.al_engine.specs.RecheckEdits.{IsRenewable, IsRenewal}
 use Rattle.al_engine.specs.Rechecks.{HasOrder, IsRechecked, setting_of}

@@ -2,7 +2,7 @@
 use Rattle.std.specs.Prelude.{◌≡◌, ◌⊎◌, ℕ, List, map, Option}
 use Rattle.al_base.specs.Batch.{Finding, Key, finding_of, key_of}
 use Rattle.al_base.specs.declared.unit_key.UnitKey.{UnitKey}
-use Rattle.al_base_order.specs.declared.edge.Reason.{Reason}
+use Rattle.al_base_graph.specs.declared.edge.Reason.{Reason}
 use Rattle.al_unit_graph.specs.Headers.{Library}
 use Rattle.al_bind.specs.declared.lacking.MissingItem.{MissingItem}
 use Rattle.al_bind.specs.Bound.{fault_model}

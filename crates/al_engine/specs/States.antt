@@ -9,8 +9,8 @@ use Rattle.al_unit_faults.specs.Read.{AreHeaded, NameParentBodies}
 use Rattle.al_query.specs.declared.answer.AnswerKind.{AnswerKind}
 use Rattle.al_query.specs.declared.query.Query.{Query}
 use Rattle.al_engine_refresh.specs.Settings.{ArePredefined}
-use Rattle.al_entries.specs.EntryLaw.{TextMeaning}
-use Rattle.al_entries.specs.Stored.{Stored}
+use Rattle.al_engine_refresh.specs.EntryLaw.{TextMeaning}
+use Rattle.al_engine_refresh.specs.Stored.{Stored}
 use Rattle.al_engine.specs.UnitCache.{Kept}
 use Rattle.al_query_store.specs.Keyed.{before_at, settled_at}
 use Rattle.al_engine_refresh.specs.Moves.{Entries}

@@ -10,7 +10,7 @@ use Rattle.al_query.specs.declared.answer.AnswerKind.{AnswerKind}
 use Rattle.al_query.specs.declared.query.Query.{Query}
 use Rattle.al_query_store.specs.Changes.{AreMarkedAsBefore}
 use Rattle.al_query_store.specs.Keyed.{now_at, settled_at}
-use Rattle.al_entries.specs.EntryLaw.{TextMeaning}
+use Rattle.al_engine_refresh.specs.EntryLaw.{TextMeaning}
 use Rattle.al_engine_refresh.specs.Moves.{Entries, IsLeft, has_moved}
 use Rattle.al_engine_refresh.specs.Builds.{Picked, has_sound_dependences, results_of}
 use Rattle.al_engine_refresh.specs.Handling.{within}

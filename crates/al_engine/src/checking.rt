@@ -2,7 +2,7 @@
 ghost use Rattle.std.specs.Prelude.{◌≡◌, IfOk, IfSome, IsTrue, MatchOption, OnOk, length};
 ghost use Rattle.al_unit_faults.specs.Read.{AreHeaded, NameParentBodies};
 ghost use Rattle.al_query_store.specs.Keyed.{now_at, settled_at};
-ghost use Rattle.al_entries.specs.EntryLaw.{AllKeepLaw};
+ghost use Rattle.al_engine_refresh.specs.EntryLaw.{AllKeepLaw};
 ghost use Rattle.al_engine.specs.Kept.{IsGraphOf};
 ghost use Rattle.al_engine_refresh.specs.Moves.{IsLeft};
 ghost use Rattle.al_engine_refresh.specs.Settings.{ArePredefined};

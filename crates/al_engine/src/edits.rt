@@ -4,7 +4,7 @@ ghost use Rattle.std.specs.Option.{is_some};
 ghost use Rattle.al_unit_graph.specs.Headers.{key_of_unit};
 ghost use Rattle.al_unit_graph.specs.Views.{header_model};
 ghost use Rattle.al_query_outcome.specs.Equations.{unit_named};
-ghost use Rattle.al_unit_map.specs.Units.{at_unit};
+ghost use Rattle.al_query_store.specs.Units.{at_unit};
 ghost use Rattle.al_query_store.specs.Keyed.{settled_at};
 ghost use Rattle.al_engine_refresh.specs.Builds.{results_of, text_of};
 ghost use Rattle.al_engine.specs.GraphGraphs.{HaveSameHeaders};

@@ -4,7 +4,7 @@ ghost use Rattle.al_base.specs.Batch.{key_of};
 ghost use Rattle.al_base.specs.Files.{with_file, without_file, with_renamed, put_refusal, delete_refusal, rename_refusal, AnswersRefusal, AnswersFirst};
 ghost use Rattle.al_unit_faults.specs.Units.{unit_model, units_of};
 ghost use Rattle.al_query_store.specs.Keyed.{SameStates, settled_at};
-ghost use Rattle.al_entries.specs.EntryLaw.{AllKeepLaw};
+ghost use Rattle.al_engine_refresh.specs.EntryLaw.{AllKeepLaw};
 ghost use Rattle.al_engine_refresh.specs.Settings.{ArePredefined};
 ghost use Rattle.al_engine.specs.Answers.{answer_of};
 ghost use Rattle.al_engine.specs.Gave.{order_of, program_of};

@@ -5,14 +5,14 @@ ghost use Rattle.std.specs.Option.{is_some};
 ghost use Rattle.al_base.specs.Batch.{Key, key_of};
 ghost use Rattle.al_base.specs.declared.unit_key.UnitKey.{UnitKey};
 ghost use Rattle.al_unit_graph.specs.Dependence.{direct};
-ghost use Rattle.al_unit_map.specs.Units.{at_unit};
+ghost use Rattle.al_query_store.specs.Units.{at_unit};
 ghost use Rattle.al_engine.specs.Kept.{IsGraphOf, unit_of};
 
 use al_base::{NoMemory, UnitKey};
 use al_base_shortage::AllocFailures;
+use al_query_store::UnitMap;
 use al_unit_faults::{FileFaults, dependence_order, faults_by_file};
 use al_unit_graph::Sources;
-use al_unit_map::UnitMap;
 use al_view::copied_unit;
 use std::alloc::Global;
 

@@ -2,8 +2,8 @@
 ghost use Rattle.std.specs.Prelude.{◌≡◌, [], Some, IfOk, IfSome, IsTrue, MatchOption, OnOk, length};
 ghost use Rattle.al_base.specs.declared.unit_key.UnitKey.{UnitKey};
 ghost use Rattle.al_query_store.specs.Keyed.{kept_state, now_at, settled_at, settled_state, state};
-ghost use Rattle.al_entries.specs.EntryLaw.{AllKeepLaw};
-ghost use Rattle.al_entries.specs.Stored.{Stored};
+ghost use Rattle.al_engine_refresh.specs.EntryLaw.{AllKeepLaw};
+ghost use Rattle.al_engine_refresh.specs.Stored.{Stored};
 ghost use Rattle.al_engine_refresh.specs.Moves.{IsLeft, left_by_last};
 ghost use Rattle.al_engine_refresh.specs.Builds.{raised, text_of};
 ghost use Rattle.al_engine.specs.Rechecks.{AreReady, HasOrder, IsUpdated, will_be};
@@ -43,7 +43,7 @@ impl<C: UnitCheck> Model for UnitCache<C> {
     ghost use Rattle.al_view_typed.specs.contracts.statement.TypedStatement as statement;
     ghost use Rattle.al_engine.specs.UnitCache.{Kept};
     ghost use Rattle.al_query_store.specs.Keyed.{settled_at};
-    ghost use Rattle.al_entries.specs.EntryLaw.{AllKeepLaw};
+    ghost use Rattle.al_engine_refresh.specs.EntryLaw.{AllKeepLaw};
 
     ghost Value = { Kept C };
 

@@ -1,5 +1,5 @@
 //! A library of compilation units, for every checker of units and every way of reading files: its files are edited and built again
-//! and again, and a build checks again only what an edit reaches.
+//! and again; a build checks again only what an edit reaches, and links what it gives.
 #![tactic(auto)]
 
 mod alike;

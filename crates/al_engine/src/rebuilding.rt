@@ -14,7 +14,7 @@ ghost use Rattle.al_unit_faults.specs.Read.{AreHeaded, NameParentBodies};
 ghost use Rattle.al_query.specs.declared.answer.AnswerKind.{AnswerKind};
 ghost use Rattle.al_query.specs.declared.query.Query.{Query};
 ghost use Rattle.al_query_outcome.specs.Equations.{is_sound};
-ghost use Rattle.al_entries.specs.EntryLaw.{AllKeepLaw};
+ghost use Rattle.al_engine_refresh.specs.EntryLaw.{AllKeepLaw};
 ghost use Rattle.al_query_store.specs.Keyed.{now_at, settled_at};
 ghost use Rattle.al_engine_refresh.specs.Moves.{Entries, IsLeft};
 ghost use Rattle.al_engine.specs.Kept.{IsGraphOf};

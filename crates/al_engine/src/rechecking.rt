@@ -1,7 +1,7 @@
 // Which units a build checks again.
 ghost use Rattle.std.specs.Prelude.{◌≡◌, false, IfOk, length};
 ghost use Rattle.al_query_store.specs.Keyed.{settled_at};
-ghost use Rattle.al_entries.specs.EntryLaw.{AllKeepLaw};
+ghost use Rattle.al_engine_refresh.specs.EntryLaw.{AllKeepLaw};
 ghost use Rattle.al_engine_refresh.specs.Moves.{IsLeft};
 ghost use Rattle.al_engine_refresh.specs.Builds.{raised};
 ghost use Rattle.al_engine.specs.Rechecks.{AreReady, HasOrder, IsUpdated};

@@ -12,8 +12,8 @@ use Rattle.al_unit_graph.specs.Headers.{Header, Library}
 use Rattle.al_query_outcome.specs.Equations.{IsSetting, Setting, Solves, is_reached, outcome, table}
 use Rattle.al_query_outcome.specs.Results.{Outcome}
 use Rattle.al_query_outcome.proofs.Names.{tested}
-use Rattle.al_entries.specs.EntryLaw.{AllKeepLaw, HasCurrent, IsCurrent, KeepsLaw, TextMeaning}
-use Rattle.al_entries.specs.Stored.{Stored, outcome_of}
+use Rattle.al_engine_refresh.specs.EntryLaw.{AllKeepLaw, HasCurrent, IsCurrent, KeepsLaw, TextMeaning}
+use Rattle.al_engine_refresh.specs.Stored.{Stored, outcome_of}
 use Rattle.al_engine_refresh.specs.Builds.{IsBuilt, IsOrder, NeedsCheck, Picked, no_units, taken, left, has_sound_dependences, results_of, setting, text_of, with_texts}
 use Rattle.al_engine_refresh.specs.Handling.{Becomes, Handled, passed, used, rechecked}
 pub use Rattle.al_engine_refresh.specs.Progress.{Fits, Progress}

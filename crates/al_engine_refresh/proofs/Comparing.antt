@@ -16,7 +16,7 @@ use Rattle.al_query_store.proofs.CountLemmas.{sum_count}
 use Rattle.al_query_store.specs.Changes.{HasAnswers, Spot, answer_of, asks, same_spot}
 use Rattle.al_query_store.specs.Keyed.{Changes, State, base_state, differ, state}
 use Rattle.al_query_store.proofs.SpotLemmas.{spot_equiv, spot_one}
-use Rattle.al_entries.specs.Stored.{Stored, log_of}
+use Rattle.al_engine_refresh.specs.Stored.{Stored, log_of}
 use Rattle.al_engine_refresh.specs.Moves.{AreQuiet, Entries, has_moved}
 use Rattle.al_engine_refresh.specs.Builds.{raised}
 use Rattle.al_engine_refresh.specs.Moving.{IsCompared}

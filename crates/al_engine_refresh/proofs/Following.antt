@@ -16,7 +16,7 @@ use Rattle.al_query_store.specs.declared.slots.Held.{Held}
 use Rattle.al_query_store.specs.Changes.{AreCompared, ComparesUnit}
 use Rattle.al_query_store.specs.Keyed.{Changes, State, base_state, entry_of, first_of, now_at, state}
 use Rattle.al_query_store.proofs.TellLemmas.{tells-follow}
-use Rattle.al_entries.specs.Stored.{Stored, log_of, outcome_of}
+use Rattle.al_engine_refresh.specs.Stored.{Stored, log_of, outcome_of}
 use Rattle.al_engine_refresh.specs.Moves.{Entries}
 use Rattle.al_engine_refresh.specs.Builds.{present, results_of}
 use Rattle.al_engine_refresh.specs.Moving.{MarksFollow, now_table}

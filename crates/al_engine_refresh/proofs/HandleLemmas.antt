@@ -7,8 +7,8 @@ use Rattle.al_base.specs.declared.unit_key.UnitKey.{UnitKey}
 use Rattle.al_query.specs.declared.answer.AnswerKind.{AnswerKind}
 use Rattle.al_query.specs.declared.query.Query.{Query}
 use Rattle.al_query_outcome.specs.Equations.{unit_named}
-use Rattle.al_entries.specs.EntryLaw.{HasCurrent, IsCurrent}
-use Rattle.al_entries.specs.Stored.{Stored}
+use Rattle.al_engine_refresh.specs.EntryLaw.{HasCurrent, IsCurrent}
+use Rattle.al_engine_refresh.specs.Stored.{Stored}
 
 -- what holds of all units holds of all their keys
 pub all-keys : (P : UnitKey → Bool) (us : List UnitKey) → list_all P us ≡ list_all (λ k. P (unit_named k)) (map key_of us)

@@ -12,8 +12,8 @@ use Rattle.al_base_shortage.specs.Counts.{one_more}
 use Rattle.al_query_store.specs.declared.slots.Held.{Held}
 use Rattle.al_query_store.specs.Changes.{with_made}
 use Rattle.al_query_store.specs.Keyed.{State, base_state, entry_of, first_of, now_at, settled_at, state, with_reached}
-use Rattle.al_entries.specs.EntryLaw.{HasCurrent, IsCurrent, KeepsLaw, TextMeaning}
-use Rattle.al_entries.specs.Stored.{Stored, log_of}
+use Rattle.al_engine_refresh.specs.EntryLaw.{HasCurrent, IsCurrent, KeepsLaw, TextMeaning}
+use Rattle.al_engine_refresh.specs.Stored.{Stored, log_of}
 use Rattle.al_engine_refresh.specs.Moves.{Entries}
 use Rattle.al_engine_refresh.specs.Handling.{Becomes, Handled, passed, rechecked, used, within}
 use Rattle.al_engine_refresh.specs.Moving.{Turned}

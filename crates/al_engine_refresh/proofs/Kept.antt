@@ -14,8 +14,8 @@ use Rattle.al_unit_graph.specs.Headers.{Header}
 use Rattle.al_query_outcome.specs.Equations.{KeepsReads, Meaning}
 use Rattle.al_query_outcome.specs.ReadsLaw.{AsksOthers, NamesOnly, is_of_another, named_by, outcome_units}
 use Rattle.al_query_outcome.specs.Results.{Outcome, Faulty}
-use Rattle.al_entries.specs.EntryLaw.{AllKeepLaw, IsCurrent, KeepsLaw, TextMeaning}
-use Rattle.al_entries.specs.Stored.{Stored, outcome_of}
+use Rattle.al_engine_refresh.specs.EntryLaw.{AllKeepLaw, IsCurrent, KeepsLaw, TextMeaning}
+use Rattle.al_engine_refresh.specs.Stored.{Stored, outcome_of}
 use Rattle.al_engine_refresh.proofs.Decided.{Decided, agreeing, answers_decided}
 
 -- the questions of a log to the first whose answer differs, with a table's answers

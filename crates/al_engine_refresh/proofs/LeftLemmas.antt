@@ -11,11 +11,11 @@ use Rattle.al_query.specs.Known.{has_unit}
 use Rattle.al_query.specs.declared.answer.AnswerKind.{AnswerKind}
 use Rattle.al_query.specs.declared.query.Query.{Query}
 use Rattle.al_unit_graph.specs.Headers.{Library}
-use Rattle.al_unit_map.specs.Units.{at_unit}
+use Rattle.al_query_store.specs.Units.{at_unit}
 use Rattle.al_query_store.specs.Stored.{base}
 use Rattle.al_query_store.specs.declared.slots.Held.{Held}
 use Rattle.al_query_store.specs.Keyed.{State, base_state, leaving, nothing, state, with_reached}
-use Rattle.al_entries.specs.Stored.{Stored}
+use Rattle.al_engine_refresh.specs.Stored.{Stored}
 use Rattle.al_engine_refresh.specs.Moves.{AreQuiet, Entries, has_moved}
 use Rattle.al_engine_refresh.specs.Staying.{is_there}
 use Rattle.al_engine_refresh.specs.Moving.{LeftOut, MarksFollow, Turned, left_out}

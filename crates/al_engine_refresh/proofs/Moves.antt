@@ -17,8 +17,8 @@ use Rattle.al_query_outcome.proofs.Members.{all-same}
 use Rattle.al_query_outcome.proofs.Names.{tested}
 use Rattle.al_query_outcome.proofs.Near.{Fine, itself, depended, missing, Near, log-moves}
 use Rattle.al_query_outcome.proofs.Only.{closed-below, knows, learns, near-depended, others-not, outcome-none}
-use Rattle.al_entries.specs.EntryLaw.{AllKeepLaw, KeepsLaw, TextMeaning}
-use Rattle.al_entries.specs.Stored.{Stored, outcome_of}
+use Rattle.al_engine_refresh.specs.EntryLaw.{AllKeepLaw, KeepsLaw, TextMeaning}
+use Rattle.al_engine_refresh.specs.Stored.{Stored, outcome_of}
 use Rattle.al_engine_refresh.specs.Builds.{results_of, setting, text_of}
 pub use Rattle.al_engine_refresh.specs.Progress.{Valid}
 use Rattle.al_engine_refresh.proofs.Kept.{current-kept, kept, kept-keeps}

@@ -7,7 +7,7 @@ use Rattle.al_view.specs.Symbols.{same_unit}
 use Rattle.al_view.proofs.SymbolLemmas.{same_unit-one, same_unit-self}
 use Rattle.al_query_outcome.proofs.Names.{tested}
 use Rattle.al_query.specs.Known.{has_unit}
-use Rattle.al_entries.specs.Stored.{Stored}
+use Rattle.al_engine_refresh.specs.Stored.{Stored}
 use Rattle.al_query_store.specs.Keyed.{Changes, State, base_state, cancelled_state, kept_state, settled_state, state}
 use Rattle.al_engine_refresh.specs.Moves.{AreQuietBut, Entries}
 

@@ -13,8 +13,8 @@ use Rattle.al_query.specs.declared.query.Query.{Query}
 use Rattle.al_query_outcome.specs.Equations.{IsSetting, Setting}
 use Rattle.al_query_store.specs.Keyed.{State, entry_of, first_of, now_at, settled_at, state}
 use Rattle.al_unit_graph.specs.Headers.{Header, Library}
-use Rattle.al_entries.specs.EntryLaw.{AllKeepLaw, TextMeaning}
-use Rattle.al_entries.specs.Stored.{Stored, outcome_of}
+use Rattle.al_engine_refresh.specs.EntryLaw.{AllKeepLaw, TextMeaning}
+use Rattle.al_engine_refresh.specs.Stored.{Stored, outcome_of}
 use Rattle.al_engine_refresh.specs.Moves.{Entries, IsLeft}
 use Rattle.al_engine_refresh.specs.Builds.{IsBuilt, IsOrder, StandsAfter, has_sound_dependences, results_of, setting, text_of}
 use Rattle.al_engine_refresh.specs.Handling.{Handled, SoFar, within}

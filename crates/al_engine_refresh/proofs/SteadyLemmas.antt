@@ -15,7 +15,7 @@ use Rattle.al_query_store.specs.declared.slots.Held.{Held}
 use Rattle.al_query_store.specs.Changes.{with_made}
 use Rattle.al_query_store.specs.Keyed.{State, base_state, differ, state, with_reached}
 use Rattle.al_unit_graph.specs.Headers.{Library}
-use Rattle.al_entries.specs.Stored.{Stored, log_of}
+use Rattle.al_engine_refresh.specs.Stored.{Stored, log_of}
 use Rattle.al_engine_refresh.specs.Moves.{Entries, has_moved}
 use Rattle.al_engine_refresh.specs.Staying.{is_there}
 use Rattle.al_engine_refresh.specs.Moving.{AreLeaving, IsSteady, Turned}

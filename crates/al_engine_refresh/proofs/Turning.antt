@@ -10,9 +10,9 @@ use Rattle.al_query.specs.declared.query.Query.{Query}
 use Rattle.al_query_store.specs.Stored.{base}
 use Rattle.al_query_store.specs.declared.slots.Held.{Held}
 use Rattle.al_query_store.specs.Changes.{ComparesUnit}
-use Rattle.al_unit_map.specs.Units.{at_unit}
+use Rattle.al_query_store.specs.Units.{at_unit}
 use Rattle.al_query_store.specs.Keyed.{Changes, State, base_state, differ, is_moved, nothing, now_at, state}
-use Rattle.al_entries.specs.Stored.{Stored, log_of}
+use Rattle.al_engine_refresh.specs.Stored.{Stored, log_of}
 use Rattle.al_engine_refresh.specs.Moves.{Entries, IsLeft, left_by_last}
 use Rattle.al_engine_refresh.specs.Builds.{present, results_of}
 use Rattle.al_engine_refresh.specs.Moving.{Turned}

@@ -14,8 +14,8 @@ use Rattle.al_unit_graph.specs.Headers.{Header, Library}
 use Rattle.al_unit_graph.specs.Library.{source_at}
 use Rattle.al_query_outcome.specs.Equations.{Meaning, Setting, Solves, entry, is_reached, is_sound, table, unit_named}
 use Rattle.al_query_outcome.specs.Results.{Outcome}
-use Rattle.al_entries.specs.EntryLaw.{AllKeepLaw, HasCurrent, TextMeaning}
-use Rattle.al_entries.specs.Stored.{Stored, outcome_of}
+use Rattle.al_engine_refresh.specs.EntryLaw.{AllKeepLaw, HasCurrent, TextMeaning}
+use Rattle.al_engine_refresh.specs.Stored.{Stored, outcome_of}
 
 -- the outcomes of entries
 abbrev pub results_of : (UnitKey → Option Stored) → UnitKey → Option Outcome

@@ -7,8 +7,8 @@ use Rattle.al_query.specs.declared.query.Query.{Query}
 use Rattle.al_unit_graph.specs.Headers.{Header}
 use Rattle.al_view.specs.Symbols.{same_unit}
 use Rattle.al_base_shortage.specs.Counts.{one_more}
-use Rattle.al_entries.specs.EntryLaw.{HasCurrent, IsCurrent, KeepsLaw, TextMeaning}
-use Rattle.al_entries.specs.Stored.{Stored}
+use Rattle.al_engine_refresh.specs.EntryLaw.{HasCurrent, IsCurrent, KeepsLaw, TextMeaning}
+use Rattle.al_engine_refresh.specs.Stored.{Stored}
 
 -- the entries with that of one unit
 abbrev pub Becomes : (UnitKey → Option Stored) → UnitKey → Stored → (UnitKey → Option Stored) → Type 0

@@ -1,5 +1,6 @@
 pub mod Ascending
 pub mod Builds
+pub mod EntryLaw
 pub mod Found
 pub mod Handling
 pub mod Moves
@@ -7,3 +8,4 @@ pub mod Moving
 pub mod Progress
 pub mod Settings
 pub mod Staying
+pub mod Stored

@@ -2,7 +2,7 @@
 use Rattle.std.specs.Prelude.{◌≡◌, Bool, false, List}
 use Rattle.al_base.specs.declared.unit_key.UnitKey.{UnitKey}
 use Rattle.al_query.specs.Known.{has_unit}
-use Rattle.al_entries.specs.Stored.{Stored}
+use Rattle.al_engine_refresh.specs.Stored.{Stored}
 use Rattle.al_query_store.specs.Keyed.{State, base_state, cancelled_state, is_moved, state}
 
 abbrev pub Entries : Type 0

@@ -11,7 +11,7 @@ use Rattle.al_query_store.specs.Stored.{base, fresh}
 use Rattle.al_query_store.specs.declared.slots.Held.{Held}
 use Rattle.al_query_store.specs.Changes.{AreMarkedNow, HasAnswers}
 use Rattle.al_query_store.specs.Keyed.{State, base_state, before_at, leaving, now_at, state, with_reached}
-use Rattle.al_entries.specs.Stored.{Stored, log_of}
+use Rattle.al_engine_refresh.specs.Stored.{Stored, log_of}
 use Rattle.al_engine_refresh.specs.Moves.{Entries, has_moved}
 use Rattle.al_engine_refresh.specs.Staying.{is_there}
 use Rattle.al_engine_refresh.specs.Builds.{present, raised, results_of}

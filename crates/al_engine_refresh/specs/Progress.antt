@@ -7,8 +7,8 @@ use Rattle.al_query.specs.declared.query.Query.{Query}
 use Rattle.al_unit_graph.specs.Headers.{Header, Library}
 use Rattle.al_query_outcome.specs.Equations.{IsSetting, is_reached, table}
 use Rattle.al_query_outcome.specs.Results.{Outcome}
-use Rattle.al_entries.specs.EntryLaw.{AllKeepLaw, IsCurrent, TextMeaning}
-use Rattle.al_entries.specs.Stored.{Stored}
+use Rattle.al_engine_refresh.specs.EntryLaw.{AllKeepLaw, IsCurrent, TextMeaning}
+use Rattle.al_engine_refresh.specs.Stored.{Stored}
 use Rattle.al_engine_refresh.specs.Builds.{NeedsCheck, Picked, StandsAfter, results_of, setting, text_of}
 
 module _ (meaning : TextMeaning) (header : List ℕ → Header) (lib : Library) (fl : UnitKey → Bool) (pre : Query → AnswerKind) (is : IsSetting (setting header lib fl pre)) where

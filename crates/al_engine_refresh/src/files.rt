@@ -10,14 +10,13 @@ ghost use Rattle.al_unit_faults.specs.GraphFaults.{file_faults};
 ghost use Rattle.al_query_store.specs.Keyed.{now_at};
 ghost use Rattle.al_query_outcome.specs.Equations.{unit_named};
 ghost use Rattle.al_query_outcome.specs.Results.{checked_model};
-ghost use Rattle.al_entries.specs.Stored.{outcome_of};
+ghost use Rattle.al_engine_refresh.specs.Stored.{outcome_of};
 ghost use Rattle.al_engine_refresh.specs.Builds.{results_of};
 ghost use Rattle.al_engine_refresh.specs.Found.{contents_findings, findings_of, outcome_findings, told_of};
 
-use crate::KeptEntries;
 use crate::finding::{add, add_all, add_ascending};
+use crate::{Entry, KeptEntries};
 use al_base::{Diagnostic, Name, NoMemory, Place, UnitKey};
-use al_entries::Entry;
 use al_query_outcome::Checked;
 use al_unit_faults::FileFaults;
 use al_unit_graph::{Contents, Header, Sources, kind_of};

@@ -2,8 +2,8 @@
 ghost use Rattle.std.specs.Prelude.{ℕ, List, Option};
 ghost use Rattle.al_base.specs.declared.unit_key.UnitKey.{UnitKey};
 ghost use Rattle.al_unit_graph.specs.Headers.{Header, Library};
-ghost use Rattle.al_entries.specs.EntryLaw.{AllKeepLaw, TextMeaning};
-ghost use Rattle.al_entries.specs.Stored.{Stored};
+ghost use Rattle.al_engine_refresh.specs.EntryLaw.{AllKeepLaw, TextMeaning};
+ghost use Rattle.al_engine_refresh.specs.Stored.{Stored};
 ghost use Rattle.al_engine_refresh.specs.Staying.{staying};
 
 /// Where the entries of before keep the law and those that a build made do, so do those that there are then.

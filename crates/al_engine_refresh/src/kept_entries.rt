@@ -4,14 +4,14 @@ ghost use Rattle.std.specs.Map.{keys_of};
 ghost use Rattle.std.specs.Option.{option_copied};
 ghost use Rattle.al_base.specs.declared.unit_key.UnitKey.{UnitKey};
 ghost use Rattle.al_view.specs.Symbols.{same_unit};
-ghost use Rattle.al_unit_map.specs.Units.{at_unit};
-ghost use Rattle.al_entries.specs.Stored.{log_of};
+ghost use Rattle.al_query_store.specs.Units.{at_unit};
+ghost use Rattle.al_engine_refresh.specs.Stored.{log_of};
 ghost use Rattle.al_engine_refresh.specs.Moves.{has_moved};
 ghost use Rattle.al_query_store.specs.Changes.{AreMarkedAsBefore, ComparesUnit, HasAnswers, with_made};
 ghost use Rattle.al_query_store.specs.Keyed.{Changes, SameStates, base_state, cancelled_state, kept_state, leaving, now_at, settled_state, state, with_reached};
 
+use crate::Entry;
 use al_base::{NoMemory, UnitKey};
-use al_entries::Entry;
 use al_query::Answers;
 use al_query_store::{Held, Store};
 use al_view::copied_unit;
@@ -43,7 +43,7 @@ impl Model for KeptEntries {
     ghost use Rattle.al_base.specs.declared.unit_key.UnitKey.{UnitKey};
     ghost use Rattle.al_view_typed.specs.contracts.expression.Typed as expression;
     ghost use Rattle.al_view_typed.specs.contracts.statement.TypedStatement as statement;
-    ghost use Rattle.al_entries.specs.Stored.{Stored};
+    ghost use Rattle.al_engine_refresh.specs.Stored.{Stored};
     ghost use Rattle.al_query_store.specs.Keyed.{State};
     ghost use Rattle.al_engine_refresh.specs.Moves.{AreQuietBut};
 

@@ -1,7 +1,7 @@
 // Who isn't reached any more, and who leaves, before a build takes the units of an order.
 ghost use Rattle.std.specs.Prelude.{◌≡◌, ◌&&◌, false, not, IfOk, OnOk, is_some};
 ghost use Rattle.al_base.specs.declared.unit_key.UnitKey.{UnitKey};
-ghost use Rattle.al_unit_map.specs.Units.{at_unit};
+ghost use Rattle.al_query_store.specs.Units.{at_unit};
 ghost use Rattle.al_query.specs.Known.{has_unit};
 ghost use Rattle.al_query_store.specs.Keyed.{state};
 ghost use Rattle.al_engine_refresh.specs.Moves.{AreQuiet, IsLeft, has_moved};
@@ -12,8 +12,8 @@ use crate::KeptEntries;
 use crate::moving::{leave, turn};
 use al_base::{NoMemory, UnitKey};
 use al_query::Answers;
+use al_query_store::UnitMap;
 use al_unit_graph::Sources;
-use al_unit_map::UnitMap;
 use al_view::copied_unit;
 use std::alloc::Global;
 

@@ -1,6 +1,8 @@
-//! Checks the units of a library again that an edit reaches, and uses what was kept of the others.
+//! Checks the units of a library again that an edit reaches, and uses the entries that were kept of the others.
 #![tactic(auto)]
 
+pub mod entries_laws;
+mod entry;
 mod files;
 mod finding;
 pub mod found_laws;
@@ -14,6 +16,7 @@ mod present;
 mod refreshed;
 mod unit;
 
+pub use entry::Entry;
 pub use files::findings_of;
 pub use kept_entries::KeptEntries;
 pub use leaving::leave_out;

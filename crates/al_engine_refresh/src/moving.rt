@@ -3,18 +3,17 @@ ghost use Rattle.std.specs.Prelude.{◌≡◌, ℕ, true, false, IfOk, IsTrue, N
 ghost use Rattle.std.specs.Option.{option_map};
 ghost use Rattle.al_base.specs.declared.unit_key.UnitKey.{UnitKey};
 ghost use Rattle.al_view.specs.Symbols.{same_unit};
-ghost use Rattle.al_unit_map.specs.Units.{at_unit};
+ghost use Rattle.al_query_store.specs.Units.{at_unit};
 ghost use Rattle.al_query_store.specs.Changes.{ComparesUnit, HasAnswers, with_made};
 ghost use Rattle.al_query_store.specs.Keyed.{base_state, leaving, now_at, state, with_reached};
-ghost use Rattle.al_entries.specs.Stored.{log_of, outcome_of};
+ghost use Rattle.al_engine_refresh.specs.Stored.{log_of, outcome_of};
 ghost use Rattle.al_engine_refresh.specs.Moves.{IsLeft, has_moved};
 ghost use Rattle.al_engine_refresh.specs.Builds.{present, raised, results_of};
 ghost use Rattle.al_engine_refresh.specs.Moving.{IsCompared, Turned};
 
-use crate::KeptEntries;
 use crate::present::is_predefined;
+use crate::{Entry, KeptEntries};
 use al_base::{NoMemory, UnitKey};
-use al_entries::Entry;
 use al_query::{Answer, Answers, Query};
 use al_query_outcome::no_answer;
 use std::alloc::Global;

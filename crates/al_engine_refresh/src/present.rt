@@ -7,12 +7,11 @@ ghost use Rattle.al_query.specs.Known.{has_unit, predefined_units};
 ghost use Rattle.al_unit_graph.specs.Library.{source_at};
 ghost use Rattle.al_query_store.specs.Keyed.{now_at};
 ghost use Rattle.al_query_outcome.specs.Equations.{entry, is_sound};
-ghost use Rattle.al_entries.specs.Stored.{outcome_of};
+ghost use Rattle.al_engine_refresh.specs.Stored.{outcome_of};
 ghost use Rattle.al_engine_refresh.specs.Builds.{has_sound_dependences, present, results_of, text_of};
 
-use crate::KeptEntries;
+use crate::{Entry, KeptEntries};
 use al_base::{NoMemory, UnitKey};
-use al_entries::Entry;
 use al_query::{Answer, Answers, Query};
 use al_query_outcome::{Checked, no_answer};
 use al_unit_graph::Sources;

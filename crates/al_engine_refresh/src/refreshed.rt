@@ -6,7 +6,7 @@ ghost use Rattle.al_view.specs.Symbols.{same_unit};
 ghost use Rattle.al_query.specs.Known.{has_unit};
 ghost use Rattle.al_query_outcome.specs.Equations.{IsSetting};
 ghost use Rattle.al_query_store.specs.Keyed.{now_at, settled_at};
-ghost use Rattle.al_entries.specs.EntryLaw.{AllKeepLaw};
+ghost use Rattle.al_engine_refresh.specs.EntryLaw.{AllKeepLaw};
 ghost use Rattle.al_engine_refresh.specs.Moves.{AreQuiet, IsLeft, has_moved};
 ghost use Rattle.al_engine_refresh.specs.Staying.{is_there};
 ghost use Rattle.al_engine_refresh.specs.Builds.{IsBuilt, IsOrder, raised, setting};

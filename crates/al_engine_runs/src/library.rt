@@ -2,10 +2,14 @@
 ghost use Rattle.std.specs.Prelude.{◌≡◌};
 
 use crate::files::ToyFiles;
-use crate::printed::{push_counts, push_gave, push_keys, push_ran};
+use crate::predefined::Predefined;
+use crate::printed::{push_counts, push_gave, push_keys, push_ran, push_told};
+use crate::serving::serve;
 use al_base::{NoMemory, Refusal, UnitKey};
 use al_engine::Engine;
-use al_engine_toy::{Packages, Toy};
+use al_engine_toy::Toy;
+use al_session::Served;
+use al_session_served::UnitLibrary;
 use al_tasks::RunReport;
 use std::alloc::Global;
 
@@ -13,7 +17,7 @@ use std::alloc::Global;
 #[derive(Drop)]
 pub(crate) struct Library {
     alloc: Global,
-    engine: Engine<ToyFiles, Toy, Packages>,
+    served: Served<ToyFiles, Toy, Predefined>,
 }
 
 /// What was done at a command, and is to be told.
@@ -24,6 +28,8 @@ pub(crate) enum Done {
     /// A build that made so many checks.
     Built(u64),
     Obsolete,
+    /// A question of the library itself.
+    Told,
     /// A run of at most so many events.
     Run(u64),
 }
@@ -40,11 +46,15 @@ fn given<T>(answer: Result<T, Refusal>) -> Result<Option<T>, NoMemory> {
 impl Library {
     pub fn new(alloc: Global) -> Library {
         ToyFiles::are_read();
-        Packages::are_predefined();
+        Predefined::are_predefined();
         Library {
             alloc,
-            engine: Engine::new(alloc, Toy::new(), Packages { alloc }),
+            served: Served::new(alloc, Toy::new(), Predefined::new(alloc)),
         }
+    }
+
+    fn engine(&self) -> &Engine<ToyFiles, Toy, Predefined> {
+        self.served.engine()
     }
 
     /// Carries out a command. Where memory was wanted and not given nothing but the count of checks is changed.
@@ -55,6 +65,8 @@ impl Library {
             Ok(Done::Run(rest.parse::<u64>().unwrap_or(0)))
         } else if word == "obsolete" {
             Ok(Done::Obsolete)
+        } else if word == "told" {
+            Ok(Done::Told)
         } else {
             self.edit(word, rest)
         }
@@ -66,11 +78,11 @@ impl Library {
         let name = file.as_bytes();
         let edited = if word == "put" {
             let bytes = Vec::from_slice(self.alloc, text.as_bytes())?;
-            self.engine.put(name, bytes)
+            self.served.put(name, bytes)
         } else if word == "delete" {
-            self.engine.delete(name)
+            self.served.delete(name)
         } else if word == "rename" {
-            self.engine.rename(name, text.as_bytes())
+            self.served.rename(name, text.as_bytes())
         } else {
             Err(Refusal::BadCommand)
         };
@@ -82,9 +94,15 @@ impl Library {
 
     /// Builds a main unit.
     fn build(&mut self, main: &str) -> Result<Done, NoMemory> {
-        let before = self.engine.checks();
-        self.engine.build(main.as_bytes())?;
-        Ok(Done::Built(self.engine.checks().saturating_sub(before)))
+        let before = self.engine().checks();
+        self.served.build(main.as_bytes())?;
+        Ok(Done::Built(self.engine().checks().saturating_sub(before)))
+    }
+
+    /// Serves a session over the library, and tells its replies and how it ended.
+    pub fn serve(&mut self, words: &str) -> Result<String, NoMemory> {
+        let replies = serve(self.alloc, &mut self.served, words)?;
+        self.text(replies.as_slice())
     }
 
     /// Tells what was done. Nothing is changed, so it may be told again.
@@ -94,6 +112,7 @@ impl Library {
             Done::Refused => self.text(b"refused\n"),
             Done::Built(more) => self.print_build(more),
             Done::Obsolete => self.print_obsolete(),
+            Done::Told => self.print_told(),
             Done::Run(events) => self.print_run(events),
         }
     }
@@ -106,21 +125,39 @@ impl Library {
     /// What the last build gave, the units that it checked, by how much the count of checks rose, and how many stored answers it compared.
     fn print_build(&self, more: u64) -> Result<String, NoMemory> {
         let mut text = Vec::new(self.alloc);
-        if let Some((main, compiled)) = self.engine.last() {
+        if let Some((main, compiled)) = self.engine().last() {
             push_gave(self.alloc, &mut text, main, compiled)?;
         }
         text.extend_from_slice(b"checked")?;
-        push_keys(&mut text, self.engine.last_checked())?;
-        push_counts(self.alloc, &mut text, more, self.engine.compared())?;
+        push_keys(&mut text, self.engine().last_checked())?;
+        push_counts(self.alloc, &mut text, more, self.engine().compared())?;
         self.text(text.as_slice())
     }
 
     /// The units that are obsolete since the last build.
     fn print_obsolete(&self) -> Result<String, NoMemory> {
-        match given(self.engine.obsolete())? {
+        match given(self.engine().obsolete())? {
             Some(units) => self.print_units(units.as_slice()),
             None => self.text(b"not built\n"),
         }
+    }
+
+    /// What the library holds of its last build.
+    fn print_told(&self) -> Result<String, NoMemory> {
+        let engine = self.engine();
+        let checks = (engine.last_checked().len(), engine.checks());
+        let mut text = Vec::new(self.alloc);
+        match (engine.diagnostics(), engine.image()) {
+            (Ok(found), Ok(program)) => push_told(
+                self.alloc,
+                &mut text,
+                checks,
+                found.len(),
+                program.bytes().len(),
+            )?,
+            _ => text.extend_from_slice(b"no image\n")?,
+        }
+        self.text(text.as_slice())
     }
 
     fn print_units(&self, units: &[UnitKey]) -> Result<String, NoMemory> {
@@ -133,7 +170,7 @@ impl Library {
 
     /// A run of the last build's image, if there is one.
     fn print_run(&self, events: u64) -> Result<String, NoMemory> {
-        match given(self.engine.run(100, events))? {
+        match given(self.engine().run(100, events))? {
             Some(ran) => self.print_ran(&ran),
             None => self.text(b"no image\n"),
         }

@@ -1,13 +1,16 @@
 //! Builds libraries of the toy language, edit by edit, and tells what each build gives, which units it checked, how often it asked
 //! for a check, and how many stored answers it compared. A line is a command: `put FILE TEXT`, `delete FILE`, `rename OLD NEW`,
-//! `build MAIN`, `run EVENTS`, `obsolete`. A command that finds no memory is tried once more.
+//! `build MAIN`, `run EVENTS`, `obsolete`, `told`. A command that finds no memory is tried once more. `serve COMMANDS PULLS MOST TEXT` is
+//! a session over the library within these bounds, which answers itself that there was no memory.
 #![tactic(auto)]
 
 ghost use Rattle.std.specs.Prelude.{◌≡◌};
 
 mod files;
 mod library;
+mod predefined;
 mod printed;
+mod serving;
 
 use crate::library::{Done, Library};
 use std::alloc::AllocError;
@@ -35,12 +38,28 @@ fn tell(library: &Library, done: Done) -> Result<String, AllocError> {
     }
 }
 
+/// Serves a session.
+fn serve(library: &mut Library, words: &str) -> Result<String, AllocError> {
+    match library.serve(words) {
+        Ok(printed) => Ok(printed),
+        Err(_) => Err(AllocError),
+    }
+}
+
+/// Carries out a command, and tells what was done.
+fn carried_out(library: &mut Library, word: &str, rest: &str) -> Result<String, AllocError> {
+    if word == "serve" {
+        return serve(library, rest);
+    }
+    let done = act(library, word, rest)?;
+    tell(library, done)
+}
+
 /// Carries out the commands of these lines, and prints what they give.
 fn carry_out(rt: HostRuntime, library: &mut Library, text: &str) -> io::Result<()> {
     for line in text.lines() {
         let (word, rest) = line.split_once(' ').unwrap_or((line, ""));
-        let done = act(library, word, rest)?;
-        let printed = tell(library, done)?;
+        let printed = carried_out(library, word, rest)?;
         rt.print(printed)?;
     }
     Ok(())

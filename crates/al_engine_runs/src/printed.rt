@@ -88,6 +88,22 @@ pub(crate) fn push_counts(
     Ok(())
 }
 
+/// What a library holds of a build: how many units it checked, how many checks were made ever, how many things are wrong, and the image's size.
+pub(crate) fn push_told(
+    alloc: Global,
+    text: &mut Vec<u8>,
+    checks: (usize, u64),
+    found: usize,
+    bytes: usize,
+) -> Result<(), NoMemory> {
+    let (last, ever) = checks;
+    let told = format!(in alloc;
+        "{last} checked, {ever} ever, {found} found, {bytes} bytes of an image\n"
+    )?;
+    text.extend_from_slice(told.as_bytes())?;
+    Ok(())
+}
+
 fn reason_text(reason: Reason) -> &'static str {
     match reason {
         Reason::Depends => " by depends",

@@ -2,8 +2,8 @@
 use Rattle.std.specs.Prelude.{ℕ, ◌++◌, List, codes}
 use Rattle.std.specs.List.{flat_map}
 use Rattle.al_base.specs.Batch.{Key}
-use Rattle.al_base_order.specs.declared.edge.Reason.{Reason}
-use Rattle.al_base_order.specs.declared.edge.Reason.TheVariants.{Depends, Elaborate, ElaborateAll}
+use Rattle.al_base_graph.specs.declared.edge.Reason.{Reason}
+use Rattle.al_base_graph.specs.declared.edge.Reason.TheVariants.{Depends, Elaborate, ElaborateAll}
 use Rattle.al_folder.specs.Parts.{part_words}
 
 -- a part of a program that is wanting, by its name

@@ -6,7 +6,7 @@ ghost use Rattle.al_session_stream.specs.Output.{Adds};
 ghost use Rattle.al_folder.specs.Faults.{no_main, no_body, no_subunit, too_large, reason_words, step_line, cycle_text};
 
 use crate::parts::emit_part;
-use al_base_order::Reason;
+use al_base_graph::Reason;
 use al_bind::Line;
 use al_session_stream::{Device, Sink, emit};
 

@@ -1,5 +1,5 @@
-//! What a program that reads folders of Ada sources takes its words for, and how it shows a place in a text: names of sources and of
-//! the main unit, numbers, lines, and the caret under a place.
+//! What a program that reads folders of Ada sources takes its words for, and how it tells what came of them: names of sources and of
+//! the main unit, numbers, lines, the caret under a place, and the texts of its replies.
 #![tactic(auto)]
 
 mod diagnostics;

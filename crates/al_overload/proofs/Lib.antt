@@ -1,8 +1,16 @@
 pub mod Added
 pub mod ChainLemmas
 pub mod Counting
+pub mod Gathered
+pub mod HeadsChainLemmas
+pub mod HeadsMade
+pub mod LawLemmas
 pub mod Lists
 pub mod MeaningLemmas
+pub mod PartLemmas
 pub mod PickLemmas
 pub mod Preferred
 pub mod RangeLemmas
+pub mod Standing
+pub mod TermsMade
+pub mod TermsSeen

@@ -1,4 +1,11 @@
 pub mod Booleans
-pub mod Operands
+pub mod ChainLemmas
+pub mod Gathered
+pub mod KnownLemmas
+pub mod OperandLabels
+pub mod OperandsThere
+pub mod PairMade
 pub mod Seen
+pub mod TermKinds
 pub mod TermsSeen
+pub mod Wholes

@@ -2,7 +2,7 @@
 use Rattle.std.specs.Prelude.{ℕ, Bool, ◌&&◌, List, Option, Some, None, option_map, unwrap_or, if◌then◌else◌}
 use Rattle.std.specs.Option.{option_and_then, option_or}
 use Rattle.al_overload.specs.Labelling.{Label}
-use Rattle.al_overload_heads.specs.Terms.{TermTree, TermTree as t}
+use Rattle.al_overload.specs.Terms.{TermTree, TermTree as t}
 use Rattle.al_view_typed.specs.declared.label.Conversion.{Conversion}
 use Rattle.al_view_typed.specs.declared.label.Conversion.TheVariants as conversions
 use Rattle.al_view.specs.Symbols.{same_symbol}
@@ -13,10 +13,10 @@ use Rattle.al_view.specs.declared.view.SubprogramView.{SubprogramView}
 use Rattle.al_view.specs.declared.view.SubtypeView.{SubtypeView}
 use Rattle.al_view.specs.declared.view.ViewKind.{ViewKind}
 use Rattle.al_view.specs.declared.view.ViewKind.TheVariants as views
-use Rattle.al_overload_heads.specs.Parts.{declared_under, part_of}
-use Rattle.al_overload_heads.specs.Universal.{computes_one, computes_two, is_universal}
-use Rattle.al_overload_heads.specs.declared.everywhere.Predefined.{Predefined}
-use Rattle.al_overload_heads.specs.declared.part.Nominal.{Nominal}
+use Rattle.al_overload.specs.Parts.{declared_under, part_of}
+use Rattle.al_overload.specs.Universal.{computes_one, computes_two, is_universal}
+use Rattle.al_overload.specs.declared.everywhere.Predefined.{Predefined}
+use Rattle.al_overload.specs.declared.part.Nominal.{Nominal}
 use Rattle.al_overload.specs.Labels.{is_root_in, number_in, operand_label}
 use Rattle.al_overload_nodes.specs.Operators.{picked_subprogram, root_result}
 use Rattle.al_overload.specs.Picks.{pick}

@@ -32,9 +32,9 @@ use Rattle.al_view.specs.declared.view.SubprogramView.{SubprogramView}
 use Rattle.al_view.specs.declared.view.SubtypeView.{SubtypeView}
 use Rattle.al_view.specs.declared.view.ViewKind.{ViewKind}
 use Rattle.al_view.specs.declared.view.ViewKind.TheVariants as views
-use Rattle.al_overload_heads.specs.Universal.{is_position}
-use Rattle.al_overload_heads.specs.declared.everywhere.Predefined.{Predefined}
-use Rattle.al_overload_heads.specs.declared.part.Nominal.{Nominal}
+use Rattle.al_overload.specs.Universal.{is_position}
+use Rattle.al_overload.specs.declared.everywhere.Predefined.{Predefined}
+use Rattle.al_overload.specs.declared.part.Nominal.{Nominal}
 use Rattle.al_overload_nodes.specs.Calls.{call_node, with_actual}
 use Rattle.al_overload_nodes.specs.Gathering.{Parts, no_parts, with_part}
 use Rattle.al_overload.specs.Labels.{number_in, operand_label}

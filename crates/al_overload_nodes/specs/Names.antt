@@ -9,7 +9,7 @@ use Rattle.al_base_fault.specs.declared.fault.Fault.{Fault}
 use Rattle.al_overload.specs.Meanings.{nothing_fits}
 use Rattle.al_static.specs.Combining.{failure_in, named}
 use Rattle.al_static.specs.declared.knowledge.Known.TheVariants.{Open}
-use Rattle.al_overload_heads.specs.Terms.{TermTree, TermTree as t}
+use Rattle.al_overload.specs.Terms.{TermTree, TermTree as t}
 use Rattle.al_view_typed.specs.ExpressionTrees.{TypedTree, FormTree, NameTree}
 use Rattle.al_view_typed.specs.FormNames.{name_in as form_name}
 use Rattle.al_view_typed.specs.ExpressionTrees.TypedTree.{Labelled}
@@ -22,7 +22,7 @@ use Rattle.al_view.specs.declared.types.TypeView.{TypeView}
 use Rattle.al_view.specs.declared.view.ObjectView.{ObjectView}
 use Rattle.al_view.specs.declared.view.ViewKind.{ViewKind}
 use Rattle.al_view.specs.declared.view.ViewKind.TheVariants as views
-use Rattle.al_overload_heads.specs.declared.part.Nominal.{Nominal}
+use Rattle.al_overload.specs.declared.part.Nominal.{Nominal}
 use Rattle.al_overload_nodes.specs.Nodes.{ReadingTree, misfit, node}
 use Rattle.al_overload.specs.PickedTypes.{Indexing, component_at, range_in, words_in}
 

@@ -18,7 +18,7 @@ use Rattle.al_view.specs.declared.view.Parameter.{Parameter}
 use Rattle.al_view.specs.declared.view.SubprogramView.{SubprogramView}
 use Rattle.al_view.specs.declared.view.ViewKind.{ViewKind}
 use Rattle.al_view.specs.declared.view.ViewKind.TheVariants as views
-use Rattle.al_overload_heads.specs.declared.everywhere.Predefined.{Predefined}
+use Rattle.al_overload.specs.declared.everywhere.Predefined.{Predefined}
 use Rattle.al_overload.specs.Labels.{is_root_in, number_in}
 use Rattle.al_overload_nodes.specs.Nodes.{ReadingTree, node}
 use Rattle.al_overload.specs.Picks.{pick}

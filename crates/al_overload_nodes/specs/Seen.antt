@@ -1,6 +1,6 @@
 -- What the program's values are as plain data.
 use Rattle.std.specs.Option.{option_copied}
-use Rattle.al_overload_heads.specs.Parts.{nominal}
+use Rattle.al_overload.specs.Parts.{nominal}
 use Rattle.al_overload_nodes.specs.declared.leaf.Application.{Application}
 use Rattle.al_overload_nodes.specs.declared.leaf.Application.TheVariants as a
 use Rattle.al_overload_nodes.specs.declared.determined.DeterminedType.{DeterminedType}

@@ -2,17 +2,17 @@
 ghost use Rattle.std.specs.Prelude.{◌≡◌, ◌&&◌, option_map};
 ghost use Rattle.std.specs.Option.{option_and_then, option_or};
 ghost use Rattle.al_overload.specs.Counts.{label_of};
-ghost use Rattle.al_overload_heads.specs.Parts.{declared_under, nominal, part_of};
-ghost use Rattle.al_overload_heads.specs.Universal.{computes_one, computes_two, is_universal};
+ghost use Rattle.al_overload.specs.Parts.{declared_under, nominal, part_of};
+ghost use Rattle.al_overload.specs.Universal.{computes_one, computes_two, is_universal};
 ghost use Rattle.al_overload_nodes.specs.Operators.{root_result};
-ghost use Rattle.al_overload_heads.specs.TermViews.{term_model};
+ghost use Rattle.al_overload.specs.TermViews.{term_model};
 ghost use Rattle.al_overload_nodes.specs.Seen.{told_model};
 ghost use Rattle.al_overload_nodes.specs.FromAnswers.{among, attribute_type, everywhere, mark_told, operand_type, operator_type, pair_type, part_type, range_type, result_of, test_type, type_of_view, type_picked, type_told, types_in};
 
 use crate::{Labeller, picked_subprogram, root_result};
-use al_overload::{Labelled, is_root_in, number_in, operand_label, pick};
-use al_overload_heads::{
-    Term, computes_one, computes_two, declared_under, is_position, is_sole_number, part_of,
+use al_overload::{
+    Labelled, Term, computes_one, computes_two, declared_under, is_position, is_root_in,
+    is_sole_number, number_in, operand_label, part_of, pick,
 };
 use al_view::{SubprogramView, Subtype, SubtypeView, Symbol, Types, View, ViewKind};
 use al_view_predefined::StandardTypes;

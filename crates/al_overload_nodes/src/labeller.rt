@@ -1,5 +1,5 @@
 // What is the same for all terms of a body.
-use al_overload_heads::Predefined;
+use al_overload::Predefined;
 use al_view::Symbol;
 use std::alloc::Global;
 

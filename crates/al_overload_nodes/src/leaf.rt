@@ -2,10 +2,10 @@
 ghost use Rattle.std.specs.Prelude.{◌≡◌, IfOk, OnOk};
 ghost use Rattle.std.specs.Option.{option_copied};
 ghost use Rattle.al_overload.specs.Counts.{label_of};
-ghost use Rattle.al_overload_heads.specs.Parts.{declared_under, nominal, part_of};
+ghost use Rattle.al_overload.specs.Parts.{declared_under, nominal, part_of};
 ghost use Rattle.al_base_fault.specs.Judging.{map_ok};
 ghost use Rattle.al_overload.specs.declared.context.Context.TheVariants as contexts;
-ghost use Rattle.al_overload_heads.specs.TermViews.{term_model};
+ghost use Rattle.al_overload.specs.TermViews.{term_model};
 ghost use Rattle.al_view_typed.specs.ExpressionViews.{form_model, typed_model, value_model};
 ghost use Rattle.al_overload_nodes.specs.Seen.{application_model};
 ghost use Rattle.al_overload_nodes.specs.Leaves.{aggregate_node, application, applied_view, argument_check, argument_type, attribute_node, bound_node, bound_word, candidate_node, checked, component_in, component_of_type, in_bounds_node, in_mark_node, length_known, length_node, mark_node, mark_type, named_node, others_form, others_of, view_node, with_value};
@@ -15,9 +15,9 @@ use crate::{Actuals, Labeller, Reading, Values, misfit};
 use al_base::{NoMemory, Place};
 use al_base_fault::{CheckResult, unless};
 use al_overload::{
-    Context, Labelled, count_of, length_of, number_in, pick, positions_in, range_in, value_type,
+    Context, Labelled, Nominal, Term, count_of, declared_under, is_position, length_of, number_in,
+    part_of, pick, positions_in, range_in, value_type,
 };
-use al_overload_heads::{Nominal, Term, declared_under, is_position, part_of};
 use al_static::Known;
 use al_view::{
     Bounds, ObjectView, StaticValue, SubprogramView, Subtype, SubtypeView, Symbol, TypeDefinition,

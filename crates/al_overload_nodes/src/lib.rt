@@ -1,16 +1,29 @@
-//! What the labelled trees of terms are put together from (ARM 4, 8.6): nodes with their labels and what is known of their values.
+//! What the labelled trees of terms are put together from (ARM 4, 8.6): nodes with their labels and what is known of their values, and
+//! the trees of whole expressions.
 #![tactic(auto)]
 
 mod call;
+mod chain;
+mod context;
 mod determined;
 mod gather;
 mod labeller;
 mod leaf;
+mod made;
+mod meaning;
 mod name;
 mod node;
+mod operands;
 mod operator;
+mod pair;
+mod range;
+mod reading;
+mod staticness;
+mod universal;
+mod variable;
 
 pub use call::{add_actual, unless_variable};
+pub use context::{check_call, check_static_term, check_target, check_term, read_call, read_term};
 pub use determined::{
     DeterminedType, among, are_universal, everywhere, is_computed, pair_type, range_type,
     test_type, type_told, types_in,
@@ -25,3 +38,7 @@ pub use leaf::{
 pub use name::{is_variable, no_variable};
 pub use node::{Reading, checked, faulty, grouped, misfit};
 pub use operator::{Signature, picked_subprogram, root_result};
+pub use range::{
+    DeterminedValue, FoundType, Pair, check_bounds, check_selector, check_static_bounds,
+};
+pub use variable::{nominal, target_part};

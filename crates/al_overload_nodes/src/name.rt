@@ -1,8 +1,8 @@
 // Names of objects and of their parts (ARM 4.1).
 ghost use Rattle.std.specs.Prelude.{◌≡◌, IfOk, option_map};
 ghost use Rattle.al_base_fault.specs.Judging.{both, next, map_ok};
-ghost use Rattle.al_overload_heads.specs.Parts.{nominal};
-ghost use Rattle.al_overload_heads.specs.TermViews.{term_model};
+ghost use Rattle.al_overload.specs.Parts.{nominal};
+ghost use Rattle.al_overload.specs.TermViews.{term_model};
 ghost use Rattle.al_view_typed.specs.ExpressionViews.{form_model, name_model, typed_model};
 ghost use Rattle.al_overload_nodes.specs.Names.{as_name, component_form, component_node, element_form, element_node, is_sole_variable, is_variable, is_variable_view, name_in, name_of, no_variable, object_node, selected_in, selected_node};
 ghost use Rattle.al_overload.specs.PickedTypes.{indexing_of};
@@ -12,8 +12,7 @@ use crate::labeller::Labeller;
 use crate::node::{Reading, misfit};
 use al_base::{NoMemory, Place};
 use al_base_fault::{CheckResult, CheckRule, Fault, both, earlier};
-use al_overload::{Indexing, component_at, nothing_fits, range_in, words_in};
-use al_overload_heads::Term;
+use al_overload::{Indexing, Term, component_at, nothing_fits, range_in, words_in};
 use al_static::Known;
 use al_view::{Bounds, ObjectView, Subtype, Types, View, ViewKind};
 use al_view_typed::{Form, Typed, TypedName};

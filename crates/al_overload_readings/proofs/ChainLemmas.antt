@@ -6,8 +6,8 @@ use Rattle.al_overload_lookup.specs.Keys.{Denotations}
 use Rattle.al_overload_readings.specs.Readings.{ReadTree, valued}
 use Rattle.al_overload_readings.specs.Steps.{joined_read}
 use Rattle.al_tree_syntax.specs.ExpressionTrees.{ExpressionTree}
-use Rattle.al_overload_heads.specs.Terms.{TermTree}
-use Rattle.al_overload_heads.specs.TermViews.{term_model}
+use Rattle.al_overload.specs.Terms.{TermTree}
+use Rattle.al_overload.specs.TermViews.{term_model}
 use Rattle.al_overload_readings.proofs.ReadLemmas.{infix_read}
 use Rattle.al_overload_readings.specs.Chains.{chained, joint_read}
 use Rattle.al_overload_readings.specs.Texts.{read}

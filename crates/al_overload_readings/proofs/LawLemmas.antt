@@ -10,7 +10,7 @@ use Rattle.al_overload_lookup.specs.Places.{place_of}
 use Rattle.al_overload_readings.specs.Readings.{ReadTree, ReadTree as reads, named, valued}
 use Rattle.al_overload_readings.specs.Signs.{joined, prefixed}
 use Rattle.al_overload_readings.specs.Steps.{joined_read, prefixed_read}
-use Rattle.al_overload_heads.specs.Terms.{TermTree}
+use Rattle.al_overload.specs.Terms.{TermTree}
 use Rattle.al_overload_readings.specs.Laws.{FirstFaultsAreReported, MissingNamesAreReported, OwnFaultsAreReported}
 use Rattle.al_overload_readings.specs.Texts.{noted, term_of}
 

@@ -1,14 +1,14 @@
 -- Attributes, and what they stand after (ARM 3.5, 3.5.5, 3.6.2).
 use Rattle.std.specs.Prelude.{ℕ, Bool, true, false, ◌&&◌, List, [], Option, Some, None, option_map, unwrap_or, codes, if◌then◌else◌}
 use Rattle.std.specs.Str.{bytes_eq}
-use Rattle.al_overload_heads.specs.Parts.{part_of}
-use Rattle.al_overload_heads.specs.declared.part.Nominal.{Nominal}
+use Rattle.al_overload.specs.Parts.{part_of}
+use Rattle.al_overload.specs.declared.part.Nominal.{Nominal}
 use Rattle.al_overload.specs.PickedTypes.{Indexing, indexing, is_scalar_type}
 use Rattle.al_overload_readings.specs.declared.attribute.Attribute.{Attribute}
 use Rattle.al_overload_readings.specs.declared.attribute.Attribute.TheVariants as attributes
 use Rattle.al_overload_readings.specs.declared.prefix.Prefix.{Prefix}
 use Rattle.al_overload_readings.specs.declared.prefix.Prefix.TheVariants as prefixes
-use Rattle.al_overload_heads.specs.Terms.{TermTree, TermTree as terms, TermsTree, TermsTree as more}
+use Rattle.al_overload.specs.Terms.{TermTree, TermTree as terms, TermsTree, TermsTree as more}
 use Rattle.al_view.specs.declared.symbol.Symbol.{Symbol}
 use Rattle.al_view.specs.declared.types.Bounds.{Bounds}
 use Rattle.al_view.specs.declared.types.TypeView.{TypeView}

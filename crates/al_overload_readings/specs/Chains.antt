@@ -5,8 +5,8 @@ use Rattle.al_base_fault.specs.declared.fault.Fault.{Fault}
 use Rattle.al_overload_lookup.specs.Keys.{Denotations}
 use Rattle.al_overload_readings.specs.Readings.{valued}
 use Rattle.al_overload_readings.specs.Steps.{joined_read}
-use Rattle.al_overload_heads.specs.Terms.{TermTree}
-use Rattle.al_overload_heads.specs.TermViews.{term_model}
+use Rattle.al_overload.specs.Terms.{TermTree}
+use Rattle.al_overload.specs.TermViews.{term_model}
 use Rattle.al_overload_readings.specs.declared.chain.Joint.{Joint}
 use Rattle.al_overload_readings.specs.Noted.{NotedTree, linked, noted_model}
 use Rattle.al_overload_readings.specs.Texts.{noted}

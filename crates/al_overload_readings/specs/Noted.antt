@@ -12,8 +12,8 @@ use Rattle.al_overload_readings.specs.ReadingViews.{reading_model}
 use Rattle.al_overload_readings.specs.Readings.{ReadTree, callable, marking, selected}
 use Rattle.al_overload_readings.specs.Steps.{applied_read, applied_to_read, qualified_read, with_attribute, with_range}
 use Rattle.al_overload_readings.specs.TermLists.{all_model}
-use Rattle.al_overload_heads.specs.Terms.{TermTree, TermTree as terms}
-use Rattle.al_overload_heads.specs.TermViews.{term_model}
+use Rattle.al_overload.specs.Terms.{TermTree, TermTree as terms}
+use Rattle.al_overload.specs.TermViews.{term_model}
 use Rattle.al_overload_readings.specs.declared.name.Link.{Link}
 use Rattle.al_overload_readings.specs.declared.name.Link.TheVariants as links
 use Rattle.al_overload_readings.specs.declared.name.Noted.{Noted}

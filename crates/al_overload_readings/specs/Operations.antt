@@ -4,7 +4,7 @@ use Rattle.std.specs.List.{flat_map}
 use Rattle.std.specs.Str.{bytes_eq}
 use Rattle.al_base.specs.declared.place.Place.{Place}
 use Rattle.al_overload_lookup.specs.Keys.{is_none}
-use Rattle.al_overload_heads.specs.Terms.{TermTree, TermTree as terms}
+use Rattle.al_overload.specs.Terms.{TermTree, TermTree as terms}
 use Rattle.al_view.specs.declared.view.Operation.{Operation}
 use Rattle.al_view.specs.declared.view.ProtectedView.{ProtectedView}
 use Rattle.al_view.specs.declared.view.ViewKind.{ViewKind}

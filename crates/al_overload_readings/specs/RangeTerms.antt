@@ -4,8 +4,8 @@ use Rattle.al_base_fault.specs.Judging.{both, map_ok}
 use Rattle.al_base_fault.specs.declared.fault.Fault.{Fault}
 use Rattle.al_overload_lookup.specs.Keys.{Denotations}
 use Rattle.al_tree_syntax.specs.DeclarationTrees.{DiscreteRangeTree, DiscreteRangeTree as ranges, RangeTree}
-use Rattle.al_overload_heads.specs.Terms.{TermTree}
-use Rattle.al_overload_heads.specs.TermViews.{term_model}
+use Rattle.al_overload.specs.Terms.{TermTree}
+use Rattle.al_overload.specs.TermViews.{term_model}
 use Rattle.al_overload_readings.specs.Texts.{mark_of_text, one_range, read, term_of}
 use Rattle.al_overload_readings.specs.declared.range.RangeTerm.{RangeTerm}
 use Rattle.al_overload_readings.specs.declared.range.RangeTerm.TheVariants as variants

@@ -1,5 +1,5 @@
 -- What the program's readings are as plain data.
-use Rattle.al_overload_heads.specs.TermViews.{term_model}
+use Rattle.al_overload.specs.TermViews.{term_model}
 use Rattle.al_overload_readings.specs.Readings.{ReadTree, ReadTree as trees}
 use Rattle.al_overload_readings.specs.declared.reading.Reading.{Reading}
 use Rattle.al_overload_readings.specs.declared.reading.Reading.TheVariants as readings

@@ -9,9 +9,9 @@ use Rattle.al_base_fault.specs.Judging.{both, next, map_ok}
 use Rattle.al_base_fault.specs.declared.fault.Fault.{Fault}
 use Rattle.al_overload_lookup.specs.Keys.{Denotations, dotted, is_none, not_visible}
 use Rattle.al_overload.specs.Candidates.{is_no_value}
-use Rattle.al_overload_heads.specs.Places.{first_place}
-use Rattle.al_overload_heads.specs.Terms.{TermTree, TermTree as terms, TermsTree, TermsTree as more}
-use Rattle.al_overload_heads.specs.TermViews.{terms_of}
+use Rattle.al_overload.specs.Places.{first_place}
+use Rattle.al_overload.specs.Terms.{TermTree, TermTree as terms, TermsTree, TermsTree as more}
+use Rattle.al_overload.specs.TermViews.{terms_of}
 use Rattle.al_overload_readings.specs.Attributes.{name_prefix, term_prefix}
 use Rattle.al_overload_readings.specs.Marks.{mark_in}
 use Rattle.al_overload_readings.specs.Operations.{operation_of, protected_in}

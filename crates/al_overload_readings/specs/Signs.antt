@@ -3,7 +3,7 @@ use Rattle.std.specs.Prelude.{ℕ, List, codes}
 use Rattle.al_base.specs.declared.place.Place.{Place}
 use Rattle.al_overload_lookup.specs.Places.{prefix_place}
 use Rattle.al_tree_syntax.specs.ExpressionTrees.{Prefix, Prefix as prefix, Sign, Sign as sign, Operator, Operator as o, LogicalOperator, LogicalOperator as l, RelationalOperator, RelationalOperator as r, AddingOperator, AddingOperator as a, MultiplyingOperator, MultiplyingOperator as m}
-use Rattle.al_overload_heads.specs.Terms.{TermTree, TermTree as terms}
+use Rattle.al_overload.specs.Terms.{TermTree, TermTree as terms}
 use Rattle.al_view_typed.specs.declared.label.BinaryOperator.{BinaryOperator}
 use Rattle.al_view_typed.specs.declared.label.BinaryOperator.TheVariants as binary
 use Rattle.al_view_typed.specs.declared.label.ShortCircuit.TheVariants as short

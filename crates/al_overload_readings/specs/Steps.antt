@@ -8,8 +8,8 @@ use Rattle.al_overload_readings.specs.Readings.{ReadTree, ReadTree as reads, app
 use Rattle.al_overload_readings.specs.Signs.{joined, prefixed}
 use Rattle.al_overload_readings.specs.declared.attribute.Attribute.{Attribute}
 use Rattle.al_tree_syntax.specs.ExpressionTrees.{Operator, Prefix}
-use Rattle.al_overload_heads.specs.Terms.{TermTree, TermTree as terms}
-use Rattle.al_overload_heads.specs.TermViews.{terms_of}
+use Rattle.al_overload.specs.Terms.{TermTree, TermTree as terms}
+use Rattle.al_overload.specs.TermViews.{terms_of}
 use Rattle.al_view.specs.declared.view.SubtypeView.{SubtypeView}
 
 unfoldable pub prefixed_read : Denotations → Prefix → Result TermTree Fault → Result ReadTree Fault

@@ -8,7 +8,7 @@ use Rattle.al_overload_lookup.specs.Keys.{Denotations}
 use Rattle.al_overload_lookup.specs.Places.{place_of}
 use Rattle.al_overload_lookup.specs.Places as texts
 use Rattle.al_tree_syntax.specs.ExpressionTrees.{ExpressionTree, ExpressionTree as e, ExpressionsTree, ExpressionsTree as es, GroupTree, GroupTree as g, PartTree, PartTree as part, Operator, Prefix}
-use Rattle.al_overload_heads.specs.Terms.{TermTree, TermTree as terms}
+use Rattle.al_overload.specs.Terms.{TermTree, TermTree as terms}
 use Rattle.al_overload_readings.specs.Readings.{ReadTree, ReadTree as reads, marking, named, ranging, valued, wrong_kind}
 use Rattle.al_overload_readings.specs.Steps.{added, aggregated, grouped, joined_read, member_read, prefixed_read, range_member_read, repeated, started}
 use Rattle.al_overload_readings.specs.Noted.{NotedTree, attributed, plain, qualifying, ranged, settled, with_argument, with_arguments, with_selector}

@@ -2,13 +2,13 @@
 ghost use Rattle.std.specs.Prelude.{◌≡◌, IfOk};
 ghost use Rattle.al_base_fault.specs.Judging.{map_ok};
 ghost use Rattle.al_overload_lookup.specs.Keys.{denoted};
-ghost use Rattle.al_overload_heads.specs.TermViews.{term_model};
+ghost use Rattle.al_overload.specs.TermViews.{term_model};
 ghost use Rattle.al_overload_readings.specs.Chains.{chained};
 
 use crate::{as_value, join};
 use al_base::NoMemory;
 use al_base_fault::CheckResult;
-use al_overload_heads::Term;
+use al_overload::Term;
 use al_overload_lookup::Names;
 use al_tree::InfixOperator;
 use std::alloc::Global;

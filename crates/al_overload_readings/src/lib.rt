@@ -1,4 +1,4 @@
-//! What an expression may be until what stands round it is known, and what is joined of its parts; E401 and E404 (ARM 4.1 to 4.7).
+//! What an expression may be until what stands round it is known, and the terms of its text; E401 and E404 (ARM 4.1 to 4.7).
 #![tactic(auto)]
 
 mod attribute;

@@ -1,12 +1,12 @@
 // Names, part after part (ARM 4.1).
 ghost use Rattle.std.specs.Prelude.{◌≡◌, IfOk, ◌∷◌, [], map};
-ghost use Rattle.al_overload_heads.specs.Terms.{TermTree as terms};
+ghost use Rattle.al_overload.specs.Terms.{TermTree as terms};
 ghost use Rattle.al_base_fault.specs.Faults.{earlier};
 ghost use Rattle.al_base_fault.specs.Judging.{fault_in, map_ok};
 ghost use Rattle.al_overload_lookup.specs.Keys.{denoted};
 ghost use Rattle.al_overload_readings.specs.ReadingViews.{reading_model};
 ghost use Rattle.al_overload_readings.specs.TermLists.{all_model};
-ghost use Rattle.al_overload_heads.specs.TermViews.{term_model};
+ghost use Rattle.al_overload.specs.TermViews.{term_model};
 ghost use Rattle.al_overload_readings.specs.Noted.{all_linked, all_or_nothing, linked, noted_model, or_nothing, plain, settled, with_argument, with_arguments, qualifying};
 
 use crate::{
@@ -14,7 +14,7 @@ use crate::{
 };
 use al_base::{NoMemory, Place};
 use al_base_fault::{CheckResult, Fault, earlier, unless};
-use al_overload_heads::Term;
+use al_overload::Term;
 use al_overload_lookup::Names;
 use al_tree::{Expression, Identifier};
 use al_view_predefined::StandardTypes;

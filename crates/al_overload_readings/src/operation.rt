@@ -1,12 +1,12 @@
 // Operations of protected objects after the object's name (ARM 9.5, 4.1.3).
 ghost use Rattle.std.specs.Prelude.{◌≡◌, ◌++◌, IfOk, OnOk};
 ghost use Rattle.std.specs.Option.{option_copied};
-ghost use Rattle.al_overload_heads.specs.TermViews.{term_model};
+ghost use Rattle.al_overload.specs.TermViews.{term_model};
 ghost use Rattle.al_overload_readings.specs.Operations.{called, named_so, operation_of, operations_named, protected_in, protected_of};
 
 use crate::copied::copied_subprogram;
 use al_base::{NoMemory, Place};
-use al_overload_heads::Term;
+use al_overload::Term;
 use al_overload_lookup::is_none;
 use al_view::{Operation, ProtectedView, View, ViewKind, Views};
 use std::alloc::Global;

@@ -3,7 +3,7 @@ ghost use Rattle.std.specs.Prelude.{◌≡◌, IfOk};
 ghost use Rattle.al_overload_readings.specs.Pairs.{together};
 
 use al_base::NoMemory;
-use al_overload_heads::Term;
+use al_overload::Term;
 use std::alloc::Global;
 
 /// Two things that each want memory: both where both were made.

@@ -1,12 +1,11 @@
 // What attributes stand after (ARM 4.1.4).
 ghost use Rattle.std.specs.Prelude.{◌≡◌, IfOk, map, option_map};
-ghost use Rattle.al_overload_heads.specs.Parts.{nominal};
-ghost use Rattle.al_overload_heads.specs.TermViews.{term_model, terms_of};
+ghost use Rattle.al_overload.specs.Parts.{nominal};
+ghost use Rattle.al_overload.specs.TermViews.{term_model, terms_of};
 ghost use Rattle.al_overload_readings.specs.Attributes.{array_of, index_view, is_indexed_by_one, is_one, mark_prefix, name_prefix, part_prefix, scalar_prefix, term_prefix};
 
 use al_base::NoMemory;
-use al_overload::{how_indexed, is_scalar_type};
-use al_overload_heads::{Term, part_of};
+use al_overload::{Term, how_indexed, is_scalar_type, part_of};
 use al_view::{Bounds, Subtype, SubtypeView, Symbol, Types};
 use al_view_predefined::{StandardTypes, no_names};
 use std::alloc::Global;
@@ -113,7 +112,7 @@ fn is_one(arguments: &[Term]) -> bool
 }
 
 /// Whether each index in a part's name is one value.
-#[tactic(auto, using(al_overload_heads::proofs::TermsSeen::terms_made), unfolding(crate::specs::Attributes::is_indexed_by_one))]
+#[tactic(auto, using(al_overload::proofs::TermsSeen::terms_made), unfolding(crate::specs::Attributes::is_indexed_by_one))]
 fn is_indexed_by_one(term: &Term) -> bool
     ensures { result ≡ is_indexed_by_one (term_model term.now) }
 {

@@ -10,7 +10,7 @@ use crate::text::{mark_of_text, one_range, term_of};
 use crate::{bounds, together};
 use al_base::NoMemory;
 use al_base_fault::{CheckResult, both};
-use al_overload_heads::Term;
+use al_overload::Term;
 use al_overload_lookup::Names;
 use al_tree::{DiscreteRange, Range};
 use al_view::SubtypeView;

@@ -1,13 +1,13 @@
 // Operators as terms have them (ARM 4.5).
 ghost use Rattle.std.specs.Prelude.{◌≡◌, IfOk};
 ghost use Rattle.al_overload_lookup.specs.Keys.{denoted};
-ghost use Rattle.al_overload_heads.specs.TermViews.{term_model};
+ghost use Rattle.al_overload.specs.TermViews.{term_model};
 ghost use Rattle.al_overload_readings.specs.Signs.{joined, joined_adding, joined_logical, looked_up, multiplying_of, prefixed, relational_of, unary_of};
 ghost use Rattle.al_tree.specs.ExpressionViews.{adding_model, logical_model, multiplying_model, operator_model, prefix_model, relational_model};
 
 use crate::pair::{boxed, boxed_pair, together};
 use al_base::NoMemory;
-use al_overload_heads::Term;
+use al_overload::Term;
 use al_overload_lookup::{Names, prefix_place};
 use al_tree::{
     AddingOperator, InfixOperator, LogicalOperator, MultiplyingOperator, PrefixOperator,

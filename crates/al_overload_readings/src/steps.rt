@@ -2,7 +2,7 @@
 ghost use Rattle.std.specs.Prelude.{◌≡◌, IfOk, map};
 ghost use Rattle.al_base_fault.specs.Judging.{both, next, map_ok};
 ghost use Rattle.al_overload_lookup.specs.Keys.{denoted};
-ghost use Rattle.al_overload_heads.specs.TermViews.{term_model};
+ghost use Rattle.al_overload.specs.TermViews.{term_model};
 ghost use Rattle.al_overload_readings.specs.Attributes.{attribute_named};
 ghost use Rattle.al_overload_readings.specs.Readings.{ReadTree as reads, callable, marking, ranging, selected, valued};
 ghost use Rattle.al_overload_readings.specs.ReadingViews.{reading_model};
@@ -20,7 +20,7 @@ use crate::reading::{
 use crate::sign::{joined, prefixed};
 use al_base::{NoMemory, Place};
 use al_base_fault::{CheckResult, both};
-use al_overload_heads::Term;
+use al_overload::Term;
 use al_overload_lookup::Names;
 use al_tree::{Identifier, InfixOperator, PrefixOperator};
 use al_view::SubtypeView;

@@ -3,8 +3,8 @@ ghost use Rattle.std.specs.Prelude.{◌≡◌, IfOk, map, option_map};
 ghost use Rattle.al_base_fault.specs.Judging.{next, map_ok};
 ghost use Rattle.al_overload_lookup.specs.Keys.{denoted};
 ghost use Rattle.al_overload_lookup.specs.Places.{place_of};
-ghost use Rattle.al_overload_heads.specs.Terms.{TermTree as terms};
-ghost use Rattle.al_overload_heads.specs.TermViews.{term_model};
+ghost use Rattle.al_overload.specs.Terms.{TermTree as terms};
+ghost use Rattle.al_overload.specs.TermViews.{term_model};
 ghost use Rattle.al_overload_readings.specs.ReadingViews.{reading_model};
 ghost use Rattle.al_overload_readings.specs.Readings.{named, ranging, valued};
 ghost use Rattle.al_overload_readings.specs.TermLists.{all_model};
@@ -23,7 +23,7 @@ use crate::{
 };
 use al_base::NoMemory;
 use al_base_fault::{CheckResult, Fault, unless};
-use al_overload_heads::Term;
+use al_overload::Term;
 use al_overload_lookup::{Names, first_place, group_place};
 use al_tree::{
     Expression, Group, Identifier, Infix, Member, NamePart, NumericLiteral, Prefixed, StringLiteral,

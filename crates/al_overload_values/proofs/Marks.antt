@@ -12,7 +12,7 @@ use Rattle.al_overload_readings.specs.Readings.{ReadTree, ReadTree as reads, pre
 use Rattle.al_overload_readings.specs.Steps.{applied_read, applied_to_read, joined_read, member_read, prefixed_read, qualified_read, range_member_read, with_range}
 use Rattle.al_overload_readings.specs.declared.prefix.Prefix.{Prefix}
 use Rattle.al_overload_readings.specs.declared.prefix.Prefix.TheVariants as prefixes
-use Rattle.al_overload_heads.specs.Terms.{TermTree}
+use Rattle.al_overload.specs.Terms.{TermTree}
 use Rattle.al_overload_readings.specs.Texts.{is_selector, noted, read, with_part}
 use Rattle.al_tree_syntax.specs.ExpressionTrees.{ExpressionTree, ExpressionTree as e, ExpressionsTree as es, PartTree as part}
 use Rattle.al_tree.specs.ExpressionViews.{expression_model, infix_model, longer_model, member_of, member_model, part_model, prefixed_model}

@@ -3,14 +3,14 @@ use Rattle.std.proofs.Common.{◌≡◌, ℕ, zero, suc, ◌+◌, ◌<◌, ◌�
 use Rattle.std.specs.Prelude.{sum_by}
 use Rattle.std.proofs.lemmas.List.Sums.{sum_by_push}
 use Rattle.al_base.specs.declared.place.Place.{Place}
-use Rattle.al_overload_heads.specs.declared.everywhere.Predefined.{Predefined}
+use Rattle.al_overload.specs.declared.everywhere.Predefined.{Predefined}
 use Rattle.al_overload_nodes.specs.Gathering.{Parts}
 use Rattle.al_overload_values.specs.Puts.{text_read}
 use Rattle.al_overload_values.specs.Worklists.{all_read, most}
-use Rattle.al_overload_heads.specs.Terms.{TermTree}
-use Rattle.al_overload_heads.specs.declared.term.Term.{Term, size-Term}
-use Rattle.al_overload_heads.specs.declared.term.Term.TheVariants as terms
-use Rattle.al_overload_heads.specs.declared.term.Term.TheViews.{sized-Concatenation, sized-Group}
+use Rattle.al_overload.specs.Terms.{TermTree}
+use Rattle.al_overload.specs.declared.heads_term.Term.{Term, size-Term}
+use Rattle.al_overload.specs.declared.heads_term.Term.TheVariants as terms
+use Rattle.al_overload.specs.declared.heads_term.Term.TheViews.{sized-Concatenation, sized-Group}
 use Rattle.al_view.specs.declared.symbol.Symbol.{Symbol}
 use Rattle.al_view_typed.specs.StatementTrees.{PieceTree}
 

@@ -2,15 +2,15 @@
 -- what stands in its indexes is part of the context round the attribute (ARM 8.6(4)), and must have its one interpretation there as all else has.
 use Rattle.std.specs.Prelude.{Bool, true, false, ◌&&◌, ◌||◌, ◌==◌, [], Option, Some, None, is_some, Result, Ok, Err, if◌then◌else◌}
 use Rattle.al_base.specs.declared.place.Place.{Place}
-use Rattle.al_overload_heads.specs.declared.everywhere.Predefined.{Predefined}
+use Rattle.al_overload.specs.declared.everywhere.Predefined.{Predefined}
 use Rattle.al_base_fault.specs.Faults.{fault_at}
 use Rattle.al_base_fault.specs.declared.fault.Fault.{Fault}
-use Rattle.al_overload_label.specs.Contexts.{term_read}
+use Rattle.al_overload_nodes.specs.Contexts.{term_read}
 use Rattle.al_overload.specs.declared.context.Context.TheVariants as contexts
 use Rattle.al_overload_readings.specs.Marks.{mark_in}
 use Rattle.al_overload_readings.specs.Readings.{ReadTree, ReadTree as reads}
-use Rattle.al_overload_heads.specs.Places.{first_place}
-use Rattle.al_overload_heads.specs.Terms.{TermTree}
+use Rattle.al_overload.specs.Places.{first_place}
+use Rattle.al_overload.specs.Terms.{TermTree}
 use Rattle.al_overload_readings.specs.Texts.{is_selector}
 use Rattle.al_tree_syntax.specs.ExpressionTrees.{ExpressionTree, ExpressionTree as e, PartTree, PartTree as part}
 use Rattle.al_view_typed.specs.ExpressionTrees.{TypedTree}

@@ -9,8 +9,8 @@ use Rattle.al_base_fault.specs.declared.fault.Fault.{Fault}
 use Rattle.al_overload.specs.Meanings.{nothing_fits}
 use Rattle.al_overload.specs.declared.context.Context.TheVariants as contexts
 use Rattle.al_view_predefined.specs.StandardTypes.{type_of}
-use Rattle.al_overload_heads.specs.Places.{first_place}
-use Rattle.al_overload_heads.specs.Terms.{TermTree, TermTree as t, TermsTree, TermsTree as terms}
+use Rattle.al_overload.specs.Places.{first_place}
+use Rattle.al_overload.specs.Terms.{TermTree, TermTree as t, TermsTree, TermsTree as terms}
 use Rattle.al_view_typed.specs.ExpressionTrees.{TypedTree}
 use Rattle.al_view_typed.specs.StatementTrees.{PieceTree, StatementFormTree}
 use Rattle.al_view_typed.specs.StatementTrees.PieceTree.{TextPiece, IntegerImage, EnumerationImage}
@@ -24,12 +24,12 @@ use Rattle.al_view.specs.declared.view.CallKind.TheVariants as calls
 use Rattle.al_view.specs.declared.view.SubprogramView.{SubprogramView}
 use Rattle.al_view.specs.declared.view.SubtypeView.{SubtypeView}
 use Rattle.al_view.specs.declared.view.ViewKind.{ViewKind}
-use Rattle.al_overload_heads.specs.Interpreting.{interpreted}
-use Rattle.al_overload_heads.specs.Parts.{declared_under}
-use Rattle.al_overload_heads.specs.declared.everywhere.Predefined.{Predefined}
+use Rattle.al_overload.specs.Interpreting.{interpreted}
+use Rattle.al_overload.specs.Parts.{declared_under}
+use Rattle.al_overload.specs.declared.everywhere.Predefined.{Predefined}
 use Rattle.al_overload_nodes.specs.Gathering.{Parts, no_parts, with_part}
 use Rattle.al_overload_nodes.specs.Operators.{picked_subprogram}
-use Rattle.al_overload_label.specs.Contexts.{call_read, term_checked}
+use Rattle.al_overload_nodes.specs.Contexts.{call_read, term_checked}
 use Rattle.al_overload_nodes.specs.Leaves.{mark_type}
 
 -- ---- what is put

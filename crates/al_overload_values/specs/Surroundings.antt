@@ -1,7 +1,7 @@
 -- What is known where expressions stand.
 use Rattle.std.specs.Prelude.{List, Option}
 use Rattle.al_base.specs.declared.unit_key.UnitKey.{UnitKey}
-use Rattle.al_overload_heads.specs.declared.everywhere.Predefined.{Predefined}
+use Rattle.al_overload.specs.declared.everywhere.Predefined.{Predefined}
 use Rattle.al_overload_lookup.specs.Lookups.{asked_units}
 use Rattle.al_scope.specs.Places.{Place}
 use Rattle.al_overload_values.specs.declared.site.Site.{Site}

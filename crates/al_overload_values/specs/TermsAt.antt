@@ -10,7 +10,7 @@ use Rattle.al_query.specs.Reads.{Table}
 use Rattle.al_scope.specs.Places.{Place}
 use Rattle.al_tree_syntax.specs.DeclarationTrees.{RangeTree}
 use Rattle.al_tree_syntax.specs.ExpressionTrees.{ExpressionTree}
-use Rattle.al_overload_heads.specs.Terms.{TermTree}
+use Rattle.al_overload.specs.Terms.{TermTree}
 use Rattle.al_overload_readings.specs.Texts.{mark_of_text, term_of}
 use Rattle.al_view.specs.declared.view.SubtypeView.{SubtypeView}
 

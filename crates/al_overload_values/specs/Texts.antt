@@ -2,7 +2,7 @@
 -- stands in a context that begins at this place.
 use Rattle.std.specs.Prelude.{Option}
 use Rattle.al_base.specs.declared.place.Place.{Place}
-use Rattle.al_overload_heads.specs.declared.everywhere.Predefined.{Predefined}
+use Rattle.al_overload.specs.declared.everywhere.Predefined.{Predefined}
 use Rattle.al_base_fault.specs.Faults.{earlier}
 use Rattle.al_base_fault.specs.declared.fault.Fault.{Fault}
 use Rattle.al_overload_lookup.specs.Keys.{Denotations}

@@ -3,7 +3,7 @@
 use Rattle.std.specs.Prelude.{List, Option, None, Result, Ok}
 use Rattle.al_base.specs.declared.place.Place.{Place}
 use Rattle.al_base.specs.declared.unit_key.UnitKey.{UnitKey}
-use Rattle.al_overload_heads.specs.declared.everywhere.Predefined.{Predefined}
+use Rattle.al_overload.specs.declared.everywhere.Predefined.{Predefined}
 use Rattle.al_base_fault.specs.Faults.{earlier}
 use Rattle.al_base_fault.specs.Judging.{both, next, map_ok, unless}
 use Rattle.al_base_fault.specs.declared.fault.Fault.{Fault}
@@ -17,9 +17,9 @@ use Rattle.al_overload_readings.specs.declared.reading.Reading.{Reading}
 use Rattle.al_scope.specs.Places as scopes
 use Rattle.al_tree_syntax.specs.DeclarationTrees.{RangeTree}
 use Rattle.al_tree_syntax.specs.ExpressionTrees.{ExpressionTree}
-use Rattle.al_overload_heads.specs.Terms.{TermTree}
-use Rattle.al_overload_heads.specs.TermViews.{term_model}
-use Rattle.al_overload_heads.specs.declared.term.Term.{Term}
+use Rattle.al_overload.specs.Terms.{TermTree}
+use Rattle.al_overload.specs.TermViews.{term_model}
+use Rattle.al_overload.specs.declared.heads_term.Term.{Term}
 use Rattle.al_overload_readings.specs.Texts.{one_range, read, term_of}
 use Rattle.al_overload_values.specs.TermsAt.{denotations_at}
 use Rattle.al_view.specs.declared.symbol.Symbol.{Symbol}

@@ -1,13 +1,13 @@
 -- What expressions are where they stand (ARM 8.6): their labelled trees with the words of their temporaries, or the first rule that is
 -- broken in them. Their names are looked up by a table of answers.
 use Rattle.std.specs.Prelude.{ℕ, List, [], Option, Some, None, Result}
-use Rattle.al_overload_heads.specs.declared.part.Nominal.{Nominal}
+use Rattle.al_overload.specs.declared.part.Nominal.{Nominal}
 use Rattle.al_base_fault.specs.Judging.{next, unless}
 use Rattle.al_base_fault.specs.declared.fault.Fault.{Fault}
-use Rattle.al_overload_label.specs.Contexts.{target_checked, term_checked}
-use Rattle.al_overload_label.specs.Ranges.{FoundTree, PairTree, bounds_checked, selector_checked, static_bounds_checked}
-use Rattle.al_overload_label.specs.Static.{static_term_checked}
-use Rattle.al_overload_label.specs.Variables.{target_part}
+use Rattle.al_overload_nodes.specs.Contexts.{target_checked, term_checked}
+use Rattle.al_overload_nodes.specs.Ranges.{FoundTree, PairTree, bounds_checked, selector_checked, static_bounds_checked}
+use Rattle.al_overload_nodes.specs.Static.{static_term_checked}
+use Rattle.al_overload_nodes.specs.Variables.{target_part}
 use Rattle.al_overload.specs.Types.{value_type}
 use Rattle.al_overload.specs.declared.context.Context.{Context}
 use Rattle.al_overload.specs.declared.context.Context.TheVariants as contexts
@@ -15,7 +15,7 @@ use Rattle.al_overload_values.specs.TextsAt.{With, bounds_with_at, context_with_
 use Rattle.al_query.specs.Reads.{Table}
 use Rattle.al_tree_syntax.specs.DeclarationTrees.{RangeTree}
 use Rattle.al_tree_syntax.specs.ExpressionTrees.{ExpressionTree}
-use Rattle.al_overload_heads.specs.Terms.{TermTree}
+use Rattle.al_overload.specs.Terms.{TermTree}
 use Rattle.al_overload_values.specs.TermsAt.{term_at}
 use Rattle.al_overload_nodes.specs.Leaves.{mark_type}
 use Rattle.al_view_typed.specs.ExpressionTrees.{TypedTree}

@@ -1,7 +1,7 @@
 -- What was judged, with the words of the frame that its temporaries take from a word on. Nobody sees the words of what is faulty.
 use Rattle.std.specs.Prelude.{ℕ, Result, Ok, Err}
 use Rattle.al_base_fault.specs.declared.fault.Fault.{Fault}
-use Rattle.al_overload_label.specs.Ranges.{FoundTree}
+use Rattle.al_overload_nodes.specs.Ranges.{FoundTree}
 use Rattle.al_overload_slots.specs.Slots.{after, numbered}
 use Rattle.al_view_typed.specs.ExpressionTrees.{TypedTree}
 

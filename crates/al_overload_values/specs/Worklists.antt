@@ -1,14 +1,14 @@
 -- String expressions, whose operands wait in a list until they are read.
 use Rattle.std.specs.Prelude.{ℕ, zero, suc, ◌+◌, ◌<◌, List, [], ◌∷◌, None, Option, ⊤}
 use Rattle.al_base_fault.specs.Judging.{map_ok}
-use Rattle.al_overload_heads.specs.declared.everywhere.Predefined.{Predefined}
+use Rattle.al_overload.specs.declared.everywhere.Predefined.{Predefined}
 use Rattle.al_overload_nodes.specs.Gathering.{Parts, with_part}
 use Rattle.al_overload_values.specs.Puts.{text_read}
 use Rattle.al_overload_values.specs.declared.put_text.Step.{Step}
 use Rattle.al_overload_values.specs.declared.put_text.Step.TheVariants as steps
-use Rattle.al_overload_heads.specs.Terms.{TermTree}
-use Rattle.al_overload_heads.specs.TermViews.{term_model}
-use Rattle.al_overload_heads.specs.declared.term.Term.{Term, size-Term}
+use Rattle.al_overload.specs.Terms.{TermTree}
+use Rattle.al_overload.specs.TermViews.{term_model}
+use Rattle.al_overload.specs.declared.heads_term.Term.{Term, size-Term}
 use Rattle.al_view.specs.declared.symbol.Symbol.{Symbol}
 use Rattle.al_view_typed.specs.StatementTrees.{PieceTree}
 use Rattle.al_view_typed.specs.StatementViews.{piece_model}

@@ -13,7 +13,7 @@ ghost use Rattle.al_tree.specs.ExpressionViews.{expression_model};
 use crate::text::text_fault;
 use al_base::{NoMemory, Place, UnitKey};
 use al_base_fault::{CheckResult, Fault, both, earlier, unless};
-use al_overload_heads::Term;
+use al_overload::Term;
 use al_overload_lookup::{Names, first_place, names};
 use al_overload_nodes::Labeller;
 use al_overload_readings::{Reading, one_range, read, term_of};

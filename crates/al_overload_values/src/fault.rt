@@ -3,15 +3,13 @@ ghost use Rattle.std.specs.Prelude.{◌≡◌, IfOk};
 ghost use Rattle.al_base_fault.specs.Judging.{map_ok};
 ghost use Rattle.al_overload_values.specs.Prefixes.{argument_place, is_at, moved, moved_of, part_fault, place_after, prefix_fault, reading_fault};
 ghost use Rattle.al_overload_readings.specs.ReadingViews.{reading_model};
-ghost use Rattle.al_overload_heads.specs.TermViews.{term_model};
+ghost use Rattle.al_overload.specs.TermViews.{term_model};
 ghost use Rattle.al_view_typed.specs.ExpressionViews.{typed_model};
 
 use al_base::{NoMemory, Place};
 use al_base_fault::{CheckResult, Fault};
-use al_overload::Context;
-use al_overload_heads::{Term, first_place};
-use al_overload_label::read_term;
-use al_overload_nodes::Labeller;
+use al_overload::{Context, Term, first_place};
+use al_overload_nodes::{Labeller, read_term};
 use al_overload_readings::{Reading, mark_in};
 use al_view::{Seq, Types};
 use al_view_typed::Typed;

@@ -1,8 +1,8 @@
 // Two bounds as one context.
 ghost use Rattle.std.specs.Prelude.{◌≡◌, IfOk};
 ghost use Rattle.al_base_fault.specs.Judging.{next, map_ok, unless};
-ghost use Rattle.al_overload_label.specs.Ranges.{bounds_checked, static_bounds_checked};
-ghost use Rattle.al_overload_label.specs.RangesSeen.{pair_model};
+ghost use Rattle.al_overload_nodes.specs.Ranges.{bounds_checked, static_bounds_checked};
+ghost use Rattle.al_overload_nodes.specs.RangesSeen.{pair_model};
 ghost use Rattle.al_overload_values.specs.TextsAt.{terms_with_model};
 ghost use Rattle.al_query.specs.Asked.{AsksOf, by_some_name};
 ghost use Rattle.al_query.specs.Reads.{FromAnswers};
@@ -14,10 +14,8 @@ use crate::bounds_with_at;
 use crate::site::Site;
 use al_base::NoMemory;
 use al_base_fault::{CheckResult, Fault, unless};
-use al_overload::Context;
-use al_overload_heads::Term;
-use al_overload_label::{Pair, check_bounds, check_static_bounds};
-use al_overload_nodes::Labeller;
+use al_overload::{Context, Term};
+use al_overload_nodes::{Labeller, Pair, check_bounds, check_static_bounds};
 use al_query::{Answers, Recorder};
 use al_tree::Range;
 use al_view::Types;

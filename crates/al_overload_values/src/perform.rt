@@ -3,7 +3,7 @@ ghost use Rattle.std.specs.Prelude.{◌≡◌, IfOk, option_map};
 ghost use Rattle.std.specs.Option.{option_copied};
 ghost use Rattle.al_overload.specs.Counts.{label_of};
 ghost use Rattle.al_base_fault.specs.Judging.{map_ok};
-ghost use Rattle.al_overload_heads.specs.TermViews.{term_model};
+ghost use Rattle.al_overload.specs.TermViews.{term_model};
 ghost use Rattle.al_overload_values.specs.Puts.{called, ends_line, call_effect, call_effect_by, call_effect_read, put_checked, visible_under};
 ghost use Rattle.al_overload_values.specs.Seen.{call_effect_model, pieces_model};
 ghost use Rattle.al_view_typed.specs.ExpressionViews.{call_model};
@@ -12,10 +12,10 @@ ghost use Rattle.al_view_typed.specs.StatementTrees.{StatementFormTree as forms}
 use crate::put_text::{Pieces, read_pieces};
 use al_base::NoMemory;
 use al_base_fault::{CheckResult, unless};
-use al_overload::{Context, Labelled, nothing_fits};
-use al_overload_heads::{Term, declared_under, first_place, interpret_term};
-use al_overload_label::read_call;
-use al_overload_nodes::{Labeller, picked_subprogram};
+use al_overload::{
+    Context, Labelled, Term, declared_under, first_place, interpret_term, nothing_fits,
+};
+use al_overload_nodes::{Labeller, picked_subprogram, read_call};
 use al_view::{CallKind, SubprogramView, View};
 use al_view_predefined::StandardTypes;
 use al_view_typed::{Piece, TypedCall};

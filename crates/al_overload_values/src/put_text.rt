@@ -1,10 +1,10 @@
 // What Put and Put_Line put (ARM A.10.7).
 ghost use Rattle.std.specs.Prelude.{◌≡◌, ◌+◌, ◌<◌, ◌++◌, ◌∷◌, [], IfOk, OnOk, map, None, Ok, Err, sum_by};
 ghost use Rattle.al_base_fault.specs.Judging.{map_ok};
-ghost use Rattle.al_overload_label.specs.Contexts.{term_checked};
+ghost use Rattle.al_overload_nodes.specs.Contexts.{term_checked};
 ghost use Rattle.al_overload.specs.Meanings.{nothing_fits};
 ghost use Rattle.al_overload.specs.declared.context.Context.TheVariants as contexts;
-ghost use Rattle.al_overload_heads.specs.TermViews.{term_model, terms_of};
+ghost use Rattle.al_overload.specs.TermViews.{term_model, terms_of};
 ghost use Rattle.al_view_typed.specs.ExpressionViews.{typed_model};
 ghost use Rattle.al_view_typed.specs.StatementTrees.PieceTree.{TextPiece};
 ghost use Rattle.al_view_typed.specs.StatementViews.{piece_model};
@@ -17,10 +17,8 @@ ghost use Rattle.al_overload_nodes.specs.Leaves.{mark_type};
 
 use al_base::{Name, NoMemory, Place};
 use al_base_fault::{CheckResult, Fault, earlier};
-use al_overload::{Context, nothing_fits, value_type};
-use al_overload_heads::{Term, first_place};
-use al_overload_label::check_term;
-use al_overload_nodes::Labeller;
+use al_overload::{Context, Term, first_place, nothing_fits, value_type};
+use al_overload_nodes::{Labeller, check_term};
 use al_view::{Seq, SubtypeView, TypeDefinition};
 use al_view_typed::{Piece, Typed};
 use std::alloc::Global;

@@ -1,8 +1,8 @@
 // Selectors of case statements (ARM 5.4).
 ghost use Rattle.std.specs.Prelude.{◌≡◌, IfOk};
 ghost use Rattle.al_base_fault.specs.Judging.{next, map_ok, unless};
-ghost use Rattle.al_overload_label.specs.Ranges.{selector_checked};
-ghost use Rattle.al_overload_label.specs.RangesSeen.{found_model};
+ghost use Rattle.al_overload_nodes.specs.Ranges.{selector_checked};
+ghost use Rattle.al_overload_nodes.specs.RangesSeen.{found_model};
 ghost use Rattle.al_overload_values.specs.TextsAt.{term_with_model};
 ghost use Rattle.al_query.specs.Asked.{AsksOf, by_some_name};
 ghost use Rattle.al_query.specs.Reads.{FromAnswers};
@@ -15,9 +15,8 @@ use crate::site::Site;
 use crate::words::take_found_words;
 use al_base::NoMemory;
 use al_base_fault::{CheckResult, Fault, unless};
-use al_overload_heads::Term;
-use al_overload_label::{DeterminedValue, check_selector};
-use al_overload_nodes::Labeller;
+use al_overload::Term;
+use al_overload_nodes::{DeterminedValue, Labeller, check_selector};
 use al_query::{Answers, Recorder};
 use al_tree::Expression;
 

@@ -4,13 +4,13 @@ ghost use Rattle.al_base_fault.specs.Judging.{map_ok};
 ghost use Rattle.al_overload_lookup.specs.Lookups.{asked_units};
 ghost use Rattle.al_query.specs.Asked.{AsksOf, by_some_name};
 ghost use Rattle.al_query.specs.Reads.{FromAnswers};
-ghost use Rattle.al_overload_heads.specs.TermViews.{term_model};
+ghost use Rattle.al_overload.specs.TermViews.{term_model};
 ghost use Rattle.al_overload_values.specs.TermsAt.{mark_at, term_at};
 ghost use Rattle.al_tree.specs.ExpressionViews.{expression_model};
 
 use al_base::{NoMemory, UnitKey};
 use al_base_fault::CheckResult;
-use al_overload_heads::Term;
+use al_overload::Term;
 use al_overload_lookup::names;
 use al_overload_readings::{mark_of_text, term_of};
 use al_query::{Answers, Recorder};

@@ -1,8 +1,8 @@
 // One expression in its context.
 ghost use Rattle.std.specs.Prelude.{◌≡◌, IfOk};
 ghost use Rattle.al_base_fault.specs.Judging.{next, map_ok, unless};
-ghost use Rattle.al_overload_label.specs.Contexts.{term_checked};
-ghost use Rattle.al_overload_label.specs.Static.{static_term_checked};
+ghost use Rattle.al_overload_nodes.specs.Contexts.{term_checked};
+ghost use Rattle.al_overload_nodes.specs.Static.{static_term_checked};
 ghost use Rattle.al_overload_values.specs.TextsAt.{term_with_model};
 ghost use Rattle.al_query.specs.Asked.{AsksOf, by_some_name};
 ghost use Rattle.al_query.specs.Reads.{FromAnswers};
@@ -16,10 +16,8 @@ use crate::site::Site;
 use crate::words::take_words;
 use al_base::NoMemory;
 use al_base_fault::{CheckResult, Fault, unless};
-use al_overload::Context;
-use al_overload_heads::{Nominal, Term};
-use al_overload_label::{check_static_term, check_term};
-use al_overload_nodes::Labeller;
+use al_overload::{Context, Nominal, Term};
+use al_overload_nodes::{Labeller, check_static_term, check_term};
 use al_query::{Answers, Recorder};
 use al_tree::Expression;
 use al_view::Types;

@@ -1,12 +1,12 @@
 // The words of what was judged.
 ghost use Rattle.std.specs.Prelude.{◌≡◌};
 ghost use Rattle.al_base_fault.specs.Judging.{map_ok};
-ghost use Rattle.al_overload_label.specs.RangesSeen.{found_model};
+ghost use Rattle.al_overload_nodes.specs.RangesSeen.{found_model};
 ghost use Rattle.al_view_typed.specs.ExpressionViews.{typed_model};
 ghost use Rattle.al_overload_values.specs.Words.{found_with_words, with_words};
 
 use al_base_fault::CheckResult;
-use al_overload_label::DeterminedValue;
+use al_overload_nodes::DeterminedValue;
 use al_overload_slots::number_slots;
 use al_view_typed::Typed;
 

@@ -1,4 +1,10 @@
+pub mod Chained
 pub mod Clear
+pub mod ExprClear
+pub mod Levels
+pub mod Loops
+pub mod Parts
 pub mod Rooms
 pub mod Stubs
 pub mod Texts
+pub mod Tokens

@@ -5,9 +5,9 @@ use Rattle.al_tree_grammar.specs.Grammar.Rule.{Room, RoomOr, Seq}
 use Rattle.al_tree_grammar.specs.Reading.{◌>>=◌}
 use Rattle.al_tree_grammar.proofs.Turns.{with_room, without_room}
 use Rattle.al_tree_syntax.specs.Rules.{grammar}
-use Rattle.al_parse_expr.specs.declared.stop.Stop.{Stop}
-use Rattle.al_parse_expr.specs.declared.stop.Stop.TheVariants.{Memory, Fault}
-use Rattle.al_parse_expr.specs.Parses.{Lexemes, Took, Stops, reading}
+use Rattle.al_parse.specs.declared.stop.Stop.{Stop}
+use Rattle.al_parse.specs.declared.stop.Stop.TheVariants.{Memory, Fault}
+use Rattle.al_parse.specs.Parses.{Lexemes, Took, Stops, reading}
 
 pub no_room : (d : ℕ) (a : Rule) (xs : Lexemes) → d ≡ 0 → reading d (Room a) xs ≡ Err xs
 no_room d a xs h = rw h refl

@@ -6,9 +6,9 @@ use Rattle.al_tree_grammar.specs.Grammar.Rule.{Nest}
 use Rattle.al_tree_grammar.specs.Reading.{one}
 use Rattle.al_tree_syntax.specs.Constructs.{construct_at}
 use Rattle.al_tree_syntax.specs.Rules.{inside, grammar}
-use Rattle.al_parse_expr.specs.declared.stop.Stop.{Stop}
-use Rattle.al_parse_expr.specs.declared.stop.Stop.TheVariants.{Memory, Fault}
-use Rattle.al_parse_expr.specs.Parses.{Lexemes, Stops, reading}
+use Rattle.al_parse.specs.declared.stop.Stop.{Stop}
+use Rattle.al_parse.specs.declared.stop.Stop.TheVariants.{Memory, Fault}
+use Rattle.al_parse.specs.Parses.{Lexemes, Stops, reading}
 
 -- after `is separate`, where a body might have stood
 pub no_semicolon_inside : (e : Stop) (l : Label) (d inner : ℕ) (xs ys zs : Lexemes) → reading d (Nest 44 13) xs ≡ reading inner (grammar 13) ys → ys ≡ Named 63 l ∷ zs → Stops e (one 14 zs) → Stops e (reading d (Nest 44 13) xs)

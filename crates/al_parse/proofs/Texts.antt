@@ -9,9 +9,9 @@ use Rattle.al_tree_syntax.specs.Units.{unit_rule}
 use Rattle.al_tree_syntax.specs.UnitTrees.{CompilationUnitTree, tokens_of}
 use Rattle.al_tree_syntax.proofs.Clear.{closed, unit_clear}
 use Rattle.al_tree_syntax.proofs.Laws.{faults_found}
-use Rattle.al_parse_expr.specs.declared.stop.Stop.{Stop}
-use Rattle.al_parse_expr.specs.declared.stop.Stop.TheVariants.{Memory, Fault}
-use Rattle.al_parse_expr.specs.Parses.{Lexemes, Stops, Took, reading}
+use Rattle.al_parse.specs.declared.stop.Stop.{Stop}
+use Rattle.al_parse.specs.declared.stop.Stop.TheVariants.{Memory, Fault}
+use Rattle.al_parse.specs.Parses.{Lexemes, Stops, Took, reading}
 use Rattle.al_parse.specs.Faults.{IsUnit, syntax_fault_of, IsSyntaxFaultAt, IsTreeOf, IsFaultOf, Refuses}
 
 fault_is : (xs : Lexemes) → syntax_fault_of xs ≡ fault_before (length xs) (reading most unit_rule xs)

@@ -6,8 +6,8 @@ use Rattle.al_tree_grammar.specs.Place.{IsFaultAt}
 use Rattle.al_tree_syntax.specs.Rules.{grammar, most}
 use Rattle.al_tree_syntax.specs.Units.{unit_rule}
 use Rattle.al_tree_syntax.specs.UnitTrees.{CompilationUnitTree, tokens_of}
-use Rattle.al_parse_expr.specs.declared.stop.Stop.{Stop}
-use Rattle.al_parse_expr.specs.declared.stop.Stop.TheVariants.{Memory, Fault}
+use Rattle.al_parse.specs.declared.stop.Stop.{Stop}
+use Rattle.al_parse.specs.declared.stop.Stop.TheVariants.{Memory, Fault}
 use Rattle.al_parse.specs.declared.parsing.ParseError.{ParseError}
 use Rattle.al_parse.specs.declared.parsing.ParseError.TheVariants.{Syntax, NoMemory}
 

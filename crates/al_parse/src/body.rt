@@ -1,7 +1,7 @@
 // Statements, declarative parts and bodies, which hold each other (ARM 3.11, 5, 6.3, 9.1).
 ghost use Rattle.al_tree_grammar.specs.Grammar.{each};
 ghost use Rattle.al_tree_grammar.specs.Grammar.Rule.{Many, Opt, Room, RoomOr};
-ghost use Rattle.al_parse_expr.specs.Parses.{Gives, reading};
+ghost use Rattle.al_parse.specs.Parses.{Gives, reading};
 ghost use Rattle.al_tree_syntax.specs.Constructs.{Construct as constructs, place};
 ghost use Rattle.al_tree_syntax.specs.DeclarationTrees.{identifier_token, specification_tokens};
 ghost use Rattle.al_tree_syntax.specs.Declarations.{item_rule, specification_rule, subprogram_rule, task_rule};
@@ -29,12 +29,12 @@ use crate::statement::{
     loop_end, return_statement, stub,
 };
 use crate::step::flag;
-use al_base::Place;
-use al_lex::Token;
-use al_parse_expr::{
+use crate::{
     Stop, append, boxed, discrete_range, enter, enter_at, expect, expression, identifier, is_next,
     read_or_drop, skip, skip_at, word_at,
 };
+use al_base::Place;
+use al_lex::Token;
 use al_tree::{
     Alternative, BlockStatement, Branch, CaseStatement, DeclaredStatements, ElsifBranch,
     Identifier, IfStatement, Item, LoopEnd, LoopStatement, NamedEnd, Specification, Statement,

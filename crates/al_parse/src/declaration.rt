@@ -1,7 +1,7 @@
 // Declarations that packages and bodies have alike (ARM 2.8, 3, 8.4).
 ghost use Rattle.al_tree_grammar.specs.Grammar.{each, maybe};
 ghost use Rattle.al_tree_grammar.specs.Grammar.Rule.{Many, Opt};
-ghost use Rattle.al_parse_expr.specs.Parses.{Gives, reading};
+ghost use Rattle.al_parse.specs.Parses.{Gives, reading};
 ghost use Rattle.al_tree_syntax.specs.Constructs.{Construct as constructs, place};
 ghost use Rattle.al_tree_syntax.specs.DeclarationTrees.{array_tokens, common_tokens, component_tokens, components_tokens, compounds_tokens, discrete_range_tokens, identifiers_tokens, initial_tokens, object_form_tokens, object_tokens, object_type_tokens, pragma_arguments_tokens, pragma_tokens, range_tokens, subtype_indication_tokens, subtype_tokens, type_definition_tokens, type_tokens, use_tokens};
 ghost use Rattle.al_tree_syntax.specs.Declarations.{array_rule, common_rule, component_rule, initial_rule, object_rule, pragma_rule, subtype_indication_rule, subtype_rule, type_rule, typed_rule, use_rule};
@@ -20,12 +20,12 @@ use crate::start::{
     is_use_next,
 };
 use crate::step::flag;
-use al_base::Place;
-use al_lex::Token;
-use al_parse_expr::{
+use crate::{
     Stop, append, boxed, compound_name, compound_names, discrete_range, enter, enter_at, expect,
     expression, identifier, identifiers, is_next, range, read_or_drop, skip, word_at,
 };
+use al_base::Place;
+use al_lex::Token;
 use al_tree::{
     ArrayDefinition, CommonDeclaration, ComponentDeclaration, Components, CompoundNames,
     DiscreteRange, Expression, Identifiers, ObjectDeclaration, ObjectForm, ObjectType, Pragma,

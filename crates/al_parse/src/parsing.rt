@@ -4,9 +4,8 @@ ghost use Rattle.al_tree.specs.Lexemes.{lexemes};
 ghost use Rattle.al_tree.specs.UnitViews.{unit_model};
 ghost use Rattle.al_parse.specs.Faults.{FaultOf, IsTreeOf, Refuses};
 
-use crate::compilation_unit;
+use crate::{Stop, compilation_unit};
 use al_lex::Token;
-use al_parse_expr::Stop;
 use al_tree::CompilationUnit;
 use std::alloc::Global;
 

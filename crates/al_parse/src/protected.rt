@@ -1,7 +1,7 @@
 // Protected units in a declarative part, and the bodies of their operations (ARM 9.4, 9.5.2).
 ghost use Rattle.al_tree_grammar.specs.Grammar.{each};
 ghost use Rattle.al_tree_grammar.specs.Grammar.Rule.{Many, Room};
-ghost use Rattle.al_parse_expr.specs.Parses.{Gives, reading};
+ghost use Rattle.al_parse.specs.Parses.{Gives, reading};
 ghost use Rattle.al_tree_syntax.specs.Constructs.{Construct as constructs, place};
 ghost use Rattle.al_tree_syntax.specs.DeclarationTrees.{identifier_token};
 ghost use Rattle.al_tree_syntax.specs.Declarations.{operation_body_rule, protected_body_rule, specification_rule};
@@ -17,9 +17,9 @@ ghost use Rattle.std.specs.Prelude.{◌++◌, ◌∷◌};
 use crate::body::{declared_statements, proper_body};
 use crate::specification::{named_end, protected_definition};
 use crate::start::{is_operation_body_next, is_protected_next, is_subprogram_body_next};
+use crate::{Stop, append, enter_at, expect, expression, identifier, read_or_drop};
 use al_base::Place;
 use al_lex::Token;
-use al_parse_expr::{Stop, append, enter_at, expect, expression, identifier, read_or_drop};
 use al_tree::{Identifier, Item, NamedEnd, OperationBody, Symbol};
 use std::alloc::Global;
 

@@ -1,7 +1,7 @@
 // Specifications, and the declarations of packages (ARM 6.1, 7.1, 9.1, 9.4).
 ghost use Rattle.al_tree_grammar.specs.Grammar.{each, maybe};
 ghost use Rattle.al_tree_grammar.specs.Grammar.Rule.{Many, Opt};
-ghost use Rattle.al_parse_expr.specs.Parses.{Gives, reading};
+ghost use Rattle.al_parse.specs.Parses.{Gives, reading};
 ghost use Rattle.al_tree_syntax.specs.Constructs.{Construct as constructs, place};
 ghost use Rattle.al_tree_syntax.specs.DeclarationTrees.{aspect_tokens, declaration_tokens, end_name_tokens, formal_part_tokens, formal_tokens, identifier_token, protected_component_tokens, protected_operation_tokens, protected_private_tokens, protected_tokens, specification_tokens};
 ghost use Rattle.al_tree_syntax.specs.Declarations.{aspect_rule, declaration_rule, element_rule, formal_rule, formals_rule, operation_rule, protected_rule, specification_rule, task_rule};
@@ -22,11 +22,11 @@ use crate::start::{
     is_subprogram_declaration_next,
 };
 use crate::step::flag;
-use al_lex::Token;
-use al_parse_expr::{
+use crate::{
     Stop, append, compound_name, enter_at, expect, expression, identifier, identifiers, is_next,
     read_or_drop, skip, skip_at, word_at,
 };
+use al_lex::Token;
 use al_tree::{
     Aspect, Declaration, Formal, FormalPart, Identifier, NamedEnd, ProtectedComponent,
     ProtectedDefinition, ProtectedOperation, ProtectedPrivatePart, Specification, Symbol,

@@ -11,9 +11,9 @@ ghost use Rattle.al_tree_syntax.specs.Units.{context_rule, package_rule};
 ghost use Rattle.al_tree.specs.Lexemes.{lexemes};
 ghost use Rattle.std.specs.Prelude.{◌≡◌};
 
+use crate::is_next;
 use crate::step::is_any_next;
 use al_lex::Token;
-use al_parse_expr::is_next;
 use al_tree::Symbol;
 
 /// The next token begins a statement.

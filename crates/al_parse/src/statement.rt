@@ -2,7 +2,7 @@
 ghost use Rattle.al_tree_grammar.specs.Grammar.{each, maybe};
 ghost use Rattle.al_tree_grammar.specs.Grammar.Rule.{Many, Opt};
 ghost use Rattle.al_tree_grammar.specs.Reading.{first};
-ghost use Rattle.al_parse_expr.specs.Parses.{Gives, reading};
+ghost use Rattle.al_parse.specs.Parses.{Gives, reading};
 ghost use Rattle.al_tree_syntax.specs.DeclarationTrees.{compound_tokens, initial_tokens, specification_tokens};
 ghost use Rattle.al_tree_syntax.specs.Declarations.{initial_rule};
 ghost use Rattle.al_tree_syntax.specs.ExpressionTrees.{expression_tokens};
@@ -22,12 +22,12 @@ ghost use Rattle.std.specs.Prelude.{[], false, option_map, true, ◌++◌, ◌�
 use crate::declaration::initial;
 use crate::specification::end_name;
 use crate::start::is_expression_next;
-use al_base::Place;
-use al_lex::Token;
-use al_parse_expr::{
+use crate::{
     Stop, append, boxed, compound_name, discrete_range, expect, expression, is_next, name_from,
     read_or_drop, skip, word_at,
 };
+use al_base::Place;
+use al_lex::Token;
 use al_tree::{
     Assignment, Choice, CompoundEnd, CompoundName, DelayStatement, ExitStatement, Expression,
     Identifier, Item, LoopEnd, ReturnStatement, Specification, Statement, Symbol,

@@ -7,10 +7,10 @@ ghost use Rattle.al_tree_syntax.specs.Notation.{the};
 ghost use Rattle.al_tree_syntax.specs.Symbols.{is_labelled, number};
 ghost use Rattle.al_tree.specs.Lexemes.{lexemes};
 ghost use Rattle.al_tree.specs.Symbols.{symbol_model};
-ghost use Rattle.al_parse_expr.specs.Parses.{Took, reading};
+ghost use Rattle.al_parse.specs.Parses.{Took, reading};
 
+use crate::{is_next, skip};
 use al_lex::Token;
-use al_parse_expr::{is_next, skip};
 use al_tree::Symbol;
 
 /// This word, where it is the next token: whether it is, and what is after it.

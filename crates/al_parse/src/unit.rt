@@ -1,7 +1,7 @@
 // Compilation units (ARM 7.1, 7.2, 10.1).
 ghost use Rattle.al_tree_grammar.specs.Grammar.{each, maybe};
 ghost use Rattle.al_tree_grammar.specs.Grammar.Rule.{Many, Opt};
-ghost use Rattle.al_parse_expr.specs.Parses.{Gives, reading};
+ghost use Rattle.al_parse.specs.Parses.{Gives, reading};
 ghost use Rattle.al_tree_syntax.specs.Constructs.{Construct as constructs, place};
 ghost use Rattle.al_tree_syntax.specs.DeclarationTrees.{compound_tokens, declaration_tokens};
 ghost use Rattle.al_tree_syntax.specs.Declarations.{declaration_rule, item_rule, specification_rule};
@@ -28,12 +28,12 @@ use crate::start::{
     is_subprogram_item_next, is_use_next,
 };
 use crate::statement::compound_end;
-use al_base::Place;
-use al_lex::Token;
-use al_parse_expr::{
+use crate::{
     Stop, append, compound_name, compound_names, enter, enter_at, expect, is_next, read_or_drop,
     skip, skip_at, word_at,
 };
+use al_base::Place;
+use al_lex::Token;
 use al_tree::{
     CompilationUnit, CompoundEnd, CompoundName, ContextItem, Declaration, Item, LibraryItem,
     PackageBody, PackageDeclaration, PackageStatements, PrivatePart, Symbol,

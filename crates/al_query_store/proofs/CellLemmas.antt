@@ -4,8 +4,8 @@ use Rattle.al_base.specs.declared.unit_key.UnitKey.{UnitKey}
 use Rattle.al_base.specs.contracts.unit_key.UnitKeyOrd.TheImpl.{cmp-value}
 use Rattle.al_view.specs.Symbols.{same_unit}
 use Rattle.al_view.proofs.SymbolLemmas.{same_unit-one}
-use Rattle.al_unit_map.specs.Units.{at_unit}
-use Rattle.al_unit_map.proofs.UnitLemmas.{IsByName}
+use Rattle.al_query_store.specs.Units.{at_unit}
+use Rattle.al_query_store.proofs.UnitLemmas.{IsByName}
 use Rattle.al_query_store.specs.declared.cell.Cell.{Cell}
 use Rattle.al_query_store.specs.Keyed.{cell_at, empty, put}
 

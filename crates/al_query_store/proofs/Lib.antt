@@ -12,3 +12,4 @@ pub mod SpotLemmas
 pub mod StateLemmas
 pub mod TellLemmas
 pub mod TestLemmas
+pub mod UnitLemmas

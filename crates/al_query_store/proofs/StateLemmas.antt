@@ -6,7 +6,7 @@ use Rattle.slab.specs.Slab.{Slab, Updates, get}
 use Rattle.al_base.specs.declared.unit_key.UnitKey.{UnitKey}
 use Rattle.al_view.specs.Symbols.{same_unit}
 use Rattle.al_view.proofs.SymbolLemmas.{same_unit-one, same_unit-self}
-use Rattle.al_unit_map.specs.Units.{at_unit}
+use Rattle.al_query_store.specs.Units.{at_unit}
 use Rattle.al_query_store.specs.Stored.{settled}
 use Rattle.al_query_store.specs.declared.slots.Held.{Held}
 use Rattle.al_query_store.specs.declared.cell.Cell.{Cell}

@@ -5,3 +5,4 @@ pub mod Marked
 pub mod Marking
 pub mod Reads
 pub mod Stored
+pub mod Units

@@ -2,7 +2,7 @@
 ghost use Rattle.std.specs.Prelude.{◌≡◌, ◌||◌, true, OnOk, is_some, if◌then◌else◌};
 ghost use Rattle.al_base.specs.declared.unit_key.UnitKey.{UnitKey};
 ghost use Rattle.al_view.specs.Symbols.{same_unit};
-ghost use Rattle.al_unit_map.specs.Units.{at_unit};
+ghost use Rattle.al_query_store.specs.Units.{at_unit};
 ghost use Rattle.al_query_store.specs.Keyed.{cell_at, differ, empty, now_key, put};
 
 use al_base::{NoMemory, UnitKey};

@@ -17,6 +17,7 @@ mod readers;
 mod slots;
 pub mod slots_laws;
 mod store;
+mod unit_map;
 
 pub use cell::Cell;
 pub use logged::Logged;
@@ -26,3 +27,4 @@ pub use questions::Questions;
 pub use readers::Readers;
 pub use slots::{Held, Slots};
 pub use store::Store;
+pub use unit_map::UnitMap;

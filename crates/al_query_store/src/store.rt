@@ -4,7 +4,7 @@ ghost use Rattle.std.specs.Map.{keys_of};
 ghost use Rattle.std.specs.Option.{option_copied};
 ghost use Rattle.al_base.specs.declared.unit_key.UnitKey.{UnitKey};
 ghost use Rattle.al_view.specs.Symbols.{same_unit};
-ghost use Rattle.al_unit_map.specs.Units.{at_unit};
+ghost use Rattle.al_query_store.specs.Units.{at_unit};
 ghost use Rattle.al_query_store.specs.Changes.{AreMarkedAsBefore, ComparesUnit, HasAnswers, with_made};
 ghost use Rattle.al_query_store.specs.Keyed.{Changes, SameStates, base_state, entry_of, is_moved, leaving, now_at, state, under, with_reached};
 

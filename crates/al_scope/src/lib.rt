@@ -1,4 +1,5 @@
-//! What a name means at a place: the regions round it, and what they and the use clauses in them make visible.
+//! What a name means at a place: the regions round it, what they and the use clauses in them make visible, and the place at the start
+//! of a unit's text.
 #![tactic(auto)]
 
 mod clauses;

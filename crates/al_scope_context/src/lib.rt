@@ -1,4 +1,5 @@
-//! Context clauses, each in a place of its own, and the library units that are mentioned at a place (ARM 10.1.2, 10.1.6).
+//! Context clauses, each in a place of its own, use clauses, and the library units that are mentioned at a place (ARM 8.4, 10.1.2,
+//! 10.1.6).
 #![tactic(auto)]
 
 mod clause;

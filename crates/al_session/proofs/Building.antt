@@ -7,8 +7,8 @@ use Rattle.al_unit_graph.specs.Headers.{Header, Library}
 use Rattle.al_query.specs.declared.answer.AnswerKind.{AnswerKind}
 use Rattle.al_query.specs.declared.query.Query.{Query}
 use Rattle.al_engine_refresh.specs.Builds.{results_of}
-use Rattle.al_entries.specs.EntryLaw.{TextMeaning}
-use Rattle.al_entries.specs.Stored.{Stored}
+use Rattle.al_engine_refresh.specs.EntryLaw.{TextMeaning}
+use Rattle.al_engine_refresh.specs.Stored.{Stored}
 use Rattle.al_engine.specs.Rebuilds.{IsRebuilt}
 use Rattle.al_engine.specs.declared.rebuilding.Rebuilt.{Rebuilt}
 use Rattle.al_engine.specs.Builds.{IsBuild}

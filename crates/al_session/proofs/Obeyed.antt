@@ -9,7 +9,7 @@ use Rattle.al_bind.specs.declared.lacking.MissingItem.TheVariants.{Main, Body, S
 use Rattle.al_session.specs.TextOrders.{Obeys, OrdersOfTextsObey}
 use Rattle.al_unit_graph.specs.Headers.{Header}
 use Rattle.al_unit.specs.Libraries.{library_of}
-use Rattle.al_entries.specs.EntryLaw.{TextMeaning}
+use Rattle.al_engine_refresh.specs.EntryLaw.{TextMeaning}
 use Rattle.al_engine.specs.declared.compiled.Compiled.{Compiled}
 use Rattle.al_engine.specs.declared.compiled.Compiled.TheVariants as compiled
 use Rattle.al_engine_files.specs.PredefinedUnits.{predefined_answer}

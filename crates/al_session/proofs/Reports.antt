@@ -12,7 +12,7 @@ use Rattle.al_unit_graph.specs.Headers.{Header}
 use Rattle.al_unit_faults.specs.Orders.{finding_cmp}
 use Rattle.al_unit.specs.Libraries.{library_of}
 use Rattle.al_unit.proofs.LibraryLemmas.{names_of-library_of}
-use Rattle.al_entries.specs.EntryLaw.{TextMeaning}
+use Rattle.al_engine_refresh.specs.EntryLaw.{TextMeaning}
 use Rattle.al_engine_refresh.specs.Found.{findings_of}
 use Rattle.al_engine_refresh.specs.Ascending.{FindingsAscend}
 use Rattle.al_engine.specs.declared.compiled.Compiled.{Compiled}

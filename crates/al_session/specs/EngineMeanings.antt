@@ -11,7 +11,7 @@ use Rattle.al_unit_faults.specs.Obsolete.{obsolete_of}
 use Rattle.al_unit_faults.specs.Units.{units_of}
 use Rattle.al_query.specs.declared.answer.AnswerKind.{AnswerKind}
 use Rattle.al_query.specs.declared.query.Query.{Query}
-use Rattle.al_entries.specs.EntryLaw.{TextMeaning}
+use Rattle.al_engine_refresh.specs.EntryLaw.{TextMeaning}
 use Rattle.al_engine_refresh.specs.Builds.{with_texts}
 use Rattle.al_query_outcome.specs.Equations.{Solves}
 use Rattle.al_query_outcome.specs.Results.{Outcome}

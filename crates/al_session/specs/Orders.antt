@@ -4,7 +4,7 @@ use Rattle.al_base.specs.Batch.{Key}
 use Rattle.al_unit_graph.specs.Headers.{Header}
 use Rattle.al_unit.specs.Libraries.{library_of}
 use Rattle.al_session.specs.TextOrders.{Obeys}
-use Rattle.al_entries.specs.EntryLaw.{TextMeaning}
+use Rattle.al_engine_refresh.specs.EntryLaw.{TextMeaning}
 use Rattle.al_session_served.specs.Builds.{order_of}
 use Rattle.al_session_served.specs.Library.{LastBuild, empty, with_tick}
 use Rattle.al_session_served.specs.Session.{Outcome, IsSession}

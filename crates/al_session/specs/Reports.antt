@@ -4,7 +4,7 @@ use Rattle.std.specs.List.Sorted.{IsStrictlySortedBy}
 use Rattle.al_base.specs.Batch.{Finding}
 use Rattle.al_unit_graph.specs.Headers.{Header}
 use Rattle.al_unit_faults.specs.Orders.{finding_cmp}
-use Rattle.al_entries.specs.EntryLaw.{TextMeaning}
+use Rattle.al_engine_refresh.specs.EntryLaw.{TextMeaning}
 use Rattle.al_session_served.specs.Builds.{Faulty}
 use Rattle.al_session_served.specs.Library.{LastBuild, empty, with_tick}
 use Rattle.al_session_served.specs.Session.{Outcome, IsSession}

@@ -8,7 +8,7 @@ use Rattle.al_bind.specs.declared.binding.BindFault.TheVariants.{Lacks, Cycle}
 use Rattle.al_bind.specs.declared.lacking.MissingItem.TheVariants as lack
 use Rattle.al_query.specs.declared.answer.AnswerKind.{AnswerKind}
 use Rattle.al_query.specs.declared.query.Query.{Query}
-use Rattle.al_entries.specs.EntryLaw.{TextMeaning}
+use Rattle.al_engine_refresh.specs.EntryLaw.{TextMeaning}
 use Rattle.al_query_outcome.specs.Defines.{main_symbol}
 use Rattle.al_query_outcome.specs.Results.{Outcome}
 use Rattle.al_engine.specs.Batches.{IsBatch}

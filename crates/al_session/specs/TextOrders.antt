@@ -3,7 +3,7 @@ use Rattle.std.specs.Prelude.{ℕ, ◌+◌, List, IsTrue}
 use Rattle.al_base.specs.Batch.{Key}
 use Rattle.al_base.specs.Files.{Texts}
 use Rattle.al_base.specs.declared.unit_key.UnitKind.TheVariants.{Decl, Body}
-use Rattle.al_base_order.specs.declared.edge.Reason.{Reason}
+use Rattle.al_base_graph.specs.declared.edge.Reason.{Reason}
 use Rattle.al_unit_graph.specs.Headers.{Library}
 use Rattle.al_unit.specs.Libraries.{library_of}
 use Rattle.al_bind.specs.Binding.{IsElaboration}

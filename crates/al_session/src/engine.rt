@@ -4,11 +4,11 @@ ghost use Rattle.al_session_served.specs.Library.{empty};
 
 use crate::Served;
 use al_base::NoMemory;
-use al_check_text::AdaText;
-use al_check_text::laws::headers_are_read;
 use al_engine_files::query_predefined_laws::units_are_predefined;
 use al_engine_files::{AdaFiles, PredefinedUnits};
 use al_query_outcome::UnitCheck;
+use al_unit::AdaText;
+use al_unit::check_text_laws::headers_are_read;
 use std::alloc::Global;
 
 /// A library of Ada units over a checker: its files, what is kept of its units, and its last build.

@@ -4,16 +4,16 @@ ghost use Rattle.al_session_stream.specs.Input.{source_moment};
 ghost use Rattle.al_session_stream.specs.Output.{sink_moment};
 ghost use Rattle.al_session_served.specs.Library.{State, empty, with_tick};
 ghost use Rattle.al_session_served.specs.Serving.{Serves, StopsReading, StopsWriting};
-ghost use Rattle.al_check_text.specs.Texts.{header_in};
+ghost use Rattle.al_unit.specs.Texts.{header_in};
 ghost use Rattle.al_session.specs.Meanings.{library_meaning};
 
 use crate::engine::new_engine;
 use crate::serving::serve;
 use al_base::NoMemory;
-use al_check_text::AdaText;
 use al_query_outcome::UnitCheck;
 use al_session_served::{Ended, MAX_COMMANDS, MAX_PULLS};
 use al_session_stream::{Device, Sink, Source};
+use al_unit::AdaText;
 use std::alloc::Global;
 
 /// A whole session: carries out the commands that the reader gives, from a library with no file, and writes their replies. What

@@ -1,7 +1,7 @@
 -- What a build gives, and what a run gives, as plain data.
 use Rattle.std.specs.Prelude.{ℕ, List, [], Option, Some, None}
 use Rattle.al_base.specs.Batch.{Finding, Key}
-use Rattle.al_base_order.specs.declared.edge.Reason.{Reason}
+use Rattle.al_base_graph.specs.declared.edge.Reason.{Reason}
 use Rattle.al_session_served.specs.declared.run.RunEnd.{RunEnd}
 use Rattle.al_session_served.specs.declared.run.RunReport.{RunReport}
 

@@ -10,8 +10,8 @@ use Rattle.al_base.specs.Refusals as refusals
 use Rattle.al_base.specs.Rules as broken
 use Rattle.al_base.specs.declared.rule.Rule.TheVariants.{NotYet}
 use Rattle.al_base.specs.Batch.{Finding, Key, key_of}
-use Rattle.al_base_order.specs.declared.edge.Reason.{Reason}
-use Rattle.al_base_order.specs.declared.edge.Reason.TheVariants.{Depends, Elaborate, ElaborateAll}
+use Rattle.al_base_graph.specs.declared.edge.Reason.{Reason}
+use Rattle.al_base_graph.specs.declared.edge.Reason.TheVariants.{Depends, Elaborate, ElaborateAll}
 use Rattle.al_session_stream.specs.Hexadecimal.{hex_lines}
 use Rattle.al_session_served.specs.Builds.{BuildResult, Faulty, NoMain, NoBody, NoSubunit, Cycle, TooLarge, Made, Run, findings_of, order_of, image_of}
 use Rattle.al_session_served.specs.Library.{LastBuild}

@@ -1,7 +1,7 @@
 -- What stands after one another.
 use Rattle.std.proofs.Common.{◌≡◌, List, Option, Some, None, refl, append_assoc, append-nil}
 use Rattle.al_base_fault.specs.declared.fault.Fault.{Fault}
-use Rattle.al_base_faults.specs.FaultLists.{followed}
+use Rattle.al_stmts.specs.FaultLists.{followed}
 use Rattle.al_view_typed.specs.DeclarationTrees.{DeclarationTree}
 use Rattle.al_view_typed.specs.StatementTrees.{StatementTree}
 use Rattle.al_view_typed.specs.UnitTrees.{BodyTree}

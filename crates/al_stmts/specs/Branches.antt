@@ -3,8 +3,8 @@ use Rattle.std.specs.Prelude.{ℕ, List, [], ◌∷◌, ◌++◌, map, Option, N
 use Rattle.al_base_fault.specs.Faults.{earlier}
 use Rattle.al_base_fault.specs.Judging.{fault_in, unless}
 use Rattle.al_base_fault.specs.declared.fault.Fault.{Fault}
-use Rattle.al_base_faults.specs.FaultLists.{followed, no_fault}
-use Rattle.al_base_faults.specs.declared.fault_list.FaultList.{FaultList}
+use Rattle.al_stmts.specs.FaultLists.{followed, no_fault}
+use Rattle.al_stmts.specs.declared.fault_list.FaultList.{FaultList}
 use Rattle.al_view_typed.specs.ExpressionTrees.{TypedTree}
 use Rattle.al_view_typed.specs.StatementTrees.{BranchTree, StatementTree}
 use Rattle.al_view_typed.specs.StatementTrees.{BranchTree as branch_trees, StatementFormTree as statements, StatementTree as numbered}

@@ -7,8 +7,8 @@ use Rattle.al_view.specs.declared.types.Bounds.{Bounds}
 use Rattle.al_base_fault.specs.Faults.{earlier, fault_at}
 use Rattle.al_base_fault.specs.Judging.{next, unless}
 use Rattle.al_base_fault.specs.declared.fault.Fault.{Fault}
-use Rattle.al_base_faults.specs.FaultLists.{followed, no_fault}
-use Rattle.al_base_faults.specs.declared.fault_list.FaultList.{FaultList}
+use Rattle.al_stmts.specs.FaultLists.{followed, no_fault}
+use Rattle.al_stmts.specs.declared.fault_list.FaultList.{FaultList}
 use Rattle.al_stmts.specs.Choosing.{AreRight, has_others, range_of}
 use Rattle.al_stmts.specs.declared.choice.Choice.{Choice}
 use Rattle.al_stmts.specs.declared.choice.Selector.{Selector}

@@ -2,8 +2,8 @@
 use Rattle.std.specs.Prelude.{List, [], ◌∷◌, ◌++◌, map, option_map, Some, Result, Ok, Err}
 use Rattle.std.specs.Option.{option_to_list}
 use Rattle.al_base_fault.specs.declared.fault.Fault.{Fault}
-use Rattle.al_base_faults.specs.FaultLists.{followed, no_fault, round}
-use Rattle.al_base_faults.specs.declared.fault_list.FaultList.{FaultList}
+use Rattle.al_stmts.specs.FaultLists.{followed, no_fault, round}
+use Rattle.al_stmts.specs.declared.fault_list.FaultList.{FaultList}
 use Rattle.al_view_typed.specs.StatementTrees.{StatementTree}
 use Rattle.al_view_typed.specs.StatementViews.{statement_model}
 use Rattle.al_stmts.specs.declared.checked.CheckedStatement.{CheckedStatement}

@@ -38,7 +38,7 @@ use Rattle.al_tree_syntax.specs.StatementTrees.StatementsTree.{Statements}
 use Rattle.al_overload_lookup.specs.Places.{first_place, place_of}
 use Rattle.al_stmts.specs.declared.choice.Choice.TheVariants.{Others}
 use Rattle.al_stmts.specs.declared.returns.EnclosingBody.TheVariants as bodies
-use Rattle.al_base_faults.specs.FaultLists.{all_faults}
+use Rattle.al_stmts.specs.FaultLists.{all_faults}
 use Rattle.al_view_typed.specs.DeclarationTrees.{DeclarationTree}
 use Rattle.al_view_typed.specs.ExpressionTrees.{TypedTree}
 use Rattle.al_view_typed.specs.ExpressionTrees.FormTree.{NamedForm}

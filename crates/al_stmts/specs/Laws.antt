@@ -4,7 +4,7 @@ use Rattle.al_tree_syntax.specs.StatementTrees.{ItemTree, ItemsTree, MoreStateme
 use Rattle.al_tree_syntax.specs.StatementTrees.ItemsTree.{MoreItems}
 use Rattle.al_tree_syntax.specs.StatementTrees.OperationBodiesTree.{MoreOperationBodies}
 use Rattle.al_tree_syntax.specs.StatementTrees.StatementsTree.{Statements}
-use Rattle.al_base_faults.specs.FaultLists.{followed}
+use Rattle.al_stmts.specs.FaultLists.{followed}
 use Rattle.al_stmts.specs.Readings.{Reading}
 use Rattle.al_stmts.specs.Steps.{Enclosing}
 use Rattle.al_stmts.specs.Walking.{item_walked, items_walked, more_walked, operation_walked, operations_walked, statement_walked, statements_walked}

@@ -1,3 +1,4 @@
+pub mod BaseFaultsLaws
 pub mod Branches
 pub mod Cases
 pub mod Checking
@@ -5,6 +6,7 @@ pub mod Choosing
 pub mod Ends
 pub mod Examples
 pub mod Exits
+pub mod FaultLists
 pub mod Laws
 pub mod LoopForms
 pub mod Readings

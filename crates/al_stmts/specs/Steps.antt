@@ -4,8 +4,8 @@ use Rattle.al_base_fault.specs.declared.fault.Fault.{Fault}
 use Rattle.al_tree_grammar.specs.Grammar.{Label}
 use Rattle.al_stmts.specs.declared.choice.Choice.{Choice}
 use Rattle.al_stmts.specs.Exits.{EnclosingLoops}
-use Rattle.al_base_faults.specs.FaultLists.{followed, no_fault, of_declaration, of_statement}
-use Rattle.al_base_faults.specs.declared.fault_list.FaultList.{FaultList}
+use Rattle.al_stmts.specs.FaultLists.{followed, no_fault, of_declaration, of_statement}
+use Rattle.al_stmts.specs.declared.fault_list.FaultList.{FaultList}
 use Rattle.al_view_typed.specs.DeclarationTrees.{DeclarationTree}
 use Rattle.al_view_typed.specs.ExpressionTrees.{TypedTree}
 use Rattle.al_view_typed.specs.StatementTrees.{SchemeTree, StatementTree}

@@ -8,11 +8,10 @@ ghost use Rattle.al_view_typed.specs.StatementViews.{alternative_model, statemen
 ghost use Rattle.al_stmts.specs.Cases.{alternatives_checked, cased, cased_over, chosen_by, none_chosen, with_alternative};
 ghost use Rattle.al_stmts.specs.Checking.{all_checked, one_checked};
 
-use crate::Choice;
 use crate::checked::{CheckedStatement, CheckedStatements};
+use crate::{Choice, FaultList};
 use al_base::NoMemory;
 use al_base_fault::CheckResult;
-use al_base_faults::FaultList;
 use al_view::{Bounds, Seq};
 use al_view_typed::{Alternative, StatementForm, Typed, TypedStatement};
 use std::alloc::{AllocError, Global};

@@ -6,10 +6,10 @@ ghost use Rattle.al_view_typed.specs.StatementViews.{branch_model, statement_mod
 ghost use Rattle.al_stmts.specs.Branches.{branch_of, branched, branches_checked, no_branch, with_branch, with_otherwise};
 ghost use Rattle.al_stmts.specs.Checking.{all_checked, one_checked};
 
+use crate::FaultList;
 use crate::checked::{CheckedStatement, CheckedStatements};
 use al_base::NoMemory;
 use al_base_fault::{CheckResult, Fault, earlier, unless};
-use al_base_faults::FaultList;
 use al_view_typed::{Branch, StatementForm, Typed, TypedStatement};
 use std::alloc::{AllocError, Global};
 

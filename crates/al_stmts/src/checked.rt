@@ -1,14 +1,14 @@
 // Statements that are checked.
 ghost use Rattle.std.specs.Prelude.{◌≡◌, ◌++◌, [], ◌∷◌, IfOk, OnOk, Err, is_some, map, option_map};
 ghost use Rattle.std.specs.Option.{option_to_list};
-ghost use Rattle.al_base_faults.specs.FaultLists.{no_fault};
+ghost use Rattle.al_stmts.specs.FaultLists.{no_fault};
 ghost use Rattle.al_base_fault.specs.Judging.{map_ok};
 ghost use Rattle.al_view_typed.specs.StatementViews.{statement_model};
 ghost use Rattle.al_stmts.specs.Checking.{all_checked, alone, broken_off, checked_after, compound, one_checked};
 
+use crate::FaultList;
 use al_base::NoMemory;
 use al_base_fault::{CheckResult, Fault};
-use al_base_faults::FaultList;
 use al_view_typed::TypedStatement;
 use std::alloc::{AllocError, Global};
 

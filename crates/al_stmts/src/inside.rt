@@ -4,10 +4,9 @@ ghost use Rattle.al_stmts.specs.Steps.{block_of, ended_by};
 ghost use Rattle.al_stmts.specs.WalkedViews.{inside_model, one_model};
 
 use crate::statements::WalkedStatement;
-use crate::{CheckedStatements, block_statement};
+use crate::{CheckedStatements, FaultList, block_statement};
 use al_base::NoMemory;
 use al_base_fault::Fault;
-use al_base_faults::FaultList;
 use al_view_typed::{TypedBody, TypedDeclaration, TypedStatement};
 use std::alloc::Global;
 

@@ -1,8 +1,10 @@
-//! Statements by their judged parts: what is wrong with them, and the statements with their labels. Nothing is asked here.
+//! Statements by their judged parts: what is wrong with them, all of it in the order of the text, and the statements with their labels.
+//! Nothing is asked here.
 #![tactic(auto)]
 
 mod alternatives;
 mod apart;
+mod base_faults_laws;
 mod blocks;
 mod bodies;
 mod bounds;
@@ -18,6 +20,7 @@ mod examples;
 mod exits;
 mod extent;
 mod extents;
+mod fault_list;
 mod inside;
 mod judging;
 mod laws;
@@ -35,6 +38,9 @@ mod walked_ends;
 mod walked_laws;
 
 pub use alternatives::{CheckedAlternatives, Chosen};
+pub use base_faults_laws::{
+    a_faulty_declaration_ends_the_list, a_faulty_statement_ends_no_list, parts_follow,
+};
 pub use blocks::block_statement;
 pub use branches::CheckedBranches;
 pub use cases::{checked_selector, choices_are_right, selector_of};
@@ -49,6 +55,7 @@ pub use examples::{
 pub use exits::Loops;
 pub use extent::BodyExtent;
 pub use extents::{first_line, named_extent, named_line, subprogram_extent};
+pub use fault_list::FaultList;
 pub use inside::WalkedInside;
 pub use judging::are_right;
 pub use laws::{an_exit_leaves_the_innermost_loop, no_exit_where_no_loop};

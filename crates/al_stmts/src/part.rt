@@ -1,6 +1,6 @@
 // Declarations that were walked over.
 ghost use Rattle.std.specs.Prelude.{◌≡◌, ◌∷◌, ◌++◌, IfOk, OnOk, is_some, map};
-ghost use Rattle.al_base_faults.specs.FaultLists.{followed};
+ghost use Rattle.al_stmts.specs.FaultLists.{followed};
 ghost use Rattle.al_base_fault.specs.Judging.{map_ok};
 ghost use Rattle.al_view_typed.specs.StatementViews.{statement_model};
 ghost use Rattle.al_view_typed.specs.UnitTrees.{body_model};
@@ -8,13 +8,12 @@ ghost use Rattle.al_stmts.specs.Steps.{body_faults, closed_by, inside_of, no_par
 ghost use Rattle.al_stmts.specs.Views.{effects_model};
 ghost use Rattle.al_stmts.specs.WalkedViews.{all_model, inside_model, part_model};
 
-use crate::CheckedStatements;
 use crate::bodies::append;
 use crate::inside::WalkedInside;
 use crate::statements::WalkedStatements;
+use crate::{CheckedStatements, FaultList};
 use al_base::NoMemory;
 use al_base_fault::{CheckResult, Fault};
-use al_base_faults::FaultList;
 use al_view_typed::{TypedBody, TypedDeclaration};
 use std::alloc::Global;
 

@@ -7,10 +7,9 @@ ghost use Rattle.al_stmts.specs.Steps.{alone_of, block_of, broken_by, inside_of,
 
 use crate::bodies::append;
 use crate::part::WalkedPart;
-use crate::{CheckedStatement, CheckedStatements, loop_statement};
+use crate::{CheckedStatement, CheckedStatements, FaultList, loop_statement};
 use al_base::NoMemory;
 use al_base_fault::{CheckResult, Fault};
-use al_base_faults::FaultList;
 use al_view_typed::{LoopScheme, TypedBody, TypedStatement};
 use std::alloc::Global;
 

@@ -1,13 +1,13 @@
 -- Judged things by other views of them, and in contexts that are made.
 use Rattle.std.proofs.Common.{◌≡◌, List, Option, IfOk, Result, Ok, Err, refl, subst}
-use Rattle.al_overload_heads.specs.declared.everywhere.Predefined.{Predefined}
+use Rattle.al_overload.specs.declared.everywhere.Predefined.{Predefined}
 use Rattle.al_base_fault.specs.Judging.{both, map_ok}
 use Rattle.al_base_fault.specs.declared.fault.Fault.{Fault}
-use Rattle.al_overload_label.specs.Ranges.{bounds_checked}
-use Rattle.al_overload_label.specs.RangesSeen.{pair_model}
-use Rattle.al_overload_label.specs.declared.range.Pair.{Pair}
+use Rattle.al_overload_nodes.specs.Ranges.{bounds_checked}
+use Rattle.al_overload_nodes.specs.RangesSeen.{pair_model}
+use Rattle.al_overload_nodes.specs.declared.range.Pair.{Pair}
 use Rattle.al_overload.specs.declared.context.Context.{Context}
-use Rattle.al_overload_heads.specs.Terms.{TermTree}
+use Rattle.al_overload.specs.Terms.{TermTree}
 use Rattle.al_view.specs.declared.symbol.Symbol.{Symbol}
 use Rattle.al_view.specs.declared.types.TypeView.{TypeView}
 

@@ -6,13 +6,13 @@ use Rattle.al_stmts.specs.declared.choice.Choice.TheVariants as choices
 use Rattle.al_decl_judged.specs.TypeSubtypes.{subtype_of}
 use Rattle.al_decl_judged.specs.declared.subtype_views.StaticRange.{StaticRange}
 use Rattle.al_decl_judged.specs.StaticPieces.{static_of}
-use Rattle.al_overload_heads.specs.declared.everywhere.Predefined.{Predefined}
+use Rattle.al_overload.specs.declared.everywhere.Predefined.{Predefined}
 use Rattle.al_base_fault.specs.Judging.{both, next, map_ok, unless}
 use Rattle.al_base_fault.specs.declared.fault.Fault.{Fault}
 use Rattle.al_overload_lookup.specs.Places.{first_place}
-use Rattle.al_overload_label.specs.Static.{static_term_checked}
-use Rattle.al_overload_label.specs.Ranges.{FoundTree}
-use Rattle.al_overload_label.specs.declared.range.FoundType.{FoundType}
+use Rattle.al_overload_nodes.specs.Static.{static_term_checked}
+use Rattle.al_overload_nodes.specs.Ranges.{FoundTree}
+use Rattle.al_overload_nodes.specs.declared.range.FoundType.{FoundType}
 use Rattle.al_overload.specs.Types.{value_type}
 use Rattle.al_overload.specs.declared.context.Context.{Context}
 use Rattle.al_overload.specs.declared.context.Context.TheVariants as contexts
@@ -25,7 +25,7 @@ use Rattle.al_tree_syntax.specs.DeclarationTrees.{DiscreteRangeTree, DiscreteRan
 use Rattle.al_tree_syntax.specs.StatementTrees.{ChoiceTree}
 use Rattle.al_tree_syntax.specs.StatementTrees.ChoiceTree.{OthersChoice, RangeChoice}
 use Rattle.al_tree_syntax.specs.ExpressionTrees.{ExpressionTree}
-use Rattle.al_overload_heads.specs.Terms.{TermTree}
+use Rattle.al_overload.specs.Terms.{TermTree}
 use Rattle.al_overload_values.specs.TermsAt.{mark_at}
 use Rattle.al_view_typed.specs.ExpressionTrees.{TypedTree}
 use Rattle.al_overload_values.specs.Surroundings.{Surroundings}

@@ -2,20 +2,20 @@
 use Rattle.std.specs.Prelude.{ℕ, [], Option, Some, None, Result, Ok, Err}
 use Rattle.al_base.specs.declared.place.Place.{Place}
 use Rattle.al_decl_judged.specs.TypeSubtypes.{scalar_bounds, subtype_bounds}
-use Rattle.al_overload_heads.specs.declared.everywhere.Predefined.{Predefined}
+use Rattle.al_overload.specs.declared.everywhere.Predefined.{Predefined}
 use Rattle.al_base_fault.specs.Judging.{both, next, map_ok, unless}
 use Rattle.al_base_fault.specs.declared.fault.Fault.{Fault}
 use Rattle.al_overload_lookup.specs.Places.{first_place}
-use Rattle.al_overload_label.specs.Ranges.{PairTree, bounds_checked}
-use Rattle.al_overload_label.specs.declared.range.FoundType.{FoundType}
+use Rattle.al_overload_nodes.specs.Ranges.{PairTree, bounds_checked}
+use Rattle.al_overload_nodes.specs.declared.range.FoundType.{FoundType}
 use Rattle.al_overload.specs.declared.context.Context.TheVariants as contexts
 use Rattle.al_overload_values.specs.TextsAt.{With, bounds_with_at, range_with_at, terms_with_model}
 use Rattle.al_query.specs.Reads.{Table}
 use Rattle.al_overload_slots.specs.Slots.{after, numbered}
 use Rattle.al_stmts.specs.LoopForms.{RangeTree, range_of_mark, range_model}
 use Rattle.al_tree_syntax.specs.DeclarationTrees.{DiscreteRangeTree, DiscreteRangeTree as ranges}
-use Rattle.al_overload_heads.specs.Terms.{TermTree}
-use Rattle.al_overload_heads.specs.declared.term.Term.{Term}
+use Rattle.al_overload.specs.Terms.{TermTree}
+use Rattle.al_overload.specs.declared.heads_term.Term.{Term}
 use Rattle.al_overload_values.specs.TermsAt.{mark_at}
 use Rattle.al_overload_nodes.specs.Leaves.{mark_type}
 use Rattle.al_overload_values.specs.Surroundings.{Surroundings}

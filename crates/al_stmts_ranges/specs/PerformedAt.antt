@@ -9,7 +9,7 @@ use Rattle.al_query.specs.Reads.{Table}
 use Rattle.al_overload_slots.specs.Pieces.{pieces_after, pieces_numbered}
 use Rattle.al_overload_slots.specs.Slots.{call_after, call_numbered}
 use Rattle.al_tree_syntax.specs.ExpressionTrees.{ExpressionTree}
-use Rattle.al_overload_heads.specs.Terms.{TermTree}
+use Rattle.al_overload.specs.Terms.{TermTree}
 use Rattle.al_view_typed.specs.StatementTrees.{StatementFormTree}
 use Rattle.al_view_typed.specs.StatementTrees.StatementFormTree.{CallStatement, PutStatement}
 use Rattle.al_overload_values.specs.Surroundings.{Surroundings}

@@ -13,7 +13,7 @@ ghost use Rattle.al_overload_values.specs.Surroundings.{site_model, site_units};
 
 use al_base::NoMemory;
 use al_base_fault::{CheckResult, Fault, unless};
-use al_overload_heads::Term;
+use al_overload::Term;
 use al_overload_nodes::Labeller;
 use al_overload_slots::{number_call, number_pieces};
 use al_overload_values::{CallEffect as Labelled, Site, check_performed, context_with_at};

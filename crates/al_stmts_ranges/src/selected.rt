@@ -1,7 +1,7 @@
 // Selectors of case statements, with what chooses of them.
 ghost use Rattle.std.specs.Prelude.{◌≡◌, IfOk};
 ghost use Rattle.al_base_fault.specs.Judging.{next, map_ok};
-ghost use Rattle.al_overload_label.specs.RangesSeen.{found_model};
+ghost use Rattle.al_overload_nodes.specs.RangesSeen.{found_model};
 ghost use Rattle.al_query.specs.Asked.{AsksOf, by_some_name};
 ghost use Rattle.al_query.specs.Reads.{FromAnswers};
 ghost use Rattle.al_stmts_ranges.specs.ChoicesAt.{all_values, choice_at, selected_at, values_of, whole_at};
@@ -13,7 +13,7 @@ use crate::choice::choice_at;
 use al_base::NoMemory;
 use al_base_fault::CheckResult;
 use al_overload::positions_in;
-use al_overload_label::{DeterminedValue, FoundType};
+use al_overload_nodes::{DeterminedValue, FoundType};
 use al_overload_values::{Site, selector_judged_at};
 use al_query::{Answers, Recorder};
 use al_stmts::Choice;

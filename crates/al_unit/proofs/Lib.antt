@@ -1,4 +1,5 @@
-pub mod Faults
-pub mod ReadingLaws
 pub mod Ascending
+pub mod CheckTextReading
+pub mod Faults
 pub mod LibraryLemmas
+pub mod ReadingLaws

@@ -11,8 +11,8 @@ use Rattle.al_base.specs.declared.unit_key.UnitKey.{UnitKey}
 use Rattle.al_base.specs.FileNames.{file_name_of}
 use Rattle.al_base.specs.declared.unit_key.UnitKind.TheVariants.{Decl}
 use Rattle.al_base_graph.specs.Graphs.{Step}
-use Rattle.al_base_order.specs.Orders.{AreDistinct, IsCycle, IsOrder, IsOrdered, next_in}
-use Rattle.al_base_order.proofs.LawLemmas.{order_once}
+use Rattle.al_base_graph.specs.Orders.{AreDistinct, IsCycle, IsOrder, IsOrdered, next_in}
+use Rattle.al_base_graph.proofs.LawLemmas.{order_once}
 use Rattle.al_unit_graph.specs.Headers.{Library, key_of_unit}
 use Rattle.al_unit_graph.specs.Dependence.{direct, DependsOn}
 use Rattle.al_unit_graph.specs.Dependence.DependsOn.{directly, through}

@@ -1,5 +1,5 @@
 //! All that is wrong with the units of a library as a graph: names, units that aren't there, cycles, private children, parents, stubs
-//! and bodies that don't fit.
+//! and bodies that don't fit; the order in which its units are checked, and which units are obsolete.
 #![tactic(auto)]
 
 mod by_file;

@@ -9,8 +9,8 @@ use crate::faultless::faultless_units;
 use crate::places::units_at;
 use crate::steps::graph_of;
 use al_base::{NoMemory, UnitKey};
-use al_base_order::laws::cycle_is_of_steps;
-use al_base_order::order;
+use al_base_graph::order;
+use al_base_graph::order_laws::cycle_is_of_steps;
 use al_unit_graph::Sources;
 use std::alloc::Global;
 

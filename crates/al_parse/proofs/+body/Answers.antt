@@ -3,7 +3,7 @@ use Rattle.al_tree_grammar.specs.Grammar.Rule.{Any, Many, Seq}
 use Rattle.al_parse.proofs.Clear.{elsifs_clear, items_clear, more_alternatives_clear, more_statements_clear, operation_bodies_clear}
 use Rattle.al_parse.proofs.Stubs.{no_semicolon_inside}
 use Rattle.al_parse.proofs.Rooms.{no_room, stops_in_room, took_in_room}
-use Rattle.al_parse_expr.proofs.Loops.{each_push, fewer, many_err, many_next, many_over}
+use Rattle.al_parse.proofs.Loops.{each_push, fewer, many_err, many_next, many_over}
 use Rattle.al_tree_syntax.specs.Constructs.{Construct as constructs}
 use Rattle.al_tree_syntax.specs.DeclarationTrees.{specification_tokens}
 use Rattle.al_tree_syntax.specs.Declarations.{common_rule, item_rule, object_rule, operation_body_rule, pragma_rule, specification_rule, subtype_rule, type_rule, use_rule}

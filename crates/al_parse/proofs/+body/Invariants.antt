@@ -1,6 +1,6 @@
 use Rattle.al_tree_grammar.specs.Grammar.{each}
 use Rattle.al_tree_grammar.specs.Grammar.Rule.{Any, Many, Seq}
-use Rattle.al_parse_expr.proofs.Loops.{Kept}
+use Rattle.al_parse.proofs.Loops.{Kept}
 use Rattle.al_tree_syntax.specs.Declarations.{item_rule, operation_body_rule}
 use Rattle.al_tree_syntax.specs.StatementTrees.{alternative_tokens, item_tokens, operation_body_tokens, statement_tokens}
 use Rattle.al_tree_syntax.specs.Statements.{alternative_rule, branch_rule, statement_rule}

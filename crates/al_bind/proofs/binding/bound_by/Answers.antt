@@ -5,9 +5,9 @@ use Rattle.std.proofs.lemmas.Grind.{common_steps}
 use Rattle.std.proofs.lemmas.List.{length-map}
 use Rattle.al_base.specs.Batch.{Key, key_of}
 use Rattle.al_base.specs.declared.unit_key.UnitKey.{UnitKey}
-use Rattle.al_base_order.specs.Orders.{IsOrdered}
-use Rattle.al_base_order.specs.Ties.{IsFault, graph_from}
-use Rattle.al_base_order.specs.declared.edge.Edge.{Edge}
+use Rattle.al_base_graph.specs.Orders.{IsOrdered}
+use Rattle.al_base_graph.specs.Ties.{IsFault, graph_from}
+use Rattle.al_base_graph.specs.declared.edge.Edge.{Edge}
 use Rattle.al_unit_graph.specs.Headers.{Library}
 use Rattle.al_bind.specs.Binding.{items_at, line_of, line_model}
 use Rattle.al_bind.specs.Numbers.{TellsEdge, TellsWant, nodes_among}

@@ -1,7 +1,7 @@
 use Rattle.std.proofs.Common.{◌≡◌, map}
 use Rattle.al_base.specs.Batch.{key_of}
 use Rattle.al_base.specs.declared.unit_key.UnitKind.TheVariants.{Body}
-use Rattle.al_base_order.specs.declared.edge.Reason.TheVariants.{ElaborateAll}
+use Rattle.al_base_graph.specs.declared.edge.Reason.TheVariants.{ElaborateAll}
 use Rattle.al_unit_graph.specs.Needed.{Needed}
 use Rattle.al_bind.specs.Numbers.{IsFor, IsForAll}
 use Rattle.al_bind.proofs.TieLemmas.{adds_either}

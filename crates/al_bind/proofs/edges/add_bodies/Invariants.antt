@@ -1,7 +1,7 @@
 use Rattle.std.proofs.Common.{map, take}
 use Rattle.al_base.specs.Batch.{key_of}
 use Rattle.al_base.specs.declared.unit_key.UnitKind.TheVariants.{Body}
-use Rattle.al_base_order.specs.declared.edge.Reason.TheVariants.{Elaborate}
+use Rattle.al_base_graph.specs.declared.edge.Reason.TheVariants.{Elaborate}
 use Rattle.al_bind.specs.Numbers.{Adds, IsFor, OneOf, TiesBy}
 use Rattle.al_bind.proofs.edges.add_bodies.Given as goal
 

@@ -1,7 +1,7 @@
 use Rattle.std.proofs.Common.{ℕ, List, map, subst}
 use Rattle.al_base.specs.Batch.{key_of}
 use Rattle.al_base.specs.declared.unit_key.UnitKey.{UnitKey}
-use Rattle.al_base_order.specs.declared.edge.Reason.TheVariants.{ElaborateAll}
+use Rattle.al_base_graph.specs.declared.edge.Reason.TheVariants.{ElaborateAll}
 use Rattle.al_unit_graph.specs.Needed.{ListsUnits, Needed}
 use Rattle.al_bind.specs.Numbers.{Adds, IsFor, OneOf, TiesBy}
 use Rattle.al_bind.proofs.TieLemmas.{listed_ties}

@@ -1,6 +1,6 @@
 use Rattle.std.proofs.Common.{List, map, sym, subst}
 use Rattle.al_base.specs.Batch.{key_of}
-use Rattle.al_base_order.specs.declared.edge.Edge.{Edge}
+use Rattle.al_base_graph.specs.declared.edge.Edge.{Edge}
 use Rattle.al_bind.specs.Numbers.{Adds, IsFor, TiesBy}
 use Rattle.al_bind.proofs.TieLemmas.{no_end, no_edge, one_edge}
 use Rattle.al_bind.proofs.edges.add_tie.Goals as goal

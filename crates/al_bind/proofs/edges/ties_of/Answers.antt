@@ -1,7 +1,7 @@
 use Rattle.std.proofs.Common.{List, map, subst}
 use Rattle.al_base.specs.Batch.{key_of}
 use Rattle.al_base.specs.declared.unit_key.UnitKey.{UnitKey}
-use Rattle.al_base_order.specs.declared.edge.Edge.{Edge}
+use Rattle.al_base_graph.specs.declared.edge.Edge.{Edge}
 use Rattle.al_bind.specs.Numbers.{Adds, OneOf, TiesFrom}
 use Rattle.al_bind.specs.Steps.{WantsTold}
 use Rattle.al_bind.proofs.EdgeLemmas.{all_edges}

@@ -11,8 +11,8 @@ use Rattle.al_tree.specs.UnitViews.{library_item_model, unit_model}
 use Rattle.al_view.specs.declared.view.ViewKind.{ViewKind}
 use Rattle.al_check_here.specs.Standings.{begun_at}
 use Rattle.al_check_here.specs.declared.state.UnitText.{UnitText}
-use Rattle.al_check_made.specs.Lines.{item_line}
-use Rattle.al_check_made.specs.declared.after.UnitFacts.{UnitFacts}
+use Rattle.al_check_bounded.specs.Lines.{item_line}
+use Rattle.al_check_bounded.specs.declared.after.UnitFacts.{UnitFacts}
 use Rattle.al_check.specs.Ada.{text_of, without_withs}
 use Rattle.al_check.proofs.start.begun_at.Goals as goal
 

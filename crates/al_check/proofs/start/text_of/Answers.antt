@@ -1,8 +1,8 @@
 use Rattle.std.proofs.Common.{◌≡◌, None, ap, ◌∙◌}
 use Rattle.std.specs.Coded.{Unit-prop}
 use Rattle.std.specs.Global.{Global}
-use Rattle.al_overload_heads.specs.declared.everywhere.Predefined.{Predefined}
-use Rattle.al_check_made.specs.Constants.{the_memory}
+use Rattle.al_overload.specs.declared.everywhere.Predefined.{Predefined}
+use Rattle.al_check_bounded.specs.Constants.{the_memory}
 use Rattle.al_check_here.specs.declared.state.UnitText.{UnitText}
 use Rattle.al_check.proofs.start.text_of.Goals as goal
 

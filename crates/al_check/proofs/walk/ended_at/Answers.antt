@@ -1,7 +1,7 @@
 use Rattle.std.proofs.Common.{ap, ◌∙◌}
 use Rattle.al_stmts.specs.WalkedViews.{inside_model}
-use Rattle.al_check_made.specs.Ended.{ended}
-use Rattle.al_check_made.specs.declared.after.EndedText.{EndedText}
+use Rattle.al_check_bounded.specs.Ended.{ended}
+use Rattle.al_check_bounded.specs.declared.after.EndedText.{EndedText}
 use Rattle.al_check.specs.Ada.{ended_text}
 use Rattle.al_check.proofs.UnitResult.{if_ok}
 use Rattle.al_check.proofs.walk.ended_at.Goals as goal

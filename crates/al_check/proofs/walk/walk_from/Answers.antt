@@ -3,7 +3,7 @@ use Rattle.al_tree.specs.UnitViews.{library_item_model, unit_model}
 use Rattle.al_stmts.specs.Units.{unit_walked}
 use Rattle.al_check_here.specs.declared.state.CheckState.{CheckState}
 use Rattle.al_check_reading.specs.Ada.{ada}
-use Rattle.al_check_made.specs.declared.after.UnitFacts.{UnitFacts}
+use Rattle.al_check_bounded.specs.declared.after.UnitFacts.{UnitFacts}
 use Rattle.al_check.specs.Ada.{ended_after, round_of}
 use Rattle.al_check.proofs.UnitResult.{if_ok}
 use Rattle.al_check.proofs.walk.walk_from.Goals as goal

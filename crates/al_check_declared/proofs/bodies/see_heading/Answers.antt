@@ -1,6 +1,6 @@
 use Rattle.std.proofs.Common.{ap, ◌∙◌}
 use Rattle.al_check_here.specs.declared.state.AnalyzedHeading.{AnalyzedHeading}
-use Rattle.al_decl_profile.specs.declared.heading.ReturnedPart.{ReturnedPart}
+use Rattle.al_decl_judged.specs.declared.heading.ReturnedPart.{ReturnedPart}
 use Rattle.al_check_declared.specs.EnteredHere.{visible_result}
 use Rattle.al_check_declared.proofs.bodies.see_heading.Goals as goal
 

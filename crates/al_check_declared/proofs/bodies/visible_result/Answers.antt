@@ -1,5 +1,5 @@
 use Rattle.std.proofs.Common.{ap, sym, ◌∙◌}
-use Rattle.al_decl_profile.specs.declared.heading.ReturnedPart.TheVariants.{Value}
+use Rattle.al_decl_judged.specs.declared.heading.ReturnedPart.TheVariants.{Value}
 use Rattle.al_check_declared.specs.EnteredHere.{visible_result}
 use Rattle.al_check_declared.proofs.bodies.visible_result.Goals as goal
 

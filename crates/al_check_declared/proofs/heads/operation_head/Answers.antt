@@ -1,7 +1,7 @@
 use Rattle.std.proofs.Common.{ℕ, ap, ◌∙◌}
 use Rattle.al_stmts.specs.Walking.{first_line}
 use Rattle.al_check_here.specs.declared.state.CheckState.{CheckState}
-use Rattle.al_decl_profile.specs.declared.heading.Heading.{Heading}
+use Rattle.al_decl_judged.specs.declared.heading.Heading.{Heading}
 use Rattle.al_tree.specs.DeclarationViews.{specification_model}
 use Rattle.al_check_declared.specs.ObjectsHere.{operation_of}
 use Rattle.al_check_declared.proofs.Composed.{if_ok}

@@ -1,5 +1,5 @@
 use Rattle.std.proofs.Common.{map, ap, ◌∙◌}
-use Rattle.al_decl_profile.specs.declared.specification.BodyHead.TheVariants as heads
+use Rattle.al_decl_judged.specs.declared.specification.BodyHead.TheVariants as heads
 use Rattle.al_decl_judged.specs.declared.names.DefiningName.{DefiningName}
 use Rattle.al_decl_protected.specs.Bodies.{named_body}
 use Rattle.al_tree.specs.StatementViews.{operation_bodies_of, operation_body_model}

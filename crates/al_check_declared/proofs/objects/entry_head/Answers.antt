@@ -3,7 +3,7 @@ use Rattle.al_base_fault.specs.Judging.{unless}
 use Rattle.al_base_fault.specs.declared.fault.Fault.{Fault}
 use Rattle.al_check_here.specs.declared.state.BodyRole.TheVariants as roles
 use Rattle.al_check_declared.specs.OpenObjects.{barrier_fault_here}
-use Rattle.al_decl_profile.specs.declared.specification.BodyHead.TheVariants as heads
+use Rattle.al_decl_judged.specs.declared.specification.BodyHead.TheVariants as heads
 use Rattle.al_decl_judged.specs.declared.names.DefiningName.{DefiningName}
 use Rattle.al_tree.specs.ExpressionViews.{expression_model}
 use Rattle.al_check_declared.specs.ObjectsHere.{named_at, named_settled}

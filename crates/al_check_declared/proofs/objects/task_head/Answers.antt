@@ -1,6 +1,6 @@
 use Rattle.std.proofs.Common.{ap, ◌∙◌}
 use Rattle.al_check_here.specs.declared.state.BodyRole.TheVariants as roles
-use Rattle.al_decl_profile.specs.declared.specification.BodyHead.TheVariants as heads
+use Rattle.al_decl_judged.specs.declared.specification.BodyHead.TheVariants as heads
 use Rattle.al_decl_judged.specs.declared.names.DefiningName.{DefiningName}
 use Rattle.al_check_declared.specs.ObjectsHere.{named_at, named_settled}
 use Rattle.al_check_declared.proofs.Composed.{if_ok, named_same}

@@ -1,7 +1,7 @@
 use Rattle.std.proofs.Common.{true, is_some, ap, ◌∙◌}
 use Rattle.al_decl_completes.proofs.Found.{completing-is}
 use Rattle.al_decl.specs.Placing.{body_placed, head_duplicate}
-use Rattle.al_decl_profile.specs.Profiles.{specification_of}
+use Rattle.al_decl_judged.specs.Profiles.{specification_of}
 use Rattle.al_check_declared.proofs.Composed.{if_ok}
 use Rattle.al_check_declared.proofs.placing.body_at.Goals as goal
 

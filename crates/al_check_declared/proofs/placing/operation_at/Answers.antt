@@ -2,7 +2,7 @@ use Rattle.std.proofs.Common.{Bool, None, not, is_some, ap, ◌∙◌}
 use Rattle.al_decl_completes.proofs.Found.{completing-is}
 use Rattle.al_decl_completes.specs.CompletingFound.{completing_found}
 use Rattle.al_decl.specs.Placing.{body_placed, has_right_marks, head_duplicate}
-use Rattle.al_decl_profile.specs.Profiles.{specification_of}
+use Rattle.al_decl_judged.specs.Profiles.{specification_of}
 use Rattle.al_check_declared.proofs.Composed.{if_ok}
 use Rattle.al_check_declared.proofs.placing.operation_at.Goals as goal
 

@@ -1,6 +1,6 @@
 use Rattle.std.proofs.Common.{None, ap, ◌∙◌}
-use Rattle.al_decl_profile.specs.Bodies.{body_declared}
-use Rattle.al_decl_profile.specs.declared.body.Completing.{Completing}
+use Rattle.al_decl_judged.specs.Bodies.{body_declared}
+use Rattle.al_decl_judged.specs.declared.body.Completing.{Completing}
 use Rattle.al_check_declared.specs.WholeHere.{whole_settled}
 use Rattle.al_check_declared.proofs.Composed.{if_ok, whole_same}
 use Rattle.al_check_declared.proofs.whole.whole_head_of.Goals as goal

@@ -6,10 +6,10 @@ use Rattle.al_view.specs.declared.view.Mode.TheVariants.{In}
 use Rattle.al_view.specs.declared.view.Parameter.{Parameter}
 use Rattle.al_view.specs.declared.view.Profile.{Profile}
 use Rattle.al_query.specs.declared.answer.Completion.{Completion}
-use Rattle.al_decl_profile.specs.Completing.{Completes}
-use Rattle.al_decl_profile.specs.Conformance.{FormalIsOf, HasTypesOf}
-use Rattle.al_decl_profile.specs.declared.specification.BodyHead.TheVariants as head
-use Rattle.al_decl_profile.specs.declared.specification.Formal.{Formal}
+use Rattle.al_decl_judged.specs.Completing.{Completes}
+use Rattle.al_decl_judged.specs.Conformance.{FormalIsOf, HasTypesOf}
+use Rattle.al_decl_judged.specs.declared.specification.BodyHead.TheVariants as head
+use Rattle.al_decl_judged.specs.declared.specification.Formal.{Formal}
 use Rattle.al_query_outcome.specs.declared.interface.StubDeclarations.{StubDeclarations}
 use Rattle.al_check_example_laws.specs.Stubs.{declaration_of, profile_with, stub_with}
 use Rattle.al_check_example_laws.proofs.laws.the_declaration_of_a_stub_is_told.Goals as goal

@@ -1,7 +1,7 @@
 use Rattle.std.proofs.Common.{Bool, Option, is_some, subst, ap, ◌∙◌}
 use Rattle.al_base_fault.specs.declared.fault.Fault.{Fault}
-use Rattle.al_decl_profile.specs.Completions.{IsCompleting}
-use Rattle.al_decl_profile.specs.Profiles.{specification_of}
+use Rattle.al_decl_judged.specs.Completions.{IsCompleting}
+use Rattle.al_decl_judged.specs.Profiles.{specification_of}
 use Rattle.al_decl.proofs.Outcomes.{if_ok}
 use Rattle.al_decl.proofs.body.place_body.Goals as goal
 

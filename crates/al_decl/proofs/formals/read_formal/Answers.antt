@@ -1,6 +1,6 @@
 use Rattle.std.proofs.Common.{List, ◌++◌, Result, map, ap, ◌∙◌}
 use Rattle.al_base_fault.specs.declared.fault.Fault.{Fault}
-use Rattle.al_decl_profile.specs.declared.heading.FormalPart.{FormalPart}
+use Rattle.al_decl_judged.specs.declared.heading.FormalPart.{FormalPart}
 use Rattle.al_view.specs.declared.view.Mode.{Mode}
 use Rattle.al_view.specs.declared.view.SubtypeView.{SubtypeView}
 use Rattle.al_tree.specs.DeclarationViews.{formal_model}

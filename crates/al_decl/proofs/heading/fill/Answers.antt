@@ -1,8 +1,8 @@
 use Rattle.std.proofs.Common.{List, ◌++◌, Option, ap, ◌∙◌}
 use Rattle.al_scope.specs.Places.{Place}
-use Rattle.al_decl_profile.specs.declared.heading.FormalPart.{FormalPart}
-use Rattle.al_decl_profile.specs.declared.heading.Heading.{Heading}
-use Rattle.al_decl_profile.specs.declared.heading.ReturnedPart.{ReturnedPart}
+use Rattle.al_decl_judged.specs.declared.heading.FormalPart.{FormalPart}
+use Rattle.al_decl_judged.specs.declared.heading.Heading.{Heading}
+use Rattle.al_decl_judged.specs.declared.heading.ReturnedPart.{ReturnedPart}
 use Rattle.al_tree_syntax.specs.DeclarationTrees.{FormalPartTree}
 use Rattle.al_tree.specs.DeclarationViews.{specification_model}
 use Rattle.al_decl.specs.Formals.{after_formals, formal_list, formals_read}

@@ -1,7 +1,7 @@
 use Rattle.std.proofs.Common.{List, ◌++◌, Option, map, sym, ap, ◌∙◌, append_assoc}
 use Rattle.std.specs.Prelude.{option_map}
 use Rattle.al_scope.specs.Places.{Place}
-use Rattle.al_decl_profile.specs.declared.heading.FormalPart.{FormalPart}
+use Rattle.al_decl_judged.specs.declared.heading.FormalPart.{FormalPart}
 use Rattle.al_tree.specs.DeclarationViews.{formal_part_model, formal_model}
 use Rattle.al_tree.specs.declared.declaration.Formal.{Formal}
 use Rattle.al_tree.specs.declared.declaration.FormalPart.{FormalPart as FormalPartText}

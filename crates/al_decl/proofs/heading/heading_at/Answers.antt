@@ -1,6 +1,6 @@
 use Rattle.std.proofs.Common.{ap, ◌∙◌}
 use Rattle.al_decl.specs.Inner.{in_region}
-use Rattle.al_decl_profile.specs.declared.heading.Heading.{Heading}
+use Rattle.al_decl_judged.specs.declared.heading.Heading.{Heading}
 use Rattle.al_tree.specs.DeclarationViews.{specification_model}
 use Rattle.al_decl.specs.Heads.{filled}
 use Rattle.al_decl.proofs.heading.heading_at.Goals as goal

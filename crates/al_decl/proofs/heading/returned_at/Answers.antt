@@ -1,5 +1,5 @@
 use Rattle.std.proofs.Common.{sym, ap, ◌∙◌}
-use Rattle.al_decl_profile.specs.declared.heading.ReturnedPart.TheVariants.{Value}
+use Rattle.al_decl_judged.specs.declared.heading.ReturnedPart.TheVariants.{Value}
 use Rattle.al_tree.specs.DeclarationViews.{specification_model}
 use Rattle.al_tree.specs.declared.declaration.Specification.{Specification}
 use Rattle.al_decl.specs.Heads.{returned_read}

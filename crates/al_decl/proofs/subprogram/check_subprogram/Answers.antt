@@ -2,7 +2,7 @@ use Rattle.std.proofs.Common.{ap, ◌∙◌}
 use Rattle.al_decl.specs.Checking.{with_scope}
 use Rattle.al_decl.specs.declared.env.Environment.{Environment}
 use Rattle.al_scope.specs.Places.{Place}
-use Rattle.al_decl_profile.specs.declared.heading.Heading.{Heading}
+use Rattle.al_decl_judged.specs.declared.heading.Heading.{Heading}
 use Rattle.al_decl.specs.Placing.{subprogram_placed}
 use Rattle.al_decl.proofs.Outcomes.{if_ok}
 use Rattle.al_decl.proofs.subprogram.check_subprogram.Goals as goal

@@ -1,6 +1,6 @@
 use Rattle.std.proofs.Common.{Option, refl, ap, ◌∙◌}
 use Rattle.al_base_fault.specs.declared.fault.Fault.{Fault}
-use Rattle.al_decl_profile.specs.Subprograms.{subprogram_declared}
+use Rattle.al_decl_judged.specs.Subprograms.{subprogram_declared}
 use Rattle.al_decl.proofs.Outcomes.{if_ok}
 use Rattle.al_decl.proofs.Waiting.{waits}
 use Rattle.al_decl.proofs.subprogram.place_subprogram.Goals as goal

@@ -1,8 +1,8 @@
 use Rattle.std.proofs.Common.{List, ap, ◌∙◌}
 use Rattle.std.specs.List.{filter_map}
-use Rattle.al_decl_profile.specs.Frames.{formal_words, new_formal}
-use Rattle.al_decl_profile.specs.declared.frame.NewFormal.{NewFormal}
-use Rattle.al_decl_profile.specs.declared.heading.FormalPart.{FormalPart}
+use Rattle.al_decl_judged.specs.Frames.{formal_words, new_formal}
+use Rattle.al_decl_judged.specs.declared.frame.NewFormal.{NewFormal}
+use Rattle.al_decl_judged.specs.declared.heading.FormalPart.{FormalPart}
 use Rattle.al_decl.specs.Regions.{with_formals_declared}
 use Rattle.al_decl.proofs.Outcomes.{if_ok, on_ok}
 use Rattle.al_decl.proofs.subprogram_body.declare_all_formals.Goals as goal

@@ -3,8 +3,8 @@ use Rattle.al_decl_judged.specs.declared.declaration.Declaration.{Declaration}
 use Rattle.al_decl_judged.specs.declared.progress.Progress.{Progress}
 use Rattle.al_decl.specs.Declaring.{with_declarations}
 use Rattle.al_decl.specs.declared.env.Environment.{Environment}
-use Rattle.al_decl_profile.specs.Frames.{formal_declarations}
-use Rattle.al_decl_profile.specs.declared.frame.Formals.{Formals}
+use Rattle.al_decl_judged.specs.Frames.{formal_declarations}
+use Rattle.al_decl_judged.specs.declared.frame.Formals.{Formals}
 use Rattle.al_decl.proofs.Outcomes.{if_ok, on_ok}
 use Rattle.al_decl.proofs.subprogram_body.declare_each.Goals as goal
 

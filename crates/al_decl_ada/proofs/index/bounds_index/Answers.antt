@@ -1,7 +1,7 @@
 use Rattle.std.proofs.Common.{List, Result, ap, ◌∙◌}
 use Rattle.al_base_fault.specs.Judging.{next}
 use Rattle.al_base_fault.specs.declared.fault.Fault.{Fault}
-use Rattle.al_overload_label.specs.Ranges.{PairTree}
+use Rattle.al_overload_nodes.specs.Ranges.{PairTree}
 use Rattle.al_overload.specs.declared.context.Context.TheVariants as contexts
 use Rattle.al_decl_ada.specs.SubtypesAt.{index_of_pair}
 use Rattle.al_tree.specs.DeclarationViews.{range_model}

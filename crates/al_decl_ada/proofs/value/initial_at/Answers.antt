@@ -1,5 +1,5 @@
 use Rattle.std.proofs.Common.{Some, ap, ◌∙◌}
-use Rattle.al_overload_heads.specs.Parts.{nominal}
+use Rattle.al_overload.specs.Parts.{nominal}
 use Rattle.al_overload.specs.declared.context.Context.{Context}
 use Rattle.al_overload_values.proofs.Composed.{if_ok}
 use Rattle.al_tree.specs.ExpressionViews.{expression_model}

@@ -1,4 +1,4 @@
-use Rattle.al_decl_profile.specs.Profiles.{specification_of}
+use Rattle.al_decl_judged.specs.Profiles.{specification_of}
 use Rattle.al_decl_completes.proofs.Found.{completing-is, if_ok}
 use Rattle.al_decl_completes.proofs.completing.completing_of.Goals as goal
 

@@ -1,8 +1,8 @@
 use Rattle.std.proofs.Common.{subst, sym, ap, ◌∙◌}
-use Rattle.al_decl_profile.specs.declared.specification.Specification.{Specification}
-use Rattle.al_decl_profile.specs.Bodies.{IsWaiting}
-use Rattle.al_decl_profile.specs.Profiles.{specification_of}
-use Rattle.al_decl_profile.specs.declared.body.Completing.{Completing}
+use Rattle.al_decl_judged.specs.declared.specification.Specification.{Specification}
+use Rattle.al_decl_judged.specs.Bodies.{IsWaiting}
+use Rattle.al_decl_judged.specs.Profiles.{specification_of}
+use Rattle.al_decl_judged.specs.declared.body.Completing.{Completing}
 use Rattle.al_view.specs.declared.view.ViewKind.{ViewKind}
 use Rattle.al_decl_completes.specs.CompletingFound.{view_completed}
 use Rattle.al_decl_completes.proofs.Found.{first_view, if_ok, some_waits, view_waits}

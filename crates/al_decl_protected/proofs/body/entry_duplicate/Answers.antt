@@ -1,5 +1,5 @@
 use Rattle.std.proofs.Common.{ℕ, List, ap, ◌∙◌}
-use Rattle.al_decl_profile.specs.declared.heading.Heading.{Heading}
+use Rattle.al_decl_judged.specs.declared.heading.Heading.{Heading}
 use Rattle.al_decl.specs.Placing.{head_duplicate}
 use Rattle.al_decl_protected.specs.Operations.{bare_head}
 use Rattle.al_decl_protected.proofs.Outcomes.{if_ok}

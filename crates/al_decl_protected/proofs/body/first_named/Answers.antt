@@ -1,5 +1,5 @@
 use Rattle.std.proofs.Common.{subst, sym, ap}
-use Rattle.al_decl_profile.specs.declared.specification.BodyHead.{BodyHead}
+use Rattle.al_decl_judged.specs.declared.specification.BodyHead.{BodyHead}
 use Rattle.al_decl_protected.specs.Bodies.{has_body}
 use Rattle.al_decl_protected.proofs.Named.{IsNamed, named-is, named-never}
 use Rattle.al_decl_protected.proofs.body.first_named.Goals as goal

@@ -1,5 +1,5 @@
 use Rattle.std.proofs.Common.{sym, ap, ◌∙◌}
-use Rattle.al_decl_profile.specs.declared.specification.BodyHead.{BodyHead}
+use Rattle.al_decl_judged.specs.declared.specification.BodyHead.{BodyHead}
 use Rattle.al_decl_protected.specs.Bodies.{named_duplicate}
 use Rattle.al_decl_protected.proofs.Outcomes.{if_ok}
 use Rattle.al_decl_protected.proofs.body.named_duplicate.Goals as goal

@@ -1,6 +1,6 @@
 use Rattle.std.proofs.Common.{Bool, ap, ◌∙◌}
 use Rattle.al_decl.specs.Checking.{with_scope}
-use Rattle.al_decl_profile.specs.declared.heading.Heading.{Heading}
+use Rattle.al_decl_judged.specs.declared.heading.Heading.{Heading}
 use Rattle.al_scope.specs.Places.{Place}
 use Rattle.al_tree.specs.DeclarationViews.{protected_operation_model}
 use Rattle.al_decl_protected.specs.Operations.{is_entry_tree, operation_headed}

@@ -1,7 +1,7 @@
 use Rattle.std.proofs.Common.{map, set, sym, ap, ◌∙◌}
 use Rattle.std.specs.Option.{option_map}
 use Rattle.al_query_store.specs.Keyed.{now_at, settled_at}
-use Rattle.al_entries.specs.Stored.{outcome_of}
+use Rattle.al_engine_refresh.specs.Stored.{outcome_of}
 use Rattle.al_engine_refresh.specs.Builds.{results_of}
 use Rattle.al_engine.specs.ObjectsSeen.{object_model}
 use Rattle.al_engine.specs.BatchRenewals.{renewed}

@@ -2,7 +2,7 @@ use Rattle.std.proofs.Common.{◌≡◌, ◌∙◌, ℕ, List, None, IfSome, sym
 use Rattle.std.specs.List.{Contains}
 use Rattle.al_base.specs.Batch.{key_of}
 use Rattle.al_base.specs.FileNames.{file_name_of}
-use Rattle.al_unit_map.specs.Units.{at_unit}
+use Rattle.al_query_store.specs.Units.{at_unit}
 use Rattle.al_unit_graph.specs.Headers.{Library}
 use Rattle.al_query_store.specs.Keyed.{settled_at}
 use Rattle.al_engine.specs.GraphGraphs.{HaveSameHeaders}

@@ -1,4 +1,4 @@
-use Rattle.al_unit_map.specs.Units.{at_unit}
+use Rattle.al_query_store.specs.Units.{at_unit}
 use Rattle.al_engine.proofs.Bases.{is-added, stays}
 use Rattle.al_engine.proofs.graph.add_base.Goals as goal
 

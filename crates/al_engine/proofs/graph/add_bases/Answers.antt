@@ -5,7 +5,7 @@ use Rattle.std.specs.Option.{is_some}
 use Rattle.al_base.specs.Batch.{Key, key_of}
 use Rattle.al_base.specs.declared.unit_key.UnitKey.{UnitKey}
 use Rattle.al_unit_graph.specs.Dependence.{direct}
-use Rattle.al_unit_map.specs.Units.{at_unit}
+use Rattle.al_query_store.specs.Units.{at_unit}
 use Rattle.al_engine.specs.Kept.{unit_of}
 use Rattle.al_engine.proofs.Files.{stepped}
 use Rattle.al_engine.proofs.graph.add_bases.Goals as goal

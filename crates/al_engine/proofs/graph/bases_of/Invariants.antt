@@ -3,7 +3,7 @@ use Rattle.std.specs.List.{Contains}
 use Rattle.std.specs.Option.{is_some}
 use Rattle.al_base.specs.Batch.{Key, key_of}
 use Rattle.al_unit_graph.specs.Dependence.{direct}
-use Rattle.al_unit_map.specs.Units.{at_unit}
+use Rattle.al_query_store.specs.Units.{at_unit}
 use Rattle.al_engine.specs.Kept.{unit_of}
 use Rattle.al_engine.proofs.graph.bases_of.Given as goal
 

@@ -4,7 +4,7 @@ use Rattle.al_base.specs.declared.unit_key.UnitKey.{UnitKey}
 use Rattle.al_unit_faults.specs.FilesSeen.{file_faults_model}
 use Rattle.al_query.specs.Known.{has_unit}
 use Rattle.al_query_store.specs.Keyed.{now_at, settled_at}
-use Rattle.al_entries.specs.Stored.{Stored}
+use Rattle.al_engine_refresh.specs.Stored.{Stored}
 use Rattle.al_engine.specs.Objects.{AreCoded}
 use Rattle.al_engine.specs.Plans.{IsPlanned}
 use Rattle.al_engine.specs.BatchRenewals.{KeepsPartition}

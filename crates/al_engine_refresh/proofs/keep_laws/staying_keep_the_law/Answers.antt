@@ -1,8 +1,8 @@
 use Rattle.std.proofs.Common.{◌≡◌, ℕ, Bool, true, false, List, Option, Some, None, if◌then◌else◌}
 use Rattle.al_base.specs.declared.unit_key.UnitKey.{UnitKey}
 use Rattle.al_unit_graph.specs.Headers.{Header}
-use Rattle.al_entries.specs.EntryLaw.{KeepsLaw, TextMeaning}
-use Rattle.al_entries.specs.Stored.{Stored}
+use Rattle.al_engine_refresh.specs.EntryLaw.{KeepsLaw, TextMeaning}
+use Rattle.al_engine_refresh.specs.Stored.{Stored}
 use Rattle.al_engine_refresh.specs.Staying.{is_there, or_else}
 use Rattle.al_engine_refresh.proofs.keep_laws.staying_keep_the_law.Goals as goal
 

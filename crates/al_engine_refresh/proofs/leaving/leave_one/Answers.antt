@@ -1,5 +1,5 @@
 use Rattle.std.proofs.Common.{◌∙◌, false, sym, is_some}
-use Rattle.al_unit_map.specs.Units.{at_unit}
+use Rattle.al_query_store.specs.Units.{at_unit}
 use Rattle.al_view.proofs.SymbolLemmas.{both}
 use Rattle.al_query_store.specs.Keyed.{leaving, state, with_reached}
 use Rattle.al_engine_refresh.specs.Staying.{is_there}

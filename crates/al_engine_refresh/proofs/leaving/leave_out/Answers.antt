@@ -1,7 +1,7 @@
 use Rattle.std.proofs.Common.{◌∙◌, Bool, List, take, sym, subst, refl, is_some, arith}
 use Rattle.std.proofs.lemmas.List.{take_all}
 use Rattle.al_base.specs.declared.unit_key.UnitKey.{UnitKey}
-use Rattle.al_unit_map.specs.Units.{at_unit}
+use Rattle.al_query_store.specs.Units.{at_unit}
 use Rattle.al_engine_refresh.proofs.LeftLemmas.{LeftSoFar, left-all, left-moved, left-out, left-turned}
 use Rattle.al_engine_refresh.proofs.LoopLemmas.{done-at}
 use Rattle.al_engine_refresh.proofs.leaving.leave_out.Goals as goal

@@ -1,5 +1,5 @@
 use Rattle.std.proofs.Common.{take, is_some}
-use Rattle.al_unit_map.specs.Units.{at_unit}
+use Rattle.al_query_store.specs.Units.{at_unit}
 use Rattle.al_engine_refresh.specs.Moves.{IsLeft}
 use Rattle.al_engine_refresh.specs.Moving.{IsCompared, MarksFollow}
 use Rattle.al_engine_refresh.proofs.LeftLemmas.{LeftSoFar}

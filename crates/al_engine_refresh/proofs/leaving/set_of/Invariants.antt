@@ -1,7 +1,7 @@
 use Rattle.std.proofs.Common.{◌≡◌, take, is_some}
 use Rattle.al_base.specs.declared.unit_key.UnitKey.{UnitKey}
 use Rattle.al_query.specs.Known.{has_unit}
-use Rattle.al_unit_map.specs.Units.{at_unit}
+use Rattle.al_query_store.specs.Units.{at_unit}
 use Rattle.al_engine_refresh.proofs.leaving.set_of.Given as goal
 
 abbrev pub invariant-loop-unit : goal.invariant-loop-unit

@@ -1,6 +1,6 @@
 use Rattle.std.proofs.Common.{refl}
 use Rattle.al_query_store.specs.Changes.{with_made}
-use Rattle.al_entries.specs.Stored.{log_of}
+use Rattle.al_engine_refresh.specs.Stored.{log_of}
 use Rattle.al_query_store.specs.Keyed.{state}
 use Rattle.al_engine_refresh.proofs.Comparing.{compared-more}
 use Rattle.al_engine_refresh.proofs.HandleLemmas.{on_ok}

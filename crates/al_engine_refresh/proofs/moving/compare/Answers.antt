@@ -1,7 +1,7 @@
 use Rattle.std.proofs.Common.{Option, subst}
 use Rattle.std.specs.Option.{option_map}
 use Rattle.al_query_store.specs.Changes.{ComparesUnit}
-use Rattle.al_entries.specs.Stored.{Stored, log_of, outcome_of}
+use Rattle.al_engine_refresh.specs.Stored.{Stored, log_of, outcome_of}
 use Rattle.al_engine_refresh.specs.Builds.{present}
 use Rattle.al_engine_refresh.proofs.moving.compare.Goals as goal
 

@@ -1,8 +1,8 @@
 use Rattle.std.proofs.Common.{◌∙◌, ℕ, List, [], Option, None, sym, subst, ap, arith}
 use Rattle.al_base.specs.declared.unit_key.UnitKey.{UnitKey}
 use Rattle.al_query_store.specs.Keyed.{now_at, settled_at}
-use Rattle.al_entries.specs.EntryLaw.{AllKeepLaw}
-use Rattle.al_entries.specs.Stored.{Stored}
+use Rattle.al_engine_refresh.specs.EntryLaw.{AllKeepLaw}
+use Rattle.al_engine_refresh.specs.Stored.{Stored}
 use Rattle.al_engine_refresh.specs.Builds.{IsBuilt, setting}
 use Rattle.al_engine_refresh.specs.Moving.{IsCompared}
 use Rattle.al_engine_refresh.specs.Progress.{Progress}

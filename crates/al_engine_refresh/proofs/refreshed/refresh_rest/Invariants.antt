@@ -3,7 +3,7 @@ use Rattle.al_base.specs.declared.unit_key.UnitKey.{UnitKey}
 use Rattle.al_query.specs.Known.{has_unit}
 use Rattle.al_query_outcome.specs.Equations.{IsSetting}
 use Rattle.al_query_store.specs.Keyed.{now_at, settled_at}
-use Rattle.al_entries.specs.EntryLaw.{AllKeepLaw}
+use Rattle.al_engine_refresh.specs.EntryLaw.{AllKeepLaw}
 use Rattle.al_engine_refresh.specs.Moves.{IsLeft, has_moved}
 use Rattle.al_engine_refresh.specs.Builds.{raised, setting}
 use Rattle.al_engine_refresh.specs.Handling.{within}

@@ -1,8 +1,8 @@
 use Rattle.std.proofs.Common.{ℕ, List, sym, subst}
 use Rattle.std.proofs.lemmas.Result.{IfOk-weaker}
 use Rattle.al_query.specs.Reads.{Log}
-use Rattle.al_entries.specs.EntryLaw.{KeepsLaw}
-use Rattle.al_entries.specs.Stored.{Stored}
+use Rattle.al_engine_refresh.specs.EntryLaw.{KeepsLaw}
+use Rattle.al_engine_refresh.specs.Stored.{Stored}
 use Rattle.al_engine_refresh.proofs.unit.check_read.Goals as goal
 
 pub returns-clause-keeps : goal.returns-clause-keeps

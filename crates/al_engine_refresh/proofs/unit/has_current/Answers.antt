@@ -2,8 +2,8 @@ use Rattle.std.proofs.Common.{◌≡◌, ◌↔◌, ◌∙◌, sym, ap, subst, S
 use Rattle.std.specs.Option.{option_copied}
 use Rattle.al_query_store.specs.declared.slots.Held.{Held}
 use Rattle.al_query_store.specs.Keyed.{entry_of, state}
-use Rattle.al_entries.specs.EntryLaw.{HasCurrent}
-use Rattle.al_entries.specs.Stored.{Stored}
+use Rattle.al_engine_refresh.specs.EntryLaw.{HasCurrent}
+use Rattle.al_engine_refresh.specs.Stored.{Stored}
 use Rattle.al_engine_refresh.proofs.unit.has_current.Goals as goal
 
 pub returns-in-Some-clause-current : goal.returns-in-Some-clause-current

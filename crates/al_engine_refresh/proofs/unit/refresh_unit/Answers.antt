@@ -2,8 +2,8 @@ use Rattle.std.proofs.Common.{◌≡◌, ◌∙◌, ◌++◌, ℕ, [], ◌∷◌
 use Rattle.std.proofs.lemmas.Bool.{true≢false}
 use Rattle.std.specs.Prelude.{OnOk}
 use Rattle.al_base_shortage.specs.Counts.{one_more}
-use Rattle.al_entries.specs.EntryLaw.{HasCurrent, IsCurrent}
-use Rattle.al_entries.specs.Stored.{log_of}
+use Rattle.al_engine_refresh.specs.EntryLaw.{HasCurrent, IsCurrent}
+use Rattle.al_engine_refresh.specs.Stored.{log_of}
 use Rattle.al_query_store.specs.Changes.{with_made}
 use Rattle.al_query_store.specs.Keyed.{now_at, settled_at, state, with_reached}
 use Rattle.al_engine_refresh.specs.Builds.{has_sound_dependences, results_of, text_of}

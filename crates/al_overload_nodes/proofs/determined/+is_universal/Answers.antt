@@ -1,9 +1,9 @@
 use Rattle.std.proofs.Common.{◌≡◌, rules, arith, sym, ap, ◌∙◌}
-use Rattle.al_overload_heads.specs.Universal.{is_universal}
-use Rattle.al_overload_heads.specs.TermViews.{term_model}
-use Rattle.al_overload_heads.specs.declared.term.Term.{size-Term}
-use Rattle.al_overload_heads.specs.declared.term.Term.TheViews.{sized-Group, sized-Infix, sized-Prefixed}
-use Rattle.al_overload_nodes.proofs.Operands.{group_passed, infix_passed, prefixed_passed}
+use Rattle.al_overload.specs.Universal.{is_universal}
+use Rattle.al_overload.specs.TermViews.{term_model}
+use Rattle.al_overload.specs.declared.heads_term.Term.{size-Term}
+use Rattle.al_overload.specs.declared.heads_term.Term.TheViews.{sized-Group, sized-Infix, sized-Prefixed}
+use Rattle.al_overload_nodes.proofs.OperandsThere.{group_passed, infix_passed, prefixed_passed}
 use Rattle.al_overload_nodes.proofs.determined.+is_universal.Goals as goal
 
 pub loop-rest-preserved-else-not-is_universal : goal.loop-rest-preserved-else-not-is_universal

@@ -1,7 +1,7 @@
 use Rattle.std.proofs.Common.{◌≡◌, length}
 use Rattle.al_base_fault.specs.Judging.{map_ok}
 use Rattle.al_overload_lookup.specs.Keys.{denoted}
-use Rattle.al_overload_heads.specs.TermViews.{term_model}
+use Rattle.al_overload.specs.TermViews.{term_model}
 use Rattle.al_overload_readings.specs.Chains.{chained}
 use Rattle.al_overload_readings.proofs.chain.chained.Given as goal
 

@@ -1,7 +1,7 @@
 use Rattle.std.proofs.Common.{◌≡◌, ◌<◌, ◌≤◌, true, false, List, [], ◌∷◌, map, length, refl, arith}
 use Rattle.al_overload_readings.specs.Attributes.{is_one}
-use Rattle.al_overload_heads.specs.TermViews.{term_model, terms_of}
-use Rattle.al_overload_heads.specs.declared.term.Term.{Term}
+use Rattle.al_overload.specs.TermViews.{term_model, terms_of}
+use Rattle.al_overload.specs.declared.heads_term.Term.{Term}
 use Rattle.al_overload_readings.proofs.prefix.is_one.Goals as goal
 
 one_model : (xs : List Term) → 1 ≤ length xs → length xs < 2 → true ≡ is_one (terms_of (map term_model xs))

@@ -4,7 +4,7 @@ use Rattle.al_base_fault.specs.Judging.{next, map_ok}
 use Rattle.al_overload_lookup.specs.Keys.{denoted}
 use Rattle.al_overload_readings.specs.Readings.{valued}
 use Rattle.al_overload_readings.specs.Steps.{started}
-use Rattle.al_overload_heads.specs.TermViews.{term_model}
+use Rattle.al_overload.specs.TermViews.{term_model}
 use Rattle.al_overload_readings.specs.Chains.{IsBelow, stepped}
 use Rattle.al_overload_readings.specs.Texts.{noted, read, read_more}
 use Rattle.al_overload_readings.specs.declared.name.Step.{Step}

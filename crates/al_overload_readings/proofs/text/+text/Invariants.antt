@@ -4,7 +4,7 @@ use Rattle.al_overload_lookup.specs.Keys.{denoted}
 use Rattle.al_overload_readings.specs.Readings.{valued}
 use Rattle.al_overload_readings.specs.Steps.{started}
 use Rattle.al_overload_readings.specs.TermLists.{all_model}
-use Rattle.al_overload_heads.specs.TermViews.{term_model}
+use Rattle.al_overload.specs.TermViews.{term_model}
 use Rattle.al_overload_readings.specs.Chains.{chained}
 use Rattle.al_overload_readings.specs.Noted.{all_linked}
 use Rattle.al_overload_readings.specs.Texts.{noted, read, read_more}

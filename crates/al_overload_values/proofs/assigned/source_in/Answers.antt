@@ -1,5 +1,5 @@
 use Rattle.std.proofs.Common.{Result, ap, ◌∙◌, sym}
-use Rattle.al_overload_heads.specs.declared.part.Nominal.{Nominal}
+use Rattle.al_overload.specs.declared.part.Nominal.{Nominal}
 use Rattle.al_base_fault.specs.Judging.{next}
 use Rattle.al_base_fault.specs.declared.fault.Fault.{Fault}
 use Rattle.al_query.proofs.AskLemmas.{asks_none}

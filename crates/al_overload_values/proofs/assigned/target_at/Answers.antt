@@ -1,9 +1,9 @@
 use Rattle.std.proofs.Common.{Result, [], ap, ◌∙◌}
 use Rattle.al_base_fault.specs.Judging.{next, unless}
 use Rattle.al_base_fault.specs.declared.fault.Fault.{Fault}
-use Rattle.al_overload_label.specs.Contexts.{target_checked}
+use Rattle.al_overload_nodes.specs.Contexts.{target_checked}
 use Rattle.al_overload_values.specs.TextsAt.{With}
-use Rattle.al_overload_heads.specs.Terms.{TermTree}
+use Rattle.al_overload.specs.Terms.{TermTree}
 use Rattle.al_overload_values.specs.Words.{with_words}
 use Rattle.al_overload_values.proofs.assigned.target_at.Goals as goal
 

@@ -1,9 +1,9 @@
 use Rattle.std.proofs.Common.{Result, ap, ◌∙◌}
 use Rattle.al_base_fault.specs.Judging.{next}
 use Rattle.al_base_fault.specs.declared.fault.Fault.{Fault}
-use Rattle.al_overload_heads.specs.Terms.{TermTree}
+use Rattle.al_overload.specs.Terms.{TermTree}
 use Rattle.al_overload_values.proofs.Composed.{if_ok}
-use Rattle.al_overload_label.specs.Variables.{target_part}
+use Rattle.al_overload_nodes.specs.Variables.{target_part}
 use Rattle.al_overload_values.proofs.assigned.target_part_at.Goals as goal
 
 pub returns-clause-answered : goal.returns-clause-answered

@@ -1,5 +1,5 @@
 use Rattle.std.proofs.Common.{Some, ap, ◌∙◌}
-use Rattle.al_overload_heads.specs.declared.part.Nominal.{Nominal}
+use Rattle.al_overload.specs.declared.part.Nominal.{Nominal}
 use Rattle.al_overload_values.proofs.Composed.{if_ok}
 use Rattle.al_tree.specs.ExpressionViews.{expression_model}
 use Rattle.al_overload_values.specs.Surroundings.{site_model}

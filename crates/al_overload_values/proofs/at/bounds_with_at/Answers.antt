@@ -5,8 +5,8 @@ use Rattle.al_base_fault.specs.declared.fault.Fault.{Fault}
 use Rattle.al_overload_lookup.specs.Lookups.{asked_units}
 use Rattle.al_overload_values.proofs.Seen.{both_model}
 use Rattle.al_overload_values.specs.TextsAt.{With, joined, term_with_at, term_with_model}
-use Rattle.al_overload_heads.specs.Terms.{TermTree}
-use Rattle.al_overload_heads.specs.declared.term.Term.{Term}
+use Rattle.al_overload.specs.Terms.{TermTree}
+use Rattle.al_overload.specs.declared.heads_term.Term.{Term}
 use Rattle.al_overload_values.proofs.Composed.{asks_more}
 use Rattle.al_tree.specs.ExpressionViews.{expression_model}
 use Rattle.al_overload_values.proofs.at.bounds_with_at.Goals as goal

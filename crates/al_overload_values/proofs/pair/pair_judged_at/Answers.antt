@@ -1,9 +1,9 @@
 use Rattle.std.proofs.Common.{Result, ap, ◌∙◌}
 use Rattle.al_base_fault.specs.Judging.{next, unless}
 use Rattle.al_base_fault.specs.declared.fault.Fault.{Fault}
-use Rattle.al_overload_label.specs.Ranges.{bounds_checked}
+use Rattle.al_overload_nodes.specs.Ranges.{bounds_checked}
 use Rattle.al_overload_values.specs.TextsAt.{With}
-use Rattle.al_overload_heads.specs.Terms.{TermTree}
+use Rattle.al_overload.specs.Terms.{TermTree}
 use Rattle.al_overload_values.proofs.Composed.{if_ok}
 use Rattle.al_overload_values.proofs.pair.pair_judged_at.Goals as goal
 

@@ -3,7 +3,7 @@ use Rattle.std.specs.Prelude.{sum_by}
 use Rattle.al_overload_values.specs.Puts.{text_read}
 use Rattle.al_overload_values.specs.Seen.{pieces_model}
 use Rattle.al_overload_values.specs.Worklists.{all_read, room}
-use Rattle.al_overload_heads.specs.TermViews.{term_model}
+use Rattle.al_overload.specs.TermViews.{term_model}
 use Rattle.al_overload_values.proofs.put_text.read_text.Given as goal
 
 abbrev pub invariant-loop-next : goal.invariant-loop-next

@@ -1,7 +1,7 @@
 use Rattle.al_tree_grammar.specs.Grammar.{each}
 use Rattle.al_tree_grammar.specs.Grammar.Rule.{Many}
 use Rattle.al_parse.proofs.Clear.{declarations_clear}
-use Rattle.al_parse_expr.proofs.Loops.{fewer, many_err, many_next, many_over, seen_push}
+use Rattle.al_parse.proofs.Loops.{fewer, many_err, many_next, many_over, seen_push}
 use Rattle.al_tree_syntax.specs.DeclarationTrees.{declaration_tokens}
 use Rattle.al_tree_syntax.specs.Declarations.{common_rule, declaration_rule, object_rule, pragma_rule, specification_rule, subtype_rule, type_rule, use_rule}
 use Rattle.al_tree_syntax.specs.Expressions.{identifier_rule, identifiers_rule}

@@ -1,6 +1,6 @@
 use Rattle.al_tree_grammar.specs.Grammar.{each}
 use Rattle.al_tree_grammar.specs.Grammar.Rule.{Many}
-use Rattle.al_parse_expr.proofs.Loops.{Kept}
+use Rattle.al_parse.proofs.Loops.{Kept}
 use Rattle.al_tree_syntax.specs.DeclarationTrees.{declaration_tokens}
 use Rattle.al_tree_syntax.specs.Declarations.{declaration_rule}
 use Rattle.al_tree.specs.DeclarationViews.{declaration_model}

@@ -1,7 +1,7 @@
 use Rattle.al_tree_grammar.specs.Grammar.{each}
 use Rattle.al_tree_grammar.specs.Grammar.Lexeme.{Fixed}
 use Rattle.al_tree_grammar.specs.Grammar.Rule.{Many, One, Seq}
-use Rattle.al_parse_expr.proofs.Loops.{Kept}
+use Rattle.al_parse.proofs.Loops.{Kept}
 use Rattle.al_tree_syntax.specs.DeclarationTrees.{formal_tokens}
 use Rattle.al_tree_syntax.specs.Declarations.{formal_rule}
 use Rattle.al_tree.specs.DeclarationViews.{formal_model}

@@ -1,7 +1,7 @@
 use Rattle.al_tree_grammar.specs.Grammar.{each}
 use Rattle.al_tree_grammar.specs.Grammar.Rule.{Many}
 use Rattle.al_parse.proofs.Clear.{protected_components_clear}
-use Rattle.al_parse_expr.proofs.Loops.{fewer, many_err, many_next, many_over, seen_push}
+use Rattle.al_parse.proofs.Loops.{fewer, many_err, many_next, many_over, seen_push}
 use Rattle.al_tree_syntax.specs.DeclarationTrees.{protected_component_tokens}
 use Rattle.al_tree_syntax.specs.Declarations.{element_rule}
 use Rattle.al_tree_syntax.specs.Expressions.{identifier_rule, identifiers_rule}

@@ -1,7 +1,7 @@
 use Rattle.al_tree_grammar.specs.Grammar.{each}
 use Rattle.al_tree_grammar.specs.Grammar.Lexeme.{Fixed}
 use Rattle.al_parse.proofs.Clear.{more_choices_clear}
-use Rattle.al_parse_expr.proofs.Loops.{each_push, marked_err, marked_next, marked_over}
+use Rattle.al_parse.proofs.Loops.{each_push, marked_err, marked_next, marked_over}
 use Rattle.al_tree_syntax.specs.StatementTrees.{choice_tokens}
 use Rattle.al_tree_syntax.specs.Statements.{choice_rule}
 use Rattle.al_tree.specs.Lexemes.{lexemes}

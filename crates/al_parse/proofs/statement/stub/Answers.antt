@@ -4,8 +4,8 @@ use Rattle.al_tree_grammar.specs.Grammar.{Label}
 use Rattle.al_tree_grammar.specs.Grammar.Lexeme.{Fixed, Named}
 use Rattle.al_tree_grammar.specs.Grammar.Rule.{Any, One, Seq}
 use Rattle.al_tree_grammar.specs.Reading.{one}
-use Rattle.al_parse_expr.specs.declared.stop.Stop.{Stop}
-use Rattle.al_parse_expr.specs.Parses.{Lexemes, Stops, reading}
+use Rattle.al_parse.specs.declared.stop.Stop.{Stop}
+use Rattle.al_parse.specs.Parses.{Lexemes, Stops, reading}
 use Rattle.al_tree.specs.Lexemes.{lexemes, place_label}
 use Rattle.al_parse.proofs.Rooms.{stops_first}
 use Rattle.al_parse.proofs.statement.stub.Goals as goal

@@ -1,7 +1,7 @@
 use Rattle.al_tree_grammar.specs.Grammar.{each}
 use Rattle.al_tree_grammar.specs.Grammar.Rule.{Many}
 use Rattle.al_parse.proofs.Clear.{context_items_clear}
-use Rattle.al_parse_expr.proofs.Loops.{fewer, many_err, many_next, many_over, seen_push}
+use Rattle.al_parse.proofs.Loops.{fewer, many_err, many_next, many_over, seen_push}
 use Rattle.al_tree_syntax.specs.Declarations.{pragma_rule, use_rule}
 use Rattle.al_tree_syntax.specs.UnitTrees.{context_tokens}
 use Rattle.al_tree_syntax.specs.Units.{context_rule}

@@ -1,7 +1,7 @@
 use Rattle.std.proofs.Common.{◌≡◌, ◌∙◌, sym, ap, Some, None, Option, unwrap_or}
 use Rattle.al_base.specs.contracts.unit_key.UnitKeyOrd.TheImpl.{cmp-value}
-use Rattle.al_unit_map.specs.Units.{at_unit}
-use Rattle.al_unit_map.proofs.UnitLemmas.{found}
+use Rattle.al_query_store.specs.Units.{at_unit}
+use Rattle.al_query_store.proofs.UnitLemmas.{found}
 use Rattle.al_query_store.specs.declared.cell.Cell.{Cell}
 use Rattle.al_query_store.specs.Keyed.{empty}
 use Rattle.al_query_store.proofs.CellLemmas.{by_name}

@@ -1,7 +1,7 @@
 use Rattle.std.proofs.Common.{◌≡◌, ◌∙◌, sym, ap, subst, refl, Some, None, Option, IsSome}
 use Rattle.al_base.specs.contracts.unit_key.UnitKeyOrd.TheImpl.{cmp-value}
-use Rattle.al_unit_map.specs.Units.{at_unit}
-use Rattle.al_unit_map.proofs.UnitLemmas.{changed, found}
+use Rattle.al_query_store.specs.Units.{at_unit}
+use Rattle.al_query_store.proofs.UnitLemmas.{changed, found}
 use Rattle.al_query_store.specs.declared.cell.Cell.{Cell}
 use Rattle.al_query_store.proofs.CellLemmas.{by_name, changed-none, changed-some}
 use Rattle.al_query_store.proofs.cell.change.Goals as goal

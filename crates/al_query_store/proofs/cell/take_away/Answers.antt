@@ -1,6 +1,6 @@
 use Rattle.std.proofs.Common.{None}
 use Rattle.al_base.specs.contracts.unit_key.UnitKeyOrd.TheImpl.{cmp-value}
-use Rattle.al_unit_map.proofs.UnitLemmas.{changed}
+use Rattle.al_query_store.proofs.UnitLemmas.{changed}
 use Rattle.al_query_store.proofs.CellLemmas.{by_name, taken-away}
 use Rattle.al_query_store.proofs.cell.take_away.Goals as goal
 

@@ -1,9 +1,9 @@
 use Rattle.std.proofs.Common.{Some, Result, ap, ◌∙◌}
 use Rattle.al_base_fault.specs.Judging.{map_ok, unless}
 use Rattle.al_base_fault.specs.declared.fault.Fault.{Fault}
-use Rattle.al_overload_label.specs.Ranges.{PairTree}
-use Rattle.al_overload_label.specs.RangesSeen.{pair_model}
-use Rattle.al_overload_label.specs.declared.range.Pair.{Pair}
+use Rattle.al_overload_nodes.specs.Ranges.{PairTree}
+use Rattle.al_overload_nodes.specs.RangesSeen.{pair_model}
+use Rattle.al_overload_nodes.specs.declared.range.Pair.{Pair}
 use Rattle.al_overload_values.proofs.Seen.{seen_unless}
 use Rattle.al_stmts_ranges.specs.LoopsAt.{between}
 use Rattle.al_stmts_ranges.proofs.loop_range.after_found.Goals as goal

@@ -6,8 +6,8 @@ use Rattle.al_overload_lookup.specs.Places.{first_place}
 use Rattle.al_stmts_ranges.specs.LoopsAt.{discrete, marked_model}
 use Rattle.al_stmts_ranges.proofs.Seen.{seen_both}
 use Rattle.al_overload_values.specs.TextsAt.{With, terms_with_model}
-use Rattle.al_overload_heads.specs.Terms.{TermTree}
-use Rattle.al_overload_heads.specs.declared.term.Term.{Term}
+use Rattle.al_overload.specs.Terms.{TermTree}
+use Rattle.al_overload.specs.declared.heads_term.Term.{Term}
 use Rattle.al_overload_values.proofs.Composed.{asks_more}
 use Rattle.al_overload_values.specs.TermsAt.{mark_at}
 use Rattle.al_tree.specs.ExpressionViews.{expression_model}

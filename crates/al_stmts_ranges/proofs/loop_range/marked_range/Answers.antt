@@ -3,7 +3,7 @@ use Rattle.al_base_fault.specs.Judging.{next}
 use Rattle.al_base_fault.specs.declared.fault.Fault.{Fault}
 use Rattle.al_stmts_ranges.specs.LoopsAt.{after_mark}
 use Rattle.al_overload_values.specs.TextsAt.{With}
-use Rattle.al_overload_heads.specs.Terms.{TermTree}
+use Rattle.al_overload.specs.Terms.{TermTree}
 use Rattle.al_view.specs.declared.types.Bounds.{Bounds}
 use Rattle.al_view.specs.declared.view.SubtypeView.{SubtypeView}
 use Rattle.al_stmts_ranges.proofs.loop_range.marked_range.Goals as goal

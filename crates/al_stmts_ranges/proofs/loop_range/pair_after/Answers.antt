@@ -1,6 +1,6 @@
 use Rattle.al_overload.specs.declared.context.Context.TheVariants as contexts
 use Rattle.al_stmts_ranges.proofs.Seen.{checked_in}
-use Rattle.al_overload_heads.specs.TermViews.{term_model}
+use Rattle.al_overload.specs.TermViews.{term_model}
 use Rattle.al_overload_nodes.specs.Leaves.{mark_type}
 use Rattle.al_stmts_ranges.proofs.loop_range.pair_after.Goals as goal
 

@@ -4,7 +4,7 @@ use Rattle.al_base_fault.specs.declared.fault.Fault.{Fault}
 use Rattle.al_stmts_ranges.specs.PerformedAt.{call_effect_of, call_effect_with_words}
 use Rattle.al_overload_values.specs.TextsAt.{With}
 use Rattle.al_overload_values.specs.Puts.{call_effect}
-use Rattle.al_overload_heads.specs.Terms.{TermTree}
+use Rattle.al_overload.specs.Terms.{TermTree}
 use Rattle.al_view_typed.specs.StatementTrees.{StatementFormTree}
 use Rattle.al_stmts_ranges.proofs.perform.call_effect_at.Goals as goal
 

@@ -1,9 +1,9 @@
 use Rattle.std.proofs.Common.{Result, ap, ◌∙◌, sym}
 use Rattle.al_base_fault.specs.Judging.{next, map_ok}
 use Rattle.al_base_fault.specs.declared.fault.Fault.{Fault}
-use Rattle.al_overload_label.specs.Ranges.{FoundTree}
-use Rattle.al_overload_label.specs.RangesSeen.{found_model}
-use Rattle.al_overload_label.specs.declared.range.DeterminedValue.{DeterminedValue}
+use Rattle.al_overload_nodes.specs.Ranges.{FoundTree}
+use Rattle.al_overload_nodes.specs.RangesSeen.{found_model}
+use Rattle.al_overload_nodes.specs.declared.range.DeterminedValue.{DeterminedValue}
 use Rattle.al_query.proofs.AskLemmas.{asks_none}
 use Rattle.al_query.specs.Asked.{OfKnown, by_some_name}
 use Rattle.al_stmts_ranges.specs.ChoicesAt.{choice_at}

@@ -1,7 +1,7 @@
 use Rattle.std.proofs.Common.{Result, ap, ◌∙◌}
 use Rattle.al_base_fault.specs.Judging.{next}
 use Rattle.al_base_fault.specs.declared.fault.Fault.{Fault}
-use Rattle.al_overload_label.specs.Ranges.{FoundTree}
+use Rattle.al_overload_nodes.specs.Ranges.{FoundTree}
 use Rattle.al_stmts_ranges.specs.ChoicesAt.{choice_at}
 use Rattle.al_overload_values.proofs.Composed.{asks_more, if_ok}
 use Rattle.al_tree.specs.StatementViews.{choice_model}

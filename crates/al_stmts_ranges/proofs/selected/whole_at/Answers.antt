@@ -1,6 +1,6 @@
 use Rattle.std.proofs.Common.{Result, ap, ◌∙◌}
 use Rattle.al_base_fault.specs.declared.fault.Fault.{Fault}
-use Rattle.al_overload_label.specs.Ranges.{FoundTree}
+use Rattle.al_overload_nodes.specs.Ranges.{FoundTree}
 use Rattle.al_stmts_ranges.specs.ChoicesAt.{values_of}
 use Rattle.al_stmts_ranges.proofs.selected.whole_at.Goals as goal
 

@@ -2,8 +2,8 @@ use Rattle.std.proofs.Common.{◌≡◌, ℕ, List, Result, Ok, Err, Vec, Global
 use Rattle.std.specs.Result.{MatchResult}
 use Rattle.al_base.specs.Batch.{Key, key_of}
 use Rattle.al_base.specs.declared.unit_key.UnitKey.{UnitKey}
-use Rattle.al_base_order.specs.Orders.{IsCycle, IsOrdered}
-use Rattle.al_base_order.specs.declared.cycle.Cycle.{Cycle}
+use Rattle.al_base_graph.specs.Orders.{IsCycle, IsOrdered}
+use Rattle.al_base_graph.specs.declared.cycle.Cycle.{Cycle}
 use Rattle.al_unit_faults.proofs.UnitOrderLemmas.{no_cycle, nodes_in, order_of_units, steps_of_items, within_items}
 use Rattle.al_unit_faults.specs.Reached.{IsDependenceOrder}
 use Rattle.al_unit_faults.specs.Steps.{key_at}

@@ -1,5 +1,5 @@
 use Rattle.std.proofs.Common.{◌∙◌, sym}
-use Rattle.al_entries.specs.EntryLaw.{AllKeepLaw}
+use Rattle.al_engine_refresh.specs.EntryLaw.{AllKeepLaw}
 use Rattle.al_engine.specs.Rechecks.{will_be}
 use Rattle.al_engine.proofs.KeptLemmas.{said-of, settled-is}
 use Rattle.al_engine.proofs.kept_units.UnitCache.settle.Goals as goal

@@ -1,7 +1,7 @@
 use Rattle.std.proofs.Common.{List, ap, sym, subst, ◌∙◌}
 use Rattle.al_base.specs.declared.unit_key.UnitKey.{UnitKey}
 use Rattle.al_query_store.specs.Keyed.{State, entry_of, now_at, settled_at, settled_state, state}
-use Rattle.al_entries.specs.Stored.{Stored}
+use Rattle.al_engine_refresh.specs.Stored.{Stored}
 use Rattle.al_engine_refresh.specs.Builds.{results_of}
 use Rattle.al_engine.specs.Rechecks.{IsRechecked, setting_of}
 use Rattle.al_engine.proofs.ReadyLemmas.{entry-held, ready-now, reached-now}

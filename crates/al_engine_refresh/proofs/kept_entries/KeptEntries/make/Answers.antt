@@ -1,7 +1,7 @@
 use Rattle.std.proofs.Common.{◌++◌, ◌∙◌, [], ◌∷◌, ap}
 use Rattle.al_base.specs.declared.unit_key.UnitKey.{UnitKey}
 use Rattle.al_query_store.specs.Changes.{with_made}
-use Rattle.al_entries.specs.Stored.{log_of}
+use Rattle.al_engine_refresh.specs.Stored.{log_of}
 use Rattle.al_engine_refresh.proofs.QuietLemmas.{noted-changed}
 use Rattle.al_engine_refresh.proofs.kept_entries.KeptEntries.make.Goals as goal
 

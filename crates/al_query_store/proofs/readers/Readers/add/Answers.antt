@@ -4,7 +4,7 @@ use Rattle.al_base.specs.declared.unit_key.UnitKey.{UnitKey}
 use Rattle.al_base.specs.contracts.unit_key.UnitKeyOrd.TheImpl.{cmp-value}
 use Rattle.al_view.specs.Symbols.{same_unit}
 use Rattle.al_query.specs.Queries.{same_query, unit_of}
-use Rattle.al_unit_map.proofs.UnitLemmas.{IsByName, changed, found}
+use Rattle.al_query_store.proofs.UnitLemmas.{IsByName, changed, found}
 use Rattle.al_query_store.specs.Reads.{has, questions_of, reads, same_place}
 use Rattle.al_query_store.proofs.ReadLemmas.{ByQuery, ByUnit, on_err, reads-added, reads-kept}
 use Rattle.al_query_store.proofs.readers.Readers.add.Goals as goal

@@ -4,7 +4,7 @@ use Rattle.std.specs.Map.{lookup}
 use Rattle.std.specs.List.{list_any}
 use Rattle.al_base.specs.contracts.unit_key.UnitKeyOrd.TheImpl.{cmp-value}
 use Rattle.al_view.specs.Symbols.{same_unit}
-use Rattle.al_unit_map.proofs.UnitLemmas.{IsByName, found}
+use Rattle.al_query_store.proofs.UnitLemmas.{IsByName, found}
 use Rattle.al_query_store.specs.declared.place.Place.{Place}
 use Rattle.al_query_store.specs.Reads.{place_cmp, reads, same_place}
 use Rattle.al_query_store.proofs.ReadLemmas.{ByUnit, reads_any, reads_nothing}

@@ -6,7 +6,7 @@ use Rattle.al_query_store.specs.Keyed.{State, state, with_reached}
 use Rattle.al_query_store.proofs.StateLemmas.{Turns, cells-same, state-turned, turned-there, there-cell}
 use Rattle.al_query_store.proofs.store.Store.reach.Goals as goal
 use Rattle.std.proofs.Common.{is_some}
-use Rattle.al_unit_map.specs.Units.{at_unit}
+use Rattle.al_query_store.specs.Units.{at_unit}
 
 pub invariant_of-self : goal.invariant_of-self
 invariant_of-self g c =

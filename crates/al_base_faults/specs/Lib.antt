@@ -1,2 +1,0 @@
-pub mod FaultLists
-pub mod Laws

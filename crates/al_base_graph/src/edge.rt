@@ -1,0 +1,116 @@
+// What ties one node to another: the pair of items that carries an edge, and its reason.
+ghost use Rattle.std.specs.Prelude.{◌≡◌, ◌↔◌, ◌⊎◌, ◌<◌, ℕ, List, length, IfOk, IsTrue, MatchOption, MatchResult, slice_index};
+ghost use Rattle.std.specs.List.{All, Contains};
+ghost use Rattle.al_base_graph.specs.Orders.{IsOrdered, next_in};
+ghost use Rattle.al_base_graph.specs.Ties.{rank_of, IsUpto, IsBetween, IsLine, AreLines, IsFault, graph_from};
+ghost use Rattle.al_base_graph.specs.declared.edge.Edge.{Edge};
+
+use crate::Graph;
+use crate::ordering::order;
+use std::alloc::{AllocError, Global};
+
+/// Why an item comes after another one. The first reason is `Depends`.
+#[derive(Clone, Copy)]
+pub enum Reason {
+    Depends,
+    Elaborate,
+    ElaborateAll,
+}
+
+/// An item of one node, which comes after an item of another node. Items are told by their places in the order of keys.
+#[derive(Clone, Copy)]
+pub struct Edge {
+    pub after: usize,
+    pub before: usize,
+    pub reason: Reason,
+    pub x: usize,
+    pub y: usize,
+}
+
+fn rank(reason: Reason) -> u8
+    ensures { result ≡ rank_of reason }
+{
+    match reason {
+        Reason::Depends => 0,
+        Reason::Elaborate => 1,
+        Reason::ElaborateAll => 2,
+    }
+}
+
+// Whether a line names this one rather than another.
+fn is_upto(one: &Edge, two: &Edge) -> bool
+    ensures { IsTrue result ↔ IsUpto one.now two.now }
+{
+    let (a, b) = (rank(one.reason), rank(two.reason));
+    a < b || (a == b && (one.x < two.x || (one.x == two.x && one.y <= two.y)))
+}
+
+// The tie that a line names: the one found so far, or one more.
+fn first_of(found: Option<Edge>, edge: Edge) -> Edge
+    ensures { MatchOption found (result ≡ edge) (λ f. ((result ≡ f) × IsUpto f edge) ⊎ ((result ≡ edge) × (IsUpto f edge → ⊥))) }
+{
+    match found {
+        Some(found) if is_upto(&found, &edge) => found,
+        _ => edge,
+    }
+}
+
+/// The tie that a line names: of those between two nodes the one with the first reason, then the least x, then the least y.
+pub fn line(edges: &[Edge], after: usize, before: usize) -> Option<Edge>
+    ensures { MatchOption result ((t : Edge) → Contains edges.now t → IsBetween after before t → ⊥) (IsLine edges.now after before) }
+{
+    let mut least: Option<Edge> = None;
+    for edge in edges {
+        if edge.after == after && edge.before == before {
+            least = Some(first_of(least, *edge));
+        }
+    }
+    least
+}
+
+// The graph of the ties.
+fn graph_of(alloc: Global, count: usize, edges: &[Edge]) -> Result<Graph, AllocError>
+    requires { All (λ t. (t.after < count) × (t.before < count)) edges.now }
+    ensures { IfOk result (λ graph. graph ≡ graph_from count edges.now) }
+{
+    let mut graph = Graph::new(alloc, count)?;
+    for edge in edges {
+        graph.add(edge.after, edge.before)?;
+    }
+    Ok(graph)
+}
+
+// The lines of a cycle.
+fn lines_of(alloc: Global, edges: &[Edge], cycle: &[usize]) -> Result<Vec<Edge>, AllocError>
+    requires { (i : ℕ) → i < length cycle.now → (t : Edge) × Contains edges.now t × IsBetween (slice_index cycle.now i) (next_in cycle.now i) t }
+    ensures { IfOk result (λ lines. AreLines edges.now cycle.now lines.items) }
+{
+    let mut lines = Vec::new(alloc);
+    for place in 0..cycle.len() {
+        let next = if place + 1 < cycle.len() {
+            cycle[place + 1]
+        } else {
+            cycle[0]
+        };
+        if let Some(edge) = line(edges, cycle[place], next) {
+            lines.push(edge)?;
+        }
+    }
+    Ok(lines)
+}
+
+/// The order of so many nodes under the ties, or the lines that show a cycle.
+pub fn order_of_ties(
+    alloc: Global,
+    count: usize,
+    edges: &[Edge],
+) -> Result<Result<Vec<usize>, Vec<Edge>>, AllocError>
+    requires { All (λ t. (t.after < count) × (t.before < count)) edges.now }
+    ensures { IfOk result (λ bound. MatchResult bound (λ order. IsOrdered (graph_from count edges.now) order.items) (λ lines. IsFault count edges.now lines.items)) }
+{
+    let graph = graph_of(alloc, count, edges)?;
+    match order(alloc, &graph)? {
+        Ok(order) => Ok(Ok(order)),
+        Err(cycle) => Ok(Err(lines_of(alloc, edges, &cycle.nodes)?)),
+    }
+}

@@ -1,9 +1,0 @@
-use Rattle.std.proofs.Common.{◌≡◌, take, length}
-use Rattle.al_base_order.specs.Ties.{graph_from}
-use Rattle.al_base_order.proofs.edge.graph_of.Given as goal
-
-abbrev pub invariant-loop-edge : goal.invariant-loop-edge
-invariant-loop-edge l = record {
-  count : length l.graph ≡ l.count;
-  graph : l.graph ≡ graph_from l.count (take l.edge-index l.edges);
-}

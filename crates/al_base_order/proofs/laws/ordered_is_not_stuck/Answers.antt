@@ -1,5 +1,0 @@
-use Rattle.al_base_order.proofs.PlacingLemmas.{order_not_stuck}
-use Rattle.al_base_order.proofs.laws.ordered_is_not_stuck.Goals as goal
-
-pub returns : goal.returns
-returns c = order_not_stuck

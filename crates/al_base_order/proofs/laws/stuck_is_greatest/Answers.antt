@@ -1,6 +1,0 @@
-use Rattle.al_base_order.proofs.PlacingLemmas.{stuck_within}
-use Rattle.al_base_order.proofs.CycleLemmas.{stuck_before}
-use Rattle.al_base_order.proofs.laws.stuck_is_greatest.Goals as goal
-
-pub returns : goal.returns
-returns c = record { has_one = stuck_before; greatest = λ g held each a t. (held, each, t); nodes = stuck_within }

@@ -1,0 +1,15 @@
+// What every unit has.
+ghost use Rattle.std.specs.Prelude.{◌≡◌, IfOk};
+ghost use Rattle.al_check_bounded.specs.Constants.{predefined};
+
+use al_base::NoMemory;
+use al_overload::Predefined;
+use std::alloc::Global;
+
+/// What every unit has, made anew.
+pub fn predefined_everywhere(alloc: Global) -> Result<Predefined, NoMemory>
+    ensures { IfOk result (λ p. p ≡ predefined) }
+{
+    let made = Predefined::new(alloc)?;
+    Ok(made)
+}

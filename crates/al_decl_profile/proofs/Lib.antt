@@ -1,4 +1,0 @@
-pub mod CompletingLemmas
-pub mod EachLemmas
-pub mod FormalLemmas
-pub mod SignatureLemmas

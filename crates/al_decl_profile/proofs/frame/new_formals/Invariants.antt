@@ -1,7 +1,0 @@
-use Rattle.std.proofs.Common.{◌≡◌, take}
-use Rattle.std.specs.List.{filter_map}
-use Rattle.al_decl_profile.specs.Frames.{new_formal}
-use Rattle.al_decl_profile.proofs.frame.new_formals.Given as goal
-
-abbrev pub invariant-loop-formal : goal.invariant-loop-formal
-invariant-loop-formal l = l.made ≡ filter_map new_formal (take l.formal-index l.formals)

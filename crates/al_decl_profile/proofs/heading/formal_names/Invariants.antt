@@ -1,6 +1,0 @@
-use Rattle.std.proofs.Common.{◌≡◌, take}
-use Rattle.al_decl_profile.specs.Headings.{formal_names}
-use Rattle.al_decl_profile.proofs.heading.formal_names.Given as goal
-
-abbrev pub invariant-loop-formal : goal.invariant-loop-formal
-invariant-loop-formal l = l.names ≡ formal_names (take l.formal-index l.formals)

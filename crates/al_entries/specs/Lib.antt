@@ -1,2 +1,0 @@
-pub mod EntryLaw
-pub mod Stored

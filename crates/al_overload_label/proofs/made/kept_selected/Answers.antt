@@ -1,5 +1,0 @@
-use Rattle.al_overload_label.proofs.TermKinds.{kept_is}
-use Rattle.al_overload_label.proofs.made.kept_selected.Goals as goal
-
-pub returns : goal.returns
-returns c = kept_is _ c.selected_of-reading.result c.kept.result c.selected_of-reading.ensures c.kept.ensures
