@@ -1,6 +1,6 @@
 //! The program `adabuild`: builds and runs a folder of Ada sources.
 //!
-//! What is read is handed to the library as it is, and what is printed is the library's answers, in the words of `al_folder_told`.
+//! What is read is handed to the library as it is, and what is printed is the library's answers, in the words of `al_folder`.
 //! The exit status is 0 where all was done, 1 where there is no program, 2 where the words are of another form, 3 where an exception
 //! ended the run.
 #![tactic(auto)]
