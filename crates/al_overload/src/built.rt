@@ -11,12 +11,12 @@ ghost use Rattle.al_overload.specs.HeadsHeads.{attribute, concatenation, infixed
 ghost use Rattle.al_overload.specs.Universal.{computes_one, computes_two, is_position, is_sole_number};
 
 use crate::aggregate::{others, positional};
+use crate::computing::{
+    binary_roots, computes_one, computes_two, is_position, is_sole_number, unary_roots,
+};
 use crate::everywhere::Predefined;
 use crate::heads_candidate::{
     attribute, concatenation, giving, mark_given, of_one, of_two, possible, short_circuit,
-};
-use crate::operator::{
-    binary_roots, computes_one, computes_two, is_position, is_sole_number, unary_roots,
 };
 use crate::part::Nominal;
 use crate::{Expected, Expression, Given, Operands, all_of, operator, sole};

@@ -8,6 +8,7 @@ mod candidate;
 mod chain;
 mod choose;
 mod class;
+mod computing;
 mod context;
 mod count;
 mod everywhere;
@@ -17,13 +18,12 @@ mod heads_chain;
 mod heads_head;
 mod heads_laws;
 mod heads_term;
-mod interpret;
+mod in_context;
 mod label;
 mod law;
 mod laws;
 mod meaning;
 mod operands;
-mod operator;
 mod part;
 mod picked_types;
 mod picking;
@@ -34,6 +34,7 @@ mod types;
 
 pub use choose::{Interpretation, interpret};
 pub use class::value_type;
+pub use computing::{computes_one, computes_two, is_position, is_sole_number};
 pub use context::{Context, PredefinedTypes, converted_to, wanted_in};
 pub use everywhere::Predefined;
 pub use head::{all_of, is_any_no_value, name, operator, sole};
@@ -43,12 +44,11 @@ pub use heads_laws::{
     numbers_are_universal, numbers_need_no_operator,
 };
 pub use heads_term::Term;
-pub use interpret::{interpret_bounds, interpret_term};
+pub use in_context::{interpret_bounds, interpret_term};
 pub use label::{is_root_in, number_in, operand_label};
 pub use law::{acceptable_is_preferred, no_type_is_left_out};
 pub use laws::{faults_tell_why, one_is_acceptable};
 pub use meaning::{nothing_fits, resolve};
-pub use operator::{computes_one, computes_two, is_position, is_sole_number};
 pub use part::{Nominal, declared_under, part_of};
 pub use picked_types::{
     Indexing, component_at, count_of, how_indexed, is_scalar_type, length_of, positions_in,

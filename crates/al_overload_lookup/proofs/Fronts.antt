@@ -7,7 +7,7 @@ use Rattle.std.specs.Prelude.{fold, unwrap_or}
 use Rattle.std.specs.Str.{bytes_eq}
 use Rattle.al_base.specs.declared.unit_key.UnitKey.{UnitKey}
 use Rattle.al_overload_lookup.specs.Keys.{dotted, is_none}
-use Rattle.al_overload_lookup.specs.declared.names.Names.{Names}
+use Rattle.al_overload_lookup.specs.declared.denoted.Names.{Names}
 use Rattle.al_overload_lookup.specs.Lookups.{found, is_new, looked_up, looked_up_all, nothing_found, selected_in, with_each, with_selected, with_views}
 use Rattle.al_overload_lookup.specs.TextNames.{identifier_names, selector_names}
 use Rattle.al_tree_grammar.specs.Grammar.{Label}

@@ -7,7 +7,7 @@ use Rattle.al_base_fault.specs.declared.fault.Fault.{Fault}
 use Rattle.al_tree_syntax.specs.ExpressionTrees.{ExpressionTree, ExpressionTree as e, PartTree, PartTree as part}
 use Rattle.al_view.specs.Interfaces.{views_of}
 use Rattle.al_view.specs.declared.view.ViewKind.{ViewKind}
-use Rattle.al_overload_lookup.specs.declared.names.Names.{Names}
+use Rattle.al_overload_lookup.specs.declared.denoted.Names.{Names}
 use Rattle.al_overload_lookup.specs.Places.{place_of}
 
 -- what names denote at a place: the declarations that are visible under a name; and where it was selected, those in which it was looked for

@@ -3,7 +3,7 @@
 use Rattle.std.specs.Prelude.{ℕ, Bool, List, [], ◌++◌, fold, Option, Some, None, option_map, if◌then◌else◌}
 use Rattle.al_base.specs.declared.unit_key.UnitKey.{UnitKey}
 use Rattle.al_overload_lookup.specs.Keys.{dotted, is_none}
-use Rattle.al_overload_lookup.specs.declared.names.Names.{Names}
+use Rattle.al_overload_lookup.specs.declared.denoted.Names.{Names}
 use Rattle.al_overload_lookup.specs.TextNames.{names_in}
 use Rattle.al_overload_lookup.specs.declared.name.TextName.{TextName}
 use Rattle.al_overload_lookup.specs.declared.name.TextName.TheVariants.{Simple, Selected}

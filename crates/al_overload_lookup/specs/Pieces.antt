@@ -1,7 +1,7 @@
 -- Names and signs of a text by their parts, of which each is told once.
 use Rattle.std.specs.Prelude.{◌≡◌, ◌<◌, ℕ, Bool, false, nat_lt, length, List, [], ◌∷◌, fold, Option, Some, None, if◌then◌else◌}
 use Rattle.al_overload_lookup.specs.Keys.{dotted}
-use Rattle.al_overload_lookup.specs.declared.names.Names.{Names}
+use Rattle.al_overload_lookup.specs.declared.denoted.Names.{Names}
 use Rattle.al_overload_lookup.specs.declared.name.TextName.{TextName}
 use Rattle.al_overload_lookup.specs.declared.name.TextName.TheVariants.{Simple, Selected}
 use Rattle.al_overload_lookup.specs.declared.piece.Piece.{Piece}

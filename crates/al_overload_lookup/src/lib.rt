@@ -2,10 +2,10 @@
 #![tactic(auto)]
 
 mod chain;
+mod denoted;
 mod keys;
 mod lookup;
 mod name;
-mod names;
 mod piece;
 mod pieces;
 mod places;
@@ -14,9 +14,9 @@ mod selectors;
 mod sign;
 mod text;
 
+pub use denoted::Names;
 pub use keys::{dotted, is_none, key_of, not_visible};
 pub use lookup::names;
 pub use name::TextName;
-pub use names::Names;
 pub use places::{first_place, group_place, prefix_place};
 pub use selectors::look_up_selected;

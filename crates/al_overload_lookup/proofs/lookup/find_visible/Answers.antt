@@ -1,5 +1,5 @@
 use Rattle.std.proofs.Common.{[], ◌∷◌, List, ap, ◌∙◌}
-use Rattle.al_overload_lookup.specs.declared.names.Names.{Names}
+use Rattle.al_overload_lookup.specs.declared.denoted.Names.{Names}
 use Rattle.al_overload_lookup.specs.Lookups.{with_views}
 use Rattle.al_query.proofs.AskLemmas.{asks_of-wider, asks_then, by_name-some}
 use Rattle.al_query.specs.Asked.{OfKnown, by_name, by_some_name}

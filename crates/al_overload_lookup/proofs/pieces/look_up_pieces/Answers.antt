@@ -1,6 +1,6 @@
 use Rattle.std.proofs.Common.{◌≡◌, List, take, refl, sym, subst, ap, ◌∙◌, arith}
 use Rattle.std.proofs.lemmas.List.{take_all}
-use Rattle.al_overload_lookup.specs.declared.names.Names.{Names}
+use Rattle.al_overload_lookup.specs.declared.denoted.Names.{Names}
 use Rattle.al_overload_lookup.proofs.Pieced.{no_key, no_names}
 use Rattle.al_overload_lookup.proofs.Shorts.{next_found, next_key, none_short}
 use Rattle.al_overload_lookup.specs.Lookups.{asked_units, looked_up_all}

@@ -1,6 +1,6 @@
 use Rattle.std.proofs.Common.{◌≡◌, List, take, refl, ap, ◌∙◌, arith}
 use Rattle.std.proofs.lemmas.List.{take_all}
-use Rattle.al_overload_lookup.specs.declared.names.Names.{Names}
+use Rattle.al_overload_lookup.specs.declared.denoted.Names.{Names}
 use Rattle.al_overload_lookup.proofs.Folds.{folded}
 use Rattle.al_overload_lookup.specs.Lookups.{asked_units, selected_in, with_each, with_selected}
 use Rattle.al_query.proofs.AskLemmas.{asks_none, asks_then}

@@ -1,7 +1,7 @@
 use Rattle.std.proofs.Common.{◌≡◌, ◌++◌, ℕ, List, [], true, drop, sym, ap, ◌∙◌, arith}
 use Rattle.std.proofs.lemmas.List.{drop_all}
 use Rattle.al_overload_lookup.specs.Keys.{is_none}
-use Rattle.al_overload_lookup.specs.declared.names.Names.{Names}
+use Rattle.al_overload_lookup.specs.declared.denoted.Names.{Names}
 use Rattle.al_overload_lookup.proofs.Fronts.{front_more, rest_more, rest_stays, started, with_rest}
 use Rattle.al_overload_lookup.specs.Lookups.{asked_units, looked_up}
 use Rattle.al_overload_lookup.specs.declared.name.TextName.TheVariants.{Simple}

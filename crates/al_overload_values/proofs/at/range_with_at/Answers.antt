@@ -2,7 +2,7 @@ use Rattle.std.proofs.Common.{ap, ◌∙◌}
 use Rattle.al_base.specs.declared.place.Place.{Place}
 use Rattle.al_overload_lookup.specs.Keys.{denoted}
 use Rattle.al_overload_lookup.specs.Places.{first_place}
-use Rattle.al_overload_lookup.specs.declared.names.Names.{Names}
+use Rattle.al_overload_lookup.specs.declared.denoted.Names.{Names}
 use Rattle.al_overload_values.specs.TextsAt.{range_with}
 use Rattle.al_tree.specs.ExpressionViews.{expression_model}
 use Rattle.al_overload_values.proofs.at.range_with_at.Goals as goal

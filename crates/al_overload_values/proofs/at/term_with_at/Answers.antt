@@ -1,6 +1,6 @@
 use Rattle.std.proofs.Common.{ap, ◌∙◌}
 use Rattle.al_overload_lookup.specs.Keys.{denoted}
-use Rattle.al_overload_lookup.specs.declared.names.Names.{Names}
+use Rattle.al_overload_lookup.specs.declared.denoted.Names.{Names}
 use Rattle.al_overload_values.specs.TextsAt.{term_with}
 use Rattle.al_tree.specs.ExpressionViews.{expression_model}
 use Rattle.al_overload_values.proofs.at.term_with_at.Goals as goal

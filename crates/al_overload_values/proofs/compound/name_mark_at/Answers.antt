@@ -1,6 +1,6 @@
 use Rattle.std.proofs.Common.{ap, ◌∙◌}
 use Rattle.al_overload_lookup.specs.Keys.{denoted}
-use Rattle.al_overload_lookup.specs.declared.names.Names.{Names}
+use Rattle.al_overload_lookup.specs.declared.denoted.Names.{Names}
 use Rattle.al_overload_readings.specs.Texts.{mark_of_text}
 use Rattle.al_overload_values.specs.CompoundNames.{name_text}
 use Rattle.al_tree.specs.DeclarationViews.{compound_model}

@@ -1,6 +1,6 @@
 use Rattle.std.proofs.Common.{◌∙◌, List, map, ap}
 use Rattle.al_overload_lookup.specs.Keys.{denoted}
-use Rattle.al_overload_lookup.specs.declared.names.Names.{Names}
+use Rattle.al_overload_lookup.specs.declared.denoted.Names.{Names}
 use Rattle.al_overload_lookup.specs.Lookups.{looked_up_all}
 use Rattle.al_overload_lookup.specs.TextNames.{identifier_names}
 use Rattle.al_tree.specs.DeclarationViews.{compound_model}

@@ -6,7 +6,7 @@ use Rattle.al_unit_graph.specs.Views.{header_model}
 use Rattle.al_unit_graph.specs.declared.header.Header.{Header}
 use Rattle.al_unit_graph.specs.Orders.{names_model}
 use Rattle.al_unit_faults.proofs.ListingLemmas.{told, among_model}
-use Rattle.al_unit_faults.proofs.obsolete.obsolete_unit.Goals as goal
+use Rattle.al_unit_faults.proofs.obsolete_units.obsolete_unit.Goals as goal
 
 pub returns-then-is_obsolete : goal.returns-then-is_obsolete
 returns-then-is_obsolete c =

@@ -9,7 +9,7 @@ use Rattle.al_overload.specs.HeadsHeads.{bounds_head}
 use Rattle.al_overload.specs.Interpreting.{numbers_in}
 use Rattle.al_overload.specs.TermViews.{term_model}
 use Rattle.al_overload.specs.Places.{first_place}
-use Rattle.al_overload.proofs.interpret.interpret_bounds.Goals as goal
+use Rattle.al_overload.proofs.in_context.interpret_bounds.Goals as goal
 
 pub returns : goal.returns
 returns c =

@@ -11,8 +11,8 @@ use Rattle.al_unit_graph.specs.Orders.{key_cmp, names_model}
 use Rattle.al_unit_faults.specs.Wanted.{AreTouched, obsolete_by, obsolete_in}
 use Rattle.al_unit_faults.proofs.ListingLemmas.{obsolete_by_files, obsolete_step}
 use Rattle.std.proofs.lemmas.List.{get_or_default}
-use Rattle.al_unit_faults.proofs.obsolete.obsolete.Goals as goal
-use Rattle.al_unit_faults.proofs.obsolete.obsolete.Goals.{in-Some+in_ok-insert, in_default}
+use Rattle.al_unit_faults.proofs.obsolete_units.obsolete.Goals as goal
+use Rattle.al_unit_faults.proofs.obsolete_units.obsolete.Goals.{in-Some+in_ok-insert, in_default}
 
 pub loop-i-preserved : goal.loop-i-preserved
 loop-i-preserved c = λ alike.

@@ -2,7 +2,7 @@ use Rattle.std.proofs.Common.{◌<◌, length, subst, sym}
 use Rattle.std.specs.List.{All}
 use Rattle.al_base_graph.specs.Graphs.{Marks, ReachesSome}
 use Rattle.al_unit_faults.proofs.WantedLemmas.{goals_within, marks_touched}
-use Rattle.al_unit_faults.proofs.obsolete.touched.Goals as goal
+use Rattle.al_unit_faults.proofs.obsolete_units.touched.Goals as goal
 
 pub reaching-requires : goal.reaching-requires
 reaching-requires c =
