@@ -1,5 +1,5 @@
--- The refusals with their numbers and words.
-use Rattle.std.specs.Prelude.{ℕ, List, codes}
+-- The refusals with their numbers.
+use Rattle.std.specs.Prelude.{ℕ}
 use Rattle.al_base.specs.declared.refusal.Refusal.{Refusal}
 use Rattle.al_base.specs.declared.refusal.Refusal.TheVariants.{BadName, NoFile, FileExists, TooManyFiles, TextTooLong, NotBuilt, NoImage, BadCommand, BadLength, NoMemory}
 
@@ -14,15 +14,3 @@ number_of NoImage = 7
 number_of BadCommand = 8
 number_of BadLength = 9
 number_of NoMemory = 10
-
-abbrev pub word_of : Refusal → List ℕ
-word_of BadName = codes "bad-name"
-word_of NoFile = codes "no-file"
-word_of FileExists = codes "file-exists"
-word_of TooManyFiles = codes "too-many-files"
-word_of TextTooLong = codes "text-too-long"
-word_of NotBuilt = codes "not-built"
-word_of NoImage = codes "no-image"
-word_of BadCommand = codes "bad-command"
-word_of BadLength = codes "bad-length"
-word_of NoMemory = codes "no-memory"

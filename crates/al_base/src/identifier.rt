@@ -1,13 +1,9 @@
 // Identifiers and the names of units.
-ghost use Rattle.std.specs.Prelude.{◌≡◌, map, IfOk};
-ghost use Rattle.std.specs.Char.{to_ascii_lowercase};
+ghost use Rattle.std.specs.Prelude.{◌≡◌};
 ghost use Rattle.std.specs.List.{list_all};
 ghost use Rattle.al_base.specs.Identifiers.{is_word_byte, has_bad_underscore, begins_with_letter, has_identifier_shape, is_identifier, is_unit_name};
 
-use crate::name::Name;
-use crate::refusal::NoMemory;
 use crate::reserved::reserved_word;
-use std::alloc::Global;
 
 /// The most bytes that an identifier may have (ARM 2.2 leaves the limit to the implementation).
 pub const MAX_IDENTIFIER: usize = 200;
@@ -64,15 +60,4 @@ pub fn is_unit_name(word: &[u8]) -> bool
     ensures { result ≡ is_unit_name word.now }
 {
     word.split(|b| *b == b'.').all(is_identifier)
-}
-
-/// The word in lower case, in which names are kept (ARM 2.3: case doesn't tell identifiers apart).
-pub fn folded(alloc: Global, word: &[u8]) -> Result<Name, NoMemory>
-    ensures { IfOk result (λ name. name ≡ map to_ascii_lowercase word.now) }
-{
-    let Ok(mut bytes) = Vec::from_slice(alloc, word) else {
-        return Err(NoMemory);
-    };
-    bytes.make_ascii_lowercase();
-    Ok(Name::new(bytes))
 }

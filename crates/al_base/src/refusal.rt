@@ -1,7 +1,7 @@
 // Why a command is refused.
 ghost use Rattle.std.specs.Prelude.{◌≡◌};
 ghost use Rattle.al_base.specs.declared.refusal.Refusal.TheVariants.{NoMemory};
-ghost use Rattle.al_base.specs.Refusals.{number_of, word_of};
+ghost use Rattle.al_base.specs.Refusals.{number_of};
 
 use std::alloc::{AllocError, AllocFailed};
 use thiserror::Error;
@@ -48,24 +48,6 @@ impl Refusal {
             Refusal::BadCommand => 8,
             Refusal::BadLength => 9,
             Refusal::NoMemory => 10,
-        }
-    }
-
-    /// The word that a reply gives for it.
-    pub fn word(self) -> &'static [u8]
-        ensures { result.now ≡ word_of self }
-    {
-        match self {
-            Refusal::BadName => b"bad-name",
-            Refusal::NoFile => b"no-file",
-            Refusal::FileExists => b"file-exists",
-            Refusal::TooManyFiles => b"too-many-files",
-            Refusal::TextTooLong => b"text-too-long",
-            Refusal::NotBuilt => b"not-built",
-            Refusal::NoImage => b"no-image",
-            Refusal::BadCommand => b"bad-command",
-            Refusal::BadLength => b"bad-length",
-            Refusal::NoMemory => b"no-memory",
         }
     }
 }

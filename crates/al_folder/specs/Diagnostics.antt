@@ -4,14 +4,9 @@ use Rattle.std.specs.List.{flat_map}
 use Rattle.std.specs.Str.{bytes_eq}
 use Rattle.al_base.specs.Batch.{Finding}
 use Rattle.al_base.specs.Files.{Texts, text_of}
-use Rattle.al_base.specs.Rules as broken
-use Rattle.al_base.specs.declared.rule.Rule.TheVariants.{NotYet}
+use Rattle.al_base_words.specs.Messages.{message_of}
 use Rattle.al_folder.specs.Lines.{line_of}
 use Rattle.al_folder.specs.Excerpts.{excerpt}
-
--- what a rule says when it is broken
-abbrev pub message_of : ℕ → List ℕ
-message_of code = broken.message_of (unwrap_or (broken.rule_of code) NotYet)
 
 -- bytes that aren't told of the present folder
 abbrev pub elsewhere : List ℕ → List ℕ → List ℕ

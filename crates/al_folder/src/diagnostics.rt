@@ -3,21 +3,12 @@ ghost use Rattle.std.specs.Prelude.{◌≡◌, ◌-◌, ◌^◌, ◌<◌, IsOk, 
 ghost use Rattle.std.specs.List.{flat_map};
 ghost use Rattle.al_base.specs.Batch.{finding_of};
 ghost use Rattle.al_session_stream.specs.Output.{Adds};
-ghost use Rattle.al_folder.specs.Diagnostics.{message_of, elsewhere, folder_words, diagnostic_line, source_lines, diagnostic_text, folder_of, text_shown, told_text, errors_word, count_line, diagnostics_text};
+ghost use Rattle.al_folder.specs.Diagnostics.{elsewhere, folder_words, diagnostic_line, source_lines, diagnostic_text, folder_of, text_shown, told_text, errors_word, count_line, diagnostics_text};
 
 use crate::{emit_excerpt, line_at};
-use al_base::{Diagnostic, Files, Place, Rule};
+use al_base::{Diagnostic, Files, Place};
+use al_base_words::message_of;
 use al_session_stream::{Device, Sink, emit, emit_number};
-
-/// What the rule of the number says when it is broken.
-fn message_of(code: u16) -> &'static [u8]
-    ensures { result.now ≡ message_of code }
-{
-    match Rule::of(code) {
-        Some(rule) => rule.message(),
-        None => Rule::NotYet.message(),
-    }
-}
 
 /// Bytes that aren't told of the present folder.
 fn elsewhere<'a>(folder: &[u8], bytes: &'a [u8]) -> &'a [u8]

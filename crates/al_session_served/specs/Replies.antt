@@ -1,14 +1,13 @@
 -- The bytes of replies.
 use Rattle.std.specs.Prelude.{ℕ, List, [], ◌++◌, length, codes, decimal, Option, Some, None}
-use Rattle.std.specs.Option.{unwrap_or}
 use Rattle.std.specs.List.{flat_map}
 use Rattle.al_base.specs.declared.unit_key.UnitKind.{UnitKind}
 use Rattle.al_base.specs.declared.unit_key.UnitKind.TheVariants.{Decl, Body, Sub}
 use Rattle.al_base.specs.declared.refusal.Refusal.{Refusal}
 use Rattle.al_base.specs.declared.refusal.Refusal.TheVariants.{NotBuilt, NoImage}
 use Rattle.al_base.specs.Refusals as refusals
-use Rattle.al_base.specs.Rules as broken
-use Rattle.al_base.specs.declared.rule.Rule.TheVariants.{NotYet}
+use Rattle.al_base_words.specs.Messages.{message_of}
+use Rattle.al_base_words.specs.Refusals.{word_of}
 use Rattle.al_base.specs.Batch.{Finding, Key, key_of}
 use Rattle.al_base_graph.specs.declared.edge.Reason.{Reason}
 use Rattle.al_base_graph.specs.declared.edge.Reason.TheVariants.{Depends, Elaborate, ElaborateAll}
@@ -30,11 +29,7 @@ ok = codes "ok\n"
 
 -- `refused`, the number and the word
 abbrev pub refused : Refusal → List ℕ
-refused refusal = codes "refused " ++ decimal (refusals.number_of refusal) ++ codes " " ++ refusals.word_of refusal ++ line_end
-
--- what a rule says when it is broken
-abbrev pub message_of : ℕ → List ℕ
-message_of code = broken.message_of (unwrap_or (broken.rule_of code) NotYet)
+refused refusal = codes "refused " ++ decimal (refusals.number_of refusal) ++ codes " " ++ word_of refusal ++ line_end
 
 -- FILE:LINE:COL: CODE TEXT
 abbrev pub finding_line : Finding → List ℕ

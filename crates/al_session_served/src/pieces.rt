@@ -7,10 +7,11 @@ ghost use Rattle.al_session_stream.specs.Output.{Adds};
 ghost use Rattle.al_session_served.specs.Builds.{run_model};
 ghost use Rattle.al_session_served.specs.Library.{file_unit_of};
 ghost use Rattle.al_session_served.specs.declared.run.RunEnd.TheVariants.{Raised};
-ghost use Rattle.al_session_served.specs.Replies.{refused, message_of, finding_line, kind_word, key_words, key_line, reason_word, cycle_line, file_line, exception_word, line_words, end_words, run_reply};
+ghost use Rattle.al_session_served.specs.Replies.{refused, finding_line, kind_word, key_words, key_line, reason_word, cycle_line, file_line, exception_word, line_words, end_words, run_reply};
 
 use crate::run::{Exception, RunEnd, RunReport};
-use al_base::{Diagnostic, Name, Refusal, Rule, UnitKey, UnitKind};
+use al_base::{Diagnostic, Name, Refusal, UnitKey, UnitKind};
+use al_base_words::{message_of, word_of};
 use al_bind::{Line, Reason};
 use al_session_stream::{Device, Sink, emit, emit_number};
 
@@ -27,18 +28,8 @@ pub fn emit_refusal<K: Sink>(
     let so_far = emit(so_far, writer, b"refused ");
     let so_far = emit_number(so_far, writer, usize::from(refusal.number()));
     let so_far = emit(so_far, writer, b" ");
-    let so_far = emit(so_far, writer, refusal.word());
+    let so_far = emit(so_far, writer, word_of(refusal));
     emit(so_far, writer, b"\n")
-}
-
-// What the rule of this number says.
-fn message_of(code: u16) -> &'static [u8]
-    ensures { result.now ≡ message_of code }
-{
-    match Rule::of(code) {
-        Some(rule) => rule.message(),
-        None => Rule::NotYet.message(),
-    }
 }
 
 // Writes FILE:LINE:COL: CODE TEXT.

@@ -42,7 +42,8 @@ impl KeySet {
         ensures { OnOk result (self.new ≡ insert_key key_cmp self.old (key_of key)) }
     {
         let UnitKey { name, kind } = key;
-        self.keys.insert((name.into_vec(), kind))?;
+        let name = name.into_vec(self.alloc)?;
+        self.keys.insert((name, kind))?;
         Ok(())
     }
 

@@ -88,7 +88,8 @@ impl Sources {
         requires { length file ≤ 255 }
         ensures { OnOk result (self.new ≡ insert_entry name_cmp self.old file (source_model source.value)) }
     {
-        let Ok(_) = self.files.insert(file.into_vec(), source) else {
+        let bytes = file.into_vec(self.alloc)?;
+        let Ok(_) = self.files.insert(bytes, source) else {
             return Err(NoMemory);
         };
         Ok(())

@@ -54,7 +54,7 @@ pub(crate) fn full_name(
     match parent {
         None => dotted(alloc, name),
         Some(parent) => {
-            let mut bytes = dotted(alloc, parent)?.into_vec();
+            let mut bytes = dotted(alloc, parent)?.into_vec(alloc)?;
             bytes.push(b'.')?;
             bytes.extend_from_slice(dotted(alloc, name)?.as_slice())?;
             Ok(Name::new(bytes))

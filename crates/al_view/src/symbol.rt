@@ -43,7 +43,7 @@ impl Symbol {
         ensures { IfOk result (λ copy. copy ≡ self.now) }
     {
         let unit = copied_unit(alloc, &self.unit)?;
-        let name = Name::from_slice(alloc, self.name.as_slice())?;
+        let name = self.name.copy(alloc)?;
         Ok(Symbol {
             unit,
             name,

@@ -2,7 +2,7 @@
 ghost use Rattle.std.specs.Prelude.{◌≡◌, IfOk};
 ghost use Rattle.al_view.specs.Symbols.{same_unit};
 
-use al_base::{Name, NoMemory, UnitKey};
+use al_base::{NoMemory, UnitKey};
 use std::alloc::Global;
 
 /// Whether two keys are of one unit.
@@ -16,7 +16,7 @@ pub fn is_unit(unit: &UnitKey, other: &UnitKey) -> bool
 pub fn copied_unit(alloc: Global, unit: &UnitKey) -> Result<UnitKey, NoMemory>
     ensures { IfOk result (λ copy. copy ≡ unit.now) }
 {
-    let name = Name::from_slice(alloc, unit.name.as_slice())?;
+    let name = unit.name.copy(alloc)?;
     Ok(UnitKey {
         name,
         kind: unit.kind,

@@ -9,5 +9,5 @@ pub returns : goal.returns
 returns c =
     ap keys_model c.in_ok-insert.ensures.keys
     ∙ keys_model-insert_key _ (λ n m. (refl, refl, refl, refl, refl, refl, refl, refl, refl)) c.self.inside.keys.keys _
-    ∙ ap (λ n. insert_key key_cmp (keys_model c.self.inside.keys.keys) (n, c.args.key.kind)) c.into_vec.ensures
+    ∙ ap (λ n. insert_key key_cmp (keys_model c.self.inside.keys.keys) (n, c.args.key.kind)) c.in_ok-name.ensures
     ∙ ap (λ ks. insert_key key_cmp ks (key_of c.args.key)) c.self.view_is

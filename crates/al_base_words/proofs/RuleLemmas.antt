@@ -1,7 +1,8 @@
 -- Each rule is found by its number.
 use Rattle.std.proofs.Common.{◌≡◌, ◌≢◌, ℕ, Option, Some, None, refl, ap}
 use Rattle.std.specs.Prelude.{IfNone}
-use Rattle.al_base.specs.Rules.{number_of, all_rules, rule_of}
+use Rattle.al_base.specs.Rules.{number_of}
+use Rattle.al_base_words.specs.Messages.{all_rules, rule_of}
 use Rattle.al_base.specs.declared.rule.Rule.{Rule}
 use Rattle.al_base.specs.declared.rule.Rule.TheVariants.{IllegalCharacter}
 
