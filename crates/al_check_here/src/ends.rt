@@ -3,7 +3,6 @@ ghost use Rattle.std.specs.Prelude.{◌≡◌, ◌++◌, ◌∷◌, [], drop, ma
 ghost use Rattle.al_scope.specs.Hidden.{hidden, hidden_in};
 ghost use Rattle.al_check_here.specs.Ends.{ends_of, ends_told, hidden_by, hidden_declaration, hidden_own, parts_ended, stub_names, use_inside, uses_inside};
 
-use crate::parts::copied_clause;
 use crate::state::{CheckState, UnitText, UseHere};
 use al_base::{Name, NoMemory};
 use al_decl_judged::{Declaration, Progress};
@@ -113,7 +112,7 @@ fn use_inside(
 {
     let before = stub_names(alloc, stubs_after(stubs, found.stubs))?;
     let part = found.part.copy(alloc)?;
-    let clause = copied_clause(alloc, &found.clause)?;
+    let clause = found.clause.copy(alloc)?;
     Ok(UseInPart {
         part,
         clause,

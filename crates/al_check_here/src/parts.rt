@@ -9,7 +9,7 @@ use al_base::{Name, NoMemory};
 use al_decl_judged::{Heading, subprogram_view};
 use al_query::UseClause;
 use al_query_outcome::StubDeclarations;
-use al_view::{Interface, Part, Symbol, View, copied_unit};
+use al_view::{Interface, Part, Symbol, View};
 use std::alloc::Global;
 use std::mem;
 
@@ -130,26 +130,11 @@ pub fn add_stub(
     Ok(())
 }
 
-pub(crate) fn copied_clause(alloc: Global, clause: &UseClause) -> Result<UseClause, NoMemory>
-    ensures { IfOk result (λ copy. copy ≡ clause.now) }
-{
-    match clause {
-        UseClause::Package(unit) => {
-            let unit = copied_unit(alloc, unit)?;
-            Ok(UseClause::Package(unit))
-        }
-        UseClause::Type(symbol) => {
-            let symbol = symbol.copy(alloc)?;
-            Ok(UseClause::Type(symbol))
-        }
-    }
-}
-
 fn use_here(alloc: Global, state: &CheckState, clause: &UseClause) -> Result<UseHere, NoMemory>
     ensures { IfOk result (λ made. made ≡ use_here state.now clause.now) }
 {
     let part = state.part.copy(alloc)?;
-    let clause = copied_clause(alloc, clause)?;
+    let clause = clause.copy(alloc)?;
     Ok(UseHere {
         part,
         clause,

@@ -35,9 +35,9 @@ number_at t s x = static_checked_at t s contexts.NumberValue [] x
 abbrev pub bound_at : Table → Surroundings → ExpressionTree → Result TypedTree Fault
 bound_at t s x = static_checked_at t s contexts.IntegerBound [] x
 
--- the value of aspect Priority, which is of Integer (ARM D.1(15))
+-- the value of aspect Priority, which is static and of Integer (ARM D.1(15, 17))
 abbrev pub priority_at : Table → Surroundings → ExpressionTree → Result TypedTree Fault
-priority_at t s x = checked_at t s contexts.PriorityValue None [] x
+priority_at t s x = static_checked_at t s contexts.PriorityValue [] x
 
 -- what is read at the places of a unit
 unfoldable pub parts_read : Table → List UnitKey → Predefined → Option Symbol → UnitKey → PartReading

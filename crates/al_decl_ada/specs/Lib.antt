@@ -1,3 +1,4 @@
 pub mod AdaPartReading
 pub mod Complete
+pub mod Priorities
 pub mod SubtypesAt

@@ -6,6 +6,7 @@ mod complete;
 mod constraint;
 mod index;
 mod indication;
+pub mod laws;
 mod parts;
 mod value;
 

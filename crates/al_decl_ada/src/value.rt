@@ -95,7 +95,7 @@ pub(crate) fn bound_at<A: Answers>(
     static_checked_at(site, &context, &types, bound, recorder)
 }
 
-/// The value of aspect Priority (ARM D.1(15)).
+/// The value of aspect Priority, which must be static (ARM D.1(15, 17)).
 pub(crate) fn priority_at<A: Answers>(
     site: &Site<'_>,
     value: &Expression,
@@ -105,6 +105,6 @@ pub(crate) fn priority_at<A: Answers>(
     ensures answered { IfOk result (λ checked. FromAnswers recorder.old.log recorder.new.log (λ t. map_ok typed_model checked ≡ priority_at t (site_model site.now) (expression_model value.now))) }
 {
     let types = no_types(site.labeller.alloc)?;
-    let context = Context::PriorityValue;
-    checked_at(site, &context, &None, &types, value, recorder)
+    let priority = Context::PriorityValue;
+    static_checked_at(site, &priority, &types, value, recorder)
 }

@@ -1,3 +1,4 @@
+pub mod ActualFaults
 pub mod Booleans
 pub mod ChainLemmas
 pub mod Gathered

@@ -100,11 +100,16 @@ span_of place (VariableActual name size mode formal actual slot) = Err (nothing_
 abbrev pub span_form : Place → List ActualTree → Result FormTree Fault
 span_form place actuals = option_map_or (span_of place) (sole actuals) (Err (nothing_fits place))
 
+-- a fault in the actual is what is wrong, and nothing else is said of it
+abbrev pub span_unless : Option Fault → Place → List ActualTree → Result FormTree Fault
+span_unless (Some fault) place actuals = Err fault
+span_unless None place actuals = span_form place actuals
+
 -- Clock and Milliseconds of Ada.Real_Time
 abbrev pub predefined_form : Place → SubprogramView → Parts ActualTree → Result FormTree Fault
 predefined_form place s actuals =
     if bytes_eq s.symbol.name (codes "clock") then Ok ClockForm
-    else if bytes_eq s.symbol.name (codes "milliseconds") then unless actuals.fault (span_form place actuals.items)
+    else if bytes_eq s.symbol.name (codes "milliseconds") then span_unless actuals.fault place actuals.items
     else Err (nothing_fits place)
 
 abbrev pub function_form : Option Symbol → Place → SubprogramView → Parts ActualTree → CallKind → Result FormTree Fault

@@ -1,3 +1,4 @@
+pub mod ActualFaults
 pub mod Calls
 pub mod Chains
 pub mod Contexts

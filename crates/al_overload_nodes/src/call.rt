@@ -3,7 +3,7 @@ ghost use Rattle.std.specs.Prelude.{◌≡◌, IfOk, OnOk, map};
 ghost use Rattle.al_base_fault.specs.Judging.{next, map_ok, unless};
 ghost use Rattle.al_view_typed.specs.ExpressionTrees.{FormTree as form_trees};
 ghost use Rattle.al_view_typed.specs.ExpressionViews.{actual_model, call_model, form_model, typed_model};
-ghost use Rattle.al_overload_nodes.specs.Calls.{actual_for, actual_words, call_made, call_node, call_node_of, callee_of, function_form, in_actual, is_flag_of, is_of_object, is_own_of, more_words, own_fault, predefined_form, sole, span_form, span_of, unless_variable, variable_actual, variable_of, with_actual};
+ghost use Rattle.al_overload_nodes.specs.Calls.{actual_for, actual_words, call_made, call_node, call_node_of, callee_of, function_form, in_actual, is_flag_of, is_of_object, is_own_of, more_words, own_fault, predefined_form, sole, span_form, span_of, span_unless, unless_variable, variable_actual, variable_of, with_actual};
 ghost use Rattle.al_overload_nodes.specs.Views.{actuals_model, reading_model};
 
 use crate::gather::Actuals;
@@ -159,6 +159,21 @@ fn span_form(
     }
 }
 
+/// The same, where the actual has no fault; else that fault, at its own place.
+fn span_unless(
+    alloc: Global,
+    fault: Option<Fault>,
+    place: Place,
+    actuals: Vec<Actual>,
+) -> Result<CheckResult<Form>, NoMemory>
+    ensures { IfOk result (λ form. map_ok form_model form ≡ span_unless fault place (map actual_model actuals.items)) }
+{
+    match fault {
+        Some(fault) => Ok(Err(fault)),
+        None => span_form(alloc, place, actuals),
+    }
+}
+
 /// Clock and Milliseconds of Ada.Real_Time.
 fn predefined_form(
     alloc: Global,
@@ -173,8 +188,7 @@ fn predefined_form(
         return Ok(Ok(Form::clock()));
     }
     if name == b"milliseconds".as_slice() {
-        let form = span_form(alloc, place, actuals.items)?;
-        return Ok(unless(actuals.fault, form));
+        return span_unless(alloc, actuals.fault, place, actuals.items);
     }
     Ok(Err(nothing_fits(place)))
 }

@@ -8,6 +8,7 @@ mod context;
 mod determined;
 mod gather;
 mod labeller;
+pub mod laws;
 mod leaf;
 mod made;
 mod meaning;

@@ -1,10 +1,11 @@
 // Answers to questions of units.
 ghost use Rattle.std.specs.Prelude.{◌≡◌, IfOk};
 ghost use Rattle.std.specs.Option.{option_copied};
+ghost use Rattle.al_query.specs.declared.answer.UseClause.TheVariants.{Operators};
 ghost use Rattle.al_query.specs.Answers.{completions_of, context_of, form_of, form_of_profile, form_of_view, is_private_of, names_told, needs_body_of, own_view_of, parent_of, views_of};
 
 use al_base::{Name, NoMemory, UnitKey};
-use al_view::{Part, Profile, Seq, Symbol, View, ViewKind, Views};
+use al_view::{Part, Profile, Seq, Symbol, Types, View, ViewKind, Views, copied_unit};
 use std::alloc::Global;
 use std::marker::Model;
 use std::rc::Rc;
@@ -42,8 +43,11 @@ pub fn form_by_view(view: &View) -> Option<UnitForm>
 pub enum UseClause {
     /// The visible part of this package (ARM 8.4(3)).
     Package(UnitKey),
-    /// The operators of this type (ARM 8.4(4)).
+    /// The operators of this type (ARM 8.4(4)), as its package declares them.
     Type(Symbol),
+    /// The operators of this type, which is one of these, as its view has them: its package isn't mentioned where the clause stands, and is
+    /// asked for nothing.
+    Operators { of_type: Symbol, types: Types },
 }
 
 impl Drop for UseClause {
@@ -51,6 +55,32 @@ impl Drop for UseClause {
         match self {
             UseClause::Package(_) => {}
             UseClause::Type(_) => {}
+            UseClause::Operators {
+                of_type: _,
+                types: _,
+            } => {}
+        }
+    }
+}
+
+/// The operators of that type, which is one of these, once more.
+fn copied_operators(alloc: Global, of_type: &Symbol, types: &Types) -> Result<UseClause, NoMemory>
+    ensures { IfOk result (λ copy. copy ≡ Operators of_type.now types.now) }
+{
+    let of_type = of_type.copy(alloc)?;
+    let types = types.share()?;
+    Ok(UseClause::Operators { of_type, types })
+}
+
+impl UseClause {
+    /// The same once more.
+    pub fn copy(&self, alloc: Global) -> Result<Self, NoMemory>
+        ensures { IfOk result (λ copy. copy ≡ self.now) }
+    {
+        match self {
+            UseClause::Package(unit) => Ok(UseClause::Package(copied_unit(alloc, unit)?)),
+            UseClause::Type(symbol) => Ok(UseClause::Type(symbol.copy(alloc)?)),
+            UseClause::Operators { of_type, types } => copied_operators(alloc, of_type, types),
         }
     }
 }

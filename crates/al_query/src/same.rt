@@ -20,6 +20,13 @@ impl Same for UseClause {
         match (self, other) {
             (UseClause::Package(unit), UseClause::Package(other)) => unit.is_same(other),
             (UseClause::Type(symbol), UseClause::Type(other)) => symbol.is_same(other),
+            (
+                UseClause::Operators { of_type, types },
+                UseClause::Operators {
+                    of_type: other,
+                    types: others,
+                },
+            ) => of_type.is_same(other) && types.is_same(others),
             _ => false,
         }
     }

@@ -15,4 +15,5 @@ pub mod SearchLemmas
 pub mod Stays
 pub mod UnitPlaceLemmas
 pub mod UseLemmas
+pub mod UseTypeLemmas
 pub mod VisibleLemmas

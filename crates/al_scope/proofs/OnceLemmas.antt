@@ -17,9 +17,8 @@ use Rattle.al_query.specs.declared.query.Query.{Query}
 use Rattle.al_query.specs.declared.answer.AnswerKind.{AnswerKind}
 use Rattle.al_scope.specs.declared.hiding.RegionEntry.{RegionEntry}
 use Rattle.al_scope.specs.declared.uses.PackageUse.{PackageUse}
-use Rattle.al_scope.specs.Places.{visible_part}
 use Rattle.al_scope.specs.UseClauses.{EachOnce, Uses, opens}
-use Rattle.al_scope.specs.Visible.{clash, declared_by, opened_by, potential, shuts_out, use_visible}
+use Rattle.al_scope.specs.Visible.{clash, offered_by, opened_by, potential, shuts_out, use_visible}
 use Rattle.al_scope.specs.VisibleSet.{AreApart, DeclareOnce, Has, Once}
 use Rattle.al_scope.proofs.DistinctLemmas.{once-filter, once-join}
 use Rattle.al_scope.proofs.VisibleLemmas.{filter-has, has-flat}
@@ -47,18 +46,18 @@ another-name n (u ∷ us) w h (inl i) e =
     absurd (cc)
 another-name n (u ∷ us) w h (inr k) e = another-name n us w h.1 k e
 
-once-opened : (t : Query → AnswerKind) (m : Declarations) (name : List ℕ) (us : Uses) → EachOnce us → DeclareOnce t m name us → AreApart t m name → list_all may_be_overloaded (potential t m name us) ≡ true → Once (potential t m name us)
+once-opened : (t : Query → AnswerKind) (m : Declarations) (name : List ℕ) (us : Uses) → EachOnce us → DeclareOnce t m name us → AreApart t m name us → list_all may_be_overloaded (potential t m name us) ≡ true → Once (potential t m name us)
 once-opened t m name [] each one apart all = tt
 once-opened t m name (u ∷ us) each one apart all =
     let here = opened_by t m name u in
     let parts = all-split may_be_overloaded here (potential t m name us) all in
     once-join here (potential t m name us)
-    (once-filter (opens u.1) (declared_by t m name (visible_part u.0)) one.0)
-    (once-opened t m name us (sorted_tail name_cmp u.0 (keys_of us) each) one.1 apart parts.1)
+    (once-filter (opens u.1) (offered_by t m name u) one.0)
+    (once-opened t m name us (sorted_tail name_cmp u.0 (keys_of us) each) one.1 (λ a b v i j. apart a b v (inr i) (inr j)) parts.1)
     (λ v i j. let from = has-flat (opened_by t m name) us v j in
-    let first = filter-has (opens u.1) (declared_by t m name (visible_part u.0)) v i in
-    let second = filter-has (opens from.0.1) (declared_by t m name (visible_part from.0.0)) v from.2 in
-    another-name u.0 us from.0 (sorted_head name_cmp u.0 (keys_of us) each) from.1 (apart u.0 from.0.0 v (all-has may_be_overloaded here v parts.0 i) first.0 second.0))
+    let first = filter-has (opens u.1) (offered_by t m name u) v i in
+    let second = filter-has (opens from.0.1) (offered_by t m name from.0) v from.2 in
+    another-name u.0 us from.0 (sorted_head name_cmp u.0 (keys_of us) each) from.1 (apart u from.0 v (inl refl) (inr from.1) (all-has may_be_overloaded here v parts.0 i) first.0 second.0))
 
 -- one alone stands once; several that don't clash may all be overloaded
 once-several : (vs : List ViewKind) → clash vs ≡ false → (list_all may_be_overloaded vs ≡ true → Once vs) → Once vs
@@ -74,7 +73,7 @@ once-several (v ∷ w ∷ vs) h more =
     at false b i k = absurd (cc)
 
 -- each package stands once in the use clauses, so what is use-visible does
-pub once-used : (t : Query → AnswerKind) (m : Declarations) (name : List ℕ) (us : Uses) (fs : List RegionEntry) → EachOnce us → DeclareOnce t m name us → AreApart t m name → Once (use_visible fs (potential t m name us))
+pub once-used : (t : Query → AnswerKind) (m : Declarations) (name : List ℕ) (us : Uses) (fs : List RegionEntry) → EachOnce us → DeclareOnce t m name us → AreApart t m name us → Once (use_visible fs (potential t m name us))
 once-used t m name us fs each one apart = at (clash (potential t m name us)) refl
   where
     at : (b : Bool) → clash (potential t m name us) ≡ b → Once (cond b [] (filter (λ v. not (list_any (shuts_out v) fs)) (potential t m name us)))

@@ -10,9 +10,9 @@ use Rattle.al_query.specs.declared.answer.AnswerKind.{AnswerKind}
 use Rattle.al_scope.specs.declared.region.Region.{Region}
 use Rattle.al_scope.specs.declared.uses.PackageUse.{PackageUse}
 use Rattle.al_scope.specs.declared.hiding.RegionEntry.{RegionEntry}
-use Rattle.al_scope.specs.Places.{Place, uses_at, visible_part}
+use Rattle.al_scope.specs.Places.{Place, uses_at}
 use Rattle.al_scope.specs.UseClauses.{opens}
-use Rattle.al_scope.specs.Visible.{declared_by, found_in, shuts_out, direct, clash, use_visible, opened_by, potential, visible_at}
+use Rattle.al_scope.specs.Visible.{found_in, shuts_out, direct, clash, use_visible, offered_by, opened_by, potential, visible_at}
 use Rattle.al_scope.specs.VisibleSet.{Has, IsDirect, IsOpen, IsUseVisible, IsVisible}
 
 -- members
@@ -145,7 +145,7 @@ has-flat f (x ∷ us) v h =
 pub use-has : (t : Query → AnswerKind) (name : List ℕ) (place : Place) (v : ViewKind) → IsUseVisible t name place v → Has (use_visible (map (found_in t place.mentioned name) place.regions) (potential t place.mentioned name (uses_at place.regions))) v
 use-has t name place v h =
     let u = h.0.0 in
-    let opened = has-filter (opens u.1) (declared_by t place.mentioned name (visible_part u.0)) v h.0.2 (is-open u.1 v h.0.3) in
+    let opened = has-filter (opens u.1) (offered_by t place.mentioned name u) v h.0.2 (is-open u.1 v h.0.3) in
     let all = flat-has (opened_by t place.mentioned name) (uses_at place.regions) v u h.0.1 opened in
     let kept = has-kept (λ x. list_any (shuts_out x) (map (found_in t place.mentioned name) place.regions)) (potential t place.mentioned name (uses_at place.regions)) v all (any-map (shuts_out v) (found_in t place.mentioned name) place.regions ∙ h.1) in
     rw h.2 kept
@@ -158,7 +158,7 @@ has-use t name place v h = at (clash (potential t place.mentioned name (uses_at 
     at false i h =
         let both = has-left (λ x. list_any (shuts_out x) (map (found_in t place.mentioned name) place.regions)) (potential t place.mentioned name (uses_at place.regions)) v h in
         let from = has-flat (opened_by t place.mentioned name) (uses_at place.regions) v both.0 in
-        let opened = filter-has (opens from.0.1) (declared_by t place.mentioned name (visible_part from.0.0)) v from.2 in
+        let opened = filter-has (opens from.0.1) (offered_by t place.mentioned name from.0) v from.2 in
         ((from.0, from.1, opened.0, open-is from.0.1 v opened.1), sym (any-map (shuts_out v) (found_in t place.mentioned name) place.regions) ∙ both.1, i)
 
 -- both ways

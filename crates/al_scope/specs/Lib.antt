@@ -9,5 +9,6 @@ pub mod Searches
 pub mod Seen
 pub mod UnitPlaces
 pub mod UseClauses
+pub mod UseTypes
 pub mod Visible
 pub mod VisibleSet

@@ -9,13 +9,15 @@ use Rattle.al_base.specs.declared.unit_key.UnitKind.TheVariants.{Decl}
 use Rattle.al_base.specs.declared.unit_key.UnitKey.{UnitKey}
 use Rattle.al_view.specs.declared.part.Part.TheVariants as part
 use Rattle.al_view.specs.declared.symbol.Symbol.{Symbol}
+use Rattle.al_view.specs.declared.types.TypeView.{TypeView}
 use Rattle.al_view.specs.declared.view.ViewKind.{ViewKind}
 use Rattle.al_view.specs.Interfaces.{views_of, with_view}
 use Rattle.al_view.specs.Named.{Declarations}
 use Rattle.al_view.specs.Symbols.{same_kind, same_part, same_symbol, same_unit}
 use Rattle.al_scope.specs.declared.region.UnitPart.{UnitPart}
 use Rattle.al_scope.specs.declared.region.Region.{Region}
-use Rattle.al_scope.specs.UseClauses.{Uses, package_unit, with_package, with_type}
+use Rattle.al_scope.specs.declared.uses.PackageUse.{PackageUse}
+use Rattle.al_scope.specs.UseClauses.{Uses, package_unit, with_package, with_type, with_type_view}
 
 pub record Place : Type 0 where
   -- library units by their full names, each with its view
@@ -55,9 +57,12 @@ uses_at [] = []
 uses_at (r ∷ []) = r.uses
 uses_at (r ∷ q ∷ inner) = uses_at (q ∷ inner)
 
--- the visible parts of the packages of use clauses
+-- the visible part of a package of use clauses, where it is asked: where it is mentioned at one of them
+abbrev pub used_part : List ℕ × PackageUse → List UnitPart
+used_part u = if u.1.is_mentioned then visible_part u.0 ∷ [] else []
+
 abbrev pub use_parts : Uses → List UnitPart
-use_parts uses = map (λ u. visible_part u.0) uses
+use_parts uses = flat_map used_part uses
 
 -- the parts whose declarations may be visible at a place
 abbrev pub place_parts : Place → List UnitPart
@@ -139,3 +144,7 @@ is_declared_round s regions = not (same_kind s.unit.kind Decl) || encloses s.uni
 -- place: its operators are declared beside it.
 abbrev pub with_use_type : Symbol → List Region → List Region
 with_use_type s regions = if is_declared_round s regions then regions else in_last (with_uses (with_type s)) regions
+
+-- the same, of a type whose package isn't mentioned there, with the types that its view has
+abbrev pub with_use_view : Symbol → List TypeView → List Region → List Region
+with_use_view s types regions = if is_declared_round s regions then regions else in_last (with_uses (with_type_view s types)) regions

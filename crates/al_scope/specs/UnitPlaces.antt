@@ -15,13 +15,13 @@ use Rattle.al_query.specs.declared.query.Query.TheVariants.{Of}
 use Rattle.al_query.specs.declared.query.Property.TheVariants.{Context, IsPrivate, Kind}
 use Rattle.al_query.specs.declared.answer.ContextView.{ContextView}
 use Rattle.al_query.specs.declared.answer.UseClause.{UseClause}
-use Rattle.al_query.specs.declared.answer.UseClause.TheVariants.{Package, «Type»}
+use Rattle.al_query.specs.declared.answer.UseClause.TheVariants.{Package, «Type», Operators}
 use Rattle.al_query.specs.declared.answer.UseInPart.{UseInPart}
 use Rattle.al_query.specs.Answers.{context_of, is_private_of, own_view_of}
 use Rattle.al_query.specs.Reads.{Table}
 use Rattle.al_scope.specs.declared.region.Region.{Region}
 use Rattle.al_scope.specs.declared.region.UnitPart.{UnitPart}
-use Rattle.al_scope.specs.Places.{entered, visible_part, with_part, with_use, with_use_type}
+use Rattle.al_scope.specs.Places.{entered, visible_part, with_part, with_use, with_use_type, with_use_view}
 use Rattle.al_scope.specs.UseClauses.{package_unit}
 use Rattle.al_scope.specs.declared.own.OwnText.{OwnText}
 
@@ -51,6 +51,7 @@ part_uses t p = uses_if_told (context_of (t (Of p.unit Context))) p.part
 abbrev pub with_clause : UseClause → List Region → List Region
 with_clause (Package unit) = with_use unit
 with_clause («Type» symbol) = with_use_type symbol
+with_clause (Operators symbol types) = with_use_view symbol types
 
 -- use clauses of the innermost region, one after the other
 abbrev pub with_clauses : List UseClause → List Region → List Region

@@ -11,9 +11,9 @@ use Rattle.al_query.specs.declared.answer.AnswerKind.{AnswerKind}
 use Rattle.al_scope.specs.declared.hiding.RegionEntry.{RegionEntry}
 use Rattle.al_scope.specs.declared.region.Region.{Region}
 use Rattle.al_scope.specs.declared.uses.PackageUse.{PackageUse}
-use Rattle.al_scope.specs.Places.{Place, uses_at, visible_part}
+use Rattle.al_scope.specs.Places.{Place, uses_at}
 use Rattle.al_scope.specs.UseClauses.{Uses}
-use Rattle.al_scope.specs.Visible.{clash, declared_by, found_in, potential, shuts_out}
+use Rattle.al_scope.specs.Visible.{clash, found_in, offered_by, potential, shuts_out}
 
 -- a list has an item
 abbrev pub Has : {X : Type 0} → List X → X → Type 0
@@ -30,10 +30,10 @@ IsDirect t m name (r ∷ inner) v =
 abbrev pub IsOpen : PackageUse → ViewKind → Type 0
 IsOpen u v = (u.is_named ≡ true) ⊎ ((s : Symbol) × Has u.types s × (is_operator_of v s ≡ true))
 
--- a package that use clauses round the place open declares it, no region shuts it out, and nothing clashes
+-- a package that use clauses round the place open offers it, no region shuts it out, and nothing clashes
 abbrev pub IsUseVisible : (Query → AnswerKind) → List ℕ → Place → ViewKind → Type 0
 IsUseVisible t name place v =
-    ((u : List ℕ × PackageUse) × Has (uses_at place.regions) u × Has (declared_by t place.mentioned name (visible_part u.0)) v × IsOpen u.1 v)
+    ((u : List ℕ × PackageUse) × Has (uses_at place.regions) u × Has (offered_by t place.mentioned name u) v × IsOpen u.1 v)
     × (list_any (λ q. shuts_out v (found_in t place.mentioned name q)) place.regions ≡ false)
     × (clash (potential t place.mentioned name (uses_at place.regions)) ≡ false)
 
@@ -53,21 +53,21 @@ AllOnce (f ∷ fs) = Once f.views × AllOnce fs
 abbrev pub HasOnce : (Query → AnswerKind) → List ℕ → Place → Type 0
 HasOnce t name place = AllOnce (map (found_in t place.mentioned name) place.regions)
 
--- no package that use clauses open declares anything twice under the name
+-- no package that use clauses open offers anything twice under the name
 abbrev pub DeclareOnce : (Query → AnswerKind) → Declarations → List ℕ → Uses → Type 0
 DeclareOnce t m name [] = ⊤
-DeclareOnce t m name (u ∷ us) = Once (declared_by t m name (visible_part u.0)) × DeclareOnce t m name us
+DeclareOnce t m name (u ∷ us) = Once (offered_by t m name u) × DeclareOnce t m name us
 
--- no two packages declare one and the same thing that may be overloaded under the name
-abbrev pub AreApart : (Query → AnswerKind) → Declarations → List ℕ → Type 0
-AreApart t m name =
-    (a b : List ℕ) (v : ViewKind) → may_be_overloaded v ≡ true
-    → Has (declared_by t m name (visible_part a)) v → Has (declared_by t m name (visible_part b)) v → a ≡ b
+-- no two of them offer one and the same thing that may be overloaded under the name
+abbrev pub AreApart : (Query → AnswerKind) → Declarations → List ℕ → Uses → Type 0
+AreApart t m name us =
+    (a b : List ℕ × PackageUse) (v : ViewKind) → Has us a → Has us b → may_be_overloaded v ≡ true
+    → Has (offered_by t m name a) v → Has (offered_by t m name b) v → a.0 ≡ b.0
 
 -- where no region and no package has a declaration twice, and packages share none, none stands twice in the list
 abbrev pub KeepsOnce : (Query → AnswerKind) → List ℕ → Place → List ViewKind → Type 0
 KeepsOnce t name place views =
-    HasOnce t name place → DeclareOnce t place.mentioned name (uses_at place.regions) → AreApart t place.mentioned name → Once views
+    HasOnce t name place → DeclareOnce t place.mentioned name (uses_at place.regions) → AreApart t place.mentioned name (uses_at place.regions) → Once views
 
 -- where no region had a declaration twice, none has one twice
 abbrev pub StaysOnce : (Query → AnswerKind) → Place → Place → Type 0

@@ -27,6 +27,7 @@ fn use_clause(alloc: Global, scope: &mut Scope, clause: &UseClause) -> Result<()
             let symbol = symbol.copy(alloc)?;
             scope.use_type(symbol)?;
         }
+        UseClause::Operators { of_type, types } => scope.use_type_view(of_type, types)?,
     }
     Ok(())
 }

@@ -19,6 +19,7 @@ mod scope;
 mod search;
 mod seen;
 mod seen_hiding;
+mod type_operators;
 mod types;
 mod unit_place;
 mod uses;

@@ -1,12 +1,12 @@
 // A region: what is declared in it so far, what is begun, and what its use clauses name.
 ghost use Rattle.std.specs.Prelude.{◌≡◌, [], None, is_ok, if◌then◌else◌};
 ghost use Rattle.al_scope.specs.Places.{is_region_of, is_within, with_begun, with_declared, with_uses};
-ghost use Rattle.al_scope.specs.UseClauses.{with_package, with_type};
+ghost use Rattle.al_scope.specs.UseClauses.{with_package, with_type, with_type_view};
 
 use crate::names::NameSet;
 use crate::uses::UseClauses;
 use al_base::{NoMemory, UnitKey};
-use al_view::{Interface, Part, Seq, Symbol, View, is_unit};
+use al_view::{Interface, Part, Seq, Symbol, Types, View, is_unit};
 use std::alloc::Global;
 
 /// A part of a unit.
@@ -107,6 +107,13 @@ impl Region {
         ensures { self.new ≡ (if is_ok result then with_uses (with_type symbol) self.old else self.old) }
     {
         self.uses.use_type(symbol)?;
+        Ok(())
+    }
+
+    pub fn use_type_view(&mut self, symbol: &Symbol, types: &Types) -> Result<(), NoMemory>
+        ensures { self.new ≡ (if is_ok result then with_uses (with_type_view symbol.now types.now) self.old else self.old) }
+    {
+        self.uses.use_type_view(symbol, types)?;
         Ok(())
     }
 }

@@ -11,7 +11,7 @@ ghost use Rattle.al_scope.specs.declared.region.Region.{Region};
 ghost use Rattle.al_scope.specs.Asked.{AsksParts};
 ghost use Rattle.al_scope.specs.Expanded.{IsSelected, part_of, region_of, selected_at, selected_parts, unit_parts, unit_region, within, within_parts, within_unit};
 ghost use Rattle.al_scope.specs.PartialViews.{some_incomplete};
-ghost use Rattle.al_scope.specs.Places.{encloses, entered, entered_construct, in_last, inner_declared, inner_parts, is_declared_round, part_units, place_of, place_units, uses_at, with_begun, with_declared, with_mentioned, with_part, with_use, with_use_type};
+ghost use Rattle.al_scope.specs.Places.{encloses, entered, entered_construct, in_last, inner_declared, inner_parts, is_declared_round, part_units, place_of, place_units, uses_at, with_begun, with_declared, with_mentioned, with_part, with_use, with_use_type, with_use_view};
 ghost use Rattle.al_scope.specs.Searches.{searched_parts};
 ghost use Rattle.al_scope.specs.Visible.{declared_by, innermost, visible_at};
 ghost use Rattle.al_scope.specs.VisibleSet.{Has, IsVisible, KeepsOnce, StaysOnce};
@@ -24,7 +24,7 @@ use crate::search::{append_some, find, search_outward, used_of};
 use crate::uses::UseClauses;
 use al_base::{NoMemory, UnitKey, UnitKind};
 use al_query::{Answers, Recorder};
-use al_view::{Interface, Seq, Symbol, View, Views};
+use al_view::{Interface, Seq, Symbol, Types, View, Views};
 use std::alloc::Global;
 use std::marker::Model;
 
@@ -235,7 +235,7 @@ impl Scope {
     }
 
     /// Whether the type is declared round the place: by a body, or by a unit that encloses the place.
-    fn is_declared_round(&self, symbol: &Symbol) -> bool
+    pub fn is_declared_round(&self, symbol: &Symbol) -> bool
         ensures { result ≡ is_declared_round symbol.now self.now.regions }
     {
         !matches!(symbol.unit.kind, UnitKind::Decl) || self.is_in(&symbol.unit)
@@ -256,6 +256,22 @@ impl Scope {
         let last = self.regions.len() - 1;
         let region = &mut self.regions[last];
         region.use_type(symbol)?;
+        Ok(())
+    }
+
+    /// The same, of a type whose package isn't mentioned there, with the types that its view has: these say which operators it has.
+    pub fn use_type_view(&mut self, symbol: &Symbol, types: &Types) -> Result<(), NoMemory>
+        requires { 0 < length self.old.regions }
+        ensures new { self.new.regions ≡ (if is_ok result then with_use_view symbol.now types.now self.old.regions else self.old.regions) }
+        ensures depth { length self.new.regions ≡ length self.old.regions }
+        ensures mentioned { self.new.mentioned ≡ self.old.mentioned }
+    {
+        if self.is_declared_round(symbol) {
+            return Ok(());
+        }
+        let last = self.regions.len() - 1;
+        let region = &mut self.regions[last];
+        region.use_type_view(symbol, types)?;
         Ok(())
     }
 

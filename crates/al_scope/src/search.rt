@@ -116,7 +116,7 @@ pub fn used_of<A: Answers>(
     ensures asked { recorder.new.asked ≡ recorder.old.asked }
     ensures answered { IfOk result (λ used. FromAnswers recorder.old.log recorder.new.log (λ t. (founds : List RegionEntry) → IsSearch founds search.now → used ≡ use_visible founds (potential t mentioned.now name.now (uses_at regions.now)))) }
     ensures asks { IfOk result (λ _. AsksParts (if search.now.is_decided then [] else use_parts (uses_at regions.now)) name.now recorder.old.log recorder.new.log) }
-    ensures once { IfOk result (λ used. HoldsBy recorder.new.log (λ t. DeclareOnce t mentioned.now name.now (uses_at regions.now) → AreApart t mentioned.now name.now → Once used)) }
+    ensures once { IfOk result (λ used. HoldsBy recorder.new.log (λ t. DeclareOnce t mentioned.now name.now (uses_at regions.now) → AreApart t mentioned.now name.now (uses_at regions.now) → Once used)) }
     ensures takes_none { search.now.is_decided ≡ true → is_ok result ≡ true }
     ensures takes_none_outside { regions.now ≡ [] → is_ok result ≡ true }
     ensures none { regions.now ≡ [] → IfOk result (λ used. used ≡ []) }

@@ -1,19 +1,22 @@
 // Use clauses, by the package whose declarations they open.
-ghost use Rattle.std.specs.Prelude.{◌≡◌, [], ◌∷◌, ◌++◌, IfOk, OnErr, OnOk, filter, is_ok, true, if◌then◌else◌};
+ghost use Rattle.std.specs.Prelude.{◌≡◌, [], ◌∷◌, ◌++◌, IfOk, OnErr, OnOk, filter, flat_map, is_ok, true, if◌then◌else◌};
 ghost use Rattle.std.specs.List.{list_any};
 ghost use Rattle.std.specs.BTreeMap.{insert_entry};
 ghost use Rattle.al_base.specs.Files.{name_cmp};
+ghost use Rattle.al_view.specs.Interfaces.{views_of};
 ghost use Rattle.al_view.specs.Operators.{is_operator_of};
+ghost use Rattle.al_view.specs.Symbols.{same_symbol};
 ghost use Rattle.al_query.specs.Reads.{FromAnswers};
 ghost use Rattle.al_scope.specs.Asked.{AsksParts};
-ghost use Rattle.al_scope.specs.Places.{use_parts, visible_part};
-ghost use Rattle.al_scope.specs.UseClauses.{EachOnce, no_use, opens, use_of, with_package, with_type};
-ghost use Rattle.al_scope.specs.Visible.{opened_by, potential};
+ghost use Rattle.al_scope.specs.Places.{use_parts, used_part};
+ghost use Rattle.al_scope.specs.UseClauses.{EachOnce, no_use, opens, use_of, with_operators_in, with_package, with_type, with_type_view};
+ghost use Rattle.al_scope.specs.Visible.{offered_by, opened_by, potential};
 
 use crate::questions::{ask_more, visible_part_of};
+use crate::type_operators::TypeOperators;
 use al_base::NoMemory;
 use al_query::{Answers, Recorder};
-use al_view::{Interface, Seq, Symbol, View, Views};
+use al_view::{Interface, Seq, Symbol, Types, View, Views};
 use std::alloc::Global;
 use std::collections::BTreeMap;
 use std::marker::Model;
@@ -23,15 +26,21 @@ use std::rc::Rc;
 pub struct PackageUse {
     /// Whether one names it (ARM 8.4(3)).
     pub is_named: bool,
+    /// Whether it is mentioned where one of them stands: then it is asked for what it declares.
+    pub is_mentioned: bool,
     /// The types of it that use type clauses name (ARM 8.4(4)).
     pub types: Seq<Symbol>,
+    /// The operators of those that are named where it isn't mentioned, as the types' views have them.
+    pub operators: Seq<TypeOperators>,
 }
 
 impl Drop for PackageUse {
     fn drop(self) {
         let PackageUse {
             is_named: _,
+            is_mentioned: _,
             types: _,
+            operators: _,
         } = self;
     }
 }
@@ -49,6 +58,22 @@ fn copied_symbols(alloc: Global, symbols: &[Symbol]) -> Result<Seq<Symbol>, NoMe
     Ok(copy)
 }
 
+/// The same operators once more. Of none it takes no memory.
+fn shared_operators(
+    alloc: Global,
+    operators: &[TypeOperators],
+) -> Result<Seq<TypeOperators>, NoMemory>
+    ensures is { IfOk result (λ copy. copy ≡ operators.now) }
+    ensures takes_none { operators.now ≡ [] → is_ok result ≡ true }
+{
+    let mut copy = Seq::empty(alloc);
+    for of_type in operators {
+        let of_type = of_type.share()?;
+        copy.push(of_type)?;
+    }
+    Ok(copy)
+}
+
 impl PackageUse {
     /// What is said of a package that no use clause names. It takes no memory.
     fn none(alloc: Global) -> Self
@@ -56,19 +81,61 @@ impl PackageUse {
     {
         PackageUse {
             is_named: false,
+            is_mentioned: false,
             types: Seq::empty(alloc),
+            operators: Seq::empty(alloc),
         }
     }
 
     /// The same once more. Where no type is named it takes no memory.
     fn copy(&self, alloc: Global) -> Result<Self, NoMemory>
         ensures is { IfOk result (λ copy. copy ≡ self.now) }
-        ensures takes_none { self.now.types ≡ [] → is_ok result ≡ true }
+        ensures takes_none { self.now.types ≡ [] → self.now.operators ≡ [] → is_ok result ≡ true }
     {
+        let types = copied_symbols(alloc, self.types.as_slice())?;
+        let operators = shared_operators(alloc, self.operators.as_slice())?;
         Ok(PackageUse {
             is_named: self.is_named,
-            types: copied_symbols(alloc, self.types.as_slice())?,
+            is_mentioned: self.is_mentioned,
+            types,
+            operators,
         })
+    }
+
+    /// Whether one of them names the type.
+    fn has_type(&self, symbol: &Symbol) -> bool
+        ensures { result ≡ list_any (same_symbol symbol.now) self.now.types }
+    {
+        self.types.as_slice().iter().any(|of| symbol.is(of))
+    }
+
+    /// One more type, with the operators that its view has; once.
+    fn add_operators(
+        &mut self,
+        alloc: Global,
+        symbol: &Symbol,
+        types: &Types,
+    ) -> Result<(), NoMemory>
+        ensures { OnOk result (self.new ≡ with_operators_in symbol.now types.now self.old) }
+    {
+        if self.has_type(symbol) {
+            return Ok(());
+        }
+        let operators = TypeOperators::new(alloc, symbol, types)?;
+        self.types.push(symbol.copy(alloc)?)?;
+        self.operators.push(operators)?;
+        Ok(())
+    }
+
+    /// The operators of that sign which the views of types have.
+    fn operators_named(&self, alloc: Global, name: &[u8]) -> Result<Views, NoMemory>
+        ensures { IfOk result (λ views. views ≡ flat_map (λ d. views_of d name.now) self.now.operators) }
+    {
+        let mut views = Views::new(alloc);
+        for of_type in self.operators.as_slice() {
+            views.append(of_type.views(name))?;
+        }
+        Ok(views)
     }
 
     /// Whether the view is an operator of one of the types.
@@ -81,7 +148,7 @@ impl PackageUse {
             .any(|symbol| view.is_operator_of(symbol))
     }
 
-    /// What is opened of what the package declares. Where that is nothing it takes no memory.
+    /// What is opened of what the package offers. Where that is nothing it takes no memory.
     fn opened(&self, alloc: Global, views: &Views) -> Result<Views, NoMemory>
         ensures is { IfOk result (λ opened. opened ≡ filter (opens self.now) views.now) }
         ensures takes_none { filter (opens self.now) views.now ≡ [] → is_ok result ≡ true }
@@ -150,7 +217,7 @@ impl UseClauses {
     #[tactic(auto, using(crate::proofs::UseLemmas::lookup_uses_of))]
     fn of(&self, package_name: &[u8]) -> Result<PackageUse, NoMemory>
         ensures is { IfOk result (λ used. used ≡ use_of self.now package_name.now) }
-        ensures takes_none { (use_of self.now package_name.now).types ≡ [] → is_ok result ≡ true }
+        ensures takes_none { (use_of self.now package_name.now).types ≡ [] → (use_of self.now package_name.now).operators ≡ [] → is_ok result ≡ true }
     {
         match self.by_package.get(package_name) {
             Some(used) => {
@@ -178,18 +245,30 @@ impl UseClauses {
     {
         let mut used = self.of(package_name)?;
         used.is_named = true;
+        used.is_mentioned = true;
         self.set(package_name, used)?;
         Ok(())
     }
 
-    /// A use type clause that names the type.
+    /// A use type clause that names the type, where its package is mentioned.
     pub fn use_type(&mut self, symbol: Symbol) -> Result<(), NoMemory>
         ensures { self.new ≡ (if is_ok result then with_type symbol self.old else self.old) }
     {
         let package_name = Vec::from_slice(self.alloc, symbol.unit.name.as_slice())?;
         let mut used = self.of(package_name.as_slice())?;
         used.types.push(symbol)?;
+        used.is_mentioned = true;
         self.set(package_name.as_slice(), used)?;
+        Ok(())
+    }
+
+    /// A use type clause that names the type, where its package isn't mentioned, with the types that its view has.
+    pub fn use_type_view(&mut self, symbol: &Symbol, types: &Types) -> Result<(), NoMemory>
+        ensures { self.new ≡ (if is_ok result then with_type_view symbol.now types.now self.old else self.old) }
+    {
+        let mut used = self.of(symbol.unit.name.as_slice())?;
+        used.add_operators(self.alloc, symbol, types)?;
+        self.set(symbol.unit.name.as_slice(), used)?;
         Ok(())
     }
 
@@ -222,7 +301,29 @@ impl UseClauses {
     }
 }
 
-/// What use clauses open of what a package declares under a name.
+/// What a package of use clauses offers under a name. Where it isn't mentioned, it is asked for nothing.
+fn offered_by<A: Answers>(
+    alloc: Global,
+    mentioned: &Interface,
+    package_name: &[u8],
+    used: &PackageUse,
+    name: &[u8],
+    recorder: &mut Recorder<A>,
+) -> Result<Views, NoMemory>
+    ensures asked { recorder.new.asked ≡ recorder.old.asked }
+    ensures answered { IfOk result (λ views. FromAnswers recorder.old.log recorder.new.log (λ t. views ≡ offered_by t mentioned.now name.now (package_name.now, used.now))) }
+    ensures asks { IfOk result (λ _. AsksParts (used_part (package_name.now, used.now)) name.now recorder.old.log recorder.new.log) }
+{
+    if !used.is_mentioned {
+        return used.operators_named(alloc, name);
+    }
+    let part = visible_part_of(alloc, package_name)?;
+    let mut declared = Views::new(alloc);
+    ask_more(alloc, mentioned, &part, name, &mut declared, recorder)?;
+    Ok(declared)
+}
+
+/// What use clauses open of what a package offers under a name.
 fn ask_used<A: Answers>(
     alloc: Global,
     mentioned: &Interface,
@@ -233,11 +334,9 @@ fn ask_used<A: Answers>(
 ) -> Result<Views, NoMemory>
     ensures asked { recorder.new.asked ≡ recorder.old.asked }
     ensures answered { IfOk result (λ views. FromAnswers recorder.old.log recorder.new.log (λ t. views ≡ opened_by t mentioned.now name.now (package_name.now, used.now))) }
-    ensures asks { IfOk result (λ _. AsksParts (visible_part package_name.now ∷ []) name.now recorder.old.log recorder.new.log) }
+    ensures asks { IfOk result (λ _. AsksParts (used_part (package_name.now, used.now)) name.now recorder.old.log recorder.new.log) }
 {
-    let part = visible_part_of(alloc, package_name)?;
-    let mut declared = Views::new(alloc);
-    ask_more(alloc, mentioned, &part, name, &mut declared, recorder)?;
-    let opened = used.opened(alloc, &declared)?;
+    let offered = offered_by(alloc, mentioned, package_name, used, name, recorder)?;
+    let opened = used.opened(alloc, &offered)?;
     Ok(opened)
 }

@@ -1,5 +1,5 @@
 -- What use clauses open at a place, where these packages are mentioned: the names are looked up there, by a table of answers (ARM 8.4).
-use Rattle.std.specs.Prelude.{ℕ, Bool, List, [], ◌∷◌, ◌++◌, Option, Some, None, Result, Ok, Err, if◌then◌else◌}
+use Rattle.std.specs.Prelude.{ℕ, Bool, ◌||◌, List, [], ◌∷◌, ◌++◌, Option, Some, None, Result, Ok, Err, if◌then◌else◌}
 use Rattle.al_base.specs.declared.place.Place.{Place as TextPlace}
 use Rattle.al_base.specs.declared.unit_key.UnitKey.{UnitKey}
 use Rattle.al_tree_grammar.specs.Grammar.{Label}
@@ -9,16 +9,19 @@ use Rattle.al_overload_lookup.specs.Keys.{Denotations, denoted, dotted, is_none,
 use Rattle.al_overload_lookup.specs.Places.{place_of}
 use Rattle.al_overload_lookup.specs.Lookups.{looked_up_all}
 use Rattle.al_overload_lookup.specs.TextNames.{identifier_names}
+use Rattle.al_query.specs.Known.{has_unit}
 use Rattle.al_query.specs.Reads.{Table}
 use Rattle.al_query.specs.declared.answer.UseClause.{UseClause}
-use Rattle.al_query.specs.declared.answer.UseClause.TheVariants.{Package, «Type»}
+use Rattle.al_query.specs.declared.answer.UseClause.TheVariants.{Package, «Type», Operators}
 use Rattle.al_overload_readings.specs.Readings.{wrong_kind}
-use Rattle.al_scope.specs.Places.{Place}
+use Rattle.al_scope.specs.Places.{Place, is_declared_round}
 use Rattle.al_scope.specs.declared.region.Region.{Region}
 use Rattle.al_tree_syntax.specs.DeclarationTrees.{CompoundNameTree, CompoundNamesTree, UseTree}
 use Rattle.al_overload_values.specs.CompoundNames.{name_text}
 use Rattle.al_overload_values.specs.TermsAt.{mark_at}
 use Rattle.al_scope.specs.UnitPlaces.{with_clauses}
+use Rattle.al_unit_graph.specs.Names.{is_reserved}
+use Rattle.al_view.specs.declared.symbol.Symbol.{Symbol}
 use Rattle.al_view.specs.declared.view.SubtypeView.{SubtypeView}
 use Rattle.al_view.specs.declared.view.ViewKind.{ViewKind}
 use Rattle.al_view.specs.declared.view.ViewKind.TheVariants as views
@@ -56,9 +59,13 @@ denoted_package d n =
 unfoldable pub package_at : Table → Place → List UnitKey → CompoundNameTree → Result UnitKey Fault
 package_at t place packages n = denoted_package (names_denoted t place packages n) n
 
--- the operators of the type of a mark (ARM 8.4(4))
-abbrev pub type_opened : SubtypeView → UseClause
-type_opened s = «Type» s.subtype.base
+-- whether the operators of a type are looked for where it is declared: its package is mentioned, or predefined, or it is declared round the place
+abbrev pub is_looked_for : Place → List UnitKey → Symbol → Bool
+is_looked_for place packages s = (has_unit packages s.unit || is_reserved s.unit.name) || is_declared_round s place.regions
+
+-- the operators of the type of a mark (ARM 8.4(4)): where they aren't looked for, those that its view has
+abbrev pub type_opened : Place → List UnitKey → SubtypeView → UseClause
+type_opened place packages s = if is_looked_for place packages s.subtype.base then «Type» s.subtype.base else Operators s.subtype.base s.types
 
 abbrev pub package_opened : UnitKey → UseClause
 package_opened u = Package u
@@ -66,7 +73,7 @@ package_opened u = Package u
 -- what one name of a use clause opens: a package, or the operators of a type
 abbrev pub opened_at : Table → Place → List UnitKey → Bool → CompoundNameTree → Result UseClause Fault
 opened_at t place packages of_type n =
-    if of_type then map_ok type_opened (mark_at t place packages (name_text n)) else map_ok package_opened (package_at t place packages n)
+    if of_type then map_ok (type_opened place packages) (mark_at t place packages (name_text n)) else map_ok package_opened (package_at t place packages n)
 
 -- with one more, if it is right
 abbrev pub added : List UseClause → Result UseClause Fault → List UseClause

@@ -3,8 +3,9 @@ ghost use Rattle.std.specs.Prelude.{◌≡◌, ◌<◌, true, false, map, length
 ghost use Rattle.al_base_fault.specs.Judging.{fault_in, map_ok};
 ghost use Rattle.al_query.specs.Reads.{FromAnswers};
 ghost use Rattle.al_tree.specs.DeclarationViews.{compound_model, use_model};
-ghost use Rattle.al_scope_context.specs.UsesAt.{added, opened_at, opened_from, package_opened, type_opened, used_in, uses_at};
+ghost use Rattle.al_scope_context.specs.UsesAt.{added, is_looked_for, opened_at, opened_from, package_opened, type_opened, used_in, uses_at};
 
+use crate::mention::has_unit;
 use crate::opened_package::package_at;
 use al_base::{NoMemory, UnitKey};
 use al_base_fault::{CheckResult, Fault};
@@ -12,20 +13,50 @@ use al_overload_values::name_mark_at;
 use al_query::{Answers, Recorder, UseClause};
 use al_scope::{Scope, use_each};
 use al_tree::CompoundName;
-use al_view::{Seq, SubtypeView};
+use al_unit_graph::is_reserved;
+use al_view::{Seq, SubtypeView, Symbol};
 use std::alloc::Global;
+
+/// Whether the operators of a type are looked for where it is declared.
+fn is_looked_for(scope: &Scope, packages: &[UnitKey], symbol: &Symbol) -> bool
+    ensures { result ≡ is_looked_for scope.now packages.now symbol.now }
+{
+    has_unit(packages, &symbol.unit)
+        || is_reserved(symbol.unit.name.as_slice())
+        || scope.is_declared_round(symbol)
+}
+
+/// The operators of the type of a mark.
+fn type_opened(
+    alloc: Global,
+    scope: &Scope,
+    packages: &[UnitKey],
+    mark: &SubtypeView,
+) -> Result<UseClause, NoMemory>
+    ensures { IfOk result (λ clause. clause ≡ type_opened scope.now packages.now mark.now) }
+{
+    let base = &mark.subtype.base;
+    if is_looked_for(scope, packages, base) {
+        return Ok(UseClause::Type(base.copy(alloc)?));
+    }
+    let of_type = base.copy(alloc)?;
+    let types = mark.types.share()?;
+    Ok(UseClause::Operators { of_type, types })
+}
 
 /// The operators of the type of a mark (ARM 8.4(4)).
 fn of_type(
     alloc: Global,
+    scope: &Scope,
+    packages: &[UnitKey],
     mark: CheckResult<SubtypeView>,
 ) -> Result<CheckResult<UseClause>, NoMemory>
-    ensures { IfOk result (λ clause. clause ≡ map_ok type_opened mark) }
+    ensures { IfOk result (λ clause. clause ≡ map_ok (type_opened scope.now packages.now) mark) }
 {
     match mark {
         Ok(mark) => {
-            let base = mark.subtype.base.copy(alloc)?;
-            Ok(Ok(UseClause::Type(base)))
+            let clause = type_opened(alloc, scope, packages, &mark)?;
+            Ok(Ok(clause))
         }
         Err(fault) => Ok(Err(fault)),
     }
@@ -53,7 +84,7 @@ fn opened_type<A: Answers>(
     ensures answered { IfOk result (λ clause. FromAnswers recorder.old.log recorder.new.log (λ t. clause ≡ opened_at t scope.now packages.now true (compound_model name.now))) }
 {
     let mark = name_mark_at(alloc, scope, packages, name, recorder)?;
-    let clause = of_type(alloc, mark)?;
+    let clause = of_type(alloc, scope, packages, mark)?;
     Ok(clause)
 }
 

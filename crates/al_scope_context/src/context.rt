@@ -18,7 +18,7 @@ use al_query::{Answers, Recorder, UseClause};
 use al_scope::Scope;
 use al_tree::{CompoundName, CompoundNames, ContextItem};
 use al_unit_graph::{lineage, parent_of};
-use al_view::{Seq, View, copied_unit};
+use al_view::{Seq, View};
 use std::alloc::Global;
 
 /// What a context clause says so far, in a place of its own (ARM 10.1.6).
@@ -203,22 +203,12 @@ fn add_withs<A: Answers>(
     Ok(None)
 }
 
-/// The same once more.
-fn copied(alloc: Global, clause: &UseClause) -> Result<UseClause, NoMemory>
-    ensures { IfOk result (λ copy. copy ≡ clause.now) }
-{
-    match clause {
-        UseClause::Package(unit) => Ok(UseClause::Package(copied_unit(alloc, unit)?)),
-        UseClause::Type(symbol) => Ok(UseClause::Type(symbol.copy(alloc)?)),
-    }
-}
-
 /// More of what use clauses open.
 fn append_uses(alloc: Global, uses: &mut Seq<UseClause>, more: &[UseClause]) -> Result<(), NoMemory>
     ensures { OnOk result (uses.new ≡ uses.old ++ more.now) }
 {
     for clause in more {
-        let copy = copied(alloc, clause)?;
+        let copy = clause.copy(alloc)?;
         uses.push(copy)?;
     }
     Ok(())

@@ -85,7 +85,7 @@ fn is_package(view: &View) -> bool
 }
 
 /// Whether the unit is among these.
-fn has_unit(units: &[UnitKey], unit: &UnitKey) -> bool
+pub(crate) fn has_unit(units: &[UnitKey], unit: &UnitKey) -> bool
     ensures { result ≡ has_unit units.now unit.now }
 {
     units.iter().any(|other| is_unit(unit, other))

@@ -44,7 +44,7 @@ returns-clause-once g c t h none two apart =
     let here : Place = record { mentioned = m; regions = regions } in
     let same : here ≡ place = ap (λ (rs : List Region). the-place m rs) c.as_slice-regions.ensures.value ∙ c.self.view_is in
     let two-here = subst (λ (p : Place). DeclareOnce t p.mentioned name (uses_at p.regions)) (sym same) two in
-    let apart-here = subst (λ (p : Place). AreApart t p.mentioned name) (sym same) apart in
+    let apart-here = subst (λ (p : Place). AreApart t p.mentioned name (uses_at p.regions)) (sym same) apart in
     let used : Once c.in_ok-used.used = c.in_ok-used.ensures.once t h two-here apart-here in
     let more = c.in_ok-used.ensures.answered t h in
     let answered = c.in_ok-search.ensures.answered t more.0 in

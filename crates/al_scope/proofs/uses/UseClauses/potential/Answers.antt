@@ -1,9 +1,9 @@
 use Rattle.std.proofs.Common.{subst}
 use Rattle.al_scope.specs.UseClauses.{EachOnce, Uses}
 use Rattle.al_scope.proofs.UseLemmas.{sorted_uses}
-use Rattle.al_scope.specs.Places.{use_parts, visible_part}
+use Rattle.al_scope.specs.Places.{use_parts, used_part}
 use Rattle.al_scope.proofs.PartLemmas.{parts-of, parts-then}
-use Rattle.std.proofs.Common.{◌≡◌, ℕ, List, [], ◌∷◌, ◌∙◌, ◌++◌, ap, sym}
+use Rattle.std.proofs.Common.{◌≡◌, ℕ, List, ◌∙◌, ◌++◌, ap, sym}
 use Rattle.al_scope.specs.declared.uses.PackageUse.{PackageUse}
 use Rattle.al_scope.specs.UseClauses.{uses_of}
 use Rattle.al_scope.specs.Visible.{opened_by, potential}
@@ -21,12 +21,13 @@ loop-package_name-preserved g c =
       asked = c.ask_used.ensures.asked ∙ i.asked;
       asks = let done = i.asks.0 in
           let rest = use_parts (uses_of c.next.new.self) in
-          let part = visible_part c.in-Some.package_name.now.items in
-          let same : visible_part c.as_slice.result.now ∷ [] ≡ part ∷ [] = ap (λ (k : List ℕ). visible_part k ∷ []) c.as_slice.ensures.value in
-          let one = parts-of (visible_part c.as_slice.result.now ∷ []) (part ∷ []) name c.loop-package_name.recorder.log c.ask_used.new.recorder.log same c.in_ok-opened.ensures.asks in (
-            done ++ part ∷ [],
-            append-assoc done (part ∷ []) rest ∙ ap (λ es. done ++ use_parts (uses_of es)) (sym steps) ∙ i.asks.1,
-            parts-then done (part ∷ []) name c.args.recorder.now.log c.loop-package_name.recorder.log c.ask_used.new.recorder.log i.asks.2 one,
+          let part = used_part (c.in-Some.package_name.now.items, c.in-Some.used.now.value) in
+          let named : used_part (c.as_slice.result.now, c.deref.result.now) ≡ part =
+          ap (λ (k : List ℕ). used_part (k, c.deref.result.now)) c.as_slice.ensures.value ∙ ap (λ (u : PackageUse). used_part (c.in-Some.package_name.now.items, u)) c.deref.ensures in
+          let one = parts-of (used_part (c.as_slice.result.now, c.deref.result.now)) part name c.loop-package_name.recorder.log c.ask_used.new.recorder.log named c.in_ok-opened.ensures.asks in (
+            done ++ part,
+            append-assoc done part rest ∙ ap (λ es. done ++ use_parts (uses_of es)) (sym steps) ∙ i.asks.1,
+            parts-then done part name c.args.recorder.now.log c.loop-package_name.recorder.log c.ask_used.new.recorder.log i.asks.2 one,
           );
       answered = λ t h. let answered = c.in_ok-opened.ensures.answered t h in
           let before = i.answered t answered.0 in
