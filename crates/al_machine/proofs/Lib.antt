@@ -5,3 +5,4 @@ pub mod MoveLemmas
 pub mod PowerLemmas
 pub mod CodeLemmas
 pub mod BurstLemmas
+pub mod RegionLemmas

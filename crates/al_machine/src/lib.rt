@@ -23,6 +23,6 @@ pub use instruction::{BinaryOperator, Exception, Flow, Instruction, Trap, UnaryO
 pub use memory::{clear, copy};
 pub use operation::{Operation, OutputInstruction, TaskInstruction};
 pub use output::put_out;
-pub use regions::{Entered, is_entered, is_open};
+pub use regions::{Entered, Regions, is_entered, is_open};
 pub use stack::{Registers, STACK, push};
 pub use table::exec;

@@ -6,9 +6,8 @@ ghost use Rattle.al_machine.specs.Table.{exec, trap_of};
 use crate::frames::{access, call, enter, frame, jump, jump_if_zero, leave, mark, root};
 use crate::instruction::{Exception, Flow, Instruction, Trap};
 use crate::memory::{field, index, load, store, zero};
-use crate::regions::Entered;
+use crate::regions::{Entered, Regions};
 use crate::stack::{Registers, binary, check, drop_words, push, same, unary};
-use al_link_image::Region;
 
 /// What the exception of a code makes of the step; a code of none has no effect.
 fn trap_of(code: u32) -> Trap
@@ -27,7 +26,7 @@ fn trap_of(code: u32) -> Trap
 pub fn exec(
     memory: &mut [i64],
     registers: &mut Registers,
-    objects: &[Region],
+    objects: &Regions,
     inside: &[Entered],
     instruction: &Instruction,
     next: usize,
@@ -45,7 +44,7 @@ pub fn exec(
 fn carry_out(
     memory: &mut [i64],
     registers: &mut Registers,
-    objects: &[Region],
+    objects: &Regions,
     inside: &[Entered],
     instruction: &Instruction,
     next: usize,

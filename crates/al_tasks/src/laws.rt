@@ -1,11 +1,12 @@
 // What holds after every list of events.
-ghost use Rattle.std.specs.Prelude.{◌≡◌, ℕ, List};
+ghost use Rattle.std.specs.Prelude.{◌≡◌, ◌+◌, ℕ, List};
 ghost use Rattle.al_link_image.specs.Images as images;
 ghost use Rattle.al_tasks.specs.declared.event.Event.{Event};
 ghost use Rattle.al_tasks.specs.Task.{Program, World};
 ghost use Rattle.al_tasks.specs.World.{after, load};
 ghost use Rattle.al_tasks.specs.Runs.{ran};
 ghost use Rattle.al_tasks.specs.WorldPrograms.{program_of};
+ghost use Rattle.al_tasks.specs.Partitions.{Partition, part_of_run, ran_on};
 ghost use Rattle.al_tasks.specs.Exclusion.{Each, EachAfter, Apart, Above, Descends, InsideNothing, WordsAreKept, WordsAreUnread, reached};
 
 /// Exclusion by priorities alone (ARM 9.5.1, D.3), for every image and every list of events from its load, whatever ticks come
@@ -25,4 +26,10 @@ pub fn exclusion()
 /// Each run is one of these lists of events.
 pub fn runs_are_events()
     ensures { (p : Program) (steps n since : ℕ) (w : World) → (events : List Event) × (ran p steps n since w ≡ after p w events) }
+{}
+
+/// A run in parts is the run in one: what its last part gives is what the whole gives, the count of instructions since the last tick too.
+pub fn parts_are_the_run()
+    ensures parts { (a b n since : ℕ) (w : Partition) → (let first = part_of_run a n since w in part_of_run b n first.0 first.1) ≡ part_of_run (a + b) n since w }
+    ensures run { (steps n : ℕ) (w : Partition) → (part_of_run steps n 0 w).1 ≡ ran_on steps n w }
 {}

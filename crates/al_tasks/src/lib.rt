@@ -16,6 +16,6 @@ mod tasks;
 mod world;
 
 pub use event::{Ending, Event, Pause, Status};
-pub use laws::{exclusion, runs_are_events};
+pub use laws::{exclusion, parts_are_the_run, runs_are_events};
 pub use running::{RunEnd, RunReport, run};
 pub use world::World;

@@ -66,9 +66,8 @@ fn work_on(program: &Program, state: &mut State, most: u64) -> u64
     }
     program.limits();
     let bursts = program.bursts();
-    let objects = program.objects();
     let task = &mut state.ready[0];
-    task.carry_on(&mut state.memory, bursts, objects, most)
+    task.carry_on(&mut state.memory, bursts, most)
 }
 
 /// The clock so many ticks later.
@@ -175,29 +174,31 @@ fn turn(
     })
 }
 
-/// Runs at most so many events, until the program ends or is idle. Where memory was wanted and not given, all is as after the events before
-/// that one.
+/// Runs at most so many events, until the program ends or is idle, since whose last tick so many instructions came; how many have come then. Where
+/// memory was wanted and not given, all is as after the events before that one.
 pub(crate) fn run_events(
     program: &Program,
     state: &mut State,
     steps: u64,
     n: u64,
-) -> Result<(), NoMemory>
-    requires { Fits program.now (seen state.old) }
-    ensures ok { OnOk result (seen state.new ≡ ran program.now steps n 0 (seen state.old)) }
-    ensures err { OnErr result ((done : ℕ) × (done < steps) × (seen state.new ≡ ran program.now done n 0 (seen state.old))) }
+    since: u64,
+) -> Result<u64, NoMemory>
+    requires fits { Fits program.now (seen state.old) }
+    requires room { since + steps < 2 ^ 64 }
+    ensures ok { IfOk result (λ last. went program.now n steps (since, seen state.old) ≡ (last, seen state.new)) }
+    ensures err { OnErr result ((done : ℕ) × (done < steps) × (seen state.new ≡ ran program.now done n since (seen state.old))) }
     ensures fits { Fits program.now (seen state.new) }
 {
     program.limits();
-    let mut since = 0u64;
+    let mut last = since;
     let mut done = 0u64;
     while done < steps {
         let Status::Going = status_of(state) else {
-            return Ok(());
+            return Ok(last);
         };
-        let turned = turn(program, state, n, since, steps - done)?;
-        since = turned.since;
+        let turned = turn(program, state, n, last, steps - done)?;
+        last = turned.since;
         done += turned.done;
     }
-    Ok(())
+    Ok(last)
 }

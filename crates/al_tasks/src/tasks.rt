@@ -11,8 +11,9 @@ ghost use Rattle.al_tasks.specs.Turns.{turn_of};
 
 use crate::Pause;
 use al_base::NoMemory;
-use al_link_image::Region;
-use al_machine::{Bursts, Code, Entered, Flow, Instruction, Registers, Trap, carry_on, exec};
+use al_machine::{
+    Bursts, Code, Entered, Flow, Instruction, Regions, Registers, Trap, carry_on, exec,
+};
 use std::alloc::Global;
 use std::marker::Model;
 
@@ -127,7 +128,7 @@ impl Task {
         &mut self,
         memory: &mut [i64],
         code: &Code,
-        objects: &[Region],
+        objects: &Regions,
         instruction: &Instruction,
         next: usize,
     ) -> Option<Trap>
@@ -159,23 +160,16 @@ impl Task {
     }
     /// Carries out instructions on words, at most so many, while they go on; how many were carried out.
     #[inline(always)]
-    pub(crate) fn carry_on(
-        &mut self,
-        memory: &mut [i64],
-        bursts: &Bursts,
-        objects: &[Region],
-        most: u64,
-    ) -> u64
+    pub(crate) fn carry_on(&mut self, memory: &mut [i64], bursts: &Bursts, most: u64) -> u64
         requires within { IsWithin (machine memory.old self.old.registers) }
-        requires free { IsFree objects.now self.old.held (machine memory.old self.old.registers) }
+        requires free { IsFree bursts.now.objects self.old.held (machine memory.old self.old.registers) }
         ensures few { result ≤ most }
-        ensures carried { CarriesOn objects.now bursts.now result self.old memory.old self.new memory.new }
+        ensures carried { CarriesOn bursts.now.objects bursts.now.code result self.old memory.old self.new memory.new }
     {
         let carried = carry_on(
             memory,
             &mut self.registers,
             bursts,
-            objects,
             &self.held,
             self.place,
             most,

@@ -1,8 +1,8 @@
 // A running program, for its users.
-ghost use Rattle.std.specs.Prelude.{◌≡◌, ◌∷◌, OnOk, OnErr, IfOk, [], ℕ, ◌<◌, ◌^◌, pos, replicate};
+ghost use Rattle.std.specs.Prelude.{◌≡◌, ◌+◌, ◌≤◌, ◌∷◌, OnOk, OnErr, IfOk, [], ℕ, ◌<◌, ◌^◌, pos, replicate};
 ghost use Rattle.al_tasks.specs.World.{load};
 ghost use Rattle.al_tasks.specs.Runs.{status_of};
-ghost use Rattle.al_tasks.specs.Partitions.{loaded, stepped, ran_on, environment};
+ghost use Rattle.al_tasks.specs.Partitions.{loaded, stepped, ran_on, part_of_run, environment};
 ghost use Rattle.al_tasks.specs.Seen.{seen};
 
 use crate::events::step;
@@ -110,7 +110,20 @@ impl World {
         ensures ok { OnOk result (self.new ≡ ran_on steps n self.old) }
         ensures err { OnErr result ((done : ℕ) × (done < steps) × (self.new ≡ ran_on done n self.old)) }
     {
-        run_events(&self.program, &mut self.state, steps, n)
+        run_events(&self.program, &mut self.state, steps, n, 0)?;
+        Ok(())
+    }
+
+    /// A part of a run: the same, since whose last tick so many instructions came; how many have come then. A run in parts, each of which is given what the one before
+    /// gave back, is the run in one (`parts_are_the_run`).
+    pub fn tick_run_on(&mut self, steps: u64, n: u64, since: u64) -> Result<u64, NoMemory>
+        requires { since + steps < 2 ^ 64 }
+        ensures ok { IfOk result (λ last. (last, self.new) ≡ part_of_run steps n since self.old) }
+        ensures few { IfOk result (λ last. since ≤ n → last ≤ n) }
+        ensures err { OnErr result ((done : ℕ) × (done < steps) × (self.new ≡ (part_of_run done n since self.old).1)) }
+    {
+        let last = run_events(&self.program, &mut self.state, steps, n, since)?;
+        Ok(last)
     }
 
     /// What becomes of the program.

@@ -10,11 +10,11 @@ pub returns-in_default : goal.returns-in_default
 returns-in_default c =
     let p = c.args.program.now in
     let n = c.args.n in
-    let w = seen c.args.state.now in
+    let x : Moment = (c.args.since, seen c.args.state.now) in
     let l = c.loop-done in
-    let stop : goes (went p n l.done (0, w)) ≡ false = ap (λ (x : Moment). goes x) (sym l.invariant.at) ∙ ap is_going (sym c.status_of.ensures) ∙ not_going c.status_of.result c.in_default.not-Going in
+    let stop : goes (went p n l.done x) ≡ false = ap (λ (x : Moment). goes x) (sym l.invariant.at) ∙ ap is_going (sym c.status_of.ensures) ∙ not_going c.status_of.result c.in_default.not-Going in
     record {
-      ok = ap (λ (x : Moment). x.1) l.invariant.at ∙ ap (λ (x : Moment). x.1) (sym (went_stopped p n l.done c.args.steps (0, w) l.invariant.within stop)) ∙ sym (ran_went p n c.args.steps 0 w);
+      ok = went_stopped p n l.done c.args.steps x l.invariant.within stop ∙ sym l.invariant.at;
       err = tt;
       fits = l.invariant.fits;
     }
@@ -23,23 +23,23 @@ pub returns-in_err-turned-clause-err : goal.returns-in_err-turned-clause-err
 returns-in_err-turned-clause-err c =
     let p = c.args.program.now in
     let n = c.args.n in
+    let since = c.args.since in
     let w = seen c.args.state.now in
     let l = c.loop-done in
-    on_err c.from_residual.result ((x : ℕ) × (x < c.args.steps) × (seen c.turn.new.state ≡ ran p x n 0 w))
-    (l.done, (let t = c.loop-done-test.true in omega arith), c.in_err-turned.ensures.err ∙ ap (λ (x : Moment). x.1) l.invariant.at ∙ sym (ran_went p n l.done 0 w))
+    on_err c.from_residual.result ((x : ℕ) × (x < c.args.steps) × (seen c.turn.new.state ≡ ran p x n since w))
+    (l.done, (let t = c.loop-done-test.true in omega arith), c.in_err-turned.ensures.err ∙ ap (λ (x : Moment). x.1) l.invariant.at ∙ sym (ran_went p n l.done since w))
 
 pub loop-done-preserved : goal.loop-done-preserved
 loop-done-preserved c =
     let p = c.args.program.now in
     let n = c.args.n in
-    let w = seen c.args.state.now in
     let l = c.loop-done in
     let t = c.in_ok-turned.turned in
     let ok = c.in_ok-turned.ensures.ok in
     let below = ok.1 in
     let test = c.loop-done-test.true in
     record {
-      at = sym ok.2 ∙ ap (λ (x : Moment). went p n t.done x) l.invariant.at ∙ sym (went_on p n l.done t.done (0, w));
+      at = sym ok.2 ∙ ap (λ (x : Moment). went p n t.done x) l.invariant.at ∙ sym (went_on p n l.done t.done (c.args.since, seen c.args.state.now));
       few = let a = c.in_ok-turned.ensures.few in let b = l.invariant.few in omega arith;
       within = omega arith;
       fits = c.in_ok-turned.ensures.fits;
@@ -49,7 +49,6 @@ pub returns-clause-ok : goal.returns-clause-ok
 returns-clause-ok c =
     let p = c.args.program.now in
     let n = c.args.n in
-    let w = seen c.args.state.now in
     let l = c.loop-done in
-    let same : l.done ≡ c.args.steps = let a = c.loop-done-test.false in let b = l.invariant.within in omega arith in
-    ap (λ (x : Moment). x.1) l.invariant.at ∙ ap (λ (k : ℕ). (went p n k (0, w)).1) same ∙ sym (ran_went p n c.args.steps 0 w)
+    let same : c.args.steps ≡ l.done = let a = c.loop-done-test.false in let b = l.invariant.within in omega arith in
+    ap (λ (k : ℕ). went p n k (c.args.since, seen c.args.state.now)) same ∙ sym l.invariant.at

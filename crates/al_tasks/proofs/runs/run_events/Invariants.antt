@@ -1,4 +1,4 @@
-use Rattle.std.proofs.Common.{◌≡◌, ◌≤◌, ◌-◌}
+use Rattle.std.proofs.Common.{◌≡◌, ◌≤◌, ◌+◌, ◌-◌}
 use Rattle.al_tasks.specs.Fits.{Fits}
 use Rattle.al_tasks.specs.Seen.{seen}
 use Rattle.al_tasks.specs.Bursts.{went}
@@ -7,8 +7,8 @@ use Rattle.al_tasks.proofs.runs.run_events.Given as goal
 -- the moment after the events so far
 abbrev pub invariant-loop-done : goal.invariant-loop-done
 invariant-loop-done l = record {
-  at : (l.since, seen l.state) ≡ went l.program l.n l.done (0, seen l.initial.state);
-  few : l.since ≤ l.done;
+  at : (l.last, seen l.state) ≡ went l.program l.n l.done (l.since, seen l.initial.state);
+  few : l.last ≤ l.since + l.done;
   within : l.done ≤ l.steps;
   fits : Fits l.program (seen l.state);
 }

@@ -9,4 +9,4 @@ carry_on-requires-clause-free c =
     let s = c.args.state.now in
     let t = c.index_mut-task.result.now in
     let some : 0 < length s.ready.items = let ok = s.ready.ok.0 in let full = c.if-is_empty.false in let said = c.is_empty.ensures in grind (arith, nat_tests) in
-    rw c.objects-objects.ensures (free_at c.args.program.now (seen s) s.ready.items t c.limits.ensures c.requires refl some (sym c.index_mut-task.ensures.value))
+    rw c.bursts-bursts.ensures.objects (free_at c.args.program.now (seen s) s.ready.items t c.limits.ensures c.requires refl some (sym c.index_mut-task.ensures.value))

@@ -19,7 +19,7 @@ unfolding program_of
 invariant_of-result c =
     record {
       laid =
-          with_code (program_of c.args.image.now) c.in_ok-code.code c.in_ok-objects.objects.items c.in_ok-units.units.items c.data_words.result c.tasks.result c.in_ok-lines.lines.items
-          (c.in_ok-objects.ensures.items ∙ c.protected.ensures.value) c.data_words.ensures.value c.tasks.ensures.value (laid_out c.args.image.now c.limits.ensures);
+          with_code (program_of c.args.image.now) c.in_ok-code.code.code c.in_ok-code.code.objects c.in_ok-units.units.items c.data_words.result c.tasks.result c.in_ok-lines.lines.items
+          c.in_ok-code.ensures.objects c.data_words.ensures.value c.tasks.ensures.value (laid_out c.args.image.now c.limits.ensures);
       lines = subst (λ (ls : List LineEntry). rise 0 0x1_0000_0000 ls ≡ true) (sym c.in_ok-lines.ensures) (lines_rise c.args.image.now c.limits.ensures);
     }

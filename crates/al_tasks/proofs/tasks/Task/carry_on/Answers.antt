@@ -13,5 +13,5 @@ returns-clause-carried c =
     let b : At = at_place r.result.place (machine r.new.memory r.new.registers) in
     let now : Task = record { number = i.number; base = i.base; active = i.active; held = i.held.items; place = r.result.place; registers = r.new.registers; begun = i.begun; pause = i.pause } in
     let a : At = record { place = i.place; machine = machine c.args.memory.now i.registers } in
-    let went = subst (λ (held : List Entered). carried c.args.objects.now held c.args.bursts.now r.result.done a ≡ Some b) c.deref.ensures.value r.ensures.carried in
-    subst (λ (t : Task). CarriesOn c.args.objects.now c.args.bursts.now r.result.done t c.args.memory.now now r.new.memory) c.self.view_is (b, went, refl, refl)
+    let went = subst (λ (held : List Entered). carried c.args.bursts.now.objects held c.args.bursts.now.code r.result.done a ≡ Some b) c.deref.ensures.value r.ensures.carried in
+    subst (λ (t : Task). CarriesOn c.args.bursts.now.objects c.args.bursts.now.code r.result.done t c.args.memory.now now r.new.memory) c.self.view_is (b, went, refl, refl)

@@ -1,0 +1,5 @@
+with Queue;
+procedure Buffer is
+begin
+   null;
+end Buffer;
