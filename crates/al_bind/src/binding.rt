@@ -153,10 +153,10 @@ pub fn bind(
 ) -> Result<Result<Vec<UnitKey>, BindFault>, NoMemory>
     ensures { IfOk result (λ bound. MatchResult bound (λ items. IsElaboration sources.now main.now (map key_of items.items)) (IsBindFault sources.now main.now)) }
 {
-    if let Some(lack) = first_lack(alloc, sources, main)? {
+    let places = Places::of(alloc, sources, main)?;
+    if let Some(lack) = first_lack(alloc, sources, main, places.keys.as_slice())? {
         return Ok(Err(BindFault::Lacks(lack)));
     }
-    let places = Places::of(alloc, sources, main)?;
     if let Ok(items) = bound_by(alloc, sources, main, &places, Extent::Steps)? {
         return Ok(Ok(items));
     }

@@ -1,9 +1,11 @@
 // The first thing that a partition lacks.
-ghost use Rattle.std.specs.Prelude.{IfOk, MatchOption};
+ghost use Rattle.std.specs.Prelude.{IfOk, MatchOption, map};
+ghost use Rattle.al_base.specs.Batch.{key_of};
+ghost use Rattle.al_unit_graph.specs.Needed.{ListsUnits, Needed};
 ghost use Rattle.al_bind.specs.Faults.{IsComplete, IsLack};
 
 use crate::missing::{is_main, missing_body, missing_subunit};
-use al_base::{Name, NoMemory};
+use al_base::{Name, NoMemory, UnitKey};
 use al_unit_graph::Sources;
 use std::alloc::Global;
 
@@ -28,7 +30,7 @@ impl Drop for MissingItem {
 }
 
 /// What a partition with this main unit lacks: its main subprogram, or else the body of the least name, or else the subunit of the
-/// least name; nothing where it is complete.
+/// least name; nothing where it is complete. The needed units are given.
 ///
 /// # Errors
 ///
@@ -37,16 +39,18 @@ pub fn first_lack(
     alloc: Global,
     sources: &Sources,
     main: &[u8],
+    needed: &[UnitKey],
 ) -> Result<Option<MissingItem>, NoMemory>
+    requires { ListsUnits sources.now (map key_of needed.now) (Needed sources.now main.now) }
     ensures { IfOk result (λ found. MatchOption found (IsComplete sources.now main.now) (IsLack sources.now main.now)) }
 {
     if !is_main(sources, main) {
         return Ok(Some(MissingItem::Main));
     }
-    if let Some(name) = missing_body(alloc, sources, main)? {
+    if let Some(name) = missing_body(alloc, sources, main, needed)? {
         return Ok(Some(MissingItem::Body(name)));
     }
-    if let Some(name) = missing_subunit(alloc, sources, main)? {
+    if let Some(name) = missing_subunit(alloc, sources, main, needed)? {
         return Ok(Some(MissingItem::Subunit(name)));
     }
     Ok(None)

@@ -3,6 +3,7 @@ ghost use Rattle.std.specs.Prelude.{◌≡◌, ℕ, List, map, None, IfOk, Match
 ghost use Rattle.std.specs.Option.{option_map};
 ghost use Rattle.std.specs.List.{flat_map};
 ghost use Rattle.al_base.specs.Batch.{key_of};
+ghost use Rattle.al_unit_graph.specs.Needed.{ListsUnits, Needed};
 ghost use Rattle.al_bind.specs.Missing.{is_main, lacks_body, least_of, lesser, missing_bodies, missing_stub, missing_stubs, IsLeastName, LacksBody, LacksSubunit};
 
 use al_base::{Name, NoMemory, UnitKey, UnitKind};
@@ -155,24 +156,32 @@ fn least_subunit(
     Ok(found)
 }
 
-/// The least name of a needed declaration that lacks its body.
-pub fn missing_body(alloc: Global, sources: &Sources, main: &[u8]) -> Result<Option<Name>, NoMemory>
-    ensures { IfOk result (λ found. MatchOption found ((name : List ℕ) → LacksBody sources.now main.now name → ⊥) (IsLeastName (LacksBody sources.now main.now))) }
-{
-    let keys = sources.needed(main)?;
-    let least = least_body(alloc, sources, &keys)?;
-    Ok(least)
-}
-
-/// The least name of a subunit of a needed unit's stub that isn't there.
-pub fn missing_subunit(
+/// The least name of a needed declaration that lacks its body; the needed units are given.
+pub(crate) fn missing_body(
     alloc: Global,
     sources: &Sources,
     main: &[u8],
+    needed: &[UnitKey],
 ) -> Result<Option<Name>, NoMemory>
+    requires { ListsUnits sources.now (map key_of needed.now) (Needed sources.now main.now) }
+    ensures { IfOk result (λ found. MatchOption found ((name : List ℕ) → LacksBody sources.now main.now name → ⊥) (IsLeastName (LacksBody sources.now main.now))) }
+{
+    let _main = main;
+    let least = least_body(alloc, sources, needed)?;
+    Ok(least)
+}
+
+/// The least name of a subunit of a needed unit's stub that isn't there; the needed units are given.
+pub(crate) fn missing_subunit(
+    alloc: Global,
+    sources: &Sources,
+    main: &[u8],
+    needed: &[UnitKey],
+) -> Result<Option<Name>, NoMemory>
+    requires { ListsUnits sources.now (map key_of needed.now) (Needed sources.now main.now) }
     ensures { IfOk result (λ found. MatchOption found ((name : List ℕ) → LacksSubunit sources.now main.now name → ⊥) (IsLeastName (LacksSubunit sources.now main.now))) }
 {
-    let keys = sources.needed(main)?;
-    let least = least_subunit(alloc, sources, &keys)?;
+    let _main = main;
+    let least = least_subunit(alloc, sources, needed)?;
     Ok(least)
 }
