@@ -2,12 +2,12 @@
 """gate.py sample FOLDER FILE: beside a run of `rt ci` in FOLDER, what each crate takes of the processors.
 
     gate.py table LOG FILE EARLIER [LOG ..]
-                           makes the table of docs/GATE.md anew, by FILE and by what `tests/run` printed (each LOG), and tells the sums
+                           makes the table of docs/GATE.md anew, by FILE and by what `tests/run proofs` printed (each LOG), and prints the sums
 
-`sample` looks every four seconds at the provers that work in FOLDER, and writes FILE until it is ended: seconds of processor time by crate, of its
-proof with its tests, and of its wrong bodies that `rt ci` tries. What a prover takes after the last look at it is lost, some two seconds each.
-The table keeps its column of an earlier run. The pace is that of the run of 2026-11-27, told by crates of the tree of that day (THEN): EARLIER is
-what `sample` wrote beside a run of `rt ci` over that tree on the machine of now. Beside it stands how many times as long all crates took as in the table's earlier run.
+`sample` looks every four seconds at the provers and compilers that work in FOLDER, and writes FILE until it is ended: seconds of processor time by crate, of its
+proof with its tests, of clang, and of its wrong bodies that `rt ci` tries. What a process takes after the last look at it is lost, some two seconds each.
+The pace is that of the run of 2026-11-27, given by crates of the tree of that day (THEN): EARLIER is
+what `sample` wrote beside a run of `rt ci` over that tree on the machine of now. Beside it stands how many times as long all crates took as in the table before.
 """
 import collections
 import json
@@ -24,34 +24,39 @@ TOGETHER = re.compile(r"^wrong bodies of (\w+): (\d+) of \d+ refused, (\d+) chec
 # The tree of the run of 2026-11-27, and the seconds of processor time that this run took for two of its crates.
 TREE = "7079d479"
 THEN = {"al_lex": 71, "al_machine": 133}
-HEAD = "| Crate | Proofs and tests | Before | Wrong bodies | Their seconds |"
+HEAD = "| Crate | Proofs and tests | Clang | Wrong bodies | Their seconds |"
+PROOF, WRONG, CLANG = range(3)
 
 
-def provers(folder):
-    """The provers that work in this folder: number, crate, whether on a wrong body, and the seconds so far."""
+def workers(folder):
+    """The provers and compilers that work in this folder: number, crate, on what (PROOF ..), and the seconds so far."""
     for process in pathlib.Path("/proc").glob("[0-9]*"):
         try:
             words = (process / "cmdline").read_bytes().split(b"\0")
-            if b"--crate-name" not in words:
+            is_clang = os.path.basename(words[0]).startswith(b"clang")
+            if b"--crate-name" not in words and not is_clang:
                 continue
             fields = (process / "stat").read_text().rpartition(")")[2].split()
             where, above = os.readlink(process / "cwd"), os.readlink(f"/proc/{fields[1]}/cwd")
         except (OSError, IndexError):
             continue
-        is_inside = f"{where}/".startswith(f"{folder}/")
-        if is_inside or f"{above}/".startswith(f"{folder}/"):
-            crate = words[words.index(b"--crate-name") + 1].decode()
-            yield process.name, crate, not is_inside, (int(fields[11]) + int(fields[12])) / TICKS
+        spent = (int(fields[11]) + int(fields[12])) / TICKS
+        if is_clang and where.startswith(f"{folder}/crates/"):
+            yield process.name, where[len(f"{folder}/crates/") :].partition("/")[0], CLANG, spent
+        elif not is_clang and f"{where}/".startswith(f"{folder}/"):
+            yield process.name, words[words.index(b"--crate-name") + 1].decode(), PROOF, spent
+        elif not is_clang and f"{above}/".startswith(f"{folder}/"):
+            yield process.name, words[words.index(b"--crate-name") + 1].decode(), WRONG, spent
 
 
 def sample(folder, file):
     seconds = {}
     while True:
-        for number, crate, is_wrong, spent in provers(folder):
-            seconds[number, crate, is_wrong] = spent
-        sums = collections.defaultdict(lambda: [0, 0])
-        for (_, crate, is_wrong), spent in seconds.items():
-            sums[crate][is_wrong] += spent
+        for number, crate, work, spent in workers(folder):
+            seconds[number, crate, work] = spent
+        sums = collections.defaultdict(lambda: [0, 0, 0])
+        for (_, crate, work), spent in seconds.items():
+            sums[crate][work] += spent
         file.with_suffix(".new").write_text(json.dumps(sums))
         file.with_suffix(".new").replace(file)
         time.sleep(4)
@@ -69,16 +74,16 @@ def tried(log):
 
 
 def before(page):
-    """The column of the earlier run."""
-    return dict(re.findall(r"^\| `(\w+)` \| [^|]* \| (\d+|-) \|", page, re.MULTILINE))
+    """The seconds of each crate's proofs and tests in the table before."""
+    return {name: int(seconds) for name, seconds in re.findall(r"^\| `(\w+)` \| (\d+) \|", page, re.MULTILINE)}
 
 
-def table(log, sums, earlier):
+def table(log, sums):
     bodies = tried(log)
     lines = [HEAD, "|---" * HEAD.count(" | ") + "|---|"]
-    for name, (proof, wrong) in sorted(sums.items(), key=lambda it: -it[1][0]):
+    for name, (proof, wrong, clang) in sorted(sums.items(), key=lambda it: -it[1][PROOF]):
         refused, seconds = bodies[name]
-        lines.append(f"| `{name}` | {proof:.0f} | {earlier.get(name, '-')} | {refused or ''} | {f'{wrong + seconds:.0f}' if refused else ''} |")
+        lines.append(f"| `{name}` | {proof:.0f} | {f'{clang:.0f}' if clang else ''} | {refused or ''} | {f'{wrong + seconds:.0f}' if refused else ''} |")
     return "\n".join(lines) + "\n"
 
 
@@ -86,15 +91,15 @@ def make_table(log, sums, then):
     path = ROOT / "docs" / "GATE.md"
     page = path.read_text()
     earlier, bodies = before(page), tried(log)
-    path.write_text(page[: page.index("\n| Crate |") + 1] + table(log, sums, earlier))
-    proofs, wrong = (sum(it[at] for it in sums.values()) for at in (0, 1))
+    path.write_text(page[: page.index("\n| Crate |") + 1] + table(log, sums))
+    proofs, wrong, clang = (sum(it[at] for it in sums.values()) for at in (PROOF, WRONG, CLANG))
     wrong += sum(seconds for _, seconds in bodies.values())
-    print(f"{len(sums)} crates: proofs and tests {proofs:,.0f} s, {sum(count for count, _ in bodies.values())} wrong bodies {wrong:,.0f} s")
+    print(f"{len(sums)} crates: proofs and tests {proofs:,.0f} s, clang {clang:,.0f} s, {sum(count for count, _ in bodies.values())} wrong bodies {wrong:,.0f} s")
     took = ", ".join(f"{name} {then[name][0]:.0f} s for {seconds}" for name, seconds in THEN.items())
-    both = [it for it in sums if earlier.get(it, "-") not in ("-", "0")]
+    both = [it for it in sums if earlier.get(it)]
     paces = {
         f"by the tree of {TREE} ({took})": sum(then[it][0] for it in THEN) / sum(THEN.values()),
-        "by all crates of the table": sum(sums[it][0] for it in both) / sum(int(earlier[it]) for it in both),
+        "by all crates of the table": sum(sums[it][PROOF] for it in both) / sum(earlier[it] for it in both),
     }
     for what, pace in paces.items():
         print(f"{what} {pace:.2f} times as long: at that pace {proofs / pace:,.0f} s and {wrong / pace:,.0f} s")

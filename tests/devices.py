@@ -125,7 +125,7 @@ def main():
             got, _ = failing.run("read", NEVER, size, size)
             count.check(f"reads and writes of {size} bytes", got, (0, it.plain, b""))
         calls = fail_all(count, failing, it)
-    print(f"{SESSION}: failed in turn: " + ", ".join(f"{times} {name}" for name, times in calls.items()))
+    print(f"{SESSION}: calls that failed in turn: " + ", ".join(f"{times} {name}" for name, times in calls.items()))
     print(f"{count.passed} passed, {count.failed} failed")
     return count.failed != 0
 

@@ -15,12 +15,13 @@ class BadEdit(Exception):
 
 
 class Edit:
-    """A wrong body: its crate's folder, and by file the texts to replace."""
+    """A wrong body: the folder with its crate's text, and by file the texts to replace."""
 
-    def __init__(self, path):
-        self.path, self.crate, self.name = path, path.parent.parent, path.stem
+    def __init__(self, path, crate=None):
+        self.path, self.crate, self.name = path, crate or path.parent.parent, path.stem
+        self.text = path.read_text(errors="replace")
         self.changes, file, old = [], None, None
-        for line in path.read_text(errors="replace").split("\n"):
+        for line in self.text.split("\n"):
             word, _, rest = line.partition(":")
             rest = rest.removeprefix(" ")
             if word == "file":

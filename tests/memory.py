@@ -1,5 +1,5 @@
 #!/usr/bin/env python3
-"""memory.py PROGRAM [NAME ..]: refuses each growth of memory in turn, in the stored sessions, or in those of these names.
+"""memory.py [--every N] PROGRAM [NAME ..]: refuses each growth of memory in turn, or one of N, in the stored sessions, or in those of these names.
 
 A session is run once, and at each growth the program forks: there the child is refused its growth, and goes on to its end (refuse_each.c, built by
 the kit's clang and loaded before the program). It must then write what it always writes; or `refused 10 no-memory` to one put, rename, build, run, report
@@ -19,6 +19,7 @@ import struct
 import subprocess
 import sys
 import tempfile
+import zlib
 
 from sessions import SESSIONS, TESTS, Count, input_of, words_of
 
@@ -62,13 +63,13 @@ class Refuser:
             told.seek(0)
             return (done.returncode, done.stdout, done.stderr), told.read() != b""
 
-    def in_turn(self, session, first=1, words=()):
-        """The exit status, output and error output where no growth is refused; and where each is, from this one on, by its number."""
+    def in_turn(self, session, first=1, words=(), every=1):
+        """The exit status, output and error output where no growth is refused; and where each is, or one of so many, from this one on, by its number."""
         with contextlib.ExitStack() as files:
             given, output, error, told = (files.enter_context(tempfile.TemporaryFile()) for _ in range(4))
             given.write(session)
             given.seek(0)
-            env = {"LD_PRELOAD": self.each, "FIRST": str(first), "TELL": str(told.fileno())}
+            env = {"LD_PRELOAD": self.each, "FIRST": str(first), "EVERY": str(every), "TELL": str(told.fileno())}
             how = {"stdin": given, "stdout": output, "stderr": error, "env": env, "pass_fds": [told.fileno()], "timeout": LIMIT}
             status = subprocess.run([self.program, *words], **how).returncode
             output.seek(0)
@@ -100,12 +101,6 @@ def may_lack_memory(command, reply):
     return command.startswith(WANT_MEMORY) and not reply.startswith(b"refused ")
 
 
-def replies_to(refuser, words, commands):
-    """The reply to each command, where no growth is refused."""
-    written = [refuser.run(b"".join(commands[:k]), 0, words)[0][1] for k in range(len(commands) + 1)]
-    return [written[k + 1][len(written[k]) :] for k in range(len(commands))]
-
-
 class Allowed:
     """What may come of a session where one growth is refused."""
 
@@ -115,16 +110,19 @@ class Allowed:
         self.commands = list(commands_of(session))
         self.without = {}
 
+    def output(self, commands):
+        return self.refuser.run(b"".join(commands), 0, self.words)[0][1]
+
     @functools.cached_property
-    def replies(self):
-        return replies_to(self.refuser, self.words, self.commands)
+    def written(self):
+        """What is written before each command, and in all."""
+        return [self.output(self.commands[:k]) for k in range(len(self.commands) + 1)]
 
     def refused_at(self, k):
         """The output where just the command k finds no memory."""
         if k not in self.without:
-            others = replies_to(self.refuser, self.words, self.commands[:k] + self.commands[k + 1 :])
-            others.insert(k, REFUSED)
-            self.without[k] = b"".join(others)
+            before = self.written[k]
+            self.without[k] = before + REFUSED + self.output(self.commands[:k] + self.commands[k + 1 :])[len(before) :]
         return self.without[k]
 
     def name(self, got):
@@ -136,19 +134,19 @@ class Allowed:
         if (got[0], got[2]) != (self.plain[0], self.plain[2]):
             return None
         for k, command in enumerate(self.commands):
-            is_here = got[1].startswith(b"".join(self.replies[:k]) + REFUSED) and may_lack_memory(command, self.replies[k])
-            if is_here and got[1] == self.refused_at(k):
+            before, reply = self.written[k], self.written[k + 1][len(self.written[k]) :]
+            if got[1].startswith(before + REFUSED) and may_lack_memory(command, reply) and got[1] == self.refused_at(k):
                 line = command.split(b"\n")[0].decode()
                 return f"at '{line[:20]}'"
         return None
 
 
-def sweep(refuser, name):
-    """What is told of a session with each growth refused in turn, and whether all was as it may be."""
+def sweep(refuser, name, every):
+    """What is told of a session with each growth refused in turn, or one of so many, and whether all was as it may be."""
     session, words = input_of(name), words_of(name)
     allowed = Allowed(refuser, words, session)
     first = len(refuser.in_turn(b"", 1, words)[1]) + 1 if session else 1
-    plain, refused = refuser.in_turn(session, first, words)
+    plain, refused = refuser.in_turn(session, first + zlib.crc32(name.encode()) % every, words, every)
     named, seen, lines = {}, {}, []
     for growth, got in refused:
         if got not in named:
@@ -156,20 +154,23 @@ def sweep(refuser, name):
         told = named[got]
         seen[told] = seen.get(told, 0) + 1
         if told is None:
-            lines.append(f"  failed at growth {growth}: {got}")
+            lines.append(f"{name}: failed at growth {growth}: {got}")
     if plain != allowed.plain:
-        lines.append(f"  failed where the process went on behind the growths: {plain}")
+        lines.append(f"{name}: failed where the process went on behind the growths: {plain}")
     outcome = ", ".join(f"{times} {what}" for what, times in seen.items() if what)
     return [f"{name}: {len(refused)} growths refused: {outcome}", *lines], not lines and first - 1 + len(refused) > 0
 
 
 def main():
-    program = str(pathlib.Path(sys.argv[1]).resolve())
-    names = sys.argv[2:] or [it.stem for it in sorted(SESSIONS.glob("*.in")) if it.stat().st_size <= LONGEST]
+    words, every = sys.argv[1:], 1
+    if words[0] == "--every":
+        words, every = words[2:], int(words[1])
+    program = str(pathlib.Path(words[0]).resolve())
+    names = words[1:] or [it.stem for it in sorted(SESSIONS.glob("*.in")) if it.stat().st_size <= LONGEST]
     count = Count()
     with tempfile.TemporaryDirectory() as folder, concurrent.futures.ThreadPoolExecutor(os.cpu_count()) as pool:
         refuser = Refuser(program, folder)
-        for lines, passed in pool.map(lambda name: sweep(refuser, name), names):
+        for lines, passed in pool.map(lambda name: sweep(refuser, name, every), names):
             print("\n".join(lines), flush=True)
             count.passed += passed
             count.failed += not passed

@@ -1,4 +1,5 @@
-// Loaded before a program (LD_PRELOAD): refuses each growth of memory in turn, from the one whose number the variable FIRST gives, counted from 1.
+// Loaded before a program (LD_PRELOAD): refuses each growth of memory in turn, from the one whose number the variable FIRST gives, counted from 1,
+// or each so manyth from there on as the variable EVERY gives.
 // At each, the process forks: the child's growth is refused, and it goes on to its end; then the process itself goes on as if nothing had been.
 // Standard input, output and error output are plain files, which stand again after each child where they stood before. What each child came to
 // is appended to the open file whose number the variable TELL gives: its growth, wait status, length of the output and of the error output,
@@ -21,11 +22,13 @@ enum { SET = 0, HERE = 1, LOST = 99 };
 
 static long growth;
 static long first;
+static long every;
 static int is_child;
 static int told;
 
 __attribute__((constructor)) static void begin(void) {
     first = atoi(getenv("FIRST"));
+    every = atoi(getenv("EVERY"));
     told = atoi(getenv("TELL"));
 }
 
@@ -49,7 +52,7 @@ static void copy(int file, long size) {
 static int is_refused(void) {
     if (is_child || first == 0) return 0;
     growth++;
-    if (growth < first) return 0;
+    if (growth < first || (growth - first) % every != 0) return 0;
     long before[3], after[3], said[4];
     for (int file = 0; file < 3; file++) before[file] = lseek(file, 0, HERE);
     int status = 0, child = fork();

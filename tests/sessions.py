@@ -4,12 +4,12 @@
 A session NAME is NAME.in, the bytes of its commands (or NAME.gen, which writes them), NAME.out, the bytes of its
 replies, NAME.exit, its exit status where that isn't 0, and NAME.args, the program's words, one a line. Each has a stack of 8 MB. NAME.cuts is
 what comes of the session NAME cut to its first n bytes, for each n. command-lines.json lists words of the program with
-the exit status and what it writes. Prints each failure, and last `N passed, M failed`.
+the exit status and what it writes. Sessions run side by side. Prints each failure, and last `N passed, M failed`.
 """
+import concurrent.futures
 import json
 import os
 import pathlib
-import resource
 import select
 import subprocess
 import sys
@@ -42,14 +42,13 @@ def shown(value):
     return f"{len(value)} bytes, {value[-300:]!r}" if len(value) > 300 else repr(value)
 
 
-def run(program, words, given, output=subprocess.PIPE, before=None):
-    """The exit status, output and error output; `given` is the standard input, as bytes or as an open file; `before` is called in the program's process, before the program."""
+def run(program, words, given, output=subprocess.PIPE):
+    """The exit status, output and error output; `given` is the standard input, as bytes or as an open file. The stack has 8 MB."""
     source = {"input": given} if isinstance(given, bytes) else {"stdin": given}
     with tempfile.TemporaryDirectory() as folder:
+        command = ["sh", "-c", 'ulimit -S -s 8192; exec "$0" "$@"', program, *words]
         try:
-            done = subprocess.run(
-                [program, *words], stdout=output, stderr=subprocess.PIPE, cwd=folder, timeout=300, preexec_fn=before, **source
-            )
+            done = subprocess.run(command, stdout=output, stderr=subprocess.PIPE, cwd=folder, timeout=300, **source)
         except subprocess.TimeoutExpired:
             return (-1, b"", b"no end within 300 seconds")
     return (done.returncode, done.stdout or b"", done.stderr)
@@ -67,20 +66,15 @@ def words_of(name):
     return args.read_text().split("\n")[:-1] if args.exists() else []
 
 
-def give_stack():
-    """In the program's process, before the program: a stack of 8 MB."""
-    resource.setrlimit(resource.RLIMIT_STACK, (8 << 20, resource.getrlimit(resource.RLIMIT_STACK)[1]))
-
-
-def run_sessions(program, count):
-    for out in sorted(SESSIONS.glob("*.out")):
-        name = out.stem
+def run_sessions(program, count, pool):
+    names = [it.stem for it in sorted(SESSIONS.glob("*.out"))]
+    for name, got in zip(names, pool.map(lambda name: run(program, words_of(name), input_of(name)), names)):
         status = SESSIONS / f"{name}.exit"
-        wanted = (int(status.read_text()) if status.exists() else 0, out.read_bytes(), b"")
-        count.check(name, run(program, words_of(name), input_of(name), before=give_stack), wanted)
+        wanted = (int(status.read_text()) if status.exists() else 0, (SESSIONS / f"{name}.out").read_bytes(), b"")
+        count.check(name, got, wanted)
 
 
-def run_cuts(program, count):
+def run_cuts(program, count, pool):
     for table in sorted(SESSIONS.glob("*.cuts")):
         whole = input_of(table.stem)
         told = set()
@@ -89,9 +83,10 @@ def run_cuts(program, count):
                 continue
             first, last, status, replies = (row.split(" ", 3) + [""])[:4]
             wanted = (int(status), replies.replace("\\n", "\n").encode(), b"")
-            for size in range(int(first), int(last) + 1):
-                told.add(size)
-                count.check(f"{table.stem} cut to {size} bytes", run(program, [], whole[:size]), wanted)
+            sizes = range(int(first), int(last) + 1)
+            told.update(sizes)
+            for size, got in zip(sizes, pool.map(lambda size: run(program, [], whole[:size]), sizes)):
+                count.check(f"{table.stem} cut to {size} bytes", got, wanted)
         if told != set(range(len(whole) + 1)):
             count.check(f"{table.name} has a row for each cut", (1,), (0,))
 
@@ -153,8 +148,9 @@ def run_last_command(program, count):
 def main():
     program = str(pathlib.Path(sys.argv[1]).resolve())
     count = Count()
-    run_sessions(program, count)
-    run_cuts(program, count)
+    with concurrent.futures.ThreadPoolExecutor(os.cpu_count()) as pool:
+        run_sessions(program, count, pool)
+        run_cuts(program, count, pool)
     run_command_lines(program, count)
     run_faults(program, count)
     run_turns(program, count)

@@ -1,7 +1,8 @@
 """Wrong bodies of one crate tried together: those that stand in different functions in one check of these functions.
 
 Each must fail in its own function, at a goal or in its answers. That a function calls another that isn't proved says nothing of it, nor that
-its answers only name what an edit took away: such a wrong body is tried again, in a check of its own, where any failure is its doing.
+its answers only name what an edit took away: such a wrong body is tried again, in a check of its own, where any failure is its doing. One that changes
+a definition is tried alone, in a check of the whole crate.
 """
 import os
 import pathlib
@@ -15,8 +16,12 @@ import time
 from edits import BadEdit
 
 KIT = pathlib.Path(shutil.which("rt") or "rt").resolve().parent.parent
+# What a prover says that gives up: no verdict, so it refuses nothing.
+GIVES_UP = re.compile(r"could not tell|ran out of|outgrew the memory limit|stopped at the step limit")
 # What a file of answers says where it only names what an edit took away.
 NAMES_ALONE = re.compile(r"has no field|is not in scope|has no `|was not admitted")
+# The folders of a crate that the prover reads.
+PARTS = ("src", "specs", "proofs")
 # The memory that a check may take, in KiB.
 ROOM = 4_000_000
 STARTING = threading.Lock()
@@ -63,9 +68,7 @@ class Group:
     def takes(self, edit):
         """Adds the edit, unless one of its functions is changed already."""
         _, functions = edit.put_into({})
-        if None in functions:
-            raise BadEdit("it changes what stands in no function: only must-fail/ can have it")
-        if functions & self.functions:
+        if functions & self.functions or None in functions | self.functions and self.edits:
             return False
         try:
             self.texts, _ = edit.put_into(self.texts)
@@ -110,22 +113,26 @@ class Checked:
         if parts and all(self.verdicts[it] == "proved" for it in parts):
             return None
         for it in parts:
-            goal = re.search(r"did not prove (`[^`]*`)|could not tell", self.verdicts[it])
+            goal = re.search(r"did not prove (`[^`]*`)", self.verdicts[it])
             if goal:
                 return f"{it}: {goal[0]}"
-            own = [said for place, said in self.errors if place == it.replace("::", "/") and not NAMES_ALONE.search(said)]
+            own = [said for place, said in self.errors if place == it.replace("::", "/") and not NAMES_ALONE.search(said) and not GIVES_UP.search(said)]
             if own:
                 return f"{it}: {own[0]}"
         return ""
 
 
-def check(libraries, name, texts, words):
-    """`rattle check` of a copy of the crate with these texts."""
-    crate = libraries.folder / "crates" / name
+def copied(crate, to):
+    """Copies what the prover reads of a crate."""
+    for part in PARTS:
+        if (crate / part).is_dir():
+            shutil.copytree(crate / part, pathlib.Path(to) / part)
+
+
+def check(libraries, name, crate, texts, words):
+    """`rattle check` of a copy of the crate in this folder with these texts."""
     with tempfile.TemporaryDirectory() as room:
-        for part in ("src", "specs", "proofs"):
-            if (crate / part).is_dir():
-                shutil.copytree(crate / part, pathlib.Path(room) / part)
+        copied(crate, room)
         for file, text in texts.items():
             (pathlib.Path(room) / file).write_text(text)
         root = "main.rt" if (crate / "src" / "main.rt").is_file() else "lib.rt"
@@ -163,12 +170,15 @@ def available():
     return int(found[1])
 
 
-def tried(libraries, name, edits):
-    """Tries these wrong bodies of a crate: of each whether it is refused, and at what; and the checks with their seconds."""
+def tried(libraries, name, crate, edits):
+    """Tries these wrong bodies of the crate in this folder: of each whether it is refused, and at what; and the checks with their seconds."""
     groups, bad = grouped(edits)
     told, seconds, alone = {it: (False, f"BAD EDIT: {why}") for it, why in bad.items()}, [], []
     for group in groups:
-        done = check(libraries, name, group.texts, only(group.functions))
+        if None in group.functions:
+            alone += group.edits
+            continue
+        done = check(libraries, name, crate, group.texts, only(group.functions))
         seconds.append(done.seconds)
         if not done.verdicts:
             # one doesn't compile, say: each tells for itself
@@ -182,14 +192,15 @@ def tried(libraries, name, edits):
                 alone.append(edit)
     for edit in alone:
         texts, functions = edit.put_into({})
-        done = check(libraries, name, texts, only(functions))
+        done = check(libraries, name, crate, texts, only(functions))
         seconds.append(done.seconds)
-        told[edit] = judged(done, functions) or judged_alone(done)
+        told[edit] = (None not in functions and judged(done, functions)) or judged_alone(done)
     return told, seconds
 
 
 def only(functions):
-    return [word for it in sorted(functions) for word in ("--only", it)]
+    """The words that have these functions checked alone; where a definition was changed, which stands in none, all are."""
+    return [] if None in functions else [word for it in sorted(functions) for word in ("--only", it)]
 
 
 def judged(done, functions):
@@ -204,7 +215,7 @@ def judged(done, functions):
 
 def judged_alone(done):
     """What a check tells of the one wrong body in it: where anything fails, that is its doing."""
-    failed = {it: why for it, why in done.verdicts.items() if why != "proved"}
+    failed = {it: why for it, why in done.verdicts.items() if why != "proved" and not GIVES_UP.search(why)}
     if done.status in (1, 3) and failed:
         where, why = next(iter(failed.items()))
         return True, f"{where}: {why} (no goal of its own is told)"

@@ -1,0 +1,103 @@
+#!/usr/bin/env python3
+"""costs.py PROGRAM: the program `adalib` is fast where its contracts can't say so: what would be slow is held against what takes as long anyway.
+
+By processor time, each the least of three sessions:
+
+- over 1,000 packages with bodies, twenty builds with no edit, and twenty with an edit of one body before each, take together less than a tenth of the first build;
+- in a loop `X := X + 1;`, eight instructions that run in groups, takes less than twice what `Put ("");` takes, one of an output, which is in no group.
+
+Prints each with its milliseconds, and last `N passed, M failed`.
+"""
+import pathlib
+import re
+import subprocess
+import sys
+import time
+
+ROUNDS = 3
+MOST_BUILDS, MOST_LOOPS = 0.1, 2
+PACKAGES = 1_000
+BUILDS = 20
+TURNS = 200_000
+
+
+def put(name, text):
+    return f"put {name} {len(text)}\n{text}\n"
+
+
+def body(number, value):
+    return put(f"p{number}.adb", f"package body P{number} is\n   function F return Integer is\n   begin\n      return {value};\n   end F;\nend P{number};\n")
+
+
+def library():
+    """Packages with bodies, each over the one of half its number, and a main unit that names all."""
+    texts = []
+    for number in range(PACKAGES):
+        over = f"with P{number // 2};\n" if number else ""
+        texts += [put(f"p{number}.ads", f"{over}package P{number} is\n   function F return Integer;\nend P{number};\n"), body(number, 1)]
+    named = "".join(f"with P{number};\n" for number in range(PACKAGES))
+    return "".join(texts) + put("main.adb", f"{named}procedure Main is\n   X : Integer := P0.F;\nbegin\n   X := X + 1;\nend Main;\n")
+
+
+class Session:
+    """A session of the program, one stretch of commands after another."""
+
+    def __init__(self, program):
+        self.process = subprocess.Popen([program], stdin=subprocess.PIPE, stdout=subprocess.PIPE)
+        # the clock of another process's processor time, as clock_getcpuclockid gives it
+        self.clock = ~self.process.pid << 3 | 2
+
+    def milliseconds(self, commands, lines):
+        """The processor time that the commands take, whose replies are so many lines."""
+        before = time.clock_gettime(self.clock)
+        self.process.stdin.write(commands.encode())
+        self.process.stdin.flush()
+        replies = [self.process.stdout.readline() for _ in range(lines)]
+        wrong = [it for it in replies if not re.match(rb"ok$|built |output 0$|$|end finished$", it)]
+        if wrong:
+            raise SystemExit(f"FAILED: the reply {wrong[0]!r}")
+        return 1000 * (time.clock_gettime(self.clock) - before)
+
+    def end(self):
+        self.process.stdin.close()
+        self.process.stdout.close()
+        self.process.wait()
+
+
+def builds(program):
+    """What twenty builds with no edit and twenty with an edit take, and the first one."""
+    session = Session(program)
+    session.milliseconds(library(), 2 * PACKAGES + 1)
+    first = session.milliseconds("build main\n", 1)
+    again = session.milliseconds("build main\n" * BUILDS, BUILDS)
+    edited = session.milliseconds("".join(body(7 + 37 * number, 2) + "build main\n" for number in range(BUILDS)), 2 * BUILDS)
+    session.end()
+    return again + edited, first
+
+
+def loops(program):
+    """What a loop of assignments takes, and one of as many calls of Put."""
+    times = []
+    for statement in ("X := X + 1;", 'Ada.Text_IO.Put ("");'):
+        loop = f"   for I in 1 .. {TURNS} loop\n{statement * 10}\n   end loop;\n"
+        session = Session(program)
+        session.milliseconds(put("main.adb", f"with Ada.Text_IO;\nprocedure Main is\n   X : Integer := 0;\nbegin\n{loop}end Main;\n") + "build main\n", 2)
+        times.append(session.milliseconds("run 1000000000\n", 3))
+        session.end()
+    return times
+
+
+def main(program):
+    program = str(pathlib.Path(program).resolve())
+    passed = failed = 0
+    for name, most, measured in (("forty builds against the first", MOST_BUILDS, builds), ("a loop of assignments against one of outputs", MOST_LOOPS, loops)):
+        took, other = (min(it) for it in zip(*(measured(program) for _ in range(ROUNDS))))
+        is_fast = took < most * other
+        passed, failed = passed + is_fast, failed + (not is_fast)
+        print(f"{name}: {took:.0f} and {other:.0f} ms{'' if is_fast else f': failed, as the first is {most} times the second or more'}")
+    print(f"{passed} passed, {failed} failed")
+    return 1 if failed else 0
+
+
+if __name__ == "__main__":
+    sys.exit(main(*sys.argv[1:]))
