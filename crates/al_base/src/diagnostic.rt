@@ -6,6 +6,7 @@ use crate::place::Place;
 pub struct Diagnostic {
     /// The name of the file.
     pub file: Name,
+    /// The line and the column at which it is reported.
     pub place: Place,
     /// The number of the rule that is broken: 401 is shown as E401.
     pub code: u16,

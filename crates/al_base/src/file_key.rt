@@ -87,6 +87,7 @@ impl FileKey {
         put_tilde(&mut self.bytes[..self.len]);
     }
 
+    /// The bytes of the name.
     pub fn as_slice(&self) -> &[u8]
         ensures { result.now ≡ self.now }
     {

@@ -12,6 +12,10 @@ use std::alloc::Global;
 /// The name of the file that holds the unit, as GNAT gives it: the unit's name with hyphens for its dots, and then `.ads`
 /// for a declaration, `.adb` for a body or a subunit. A name that would begin with `a-`, `g-`, `i-` or `s-`, as those of
 /// the predefined files do, has a tilde for that hyphen.
+///
+/// # Errors
+///
+/// `NoMemory` if the allocator refuses memory.
 pub fn file_name_of(alloc: Global, key: &UnitKey) -> Result<Name, NoMemory>
     ensures { IfOk result (λ name. name ≡ file_name_of (key_of key.now)) }
 {

@@ -11,8 +11,10 @@ use std::collections::BTreeMap;
 use std::marker::Model;
 use std::rc::Rc;
 
+/// The most files that a library may have.
 pub const MAX_FILES: usize = 4096;
 
+/// The most bytes that a file may have.
 pub const MAX_TEXT: usize = 1_048_576;
 
 /// A finite map from file names to texts, in the order of the names' bytes. Copies share the texts.
@@ -39,6 +41,7 @@ impl Model for Files {
 }
 
 impl Files {
+    /// A map without files. It takes no memory.
     pub fn new(alloc: Global) -> Self
         ensures { result ≡ [] }
     {
@@ -56,6 +59,10 @@ impl Files {
     }
 
     /// A map with the same files. The texts aren't copied.
+    ///
+    /// # Errors
+    ///
+    /// `NoMemory` if the allocator refuses memory.
     pub fn copy(&self) -> Result<Files, NoMemory>
         ensures { IfOk result (λ files. files ≡ self.now) }
     {
@@ -84,6 +91,10 @@ impl Files {
     }
 
     /// The names and texts of all files, by name.
+    ///
+    /// # Errors
+    ///
+    /// `NoMemory` if the allocator refuses memory.
     pub fn list(&self) -> Result<Vec<(&[u8], &[u8])>, NoMemory>
         ensures { IfOk result (λ list. map (λ f. (f.0.now, f.1.now)) list.items ≡ self.now) }
     {
@@ -95,6 +106,10 @@ impl Files {
     }
 
     /// The names and texts of all files, by name: texts that may be shared. The names ascend.
+    ///
+    /// # Errors
+    ///
+    /// `NoMemory` if the allocator refuses memory.
     pub fn shared(&self) -> Result<Vec<(&[u8], &Rc<Vec<u8>>)>, NoMemory>
         ensures list { IfOk result (λ list. map (λ f. (f.0.now, f.1.now.value.items)) list.items ≡ self.now) }
         ensures ascend { Ascend self.now }
@@ -107,7 +122,12 @@ impl Files {
         Ok(list)
     }
 
-    /// The refusal that a put of so many bytes under the name would meet.
+    /// Whether a file of this name and of this many bytes could be put, but for memory.
+    ///
+    /// # Errors
+    ///
+    /// `BadName` if the name is not that of a source file; else `TextTooLong` if the file would have more than `MAX_TEXT` bytes;
+    /// else `TooManyFiles` if it would be new and there are `MAX_FILES` already.
     #[tactic(auto, unfolding(crate::specs::Files::put_refusal))]
     pub fn check_put(&self, name: &[u8], len: usize) -> Result<(), Refusal>
         ensures { AnswersRefusal result (put_refusal self.now name.now len) }
@@ -124,7 +144,11 @@ impl Files {
         Ok(())
     }
 
-    /// Sets the text of a file, a new one too.
+    /// Sets what a file holds. The file may be new.
+    ///
+    /// # Errors
+    ///
+    /// The refusals of `check_put`, in its order; else `NoMemory` if the allocator refuses memory. The files stay as they were.
     #[tactic(auto, unfolding(crate::specs::Files::put_refusal))]
     pub fn put(&mut self, name: &[u8], text: Vec<u8>) -> Result<(), Refusal>
         ensures answer { AnswersFirst result (put_refusal self.old name.now (length text.items)) }
@@ -146,7 +170,11 @@ impl Files {
         Ok(())
     }
 
-    /// Takes a file away. It takes no memory.
+    /// Removes a file. It takes no memory.
+    ///
+    /// # Errors
+    ///
+    /// `BadName` if the name is not that of a source file; else `NoFile` if there is no such file. The files stay as they were.
     #[tactic(auto, unfolding(crate::specs::Files::delete_refusal))]
     pub fn delete(&mut self, name: &[u8]) -> Result<(), Refusal>
         ensures answer { AnswersRefusal result (delete_refusal self.old name.now) }
@@ -162,7 +190,11 @@ impl Files {
         }
     }
 
-    /// Gives a file another name, which no file has. The text isn't copied, and the steps that can fail for memory come first.
+    /// Gives a file another name, which no file has. What it holds isn't copied, and the steps that can fail for memory come first.
+    ///
+    /// # Errors
+    ///
+    /// The refusals of `check_rename`, in its order; else `NoMemory` if the allocator refuses memory. The files stay as they were.
     pub fn rename(&mut self, old: &[u8], new: &[u8]) -> Result<(), Refusal>
         ensures answer { AnswersFirst result (rename_refusal self.old old.now new.now) }
         ensures ok { OnOk result (self.new ≡ with_renamed self.old old.now new.now) }
@@ -184,7 +216,12 @@ impl Files {
         Ok(())
     }
 
-    /// The refusal that a rename would meet.
+    /// Whether a file could be renamed, but for memory.
+    ///
+    /// # Errors
+    ///
+    /// `BadName` if either name is not that of a source file; else `NoFile` if there is no file of the old name; else `FileExists`
+    /// if there is one of the new name.
     pub fn check_rename(&self, old: &[u8], new: &[u8]) -> Result<(), Refusal>
         ensures { AnswersRefusal result (rename_refusal self.now old.now new.now) }
     {

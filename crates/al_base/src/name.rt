@@ -80,6 +80,10 @@ impl Name {
     }
 
     /// A name with a copy of these bytes.
+    ///
+    /// # Errors
+    ///
+    /// `NoMemory` if the allocator refuses memory.
     pub fn from_slice(alloc: Global, bytes: &[u8]) -> Result<Self, NoMemory>
         ensures { IfOk result (λ name. name ≡ bytes.now) }
     {
@@ -91,7 +95,11 @@ impl Name {
         Ok(Name { bytes })
     }
 
-    /// The same name once more.
+    /// A copy of the name.
+    ///
+    /// # Errors
+    ///
+    /// `NoMemory` if the allocator refuses memory.
     pub fn copy(&self, alloc: Global) -> Result<Self, NoMemory>
         ensures { IfOk result (λ copy. copy ≡ self.now) }
     {
@@ -102,6 +110,7 @@ impl Name {
         Ok(Name { bytes })
     }
 
+    /// The bytes of the name.
     pub fn as_slice(&self) -> &[u8]
         ensures { result.now ≡ self.now }
     {
@@ -111,7 +120,11 @@ impl Name {
         }
     }
 
-    /// Gives the bytes back. A short name takes memory for them.
+    /// Gives the bytes back. A name of at most 22 bytes may take memory for them.
+    ///
+    /// # Errors
+    ///
+    /// `NoMemory` if the allocator refuses memory.
     pub fn into_vec(self, alloc: Global) -> Result<Vec<u8>, NoMemory>
         ensures { IfOk result (λ bytes. bytes.items ≡ self) }
     {
@@ -121,6 +134,10 @@ impl Name {
 }
 
 /// The word in lower case, in which names are kept (ARM 2.3: case doesn't tell identifiers apart).
+///
+/// # Errors
+///
+/// `NoMemory` if the allocator refuses memory.
 pub fn folded(alloc: Global, word: &[u8]) -> Result<Name, NoMemory>
     ensures { IfOk result (λ name. name ≡ map to_ascii_lowercase word.now) }
 {

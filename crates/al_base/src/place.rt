@@ -3,7 +3,9 @@
 /// A line and a column, both from 1. A column counts bytes (ARM 2.2 leaves the count of lines to the implementation).
 #[derive(Clone, Copy, PartialEq, Eq, PartialOrd, Ord)]
 pub struct Place {
+    /// The line, from 1.
     pub line: u32,
+    /// The column, from 1, in bytes.
     pub col: u32,
 }
 

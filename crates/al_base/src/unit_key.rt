@@ -15,6 +15,8 @@ pub enum UnitKind {
 /// A unit of a library: its full name in lower case, and which part it is. Units are ordered by name, then by part.
 #[derive(Drop, PartialEq, Eq, PartialOrd, Ord, Hash)]
 pub struct UnitKey {
+    /// The full name in lower case, with dots between its identifiers.
     pub name: Name,
+    /// Which part of the unit it is.
     pub kind: UnitKind,
 }

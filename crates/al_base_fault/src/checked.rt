@@ -7,7 +7,11 @@ use crate::fault::{Fault, earlier};
 /// What is right, or the first rule that it breaks.
 pub type CheckResult<A> = Result<A, Fault>;
 
-/// Two things that are judged each by itself: both where both are right, else the first fault of either.
+/// Two things that are judged separately: both if both are right, else the first fault of either.
+///
+/// # Errors
+///
+/// The earlier of the two faults, or the only one.
 pub fn both<A: Drop, B: Drop>(one: CheckResult<A>, two: CheckResult<B>) -> CheckResult<(A, B)>
     ensures { result ≡ both one two }
 {
@@ -20,7 +24,11 @@ pub fn both<A: Drop, B: Drop>(one: CheckResult<A>, two: CheckResult<B>) -> Check
     }
 }
 
-/// One more rule that may be broken: the first fault of both.
+/// What was checked, with one more rule that may be broken.
+///
+/// # Errors
+///
+/// The earlier of the two faults, or the only one.
 pub fn unless<A: Drop>(fault: Option<Fault>, checked: CheckResult<A>) -> CheckResult<A>
     ensures { result ≡ unless fault checked }
 {

@@ -8,7 +8,9 @@ use al_base::Place;
 /// A rule that is broken, and where.
 #[derive(Clone, Copy)]
 pub struct Fault {
+    /// The place at which it is reported.
     pub place: Place,
+    /// The rule that is broken.
     pub rule: CheckRule,
 }
 

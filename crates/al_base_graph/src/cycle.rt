@@ -10,6 +10,7 @@ use std::alloc::{AllocError, Global};
 
 /// Nodes each of which has the next one as a predecessor, and the last one the first.
 pub struct Cycle {
+    /// The nodes, by their numbers. There is at least one.
     pub nodes: Vec<usize>,
 }
 

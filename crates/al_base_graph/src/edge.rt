@@ -20,10 +20,15 @@ pub enum Reason {
 /// An item of one node, which comes after an item of another node. Items are told by their places in the order of keys.
 #[derive(Clone, Copy)]
 pub struct Edge {
+    /// The node that comes later.
     pub after: usize,
+    /// The node that comes earlier.
     pub before: usize,
+    /// Why the one comes after the other.
     pub reason: Reason,
+    /// The item of the later node.
     pub x: usize,
+    /// The item of the earlier node.
     pub y: usize,
 }
 
@@ -100,6 +105,10 @@ fn lines_of(alloc: Global, edges: &[Edge], cycle: &[usize]) -> Result<Vec<Edge>,
 }
 
 /// The order of so many nodes under the ties, or the lines that show a cycle.
+///
+/// # Errors
+///
+/// `AllocError` if the allocator refuses memory.
 pub fn order_of_ties(
     alloc: Global,
     count: usize,

@@ -34,6 +34,10 @@ impl Model for Graph {
 
 impl Graph {
     /// A graph with no step.
+    ///
+    /// # Errors
+    ///
+    /// `AllocError` if the allocator refuses memory.
     pub fn new(alloc: Global, count: usize) -> Result<Graph, AllocError>
         ensures { IfOk result (λ graph. graph ≡ replicate count []) }
     {
@@ -65,7 +69,11 @@ impl Graph {
         self.successors[node].as_slice()
     }
 
-    /// Adds a step, also one that is there.
+    /// Adds a step from one node to another. It may be there already.
+    ///
+    /// # Errors
+    ///
+    /// `AllocError` if the allocator refuses memory. Nothing has changed then.
     pub fn add(&mut self, from: usize, to: usize) -> Result<(), AllocError>
         requires from_in { from < length self.old }
         requires to_in { to < length self.old }

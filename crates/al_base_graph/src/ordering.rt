@@ -11,6 +11,10 @@ use std::alloc::{AllocError, Global};
 
 /// The order of a graph's nodes, each of whose steps leads to a predecessor: all nodes, each time the least whose predecessors all
 /// stand before it. It is there exactly where no node is stuck; and else the cycle to which the walk over stuck nodes comes.
+///
+/// # Errors
+///
+/// `AllocError` if the allocator refuses memory.
 pub fn order(alloc: Global, graph: &Graph) -> Result<Result<Vec<usize>, Cycle>, AllocError>
     ensures { IfOk result (λ ordered. MatchResult ordered (λ order. IsOrdered graph.now order.items) (λ cycle. IsCycle graph.now cycle.nodes.items)) }
 {

@@ -8,6 +8,10 @@ use std::alloc::AllocError;
 
 impl Graph {
     /// The graph with each step the other way round.
+    ///
+    /// # Errors
+    ///
+    /// `AllocError` if the allocator refuses memory.
     pub fn reversed(&self) -> Result<Graph, AllocError>
         ensures { IfOk result (λ graph. IsReverse self.now graph) }
     {
@@ -20,6 +24,10 @@ impl Graph {
 
     /// A flag for each node, which is set at those from which some number of steps leads to one of the goals; no step
     /// leads from a goal to itself. Each node and each step is looked at once.
+    ///
+    /// # Errors
+    ///
+    /// `AllocError` if the allocator refuses memory.
     pub fn reaching(&self, goals: &[usize]) -> Result<Vec<bool>, AllocError>
         requires { All (λ goal. goal < length self.now) goals.now }
         ensures { IfOk result (λ flags. Marks flags.items (length self.now) (ReachesSome self.now goals.now)) }

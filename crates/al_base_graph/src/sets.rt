@@ -11,6 +11,10 @@ use std::alloc::{AllocError, Global};
 impl Graph {
     /// A flag for each node, which is set at those that some number of steps leads to from one of the starts; no step
     /// leads from a start to itself. Each node and each step is looked at once.
+    ///
+    /// # Errors
+    ///
+    /// `AllocError` if the allocator refuses memory.
     pub fn reached(&self, starts: &[usize]) -> Result<Vec<bool>, AllocError>
         requires { All (λ start. start < length self.now) starts.now }
         ensures { IfOk result (λ flags. Marks flags.items (length self.now) (IsReached self.now starts.now)) }
@@ -20,6 +24,10 @@ impl Graph {
     }
 
     /// The nodes that `reached` marks, in ascending order.
+    ///
+    /// # Errors
+    ///
+    /// `AllocError` if the allocator refuses memory.
     pub fn closure(&self, starts: &[usize]) -> Result<Vec<usize>, AllocError>
         requires { All (λ start. start < length self.now) starts.now }
         ensures { IfOk result (λ nodes. Lists nodes.items (IsReached self.now starts.now)) }
@@ -30,6 +38,10 @@ impl Graph {
 
     /// A flag for each node, which is set at those from which at least one step leads back to the node. Each node and each
     /// step is looked at once, and no recursion uses the machine's stack.
+    ///
+    /// # Errors
+    ///
+    /// `AllocError` if the allocator refuses memory.
     pub fn on_cycles(&self) -> Result<Vec<bool>, AllocError>
         ensures { IfOk result (λ flags. Marks flags.items (length self.now) (IsOnCycle self.now)) }
     {

@@ -40,7 +40,11 @@ impl AllocFailures {
         self.count
     }
 
-    /// Gives back what a growth gave, and counts it where it was refused.
+    /// Gives back the result of a growth, and counts it if it was refused.
+    ///
+    /// # Errors
+    ///
+    /// The error of the growth, if it has one. The count is then one higher, to 2^64-1.
     pub fn of<T: Drop>(&mut self, grown: Result<T, NoMemory>) -> Result<T, NoMemory>
         ensures same { result ≡ grown }
         ensures counted { self.new ≡ counted (is_ok grown) self.old }

@@ -9,7 +9,9 @@ use std::marker::Model;
 /// Where a symbol stands: so many bytes after the front of the unit's code, at this of its words, or as this of its
 /// protected objects.
 pub struct Address {
+    /// The symbol.
     pub symbol: LinkSymbol,
+    /// The bytes before it in the unit's code, its word, or the number of the protected object.
     pub offset: u32,
 }
 
@@ -24,7 +26,9 @@ impl Drop for Address {
 
 /// Where the operand of an instruction counts from the place of a symbol.
 pub struct Relocation {
+    /// The place of the operand in the unit's code, in bytes.
     pub place: u32,
+    /// The symbol whose place is added.
     pub symbol: LinkSymbol,
 }
 
@@ -40,8 +44,11 @@ impl Drop for Relocation {
 /// The words of the components of a protected object in the words of its unit, and its ceiling (ARM D.3), which is 0 to 30.
 #[derive(Clone, Copy)]
 pub struct Region {
+    /// The first word, counted in its unit.
     pub word: u32,
+    /// How many words the components take.
     pub words: u32,
+    /// The ceiling.
     pub ceiling: Priority,
 }
 

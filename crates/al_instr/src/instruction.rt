@@ -43,7 +43,11 @@ pub enum Instr {
 }
 
 impl Instr {
-    /// Appends its bytes.
+    /// Appends the bytes of the instruction.
+    ///
+    /// # Errors
+    ///
+    /// `NoMemory` if the allocator refuses memory. What `out` then has isn't specified.
     #[tactic(auto, unfolding(crate::specs::Codes::encoded))]
     pub fn encode(&self, out: &mut Vec<u8>) -> Result<(), NoMemory>
         ensures { OnOk result (out.new.items ≡ out.old.items ++ encoded self.now) }

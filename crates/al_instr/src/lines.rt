@@ -30,6 +30,10 @@ pub fn are_lines(lines: &[LineEntry], end: usize) -> bool
 }
 
 /// The table of lines that marks in code of this length make: of several at one place the last one stays, and none at its end.
+///
+/// # Errors
+///
+/// `NoMemory` if the allocator refuses memory.
 pub fn line_table(
     alloc: Global,
     marks: &[LineEntry],
@@ -74,6 +78,10 @@ pub fn line_at(lines: &[LineEntry], place: usize) -> Option<u32>
 }
 
 /// Appends the lines of an object whose code begins at this place of the image's.
+///
+/// # Errors
+///
+/// `NoMemory` if the allocator refuses memory. What `lines` then has isn't specified.
 pub fn push_shifted(
     lines: &mut Vec<LineEntry>,
     start: u32,

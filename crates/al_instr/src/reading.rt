@@ -10,7 +10,11 @@ use crate::numbers::{Plain, Protected, Sized};
 use crate::text::{Text, Word, Words};
 use std::alloc::Global;
 
-/// The instruction whose bytes stand at the front, and what is after them.
+/// The instruction with whose bytes the code begins, and the bytes after it.
+///
+/// # Errors
+///
+/// `Damaged` if the bytes don't begin with those of an instruction; `NoMemory` if the allocator refuses memory.
 pub fn decode(alloc: Global, bytes: &[u8]) -> Result<(Instr, &[u8]), DecodeFault>
     ensures found { IfOk result (λ x. bytes.now ≡ encoded x.0 ++ x.1.now) }
     ensures fits { IfOk result (λ x. IsInstr x.0) }

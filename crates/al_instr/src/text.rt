@@ -23,6 +23,10 @@ impl Model for Text {
 
 impl Text {
     /// The text of these bytes.
+    ///
+    /// # Errors
+    ///
+    /// `NoMemory` if the allocator refuses memory.
     pub fn from_slice(alloc: Global, bytes: &[u8]) -> Result<Self, NoMemory>
         requires { length bytes.now < 4294967296 }
         ensures { IfOk result (λ text. text ≡ bytes.now) }
@@ -31,6 +35,7 @@ impl Text {
         Ok(Text { bytes })
     }
 
+    /// The bytes of the text.
     pub fn as_slice(&self) -> &[u8]
         ensures value { result.now ≡ self.now }
         ensures within { length result.now < 4294967296 }
@@ -62,6 +67,10 @@ impl Model for Word {
 
 impl Word {
     /// The name of these bytes.
+    ///
+    /// # Errors
+    ///
+    /// `NoMemory` if the allocator refuses memory.
     pub fn from_slice(alloc: Global, bytes: &[u8]) -> Result<Self, NoMemory>
         requires { length bytes.now < 256 }
         ensures { IfOk result (λ word. word ≡ bytes.now) }
@@ -70,6 +79,7 @@ impl Word {
         Ok(Word { bytes })
     }
 
+    /// The bytes of the name.
     pub fn as_slice(&self) -> &[u8]
         ensures value { result.now ≡ self.now }
         ensures within { length result.now < 256 }
@@ -109,7 +119,11 @@ impl Words {
         }
     }
 
-    /// One more name, at the end.
+    /// Adds a name at the end.
+    ///
+    /// # Errors
+    ///
+    /// `NoMemory` if the allocator refuses memory. What the names then are isn't specified.
     pub fn push(&mut self, word: Word) -> Result<(), NoMemory>
         requires { length self.old < 4294967295 }
         ensures { OnOk result (self.new ≡ self.old ++ word ∷ []) }

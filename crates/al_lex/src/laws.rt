@@ -2,7 +2,6 @@
 ghost use Rattle.al_lex.specs.Laws.{EndIsAfter, FaultEndsCut, PiecesAreLongest, PlacesRise, TokensAreCut, TokensLieInText};
 
 /// A text is cut into pieces in one way: each is the longest that begins where the one before ended.
-
 pub fn texts_are_cut()
     ensures tokens { TokensAreCut }
     ensures fault { FaultEndsCut }

@@ -22,7 +22,9 @@ pub enum Kind {
 /// A lexeme. Its text is the slice of the source that the span names.
 #[derive(Clone, Copy)]
 pub struct Token {
+    /// What sort of lexeme it is.
     pub kind: Kind,
+    /// Which bytes of the source it has.
     pub span: Span,
 }
 
@@ -64,6 +66,7 @@ impl LexCode {
 pub struct LexFault {
     /// Where the faulty lexeme begins.
     pub place: Place,
+    /// Which rule is broken.
     pub code: LexCode,
 }
 

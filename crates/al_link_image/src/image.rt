@@ -79,6 +79,7 @@ impl Image {
         self.parts.tasks
     }
 
+    /// How many data words there are.
     pub fn data_words(&self) -> u32
         ensures value { result ≡ self.now.data_words }
         ensures within { result ≤ 1048576 }
@@ -121,6 +122,10 @@ impl Image {
     }
 
     /// The code's instructions.
+    ///
+    /// # Errors
+    ///
+    /// `NoMemory` if the allocator refuses memory.
     pub fn instructions(&self, alloc: Global) -> Result<Vec<Instr>, NoMemory>
         ensures { IfOk result (λ instructions. instructions.items ≡ self.now.code) }
     {
@@ -128,6 +133,10 @@ impl Image {
     }
 
     /// The image's bytes, in all numbers the highest byte first.
+    ///
+    /// # Errors
+    ///
+    /// `NoMemory` if the allocator refuses memory.
     pub fn bytes(&self, alloc: Global) -> Result<Vec<u8>, NoMemory>
         ensures { IfOk result (λ bytes. bytes.items ≡ image_bytes self.now) }
     {
@@ -136,7 +145,11 @@ impl Image {
         Ok(out)
     }
 
-    /// The image's bytes in the place of others. It takes no memory where there is room for them.
+    /// Writes the image's bytes over those that are in `out`. It takes no memory if there is room for them.
+    ///
+    /// # Errors
+    ///
+    /// `NoMemory` if there is no room and the allocator refuses memory. What `out` then has isn't specified.
     #[tactic(auto, unfolding(crate::specs::Images::image_bytes))]
     pub fn bytes_into(&self, out: &mut Vec<u8>) -> Result<(), NoMemory>
         ensures value { OnOk result (out.new.items ≡ image_bytes self.now) }

@@ -18,7 +18,11 @@ use al_instr::LineEntry;
 use std::alloc::Global;
 
 impl Image {
-    /// The image whose bytes these are; there is none exactly where they are damaged.
+    /// The image that has these bytes.
+    ///
+    /// # Errors
+    ///
+    /// `Damaged` if no image has these bytes; `NoMemory` if the allocator refuses memory.
     pub fn read(alloc: Global, bytes: &[u8]) -> Result<Image, LinkFault>
         ensures found { IfOk result (λ image. bytes.now ≡ image_bytes image) }
         ensures within { IfOk result (λ image. IsImage image) }

@@ -97,7 +97,12 @@ fn logical(a: i64, b: i64, value: bool) -> Result<i64, Trap>
     }
 }
 
-/// What an operator gives of the left operand and the right one.
+/// The result of an operator on the left operand and the right one.
+///
+/// # Errors
+///
+/// `Raised` with Constraint_Error if the result has no value or is no word of 64 bits; `Stuck` if a logical operator has an operand
+/// other than 0 and 1.
 #[tactic(auto, using(crate::proofs::WordLemmas::word_of_some), unfolding(crate::specs::Arithmetic::operated))]
 pub fn operated(operator: BinaryOperator, a: i64, b: i64) -> Result<i64, Trap>
     ensures { result ≡ operated operator a b }
@@ -122,7 +127,11 @@ pub fn operated(operator: BinaryOperator, a: i64, b: i64) -> Result<i64, Trap>
     }
 }
 
-/// What an operator gives of one operand.
+/// The result of an operator on one operand.
+///
+/// # Errors
+///
+/// `Raised` with Constraint_Error if the result of `Neg` or `Abs` is no word of 64 bits; `Stuck` if that of `Not` is none.
 #[tactic(auto, using(crate::proofs::WordLemmas::word_of_some), unfolding(crate::specs::Arithmetic::changed))]
 pub fn changed(operator: UnaryOperator, a: i64) -> Result<i64, Trap>
     ensures { result ≡ changed operator a }

@@ -50,7 +50,12 @@ fn word_below(memory: &[i64], registers: &Registers, below: u32) -> Option<i64>
     Some(memory[registers.top - 1 - below])
 }
 
-/// Appends what an instruction puts out, or changes nothing.
+/// Appends what an instruction puts out.
+///
+/// # Errors
+///
+/// `NoMemory` if the allocator refuses memory. The inner error is `Stuck` if the frame has no such word or the word is the position
+/// of no name. The output stays as it was.
 #[tactic(auto, unfolding(crate::specs::Output::text_of))]
 pub fn put_out(
     output: &mut Vec<u8>,

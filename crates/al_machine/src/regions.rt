@@ -10,7 +10,9 @@ use std::marker::Model;
 /// A protected object that a task is inside, by its number, and the task's priority before it entered.
 #[derive(Clone, Copy)]
 pub struct Entered {
+    /// The number of the object.
     pub object: u32,
+    /// The task's priority before it entered.
     pub before: u32,
 }
 

@@ -13,11 +13,19 @@ pub const STACK: usize = 16_384;
 /// last word on its stack.
 #[derive(Clone, Copy)]
 pub struct Registers {
+    /// The first of the task's own stack words.
     pub first: usize,
+    /// The first word of its frame.
     pub frame: usize,
+    /// The place after the last word on its stack.
     pub top: usize,
 }
 
+/// Puts a word on the stack.
+///
+/// # Errors
+///
+/// `Raised` with Storage_Error if the stack is full. Memory and registers stay as they were.
 #[tactic(auto, unfolding(crate::specs::Stack::pushed))]
 pub fn push(memory: &mut [i64], registers: &mut Registers, word: i64) -> Result<(), Trap>
     requires { IsWithin (machine memory.old registers.old) }
@@ -31,6 +39,11 @@ pub fn push(memory: &mut [i64], registers: &mut Registers, word: i64) -> Result<
     Ok(())
 }
 
+/// Takes so many words from the stack.
+///
+/// # Errors
+///
+/// `Stuck` if the frame has fewer words. Memory and registers stay as they were.
 #[tactic(auto, unfolding(crate::specs::Stack::dropped))]
 pub fn drop_words(memory: &mut [i64], registers: &mut Registers, words: usize) -> Result<(), Trap>
     requires { IsWithin (machine memory.old registers.old) }
@@ -43,6 +56,12 @@ pub fn drop_words(memory: &mut [i64], registers: &mut Registers, words: usize) -
     Ok(())
 }
 
+/// Takes twice so many words from the stack, and puts 1 on it if both halves are equal, else 0.
+///
+/// # Errors
+///
+/// `Stuck` if the frame has fewer words; `Raised` with Storage_Error if there are none to take and the stack is full. Memory and
+/// registers stay as they were.
 #[tactic(auto, unfolding(crate::specs::Stack::compared))]
 pub fn same(memory: &mut [i64], registers: &mut Registers, words: usize) -> Result<(), Trap>
     requires within { IsWithin (machine memory.old registers.old) }
@@ -64,6 +83,12 @@ pub fn same(memory: &mut [i64], registers: &mut Registers, words: usize) -> Resu
     Ok(())
 }
 
+/// Checks that the word on top of the stack lies between two bounds.
+///
+/// # Errors
+///
+/// `Stuck` if the frame has no word; `Raised` with Constraint_Error if the word is outside of the bounds. Memory and registers stay
+/// as they were.
 #[tactic(auto, unfolding(crate::specs::Stack::checked))]
 pub fn check(memory: &mut [i64], registers: &mut Registers, low: i64, high: i64) -> Result<(), Trap>
     requires { IsWithin (machine memory.old registers.old) }
@@ -80,6 +105,11 @@ pub fn check(memory: &mut [i64], registers: &mut Registers, low: i64, high: i64)
     }
 }
 
+/// Takes two words from the stack and puts the result of an operator on it.
+///
+/// # Errors
+///
+/// `Stuck` if the frame has fewer words; else the error of `operated`. Memory and registers stay as they were.
 #[tactic(auto, unfolding(crate::specs::Stack::binary))]
 #[inline(always)]
 pub fn binary(
@@ -100,6 +130,11 @@ pub fn binary(
     Ok(())
 }
 
+/// Puts the result of an operator in the place of the word on top of the stack.
+///
+/// # Errors
+///
+/// `Stuck` if the frame has no word; else the error of `changed`. Memory and registers stay as they were.
 #[tactic(auto, unfolding(crate::specs::Stack::unary))]
 pub fn unary(
     memory: &mut [i64],

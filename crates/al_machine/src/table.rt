@@ -22,6 +22,11 @@ fn trap_of(code: u32) -> Trap
 }
 
 /// Carries out an instruction for a task inside those objects; `next` is the place after the instruction.
+///
+/// # Errors
+///
+/// `Stuck` if the instruction has no effect in this state; `Raised` with the exception that it raises. Memory and registers stay as
+/// they were.
 #[inline(always)]
 pub fn exec(
     memory: &mut [i64],

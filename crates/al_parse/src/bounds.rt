@@ -15,6 +15,10 @@ use al_tree::{DiscreteRange, Range, Symbol};
 use std::alloc::Global;
 
 /// `range low .. high` (ARM 3.5(3))
+///
+/// # Errors
+///
+/// `Fault` with the number of tokens that are left where no sentence goes on; `Memory` if the allocator refuses memory.
 #[tactic(auto, unfolding(al_tree_syntax::specs::Expressions::range_rule))]
 pub fn range<'a>(
     alloc: Global,
@@ -32,6 +36,10 @@ pub fn range<'a>(
 }
 
 /// A subtype's name, both bounds, or a subtype's name with both bounds after it (ARM 3.6.1(2)).
+///
+/// # Errors
+///
+/// `Fault` with the number of tokens that are left where no sentence goes on; `Memory` if the allocator refuses memory.
 #[tactic(auto, unfolding(al_tree_syntax::specs::Expressions::discrete_range_rule, al_tree_syntax::specs::Expressions::range_rule))]
 pub fn discrete_range<'a>(
     alloc: Global,

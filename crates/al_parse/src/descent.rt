@@ -40,6 +40,10 @@ use al_tree::{
 use std::alloc::Global;
 
 /// Relations joined by one logical operator (ARM 4.4(2)).
+///
+/// # Errors
+///
+/// `Fault` with the number of tokens that are left where no sentence goes on; `Memory` if the allocator refuses memory.
 #[cycle(expression)]
 #[tactic(auto, unfolding(al_tree_syntax::specs::Expressions::expression_rule, crate::specs::Logical::logical_rule), using(crate::proofs::Levels::relation_in_chain))]
 pub fn expression<'a>(
@@ -266,7 +270,11 @@ fn upper_bound<'a>(
     }
 }
 
-/// Terms with adding operators between them, perhaps with a sign in front (ARM 4.4(4)).
+/// Terms with adding operators between them, perhaps with a sign before the first (ARM 4.4(4)).
+///
+/// # Errors
+///
+/// `Fault` with the number of tokens that are left where no sentence goes on; `Memory` if the allocator refuses memory.
 #[cycle(expression)]
 #[tactic(auto, using(crate::proofs::Levels::stands_there))]
 pub fn simple_expression<'a>(
@@ -526,6 +534,10 @@ fn more_expressions<'a>(
 }
 
 /// The name that begins with this identifier, as a statement has it: no qualified expression may stand there.
+///
+/// # Errors
+///
+/// `Fault` with the number of tokens that are left where no sentence goes on; `Memory` if the allocator refuses memory.
 #[tactic(auto, using(crate::proofs::Levels::stands_there))]
 pub fn name_from<'a>(
     alloc: Global,

@@ -44,7 +44,11 @@ pub fn skip<'a>(source: &[u8], tokens: &'a [Token], symbol: Symbol) -> Option<&'
     Some(rest)
 }
 
-/// What is after this delimiter or reserved word.
+/// The tokens after this delimiter or reserved word, which must come first.
+///
+/// # Errors
+///
+/// `Fault` with the number of all tokens, if the first one is another.
 pub fn expect<'a>(source: &[u8], tokens: &'a [Token], symbol: Symbol) -> Result<&'a [Token], Stop>
     requires { is_labelled (symbol_model symbol) ≡ false }
     ensures { Gives (λ _. Fixed (number (symbol_model symbol)) ∷ []) (λ rest. lexemes source.now rest.now) result (lexemes source.now tokens.now) (one (number (symbol_model symbol)) (lexemes source.now tokens.now)) }
@@ -52,7 +56,11 @@ pub fn expect<'a>(source: &[u8], tokens: &'a [Token], symbol: Symbol) -> Result<
     skip(source, tokens, symbol).ok_or(Stop::Fault(tokens.len()))
 }
 
-/// Behind the first word of a construct, where one more may be open: how many more may be open in it.
+/// Reads the first word of a construct: how many more constructs may be open in it, and the tokens after the word.
+///
+/// # Errors
+///
+/// `Fault` with the number of all tokens, if the first one is another or no more construct may be open.
 pub fn enter<'a>(
     source: &[u8],
     depth: u32,
@@ -84,7 +92,11 @@ pub fn skip_at<'a>(
     Some((token.span.place, rest))
 }
 
-/// The place of this delimiter or reserved word, and what is after it.
+/// The place of this delimiter or reserved word, which must come first, and the tokens after it.
+///
+/// # Errors
+///
+/// `Fault` with the number of all tokens, if the first one is another.
 pub fn word_at<'a>(
     source: &[u8],
     tokens: &'a [Token],
@@ -97,7 +109,11 @@ pub fn word_at<'a>(
     skip_at(source, tokens, symbol).ok_or(Stop::Fault(tokens.len()))
 }
 
-/// The same as `enter`, for a first word with a label: also its place.
+/// Reads the first word of a construct: how many more constructs may be open in it, the place of the word, and the tokens after it.
+///
+/// # Errors
+///
+/// `Fault` with the number of all tokens, if the first one is another or no more construct may be open.
 pub fn enter_at<'a>(
     source: &[u8],
     depth: u32,
@@ -115,7 +131,11 @@ pub fn enter_at<'a>(
     Ok((depth - 1, place, rest))
 }
 
-/// An identifier.
+/// The identifier that must come first, and the tokens after it.
+///
+/// # Errors
+///
+/// `Fault` with the number of all tokens, if the first one is another. `Memory` if the allocator refuses memory.
 pub fn identifier<'a>(
     alloc: Global,
     source: &[u8],
@@ -139,7 +159,11 @@ pub fn number<'a>(source: &[u8], tokens: &'a [Token]) -> Option<(NumericLiteral,
     Some((NumericLiteral::of_token(source, token), rest))
 }
 
-/// A string literal.
+/// The string literal that must come first, and the tokens after it.
+///
+/// # Errors
+///
+/// `Fault` with the number of all tokens, if the first one is another. `Memory` if the allocator refuses memory.
 pub fn string<'a>(
     alloc: Global,
     source: &[u8],

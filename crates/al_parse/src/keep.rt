@@ -9,7 +9,11 @@ use crate::stop::Stop;
 use al_tree::{Expression, PrefixOperator, Prefixed, Sign};
 use std::alloc::Global;
 
-/// The value in a place of its own, so that what holds it is small.
+/// The value in a box, so that what holds it is small.
+///
+/// # Errors
+///
+/// `Memory` if the allocator refuses memory; no other error.
 pub fn boxed<T: Drop>(alloc: Global, value: T) -> Result<Box<T>, Stop>
     ensures kept { IfOk result (λ b. b.value ≡ value) }
     ensures refused { IfErr result (λ e. e ≡ Memory) }
@@ -17,7 +21,11 @@ pub fn boxed<T: Drop>(alloc: Global, value: T) -> Result<Box<T>, Stop>
     Ok(Box::new(alloc, value)?)
 }
 
-/// Adds an item after a list. The first one takes the room of one alone: most lists of a tree have no more.
+/// Adds an item at the end of a list. The first item takes room for one alone, as most lists of a tree have no more.
+///
+/// # Errors
+///
+/// `Memory` if the allocator refuses memory; no other error.
 pub fn append<T: Drop>(list: &mut Vec<T>, item: T) -> Result<(), Stop>
     ensures items { OnOk result (list.new.items ≡ list.old.items ++ item ∷ []) }
     ensures refused { IfErr result (λ e. e ≡ Memory) }

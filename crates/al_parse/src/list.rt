@@ -21,6 +21,10 @@ use al_tree::{CompoundName, CompoundNames, Identifier, Identifiers, Symbol};
 use std::alloc::Global;
 
 /// `identifier {, identifier}`
+///
+/// # Errors
+///
+/// `Fault` with the number of tokens that are left where no sentence goes on; `Memory` if the allocator refuses memory.
 #[tactic(auto, unfolding(al_tree_syntax::specs::Expressions::identifier_rule, al_tree_syntax::specs::Expressions::identifiers_rule))]
 pub fn identifiers<'a>(
     alloc: Global,
@@ -35,6 +39,10 @@ pub fn identifiers<'a>(
 }
 
 /// `identifier {. identifier}` (ARM 4.1.3, 6.1, 10.1.1)
+///
+/// # Errors
+///
+/// `Fault` with the number of tokens that are left where no sentence goes on; `Memory` if the allocator refuses memory.
 #[tactic(auto, unfolding(al_tree_syntax::specs::Expressions::identifier_rule, al_tree_syntax::specs::Expressions::compound_name_rule))]
 pub fn compound_name<'a>(
     alloc: Global,
@@ -49,6 +57,10 @@ pub fn compound_name<'a>(
 }
 
 /// `compound name {, compound name}`
+///
+/// # Errors
+///
+/// `Fault` with the number of tokens that are left where no sentence goes on; `Memory` if the allocator refuses memory.
 #[tactic(auto, unfolding(al_tree_syntax::specs::Expressions::compound_names_rule))]
 pub fn compound_names<'a>(
     alloc: Global,

@@ -73,7 +73,11 @@ fn copied_operators(alloc: Global, of_type: &Symbol, types: &Types) -> Result<Us
 }
 
 impl UseClause {
-    /// The same once more.
+    /// A copy of the use clause.
+    ///
+    /// # Errors
+    ///
+    /// `NoMemory` if the allocator refuses memory.
     pub fn copy(&self, alloc: Global) -> Result<Self, NoMemory>
         ensures { IfOk result (λ copy. copy ≡ self.now) }
     {
@@ -87,7 +91,9 @@ impl UseClause {
 
 /// A use clause that stands immediately in a part of a unit.
 pub struct UseInPart {
+    /// The part of the unit.
     pub part: Part,
+    /// The names of the clause.
     pub clause: UseClause,
     /// The stubs of a body or subunit that it stands before.
     pub before: Seq<Name>,
@@ -128,7 +134,9 @@ impl Drop for ContextView {
 
 /// A declaration that a body must complete, by its name (ARM 3.11.1).
 pub struct Completion {
+    /// The name in lower case.
     pub name: Name,
+    /// What is declared.
     pub view: View,
 }
 
@@ -193,6 +201,11 @@ impl Model for Answer {
 }
 
 impl Answer {
+    /// An answer that can be shared.
+    ///
+    /// # Errors
+    ///
+    /// `NoMemory` if the allocator refuses memory.
     pub fn new(alloc: Global, kind: AnswerKind) -> Result<Self, NoMemory>
         ensures { IfOk result (λ answer. answer ≡ kind) }
     {
@@ -200,13 +213,18 @@ impl Answer {
         Ok(Answer { kind })
     }
 
+    /// What the answer says.
     pub fn kind(&self) -> &AnswerKind
         ensures { result.now ≡ self.now }
     {
         &self.kind
     }
 
-    /// The same answer once more.
+    /// A second holder of the same answer. It isn't copied.
+    ///
+    /// # Errors
+    ///
+    /// `NoMemory` if the allocator refuses memory.
     pub fn share(&self) -> Result<Self, NoMemory>
         ensures { IfOk result (λ answer. answer ≡ self.now) }
     {

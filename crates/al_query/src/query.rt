@@ -89,7 +89,11 @@ impl Query {
         }
     }
 
-    /// The same question once more.
+    /// A copy of the question.
+    ///
+    /// # Errors
+    ///
+    /// `NoMemory` if the allocator refuses memory.
     pub fn copy(&self, alloc: Global) -> Result<Query, NoMemory>
         ensures { IfOk result (λ copy. copy ≡ self.now) }
     {

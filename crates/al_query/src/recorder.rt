@@ -25,6 +25,11 @@ pub trait Answers {
 
     ghost table: { Self → Query → AnswerKind };
 
+    /// The answer to a question.
+    ///
+    /// # Errors
+    ///
+    /// `NoMemory` if the allocator refuses memory.
     fn ask(&self, query: &Query) -> Result<Answer, NoMemory>
         ensures { IfOk result (λ answer. answer ≡ table self.now query.now) };
 }
@@ -122,9 +127,13 @@ impl<A: Answers> Recorder<A> {
         }
     }
 
-    /// The answer, recorded where the log lacks the question, an empty one too. A table that agrees with the log from
-    /// now on gives this answer too. It doesn't give up unseen: where it answers want of memory, its own or that of who is
-    /// asked, one more is counted, and none elsewhere.
+    /// The answer to a question. It is recorded if the log lacks the question, also if it is empty. Every table that agrees with
+    /// the log from now on gives this answer.
+    ///
+    /// # Errors
+    ///
+    /// `NoMemory` if the allocator refuses memory. The log is then unchanged, and the count of failures is one higher, which it is
+    /// in no other case.
     pub fn ask(&mut self, query: &Query) -> Result<Answer, NoMemory>
         ensures asked { self.new.asked ≡ self.old.asked }
         ensures answer { IfOk result (λ answer. answer ≡ A.table self.old.asked query.now) }

@@ -46,6 +46,10 @@ pub trait UnitCheck {
     ///   procedure that may be the main one its own; only a declaration that needs a body leaves code to it.
     /// - `faults`: where something is wrong, it is said, of the unit's own file.
     /// - `counted`: one more check was made, also where memory lacked.
+    ///
+    /// # Errors
+    ///
+    /// `NoMemory` if the allocator refuses memory. The check is counted then too.
     fn check<A: Answers>(
         &mut self,
         alloc: Global,

@@ -28,6 +28,10 @@ impl Drop for Checked {
 
 impl Checked {
     /// The answer to a question of the unit.
+    ///
+    /// # Errors
+    ///
+    /// `NoMemory` if the allocator refuses memory.
     pub fn answer(&self, alloc: Global, query: &Query) -> Result<Answer, NoMemory>
         ensures { IfOk result (λ answer. answer ≡ table_entry (checked_model self.now) query.now) }
     {

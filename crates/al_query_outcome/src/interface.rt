@@ -30,8 +30,11 @@ pub struct Properties {
 /// A stub (ARM 10.1.3): its name, the subprogram whose body it stands for, and what stands before it in its body, with the
 /// regions round it (ARM 10.1.3(8)).
 pub struct StubDeclarations {
+    /// The name of the stub in lower case.
     pub stub: Name,
+    /// The symbol of the subprogram.
     pub symbol: Symbol,
+    /// What is declared before the stub.
     pub before: Interface,
 }
 
@@ -47,9 +50,13 @@ impl Drop for StubDeclarations {
 
 /// What the parts of a unit declare; a part that it hasn't declares nothing.
 pub struct Parts {
+    /// What the visible part declares.
     pub visible: Interface,
+    /// What the private part declares.
     pub private_part: Interface,
+    /// What the body declares.
     pub body: Interface,
+    /// The stubs of the body.
     pub stubs: Seq<StubDeclarations>,
 }
 
@@ -174,6 +181,10 @@ impl Parts {
 
 impl UnitInterface {
     /// The answers of a unit that says this of itself and whose parts declare this.
+    ///
+    /// # Errors
+    ///
+    /// `NoMemory` if the allocator refuses memory.
     pub fn new(
         alloc: Global,
         properties: Properties,
@@ -186,6 +197,10 @@ impl UnitInterface {
     }
 
     /// The answer to a question of the unit.
+    ///
+    /// # Errors
+    ///
+    /// `NoMemory` if the allocator refuses memory.
     pub fn answer(&self, alloc: Global, query: &Query) -> Result<Answer, NoMemory>
         ensures { IfOk result (λ answer. answer ≡ answer_of self.now query.now) }
     {
@@ -201,6 +216,10 @@ impl UnitInterface {
 }
 
 /// The answer to a question of a unit that has faults, or that isn't there: no views, no property.
+///
+/// # Errors
+///
+/// `NoMemory` if the allocator refuses memory.
 pub fn no_answer(alloc: Global, query: &Query) -> Result<Answer, NoMemory>
     ensures { IfOk result (λ answer. answer ≡ no_answer query.now) }
 {

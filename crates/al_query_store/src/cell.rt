@@ -14,10 +14,15 @@ use std::collections::BTreeMap;
 /// is reached now; and whether it leaves the library.
 #[derive(Clone, Copy)]
 pub struct Cell {
+    /// The key of the entry that the last build settled.
     pub settled: Option<usize>,
+    /// The key of the entry that was made since.
     pub made: Option<usize>,
+    /// Whether the last build reached the unit.
     pub was_reached: bool,
+    /// Whether the unit is reached now.
     pub is_reached: bool,
+    /// Whether the unit leaves the library.
     pub leaves: bool,
 }
 

@@ -41,6 +41,10 @@ fn unset(alloc: Global, len: usize) -> Result<Vec<bool>, NoMemory>
 
 impl Marks {
     /// None of so many answers differs.
+    ///
+    /// # Errors
+    ///
+    /// `NoMemory` if the allocator refuses memory.
     pub fn new(alloc: Global, len: usize) -> Result<Marks, NoMemory>
         ensures { IfOk result (λ marks. marks ≡ unmarked len) }
     {

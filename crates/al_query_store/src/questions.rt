@@ -45,7 +45,11 @@ impl Questions {
         }
     }
 
-    /// One place more of an answer to a question.
+    /// Adds a place of an answer to a question.
+    ///
+    /// # Errors
+    ///
+    /// `NoMemory` if the allocator refuses memory. Nothing has changed then.
     pub fn add(&mut self, alloc: Global, query: &Query, place: Place) -> Result<(), NoMemory>
         ensures ok { OnOk result ((q : Query) (p : Place) → has self.new q p ≡ (has self.old q p || (same_query query.now q && same_place place p))) }
         ensures err { OnErr result ((q : Query) (p : Place) → has self.new q p ≡ has self.old q p) }

@@ -52,7 +52,11 @@ impl Readers {
         }
     }
 
-    /// One place more of an answer to a question.
+    /// Adds a place of an answer to a question.
+    ///
+    /// # Errors
+    ///
+    /// `NoMemory` if the allocator refuses memory. Nothing has changed then.
     pub fn add(&mut self, query: &Query, place: Place) -> Result<(), NoMemory>
         ensures ok { OnOk result ((q : Query) (p : Place) → reads self.new q p ≡ (reads self.old q p || (same_query query.now q && same_place place p))) }
         ensures err { OnErr result ((q : Query) (p : Place) → reads self.new q p ≡ reads self.old q p) }
@@ -80,6 +84,10 @@ impl Readers {
     }
 
     /// The places of all answers to questions of a unit, and maybe of others, each once.
+    ///
+    /// # Errors
+    ///
+    /// `NoMemory` if the allocator refuses memory.
     pub fn of_unit(&self, unit: &UnitKey) -> Result<Vec<Place>, NoMemory>
         ensures found { IfOk result (λ places. (q : Query) (p : Place) → unit_of q ≡ unit.now → reads self.now q p ≡ true → list_any (same_place p) places.items ≡ true) }
         ensures apart { IfOk result (λ places. IsStrictlySortedBy place_cmp places.items) }

@@ -21,8 +21,11 @@ use std::marker::Model;
 
 /// An entry with its marks. One that isn't settled was made by a build that hasn't ended.
 pub struct Held<E> {
+    /// The entry.
     pub entry: E,
+    /// Which of its answers differ.
     pub marks: Marks,
+    /// Whether the build that made it has ended.
     pub is_settled: bool,
 }
 
@@ -88,7 +91,11 @@ impl<E: Logged> Slots<E> {
         self.entries.get(key)
     }
 
-    /// Holds an entry under a new key, with no mark set. It isn't settled.
+    /// Holds an entry under a new key, which it gives. No mark is set, and the entry isn't settled.
+    ///
+    /// # Errors
+    ///
+    /// `NoMemory` if the allocator refuses memory. Nothing has changed then.
     pub fn insert(&mut self, entry: E) -> Result<usize, NoMemory>
         ensures vacant { IfOk result (λ key. get self.old key ≡ None) }
         ensures ok { IfOk result (λ key. Updates self.old self.new key (Some (fresh E.log entry))) }

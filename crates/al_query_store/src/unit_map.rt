@@ -53,7 +53,11 @@ impl<T: Drop> UnitMap<T> {
         self.values.get(unit)
     }
 
-    /// Sets the value at a unit, a new one too.
+    /// Sets the value of a unit. The unit may be new.
+    ///
+    /// # Errors
+    ///
+    /// `NoMemory` if the allocator refuses memory. Nothing has changed then.
     pub fn insert(&mut self, unit: UnitKey, value: T) -> Result<(), NoMemory>
         ensures ok { OnOk result ((u : UnitKey) → at_unit self.new u ≡ (if same_unit unit u then Some value else at_unit self.old u)) }
         ensures err { OnErr result (self.new ≡ self.old) }
@@ -65,6 +69,10 @@ impl<T: Drop> UnitMap<T> {
     }
 
     /// The units with their values, in order.
+    ///
+    /// # Errors
+    ///
+    /// `NoMemory` if the allocator refuses memory.
     pub fn list(&self) -> Result<Vec<(&UnitKey, &T)>, NoMemory>
         ensures { IfOk result (λ list. map (λ e. (e.0.now, e.1.now)) list.items ≡ self.now) }
     {

@@ -14,7 +14,9 @@ use std::alloc::Global;
 
 /// The unit that a text is read as, and what it says of itself.
 pub struct ReadUnit {
+    /// The tree of the compilation unit.
     pub tree: CompilationUnit,
+    /// What the unit says of itself.
     pub header: Header,
 }
 

@@ -35,6 +35,10 @@ fn unit_of_file(
 }
 
 /// Each file, in the order of the names, and the unit that it holds, if it is sound.
+///
+/// # Errors
+///
+/// `NoMemory` if the allocator refuses memory.
 #[tactic(auto, unfolding(crate::specs::Units::units_of))]
 pub fn units(alloc: Global, sources: &Sources) -> Result<Vec<(Name, Option<UnitKey>)>, NoMemory>
     ensures { IfOk result (λ units. map unit_model units.items ≡ units_of sources.now) }

@@ -98,6 +98,10 @@ fn goals_of(
 
 impl Dependents {
     /// Those of a library, where the files are marked that have a flag, in the order of their names. Each unit is looked at once.
+    ///
+    /// # Errors
+    ///
+    /// `NoMemory` if the allocator refuses memory.
     pub fn of(alloc: Global, sources: &Sources, flags: &[bool]) -> Result<Dependents, NoMemory>
         ensures { IfOk result (λ dependents. (marked : List ℕ → Bool) → flags.now ≡ map marked (keys_of sources.now) → TellsDependents sources.now marked dependents) }
     {

@@ -117,6 +117,10 @@ fn add_file_faults(
 /// that it wants another file (201) or is reserved (207); elsewhere units and bodies that aren't there (202), cycles (203), private
 /// children that may not be mentioned (204), parents (205), stubs (206) and bodies that don't fit (209). A file that is no unit has
 /// none of these.
+///
+/// # Errors
+///
+/// `NoMemory` if the allocator refuses memory. `failures` is then one higher, and is unchanged otherwise.
 pub fn faults(
     alloc: Global,
     sources: &Sources,
@@ -144,7 +148,9 @@ pub fn faults(
 
 /// What is wrong with a file as a unit, by place and number.
 pub struct FileFaults {
+    /// The name of the file.
     pub file: Name,
+    /// Its errors, by place and number.
     pub faults: Vec<Diagnostic>,
 }
 
@@ -163,6 +169,10 @@ fn add_file(all: &mut Vec<FileFaults>, file: FileFaults) -> Result<(), NoMemory>
 }
 
 /// The same file by file, in the order of the names: also the files that have none.
+///
+/// # Errors
+///
+/// `NoMemory` if the allocator refuses memory. `failures` is then one higher, and is unchanged otherwise.
 pub fn faults_by_file(
     alloc: Global,
     sources: &Sources,

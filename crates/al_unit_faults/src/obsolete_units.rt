@@ -60,6 +60,10 @@ fn obsolete_unit(
 
 /// The units that are obsolete since an older library, where the files of these names had a diagnostic, in the order of their
 /// keys. Each file, and each name that a unit wants, is looked at once.
+///
+/// # Errors
+///
+/// `NoMemory` if the allocator refuses memory.
 pub fn obsolete(
     alloc: Global,
     built: &Sources,

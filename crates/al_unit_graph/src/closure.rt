@@ -29,6 +29,10 @@ pub(crate) enum Step {
 
 impl Sources {
     /// What a unit depends on by itself.
+    ///
+    /// # Errors
+    ///
+    /// `NoMemory` if the allocator refuses memory.
     pub fn direct(&self, key: &UnitKey) -> Result<Vec<UnitKey>, NoMemory>
         ensures { IfOk result (λ keys. map key_of keys.items ≡ direct self.now (key_of key.now)) }
     {
@@ -151,6 +155,10 @@ impl Sources {
     }
 
     /// The units on which a unit depends, by way of others too, in the order of the keys.
+    ///
+    /// # Errors
+    ///
+    /// `NoMemory` if the allocator refuses memory.
     pub fn depends(&self, key: &UnitKey) -> Result<Vec<UnitKey>, NoMemory>
         ensures { IfOk result (λ units. ListsUnits self.now (map key_of units.items) (DependsOn self.now (key_of key.now))) }
     {
@@ -161,6 +169,10 @@ impl Sources {
     }
 
     /// The unit itself and the units on which it depends, by way of others too, in the order of the keys.
+    ///
+    /// # Errors
+    ///
+    /// `NoMemory` if the allocator refuses memory.
     pub fn closure(&self, key: &UnitKey) -> Result<Vec<UnitKey>, NoMemory>
         ensures { IfOk result (λ units. ListsUnits self.now (map key_of units.items) (λ y. (key_of key.now ≡ y) ⊎ DependsOn self.now (key_of key.now) y)) }
     {
@@ -172,6 +184,10 @@ impl Sources {
     }
 
     /// The units that a partition with this main unit needs (ARM 10.2(2..7)), in the order of the keys.
+    ///
+    /// # Errors
+    ///
+    /// `NoMemory` if the allocator refuses memory.
     pub fn needed(&self, main: &[u8]) -> Result<Vec<UnitKey>, NoMemory>
         ensures { IfOk result (λ units. ListsUnits self.now (map key_of units.items) (Needed self.now main.now)) }
     {

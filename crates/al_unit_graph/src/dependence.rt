@@ -155,6 +155,10 @@ impl Sources {
 
     /// What a unit depends on by itself: its parent's declaration and its own, or its parent body, and the declarations of the
     /// units that it mentions and of their ancestors.
+    ///
+    /// # Errors
+    ///
+    /// `NoMemory` if the allocator refuses memory.
     #[tactic(auto, unfolding(crate::specs::Dependence::dependences))]
     pub fn dependences(&self, header: &Header) -> Result<Vec<UnitKey>, NoMemory>
         ensures { IfOk result (λ keys. map key_of keys.items ≡ dependences self.now (header_model header.now)) }

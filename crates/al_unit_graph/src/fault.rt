@@ -70,6 +70,10 @@ fn add_name_faults(
 
 /// What is wrong with the name of a file's unit: it wants another file, or is the implementation's. Each want of memory that it
 /// answers is counted.
+///
+/// # Errors
+///
+/// `NoMemory` if the allocator refuses memory. `failures` is then one higher, and is unchanged otherwise.
 pub fn name_faults(
     alloc: Global,
     file: &[u8],
@@ -302,6 +306,10 @@ impl Sources {
     /// What is wrong with a unit of the library by itself and with what it names: units that aren't there, a parent that is no
     /// package, a stub that isn't there, a body that doesn't fit. Where it answers want of memory, one more is counted, and
     /// none elsewhere.
+    ///
+    /// # Errors
+    ///
+    /// `NoMemory` if the allocator refuses memory. `failures` is then one higher, and is unchanged otherwise.
     pub fn own_faults(
         &self,
         file: &[u8],

@@ -13,7 +13,9 @@ pub enum UnitForm {
 
 /// The name of a unit in lower case, and where it stands: its first identifier.
 pub struct Mention {
+    /// The name in lower case.
     pub name: Name,
+    /// The place of its first identifier.
     pub place: Place,
 }
 
@@ -29,6 +31,7 @@ pub struct Header {
     pub name: Name,
     /// Where the name stands; of a subunit the name of its body.
     pub place: Place,
+    /// What kind of compilation unit it is.
     pub form: UnitForm,
     /// Declared with the word private (ARM 10.1.1(12)).
     pub is_private: bool,

@@ -37,7 +37,11 @@ impl KeySet {
         }
     }
 
-    /// One more key, unless it is there.
+    /// Adds a key, unless it is there.
+    ///
+    /// # Errors
+    ///
+    /// `NoMemory` if the allocator refuses memory. What the set then has isn't specified.
     pub fn insert(&mut self, key: UnitKey) -> Result<(), NoMemory>
         ensures { OnOk result (self.new ≡ insert_key key_cmp self.old (key_of key)) }
     {
@@ -48,6 +52,10 @@ impl KeySet {
     }
 
     /// The keys in their order.
+    ///
+    /// # Errors
+    ///
+    /// `NoMemory` if the allocator refuses memory.
     pub fn into_keys(self) -> Result<Vec<UnitKey>, NoMemory>
         ensures { IfOk result (λ keys. map key_of keys.items ≡ self) }
     {

@@ -43,6 +43,10 @@ fn descends_from_ada(name: &[u8]) -> bool
 }
 
 /// The names of the ancestors, the farthest first, without the unit's own.
+///
+/// # Errors
+///
+/// `NoMemory` if the allocator refuses memory.
 pub fn ancestors<'a>(alloc: Global, name: &'a [u8]) -> Result<Vec<&'a [u8]>, NoMemory>
     ensures { IfOk result (λ names. map (λ n. n.now) names.items ≡ ancestors name.now) }
 {
@@ -56,6 +60,10 @@ pub fn ancestors<'a>(alloc: Global, name: &'a [u8]) -> Result<Vec<&'a [u8]>, NoM
 }
 
 /// The names of the ancestors, the farthest first, and the unit's own.
+///
+/// # Errors
+///
+/// `NoMemory` if the allocator refuses memory.
 pub fn lineage<'a>(alloc: Global, name: &'a [u8]) -> Result<Vec<&'a [u8]>, NoMemory>
     ensures { IfOk result (λ names. map (λ n. n.now) names.items ≡ lineage name.now) }
 {

@@ -35,7 +35,9 @@ impl Drop for Contents {
 
 /// The text of a file, and what it is read as.
 pub struct Source {
+    /// The bytes of the file.
     pub text: Rc<Vec<u8>>,
+    /// What they are read as.
     pub contents: Contents,
 }
 
@@ -83,7 +85,11 @@ impl Sources {
         }
     }
 
-    /// Sets what a file holds, a new one too.
+    /// Sets what a file holds. The file may be new.
+    ///
+    /// # Errors
+    ///
+    /// `NoMemory` if the allocator refuses memory. What the map then has isn't specified.
     pub fn insert(&mut self, file: Name, source: Rc<Source>) -> Result<(), NoMemory>
         requires { length file ≤ 255 }
         ensures { OnOk result (self.new ≡ insert_entry name_cmp self.old file (source_model source.value)) }
@@ -137,6 +143,10 @@ impl Sources {
     }
 
     /// The names of the files, in the order of their bytes.
+    ///
+    /// # Errors
+    ///
+    /// `NoMemory` if the allocator refuses memory.
     pub fn file_names(&self) -> Result<Vec<&[u8]>, NoMemory>
         ensures { IfOk result (λ names. map (λ n. n.now) names.items ≡ keys_of self.now) }
     {

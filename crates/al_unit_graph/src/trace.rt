@@ -18,6 +18,10 @@ fn is_same_text(a: Option<&[u8]>, b: Option<&[u8]>) -> bool
 
 impl Sources {
     /// What the unit of a file wants; nothing where it holds none.
+    ///
+    /// # Errors
+    ///
+    /// `NoMemory` if the allocator refuses memory.
     pub fn wants(&self, file: &[u8]) -> Result<Vec<Name>, NoMemory>
         ensures { IfOk result (λ files. files.items ≡ wants self.now file.now) }
     {

@@ -119,6 +119,10 @@ impl Sources {
     }
 
     /// The files that a unit wants, which may not be there.
+    ///
+    /// # Errors
+    ///
+    /// `NoMemory` if the allocator refuses memory.
     #[tactic(auto, unfolding(crate::specs::Traces::wanted_files))]
     pub fn wanted_files(&self, header: &Header) -> Result<Vec<Name>, NoMemory>
         ensures { IfOk result (λ files. files.items ≡ wanted_files self.now (header_model header.now)) }

@@ -140,7 +140,11 @@ impl Interface {
         Ok(())
     }
 
-    /// One more view of a name: after its views, or with a new name, which goes last.
+    /// Declares one more view of a name, after the name's views. A new name comes last.
+    ///
+    /// # Errors
+    ///
+    /// `AllocError` if the allocator refuses memory. Nothing has changed then.
     pub fn declare(&mut self, name: &[u8], view: View) -> Result<(), AllocError>
         ensures ok { OnOk result (self.new ≡ with_view self.old name.now view) }
         ensures err { OnErr result (self.new ≡ self.old) }

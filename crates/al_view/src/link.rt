@@ -21,7 +21,9 @@ pub enum LinkKind {
 /// A symbol for the linker: a subprogram has code and may have a flag beside it, and both go by the one symbol.
 #[derive(PartialEq, Eq, PartialOrd, Ord, Hash)]
 pub struct LinkSymbol {
+    /// The declaration that it is for.
     pub symbol: Symbol,
+    /// Which of the places of the declaration it is for.
     pub kind: LinkKind,
 }
 

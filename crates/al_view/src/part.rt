@@ -32,7 +32,11 @@ impl Part {
         }
     }
 
-    /// The same part once more.
+    /// A copy of the part.
+    ///
+    /// # Errors
+    ///
+    /// `NoMemory` if the allocator refuses memory.
     pub fn copy(&self, alloc: Global) -> Result<Part, NoMemory>
         ensures { IfOk result (λ copy. copy ≡ self.now) }
     {

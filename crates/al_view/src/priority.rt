@@ -46,6 +46,7 @@ impl Priority {
         Priority { level: 30 }
     }
 
+    /// The level, from 0 to 30.
     pub fn level(self) -> u8
         ensures value { result ≡ self }
         ensures within { self ≤ 30 }

@@ -41,13 +41,18 @@ impl<T: Drop> Seq<T> {
         }
     }
 
+    /// The items, in their order.
     pub fn as_slice(&self) -> &[T]
         ensures { result.now ≡ self.now }
     {
         self.items.as_slice()
     }
 
-    /// One more item, at the end.
+    /// Adds an item at the end.
+    ///
+    /// # Errors
+    ///
+    /// `AllocError` if the allocator refuses memory. Nothing has changed then.
     pub fn push(&mut self, item: T) -> Result<(), AllocError>
         ensures { self.new ≡ (if is_ok result then self.old ++ item ∷ [] else self.old) }
     {

@@ -9,6 +9,7 @@ use al_base::{Name, UnitKey};
 
 /// Values that can be told apart: whatever clauses see of them.
 pub trait Same {
+    /// Whether the two are equal.
     fn is_same(&self, other: &Self) -> bool
         ensures { IsTrue result ↔ (self.now ≡ other.now) };
 }

@@ -38,7 +38,11 @@ impl Symbol {
             && self.number == other.number
     }
 
-    /// The same symbol once more.
+    /// A copy of the symbol.
+    ///
+    /// # Errors
+    ///
+    /// `NoMemory` if the allocator refuses memory.
     pub fn copy(&self, alloc: Global) -> Result<Symbol, NoMemory>
         ensures { IfOk result (λ copy. copy ≡ self.now) }
     {

@@ -13,26 +13,33 @@ use std::rc::Rc;
 /// The value of a static expression (ARM 4.9): the word that stands for it. Of an enumeration value it is the position.
 #[derive(Clone, Copy)]
 pub struct StaticValue {
+    /// The word, of 64 bits.
     pub word: i64,
 }
 
 /// The bounds of a range (ARM 3.5(4)), as words.
 #[derive(Clone, Copy)]
 pub struct Bounds {
+    /// The lower bound.
     pub low: i64,
+    /// The upper bound. It is below the lower one in a null range.
     pub high: i64,
 }
 
 /// A subtype (ARM 3.2(8)): its type and, of a scalar one, its bounds.
 #[derive(Drop)]
 pub struct Subtype {
+    /// The symbol of its type.
     pub base: Symbol,
+    /// The bounds of its range; none if it isn't scalar.
     pub bounds: Option<Bounds>,
 }
 
 /// A component of a record or of a protected object (ARM 3.8(3), 9.4).
 pub struct Component {
+    /// The name in lower case.
     pub name: Name,
+    /// The subtype of its values.
     pub subtype: Subtype,
 }
 
@@ -108,8 +115,11 @@ impl Drop for Layout {
 
 /// A type with what it is and how its values lie.
 pub struct TypeView {
+    /// The symbol of its declaration.
     pub symbol: Symbol,
+    /// What kind of type it is.
     pub definition: TypeDefinition,
+    /// How its values lie in words.
     pub layout: Layout,
 }
 
@@ -124,7 +134,11 @@ impl Drop for TypeView {
 }
 
 impl Subtype {
-    /// The same subtype once more.
+    /// A copy of the subtype.
+    ///
+    /// # Errors
+    ///
+    /// `NoMemory` if the allocator refuses memory.
     pub fn copy(&self, alloc: Global) -> Result<Subtype, NoMemory>
         ensures { IfOk result (λ copy. copy ≡ self.now) }
     {
@@ -187,6 +201,11 @@ impl Model for Names {
 }
 
 impl Names {
+    /// Names that can be shared, in this order.
+    ///
+    /// # Errors
+    ///
+    /// `AllocError` if the allocator refuses memory.
     pub fn new(alloc: Global, names: Seq<Name>) -> Result<Self, AllocError>
         ensures { IfOk result (λ shared. shared ≡ names) }
     {
@@ -194,13 +213,18 @@ impl Names {
         Ok(Names { names })
     }
 
+    /// The names, in their order.
     pub fn as_slice(&self) -> &[Name]
         ensures { result.now ≡ self.now }
     {
         self.names.as_slice()
     }
 
-    /// The same names once more.
+    /// A second holder of the same names. They aren't copied.
+    ///
+    /// # Errors
+    ///
+    /// `AllocError` if the allocator refuses memory.
     pub fn share(&self) -> Result<Self, AllocError>
         ensures { IfOk result (λ names. names ≡ self.now) }
     {
@@ -231,6 +255,11 @@ impl Model for Types {
 }
 
 impl Types {
+    /// Types that can be shared, in this order.
+    ///
+    /// # Errors
+    ///
+    /// `AllocError` if the allocator refuses memory.
     pub fn new(alloc: Global, types: Seq<TypeView>) -> Result<Self, AllocError>
         ensures { IfOk result (λ shared. shared ≡ types) }
     {
@@ -238,6 +267,7 @@ impl Types {
         Ok(Types { types })
     }
 
+    /// The types, in their order.
     pub fn as_slice(&self) -> &[TypeView]
         ensures { result.now ≡ self.now }
     {
@@ -251,7 +281,11 @@ impl Types {
         self.as_slice().iter().find(|of| of.symbol.is(symbol))
     }
 
-    /// The same types once more.
+    /// A second holder of the same types. They aren't copied.
+    ///
+    /// # Errors
+    ///
+    /// `AllocError` if the allocator refuses memory.
     pub fn share(&self) -> Result<Self, AllocError>
         ensures { IfOk result (λ types. types ≡ self.now) }
     {

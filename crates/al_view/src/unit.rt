@@ -12,7 +12,11 @@ pub fn is_unit(unit: &UnitKey, other: &UnitKey) -> bool
     unit.kind == other.kind && unit.name.as_slice() == other.name.as_slice()
 }
 
-/// The same key once more.
+/// A copy of the key of a unit.
+///
+/// # Errors
+///
+/// `NoMemory` if the allocator refuses memory.
 pub fn copied_unit(alloc: Global, unit: &UnitKey) -> Result<UnitKey, NoMemory>
     ensures { IfOk result (λ copy. copy ≡ unit.now) }
 {

@@ -75,7 +75,9 @@ impl Drop for DeclaredType {
 /// A subtype with the types that it is of.
 #[derive(Drop)]
 pub struct SubtypeView {
+    /// The subtype.
     pub subtype: Subtype,
+    /// Its type, and the types of which that is made.
     pub types: Types,
     /// The names of its type's literals by position, in lower case, of an enumeration type.
     pub literals: Names,
@@ -100,7 +102,11 @@ impl Drop for ObjectPlace {
 }
 
 impl ObjectPlace {
-    /// The same place once more.
+    /// A copy of the place.
+    ///
+    /// # Errors
+    ///
+    /// `NoMemory` if the allocator refuses memory.
     pub fn copy(&self, alloc: Global) -> Result<ObjectPlace, NoMemory>
         ensures { IfOk result (λ copy. copy ≡ self.now) }
     {
@@ -122,12 +128,15 @@ impl ObjectPlace {
 
 /// An object.
 pub struct ObjectView {
+    /// Its nominal subtype.
     pub subtype: Subtype,
+    /// The type of the subtype, and the types of which that is made.
     pub types: Types,
     /// Whether it is a constant (ARM 3.3(13)).
     pub is_constant: bool,
     /// The value of a static constant (ARM 4.9(24)).
     pub value: Option<StaticValue>,
+    /// The place of its words.
     pub place: ObjectPlace,
 }
 
@@ -145,8 +154,11 @@ impl Drop for ObjectView {
 
 /// An enumeration literal: its type and its position.
 pub struct LiteralView {
+    /// The symbol of its type.
     pub base: Symbol,
+    /// Its type.
     pub types: Types,
+    /// Its position, from 0.
     pub position: u32,
 }
 
@@ -170,8 +182,11 @@ pub enum Mode {
 
 /// A formal parameter (ARM 6.1(15)).
 pub struct Parameter {
+    /// The name in lower case.
     pub name: Name,
+    /// The mode (ARM 6.2).
     pub mode: Mode,
+    /// The nominal subtype.
     pub subtype: Subtype,
 }
 
@@ -187,6 +202,7 @@ impl Drop for Parameter {
 
 /// A profile (ARM 6.1(20)).
 pub struct Profile {
+    /// The formal parameters, in their order.
     pub parameters: Seq<Parameter>,
     /// The result of a function.
     pub result: Option<Subtype>,
@@ -230,9 +246,13 @@ impl Drop for CallKind {
 
 /// A subprogram, an operator or an entry.
 pub struct SubprogramView {
+    /// The symbol of its declaration.
     pub symbol: Symbol,
+    /// Its profile.
     pub profile: Profile,
+    /// The types of its profile.
     pub types: Types,
+    /// How it is called.
     pub call: CallKind,
     /// Where it has a declaration of its own: what tells that its body is elaborated (ARM 3.11(10)).
     pub flag: Option<ObjectPlace>,
@@ -252,6 +272,7 @@ impl Drop for SubprogramView {
 
 /// A single task.
 pub struct TaskView {
+    /// The symbol of its declaration.
     pub symbol: Symbol,
     /// Its priority (ARM D.1).
     pub priority: Priority,
@@ -268,7 +289,9 @@ impl Drop for TaskView {
 
 /// An operation of a protected object, by its name.
 pub struct Operation {
+    /// The name in lower case.
     pub name: Name,
+    /// The subprogram or entry.
     pub subprogram: SubprogramView,
 }
 
@@ -283,8 +306,11 @@ impl Drop for Operation {
 
 /// A single protected object.
 pub struct ProtectedView {
+    /// The symbol of its declaration.
     pub symbol: Symbol,
+    /// Its operations, in their order.
     pub operations: Seq<Operation>,
+    /// Its components, in their order.
     pub components: Seq<Component>,
     /// The types of the components.
     pub types: Types,
@@ -325,6 +351,11 @@ impl Model for View {
 }
 
 impl View {
+    /// A view that can be shared.
+    ///
+    /// # Errors
+    ///
+    /// `AllocError` if the allocator refuses memory.
     pub fn new(alloc: Global, kind: ViewKind) -> Result<Self, AllocError>
         ensures { IfOk result (λ view. view ≡ kind) }
     {
@@ -332,13 +363,18 @@ impl View {
         Ok(View { kind })
     }
 
+    /// What is declared.
     pub fn kind(&self) -> &ViewKind
         ensures { result.now ≡ self.now }
     {
         &self.kind
     }
 
-    /// The same view once more.
+    /// A second holder of the same view. It isn't copied.
+    ///
+    /// # Errors
+    ///
+    /// `AllocError` if the allocator refuses memory.
     pub fn share(&self) -> Result<Self, AllocError>
         ensures { IfOk result (λ view. view ≡ self.now) }
     {

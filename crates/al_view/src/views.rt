@@ -36,13 +36,18 @@ impl Views {
         }
     }
 
+    /// The views, in their order.
     pub fn as_slice(&self) -> &[View]
         ensures { result.now ≡ self.now }
     {
         self.views.as_slice()
     }
 
-    /// One more view, at the end.
+    /// Adds a view at the end.
+    ///
+    /// # Errors
+    ///
+    /// `AllocError` if the allocator refuses memory. Nothing has changed then.
     pub fn push(&mut self, view: View) -> Result<(), AllocError>
         ensures { self.new ≡ (if is_ok result then self.old ++ view ∷ [] else self.old) }
     {
@@ -50,7 +55,11 @@ impl Views {
         Ok(())
     }
 
-    /// The other views after these. Where memory lacks, only some of them.
+    /// Adds other views at the end, in their order. They are shared, not copied.
+    ///
+    /// # Errors
+    ///
+    /// `AllocError` if the allocator refuses memory. What the list then has isn't specified.
     pub fn append(&mut self, others: &[View]) -> Result<(), AllocError>
         ensures { OnOk result (self.new ≡ self.old ++ others.now) }
     {
@@ -61,7 +70,11 @@ impl Views {
         Ok(())
     }
 
-    /// The same views once more.
+    /// A list of the same views. They are shared, not copied.
+    ///
+    /// # Errors
+    ///
+    /// `AllocError` if the allocator refuses memory.
     pub fn copy(&self, alloc: Global) -> Result<Self, AllocError>
         ensures { IfOk result (λ copy. copy ≡ self.now) }
     {

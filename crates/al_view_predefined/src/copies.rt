@@ -52,7 +52,11 @@ fn copied_offsets(alloc: Global, of: &[u32]) -> Result<Seq<u32>, NoMemory>
     Ok(Seq::new(offsets))
 }
 
-/// The same layout once more.
+/// A copy of the layout.
+///
+/// # Errors
+///
+/// `NoMemory` if the allocator refuses memory.
 pub fn copied_layout(alloc: Global, of: &Layout) -> Result<Layout, NoMemory>
     ensures { IfOk result (λ copy. copy ≡ of.now) }
 {
@@ -73,7 +77,11 @@ pub fn copied_layout(alloc: Global, of: &Layout) -> Result<Layout, NoMemory>
     }
 }
 
-/// The same type once more.
+/// A copy of the type.
+///
+/// # Errors
+///
+/// `NoMemory` if the allocator refuses memory.
 pub fn copied_type(alloc: Global, of: &TypeView) -> Result<TypeView, NoMemory>
     ensures { IfOk result (λ copy. copy ≡ of.now) }
 {

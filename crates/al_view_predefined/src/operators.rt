@@ -107,6 +107,10 @@ const ARITHMETIC: [OperatorSymbol; 6] = [
 ];
 
 /// The first declaration of the name in a predefined package.
+///
+/// # Errors
+///
+/// `NoMemory` if the allocator refuses memory.
 pub fn predefined_symbol(alloc: Global, unit: &[u8], name: &[u8]) -> Result<Symbol, NoMemory>
     ensures { IfOk result (λ symbol. symbol ≡ predefined_symbol unit.now name.now) }
 {
@@ -123,6 +127,10 @@ pub fn predefined_symbol(alloc: Global, unit: &[u8], name: &[u8]) -> Result<Symb
 }
 
 /// A symbol of Standard.
+///
+/// # Errors
+///
+/// `NoMemory` if the allocator refuses memory.
 pub fn standard_symbol(alloc: Global, name: &[u8]) -> Result<Symbol, NoMemory>
     ensures { IfOk result (λ symbol. symbol ≡ standard_symbol name.now) }
 {
@@ -130,6 +138,10 @@ pub fn standard_symbol(alloc: Global, name: &[u8]) -> Result<Symbol, NoMemory>
 }
 
 /// All values of a type.
+///
+/// # Errors
+///
+/// `NoMemory` if the allocator refuses memory.
 pub fn whole_type(alloc: Global, symbol: &Symbol) -> Result<Subtype, NoMemory>
     ensures { IfOk result (λ subtype. subtype ≡ whole_type symbol.now) }
 {
@@ -159,6 +171,10 @@ fn natural(alloc: Global) -> Result<Subtype, NoMemory>
 }
 
 /// A parameter of mode `in`.
+///
+/// # Errors
+///
+/// `NoMemory` if the allocator refuses memory.
 pub fn operand(alloc: Global, name: &[u8], subtype: Subtype) -> Result<Parameter, NoMemory>
     ensures { IfOk result (λ parameter. parameter ≡ operand name.now subtype) }
 {
@@ -302,6 +318,10 @@ fn operator_with(
 }
 
 /// An operator of the type with this symbol and these types, with its number among its homonyms in its unit.
+///
+/// # Errors
+///
+/// `NoMemory` if the allocator refuses memory.
 pub fn operator_view(
     alloc: Global,
     of_type: &Symbol,
@@ -319,6 +339,10 @@ pub fn operator_view(
 }
 
 /// One more operator of the type. Its number counts its homonyms in the interface and in what its unit declares elsewhere.
+///
+/// # Errors
+///
+/// `NoMemory` if the allocator refuses memory. What the interface then has isn't specified.
 pub fn declare_operator(
     alloc: Global,
     elsewhere: &Interface,
@@ -397,6 +421,10 @@ fn declare_arithmetic(
 }
 
 /// The logical operators of Boolean, after what is declared (ARM 4.5.1(2), 4.5.6(3)).
+///
+/// # Errors
+///
+/// `NoMemory` if the allocator refuses memory. What the interface then has isn't specified.
 pub fn declare_logical(
     alloc: Global,
     elsewhere: &Interface,
@@ -430,6 +458,10 @@ pub fn declare_logical(
 
 /// The operators that the declaration of a type declares, after what is declared (ARM 3.2.3(6)); of Boolean but the
 /// logical ones, of a private type those of its partial view (ARM 7.3(15)). Their numbers count their homonyms there and in what the unit declares elsewhere.
+///
+/// # Errors
+///
+/// `NoMemory` if the allocator refuses memory. What the interface then has isn't specified.
 pub fn declare_operators(
     alloc: Global,
     elsewhere: &Interface,

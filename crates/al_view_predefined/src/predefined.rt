@@ -21,6 +21,10 @@ use al_view::{
 use std::alloc::Global;
 
 /// What the predefined package of this name in lower case declares, where there is one (ARM A(2)).
+///
+/// # Errors
+///
+/// `NoMemory` if the allocator refuses memory.
 pub fn predefined_package(alloc: Global, name: &[u8]) -> Result<Option<Interface>, NoMemory>
     ensures { IfOk result (λ found. found ≡ predefined name.now) }
 {

@@ -21,6 +21,10 @@ pub const INTEGER_BOUNDS: Bounds = Bounds {
 };
 
 /// What Standard declares (ARM A.1): Boolean with its literals, Integer, their operators, Natural and Positive.
+///
+/// # Errors
+///
+/// `NoMemory` if the allocator refuses memory.
 pub fn standard_package(alloc: Global) -> Result<Interface, NoMemory>
     ensures { IfOk result (λ interface. interface ≡ standard) }
 {
@@ -32,6 +36,10 @@ pub fn standard_package(alloc: Global) -> Result<Interface, NoMemory>
 }
 
 /// A scalar type alone.
+///
+/// # Errors
+///
+/// `NoMemory` if the allocator refuses memory.
 pub fn scalar(alloc: Global, symbol: &Symbol, definition: TypeDefinition) -> Result<Types, NoMemory>
     ensures { IfOk result (λ types. types ≡ scalar symbol.now definition) }
 {
@@ -47,6 +55,10 @@ pub fn scalar(alloc: Global, symbol: &Symbol, definition: TypeDefinition) -> Res
 }
 
 /// The partial view of a private type whose values take so many words (ARM 7.3).
+///
+/// # Errors
+///
+/// `NoMemory` if the allocator refuses memory.
 pub fn private_type(alloc: Global, symbol: &Symbol, words: u32) -> Result<Types, NoMemory>
     ensures { IfOk result (λ types. types ≡ private_type symbol.now words) }
 {
@@ -82,6 +94,10 @@ pub(crate) fn no_types(alloc: Global) -> Result<Types, NoMemory>
 }
 
 /// The literals of what has none.
+///
+/// # Errors
+///
+/// `NoMemory` if the allocator refuses memory.
 pub fn no_names(alloc: Global) -> Result<Names, NoMemory>
     ensures { IfOk result (λ names. names ≡ []) }
 {
@@ -104,6 +120,10 @@ fn literal(alloc: Global, symbol: &Symbol, types: &Types, position: u32) -> Resu
 }
 
 /// A type of these types, the last of them, with the names of its literals.
+///
+/// # Errors
+///
+/// `NoMemory` if the allocator refuses memory.
 pub fn of_type(alloc: Global, types: &Types, literals: Names) -> Result<View, NoMemory>
     ensures { IfOk result (λ view. view ≡ of_type types.now literals) }
 {

@@ -44,6 +44,11 @@ impl Model for StandardTypes {
 }
 
 impl StandardTypes {
+    /// The types of Standard. Each unit has them.
+    ///
+    /// # Errors
+    ///
+    /// `NoMemory` if the allocator refuses memory.
     pub fn new(alloc: Global) -> Result<Self, NoMemory>
         ensures { IfOk result (λ standard. standard ≡ standard_types) }
     {
@@ -128,6 +133,10 @@ fn one(symbol: Symbol, definition: TypeDefinition) -> TypeView
 }
 
 /// What the root type of all integer types is known by (ARM 3.4.1(8)). No text can name it.
+///
+/// # Errors
+///
+/// `NoMemory` if the allocator refuses memory.
 pub fn root_integer(alloc: Global) -> Result<Symbol, NoMemory>
     ensures { IfOk result (λ symbol. symbol ≡ root_integer) }
 {
@@ -136,6 +145,10 @@ pub fn root_integer(alloc: Global) -> Result<Symbol, NoMemory>
 
 /// The operators of the root type (ARM 4.5.3 to 4.5.6, 8.6(29)). They are visible everywhere, and no part of a unit declares
 /// them.
+///
+/// # Errors
+///
+/// `NoMemory` if the allocator refuses memory.
 pub fn root_operators(alloc: Global) -> Result<Interface, NoMemory>
     ensures { IfOk result (λ interface. interface ≡ root_operators) }
 {

@@ -8,7 +8,9 @@ use al_view::{ObjectPlace, Priority, Seq, Symbol};
 
 /// A declaration or body that does something where it stands, with the line of its first token.
 pub struct TypedDeclaration {
+    /// The line of its first token, from 1.
     pub line: usize,
+    /// What is declared.
     pub form: DeclarationForm,
 }
 
@@ -21,8 +23,11 @@ impl Drop for TypedDeclaration {
 /// The value of components of a protected object that are declared together (ARM 9.4, 3.3.1(7)): each begins at one of these words
 /// of the object and has so many words.
 pub struct ComponentValue {
+    /// The first word of each component, counted from the beginning of the object.
     pub places: Seq<u32>,
+    /// How many words each component has.
     pub words: u32,
+    /// The value that each is given.
     pub value: CheckedValue,
 }
 

@@ -13,7 +13,9 @@ use std::alloc::Global;
 #[derive(Drop)]
 #[cycle(expression)]
 pub struct Typed {
+    /// Its labels.
     pub labels: Labels,
+    /// What it is.
     pub form: Form,
 }
 
@@ -97,7 +99,9 @@ impl Drop for TypedName {
 /// (ARM 3.2.2(11), 4.6, 4.7); none of what isn't scalar.
 #[cycle(expression)]
 pub struct CheckedValue {
+    /// The expression.
     pub value: Typed,
+    /// The range; none if the value is not checked.
     pub bounds: Option<Bounds>,
 }
 
@@ -156,6 +160,7 @@ impl Drop for Callee {
 /// A call (ARM 6.4, 9.5.3).
 #[cycle(expression)]
 pub struct TypedCall {
+    /// What is called.
     pub callee: Callee,
     /// What tells that its body is elaborated (ARM 3.11(10)), where there is something to tell.
     pub flag: Option<ObjectPlace>,
@@ -205,6 +210,10 @@ impl Form {
     }
 
     /// `operator operand`
+    ///
+    /// # Errors
+    ///
+    /// `NoMemory` if the allocator refuses memory.
     #[tactic(auto, using(crate::proofs::ExpressionsMade::unary_made))]
     pub fn unary(alloc: Global, operator: UnaryOperator, operand: Typed) -> Result<Form, NoMemory>
         ensures { IfOk result (λ form. form_model form ≡ form_trees.UnaryForm operator (typed_model operand)) }
@@ -214,6 +223,10 @@ impl Form {
     }
 
     /// `left operator right`
+    ///
+    /// # Errors
+    ///
+    /// `NoMemory` if the allocator refuses memory.
     #[tactic(auto, using(crate::proofs::ExpressionsMade::binary_made))]
     pub fn binary(
         alloc: Global,
@@ -228,6 +241,10 @@ impl Form {
     }
 
     /// `left and then right` or `left or else right`
+    ///
+    /// # Errors
+    ///
+    /// `NoMemory` if the allocator refuses memory.
     #[tactic(auto, using(crate::proofs::ExpressionsMade::short_circuit_made))]
     pub fn short_circuit(
         alloc: Global,
@@ -242,6 +259,10 @@ impl Form {
     }
 
     /// `value [not] in low .. high`
+    ///
+    /// # Errors
+    ///
+    /// `NoMemory` if the allocator refuses memory.
     #[tactic(auto, using(crate::proofs::ExpressionsMade::membership_made))]
     pub fn membership(
         alloc: Global,
@@ -264,6 +285,10 @@ impl Form {
     }
 
     /// A conversion, a qualified expression, or an attribute or function that is like one.
+    ///
+    /// # Errors
+    ///
+    /// `NoMemory` if the allocator refuses memory.
     #[tactic(auto, using(crate::proofs::ExpressionsMade::converted_made))]
     pub fn converted(
         alloc: Global,
@@ -285,6 +310,10 @@ impl Form {
     }
 
     /// `(others => component)`
+    ///
+    /// # Errors
+    ///
+    /// `NoMemory` if the allocator refuses memory.
     #[tactic(auto, using(crate::proofs::ExpressionsMade::others_made))]
     pub fn others(alloc: Global, count: u32, component: CheckedValue) -> Result<Form, NoMemory>
         ensures { IfOk result (λ form. form_model form ≡ form_trees.OthersForm count (value_model component)) }
@@ -384,6 +413,10 @@ impl TypedName {
     }
 
     /// The component of a record from this word of it on.
+    ///
+    /// # Errors
+    ///
+    /// `NoMemory` if the allocator refuses memory.
     #[tactic(auto, using(crate::proofs::ExpressionsMade::component_made))]
     pub fn component(alloc: Global, whole: TypedName, offset: u32) -> Result<TypedName, NoMemory>
         ensures { IfOk result (λ name. name_model name ≡ name_trees.ComponentName (name_model whole) offset) }
@@ -393,6 +426,10 @@ impl TypedName {
     }
 
     /// The component, of so many words, of an array whose index has these bounds.
+    ///
+    /// # Errors
+    ///
+    /// `NoMemory` if the allocator refuses memory.
     #[tactic(auto, using(crate::proofs::ExpressionsMade::indexed_made))]
     pub fn indexed(
         alloc: Global,

@@ -66,7 +66,9 @@ impl Drop for LoopScheme {
 /// A statement with the line of its first token.
 #[cycle(statement)]
 pub struct TypedStatement {
+    /// The line of its first token, from 1.
     pub line: usize,
+    /// What it is.
     pub form: StatementForm,
 }
 
@@ -176,8 +178,11 @@ impl Drop for StatementForm {
 /// A condition and what is done where it holds (ARM 5.3), with the line of `if` or `elsif`.
 #[cycle(statement)]
 pub struct Branch {
+    /// The line of `if` or `elsif`, from 1.
     pub line: usize,
+    /// The condition.
     pub condition: Typed,
+    /// What is done if the condition holds.
     pub statements: Vec<TypedStatement>,
 }
 
@@ -195,7 +200,9 @@ impl Drop for Branch {
 /// What is done for some values of a selector (ARM 5.4).
 #[cycle(statement)]
 pub struct Alternative {
+    /// The ranges of its values.
     pub choices: Seq<Bounds>,
+    /// What is done for these values.
     pub statements: Vec<TypedStatement>,
 }
 

@@ -12,14 +12,19 @@ use al_view::{Mode, ObjectPlace, Priority, Seq, Symbol};
 /// A formal parameter: its mode (ARM 6.1(16)), and its words from this word of the frame on.
 #[derive(Clone, Copy)]
 pub struct FormalWords {
+    /// The mode.
     pub mode: Mode,
+    /// The first of its words in the frame.
     pub word: u32,
+    /// How many words it has.
     pub words: u32,
 }
 
 /// The entry of a protected object (ARM 9.5.2): the entry, and the component that is its barrier.
 pub struct EntryOf {
+    /// The symbol of the entry.
     pub entry: Symbol,
+    /// The component that is the barrier.
     pub barrier: ObjectPlace,
 }
 
@@ -94,8 +99,11 @@ impl Drop for BodyKind {
 pub struct Elaboration {
     /// The line of the first token.
     pub line: usize,
+    /// How many words the frame has beside the parameters.
     pub frame: u32,
+    /// The declarations that do something, in their order.
     pub declarations: Vec<TypedDeclaration>,
+    /// The statements, in their order.
     pub statements: Vec<TypedStatement>,
 }
 
@@ -113,10 +121,15 @@ impl Drop for Elaboration {
 /// A body: of what, at which depth of nesting, with which parameters. The depth is in how many bodies it stands, itself
 /// counted, so 1 at library level. The elaboration of a unit has depth 1 too.
 pub struct TypedBody {
+    /// The symbol of what it is the body of.
     pub symbol: Symbol,
+    /// What it is the body of.
     pub kind: BodyKind,
+    /// In how many bodies it lies, itself counted.
     pub depth: u32,
+    /// The words of its formal parameters.
     pub formals: Seq<FormalWords>,
+    /// What is done when it is called.
     pub inside: Elaboration,
 }
 
@@ -134,7 +147,9 @@ impl Drop for TypedBody {
 
 /// A symbol, and from which of its unit's words on its object or flag lies.
 pub struct DataPlace {
+    /// The symbol.
     pub symbol: Symbol,
+    /// The first word, counted in its unit.
     pub word: u32,
 }
 
@@ -147,9 +162,13 @@ impl Drop for DataPlace {
 /// The words of a protected object's components (ARM 9.4) in its unit, and its ceiling (ARM D.3), which is 0 to 30. Its flag
 /// lies outside of them, so that it can be read without entering the object.
 pub struct ProtectedWords {
+    /// The symbol of the object.
     pub symbol: Symbol,
+    /// The first of its words, counted in its unit.
     pub word: u32,
+    /// How many words its components take.
     pub words: u32,
+    /// The ceiling.
     pub ceiling: Priority,
 }
 
@@ -166,6 +185,7 @@ impl Drop for ProtectedWords {
 
 /// A unit that is free of faults, as there is code for it.
 pub struct TypedUnit {
+    /// The unit.
     pub unit: UnitKey,
     /// What is done when it is elaborated (ARM 10.2(9)); none of a subunit.
     pub elaboration: Option<Elaboration>,
@@ -177,6 +197,7 @@ pub struct TypedUnit {
     pub objects: Seq<DataPlace>,
     /// The flags of its subprograms and protected objects.
     pub flags: Seq<DataPlace>,
+    /// Its protected objects.
     pub protected_objects: Seq<ProtectedWords>,
 }
 
