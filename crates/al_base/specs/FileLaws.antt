@@ -1,20 +1,20 @@
--- The files are a finite map from names to texts.
+-- The files are a finite map from names to sources.
 use Rattle.std.specs.Prelude.{◌≡◌, ◌≢◌, ℕ, List, Option, Some, None}
 use Rattle.std.specs.List.Sorted.{IsStrictlySortedBy}
 use Rattle.std.specs.Map.{keys_of}
 use Rattle.al_base.specs.Files.{Texts, name_cmp, text_of, with_file, without_file, with_renamed, rename_refusal}
 
--- the names ascend by their bytes, so each stands once
+-- the names ascend by their bytes, so each is there once
 abbrev pub Ascend : Texts → Type 0
 Ascend files = IsStrictlySortedBy name_cmp (keys_of files)
 
--- the text under one name is now this one, or none, and the texts under all others are what they were
+-- the source under one name is now this one, or none, and the sources under all others are what they were
 pub record Changes (before after : Texts) (name : List ℕ) (text : Option (List ℕ)) : Type 0 where
   pub there : text_of after name ≡ text
   pub others : (other : List ℕ) → other ≢ name → text_of after other ≡ text_of before other
   pub ascend : Ascend after
 
--- the old text stands under the new name, none under the old one, and the texts under all others are what they were
+-- the old source is under the new name, none under the old one, and the sources under all others are what they were
 pub record Moves (before after : Texts) (old new : List ℕ) : Type 0 where
   pub moved : text_of after new ≡ text_of before old
   pub gone : text_of after old ≡ None

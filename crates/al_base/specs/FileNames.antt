@@ -12,7 +12,7 @@ hyphen_for_dot b = if b == 46 then 45 else b
 abbrev pub is_kept_letter : ℕ → Bool
 is_kept_letter b = b == 97 || b == 103 || b == 105 || b == 115
 
--- a tilde in place of the hyphen after such a letter at the front
+-- a tilde in place of the hyphen after such a letter at the beginning
 abbrev pub with_tilde : List ℕ → List ℕ
 with_tilde [] = []
 with_tilde (a ∷ []) = a ∷ []

@@ -1,4 +1,4 @@
--- A finite map from file names to texts: the list of its pairs, in the order of the names' bytes.
+-- A finite map from file names to sources: the list of its pairs, in the order of the names' bytes.
 use Rattle.std.specs.Prelude.{◌≡◌, ◌≤◌, ◌⊎◌, ℕ, true, ◌&&◌, not, nat_lt, nat_le, List, length, Option, Some, None, is_some, Result, Ok, Err, if◌then◌else◌}
 use Rattle.std.specs.List.{AllByRecursion}
 use Rattle.std.specs.Ordering.{nat_cmp}
@@ -10,11 +10,11 @@ use Rattle.al_base.specs.Names.{is_file_name}
 use Rattle.al_base.specs.declared.refusal.Refusal.{Refusal}
 use Rattle.al_base.specs.declared.refusal.Refusal.TheVariants.{BadName, NoFile, FileExists, TooManyFiles, TextTooLong, NoMemory}
 
--- a name and its text, for each file
+-- a name and its source, for each file
 abbrev pub Texts : Type 0
 Texts = List (List ℕ × List ℕ)
 
--- a file's name, and a text of at most 1 MiB
+-- a file's name, and a source of at most 1 MiB
 abbrev pub IsFile : List ℕ × List ℕ → Type 0
 IsFile file = (is_file_name file.0 ≡ true) × (length file.1 ≤ 1048576)
 
@@ -27,11 +27,11 @@ pub record AreFiles (files : Texts) : Type 0 where
 abbrev pub name_cmp : List ℕ → List ℕ → Ordering
 name_cmp = slice_cmp nat_cmp
 
--- the text of the file, where it is there
+-- the source of the file, if it is there
 abbrev pub text_of : Texts → List ℕ → Option (List ℕ)
 text_of files name = lookup (is_at (name_cmp name)) files
 
--- with this text under the name, and the others as they were
+-- with this source under the name, and the others as they were
 abbrev pub with_file : Texts → List ℕ → List ℕ → Texts
 with_file files name text = insert_entry name_cmp files name text
 
@@ -39,16 +39,16 @@ with_file files name text = insert_entry name_cmp files name text
 abbrev pub without_file : Texts → List ℕ → Texts
 without_file files name = remove_entry (is_at (name_cmp name)) files
 
--- with this text, where there is one, under the name
+-- with this source, if there is one, under the name
 abbrev pub with_text : Option (List ℕ) → Texts → List ℕ → Texts
 with_text None files name = files
 with_text (Some text) files name = with_file files name text
 
--- the text of old now stands under new
+-- the source of old is now under new
 abbrev pub with_renamed : Texts → List ℕ → List ℕ → Texts
 with_renamed files old new = with_text (text_of files old) (without_file files old) new
 
--- the first refusal of a put, of a text of so many bytes, that holds
+-- the first refusal of a put, of a source of so many bytes, that holds
 unfoldable pub put_refusal : Texts → List ℕ → ℕ → Option Refusal
 put_refusal files name len =
     if not (is_file_name name) then Some BadName
@@ -75,7 +75,7 @@ abbrev pub AnswersRefusal : {T : Type 0} → Result T Refusal → Option Refusal
 AnswersRefusal (Ok x) first = first ≡ None
 AnswersRefusal (Err e) first = first ≡ Some e
 
--- the call answers this refusal; where there is none it may answer that there is no memory
+-- the call gives this refusal; if there is none it may refuse for memory
 abbrev pub AnswersFirst : {T : Type 0} → Result T Refusal → Option Refusal → Type 0
 AnswersFirst (Ok x) first = first ≡ None
 AnswersFirst (Err e) first = (first ≡ Some e) ⊎ ((first ≡ None) × (e ≡ NoMemory))

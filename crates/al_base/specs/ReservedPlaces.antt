@@ -1,4 +1,4 @@
--- Where the spelling of a reserved word has its place in a table of 256 (ARM 2.9).
+-- The place of the spelling of a reserved word in a table of 256 (ARM 2.9).
 use Rattle.std.specs.Prelude.{◌≡◌, ℕ, ◌+◌, ◌*◌, ◌-◌, ◌/◌, ◌%◌, List, length, slice_index}
 use Rattle.al_base.specs.ReservedWords.{spelling}
 use Rattle.al_base.specs.declared.reserved.ReservedWord.{ReservedWord}

@@ -2,13 +2,13 @@
 use crate::name::Name;
 use crate::place::Place;
 
-/// One line of what a build says of the files.
+/// One diagnostic of a build: a file, a place in it, and the rule that is broken there.
 pub struct Diagnostic {
     /// The name of the file.
     pub file: Name,
     /// The line and the column at which it is reported.
     pub place: Place,
-    /// The number of the rule that is broken: 401 is shown as E401.
+    /// The number of the rule that is broken: 401 is printed as E401.
     pub code: u16,
 }
 

@@ -32,7 +32,7 @@ impl Model for FileKey {
 }
 
 impl FileKey {
-    /// The name of the file that holds this part of the unit of the name, as `file_name_of` gives it; none where it has more than
+    /// The name of the file that holds this part of the unit of the name, as `file_name_of` gives it; none if that has more than
     /// 255 bytes.
     #[tactic(auto, unfolding(crate::specs::FileNames::file_name_of))]
     pub fn of(name: &[u8], kind: UnitKind) -> Option<FileKey>
@@ -51,7 +51,7 @@ impl FileKey {
         Some(file)
     }
 
-    /// One byte more.
+    /// Appends a byte.
     fn push(&mut self, byte: u8)
         requires { length self.old < 255 }
         ensures { self.new ≡ self.old ++ byte ∷ [] }
@@ -60,7 +60,7 @@ impl FileKey {
         self.len += 1;
     }
 
-    /// These bytes, with hyphens for dots.
+    /// Appends these bytes, with hyphens for dots.
     fn add_hyphened(&mut self, name: &[u8])
         requires { length self.old + length name.now ≤ 255 }
         ensures { self.new ≡ self.old ++ map hyphen_for_dot name.now }
@@ -70,7 +70,7 @@ impl FileKey {
         }
     }
 
-    /// These bytes.
+    /// Appends these bytes.
     fn add(&mut self, bytes: &[u8])
         requires { length self.old + length bytes.now ≤ 255 }
         ensures { self.new ≡ self.old ++ bytes.now }
@@ -80,7 +80,7 @@ impl FileKey {
         }
     }
 
-    /// A tilde for the hyphen after a letter that begins the names of predefined files.
+    /// Puts a tilde for the hyphen after a letter that begins the names of predefined files.
     fn put_tilde(&mut self)
         ensures { self.new ≡ with_tilde self.old }
     {

@@ -1,4 +1,4 @@
-// A finite map from file names to texts.
+// A finite map from file names to sources.
 ghost use Rattle.std.specs.Prelude.{◌≡◌, [], length, map, IfOk, OnOk, OnErr, slice_get};
 ghost use Rattle.std.specs.Option.{option_copied, option_map};
 ghost use Rattle.al_base.specs.FileLaws.{Ascend};
@@ -17,7 +17,7 @@ pub const MAX_FILES: usize = 4096;
 /// The most bytes that a file may have.
 pub const MAX_TEXT: usize = 1_048_576;
 
-/// A finite map from file names to texts, in the order of the names' bytes. Copies share the texts.
+/// A finite map from file names to sources, in the order of the names' bytes. Copies share the sources.
 pub struct Files {
     alloc: Global,
     texts: BTreeMap<Vec<u8>, Rc<Vec<u8>>>,
@@ -58,7 +58,7 @@ impl Files {
         self.texts.len()
     }
 
-    /// A map with the same files. The texts aren't copied.
+    /// A map with the same files. The sources aren't copied.
     ///
     /// # Errors
     ///
@@ -75,14 +75,14 @@ impl Files {
         }
     }
 
-    /// The text of a file.
+    /// The source in a file.
     pub fn get(&self, name: &[u8]) -> Option<&[u8]>
         ensures { option_map (λ text. text.now) result ≡ text_of self.now name.now }
     {
         Some(self.texts.get(name)?.as_slice())
     }
 
-    /// The i-th file by name, from 0: its name and its text.
+    /// The i-th file by name, from 0: its name and its source.
     pub fn at(&self, i: usize) -> Option<(&[u8], &[u8])>
         ensures { option_map (λ file. (file.0.now, file.1.now)) result ≡ slice_get self.now i }
     {
@@ -90,7 +90,7 @@ impl Files {
         Some((name.as_slice(), text.as_slice()))
     }
 
-    /// The names and texts of all files, by name.
+    /// The names and sources of all files, by name.
     ///
     /// # Errors
     ///
@@ -105,7 +105,7 @@ impl Files {
         Ok(list)
     }
 
-    /// The names and texts of all files, by name: texts that may be shared. The names ascend.
+    /// The names and sources of all files, by name. The sources may be shared. The names ascend.
     ///
     /// # Errors
     ///

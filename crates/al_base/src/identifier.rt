@@ -15,7 +15,7 @@ pub fn is_word_byte(b: u8) -> bool
     b.is_ascii_alphanumeric() || b == b'_'
 }
 
-/// Whether two `_` stand together, or one stands at an end (ARM 2.3).
+/// Whether two `_` come together, or one is at an end (ARM 2.3).
 pub fn has_bad_underscore(word: &[u8]) -> bool
     ensures { result ≡ has_bad_underscore word.now }
 {

@@ -1,18 +1,18 @@
-// What the operations on files mean, for every map of files, and that reserved words are told apart.
+// What the operations on files mean, for every map of files, and that no two reserved words have one spelling.
 ghost use Rattle.al_base.specs.FileLaws.{PutChangesOne, DeleteChangesOne, RenameMovesOne};
 ghost use Rattle.al_base.specs.ReservedPlaces.{PlacesTellApart};
 
-/// A text that is put stands under its name, and nothing else changes.
+/// A source that is put is under its name, and nothing else changes.
 pub fn put_changes_one()
     ensures { PutChangesOne }
 {}
 
-/// After a delete there is no text under the name, and nothing else changes.
+/// After a delete there is no source under the name, and nothing else changes.
 pub fn delete_changes_one()
     ensures { DeleteChangesOne }
 {}
 
-/// After a rename that isn't refused the text stands under its new name alone, and nothing else changes.
+/// After a rename that isn't refused the source is under its new name alone, and nothing else changes.
 pub fn rename_moves_one()
     ensures { RenameMovesOne }
 {}

@@ -15,11 +15,11 @@ use std::cmp::Ordering;
 use std::hash::{Hash, Hasher};
 use std::marker::Model;
 
-/// The most bytes of a name that stand in the value itself: nearly all names are no longer, and take no memory of their own.
+/// The most bytes of a name that are kept in the value itself: nearly all names are no longer, and take no memory of their own.
 const MOST_SHORT: usize = 22;
 
 enum NameBytes {
-    /// So many of the bytes.
+    /// A short name: the first so many of the bytes.
     Short(u8, [u8; 22]),
     Long(Vec<u8>),
 }
@@ -133,7 +133,7 @@ impl Name {
     }
 }
 
-/// The word in lower case, in which names are kept (ARM 2.3: case doesn't tell identifiers apart).
+/// The word in lower case, in which names are kept (ARM 2.3: identifiers that differ only in case are the same).
 ///
 /// # Errors
 ///
@@ -185,7 +185,7 @@ impl Eq for Name {
     ghost laws = { Prim.search (comparing, rules) };
 }
 
-/// By the first byte in which they differ; what another begins with comes before it.
+/// Names are ordered by the first byte in which they differ; a prefix comes before the longer name.
 impl Ord for Name {
     ghost cmp = { slice_cmp nat_cmp };
 

@@ -1,4 +1,4 @@
-// Which texts are names of files.
+// Which bytes are names of files.
 ghost use Rattle.std.specs.Prelude.{◌≡◌};
 ghost use Rattle.std.specs.List.{list_all};
 ghost use Rattle.al_base.specs.Names.{is_name_byte, is_file_name};

@@ -1,4 +1,4 @@
-// Where something stands in a text.
+// The places of things in a source.
 
 /// A line and a column, both from 1. A column counts bytes (ARM 2.2 leaves the count of lines to the implementation).
 #[derive(Clone, Copy, PartialEq, Eq, PartialOrd, Ord)]
@@ -9,13 +9,13 @@ pub struct Place {
     pub col: u32,
 }
 
-/// A piece of a text.
+/// A piece of a source.
 #[derive(Clone, Copy)]
 pub struct Span {
-    /// How many bytes of the text stand before it.
+    /// How many bytes of the source come before it.
     pub start: u32,
     /// How many bytes it has.
     pub len: u32,
-    /// Where its first byte stands.
+    /// The place of its first byte.
     pub place: Place,
 }

@@ -18,7 +18,7 @@ pub enum Refusal {
     FileExists,
     /// There are as many files as a library may have.
     TooManyFiles,
-    /// The text has more bytes than a file may have.
+    /// The source has more bytes than a file may have.
     TextTooLong,
     /// There was no build yet.
     NotBuilt,
@@ -26,9 +26,9 @@ pub enum Refusal {
     NoImage,
     /// The line is no command.
     BadCommand,
-    /// The length of a text isn't a number of one to nine digits, or the text isn't there as announced.
+    /// The length of a source isn't a number of one to nine digits, or the source isn't there as announced.
     BadLength,
-    /// Memory was wanted and not given.
+    /// The allocator refused memory.
     NoMemory,
 }
 
@@ -52,7 +52,7 @@ impl Refusal {
     }
 }
 
-/// Memory was wanted and not given.
+/// The allocator refused memory.
 #[derive(Clone, Copy, Debug, PartialEq, Eq, Error)]
 #[error("no memory")]
 pub struct NoMemory;

@@ -5,7 +5,7 @@ ghost use Rattle.al_base.specs.ReservedPlaces.{place_of};
 ghost use Rattle.al_base.specs.ReservedWords.{spelling, reserved_words, reserved_at};
 ghost use Rattle.al_base.specs.declared.reserved.ReservedWord.{ReservedWord};
 
-/// The reserved words (ARM 2.9), by the alphabet.
+/// The reserved words (ARM 2.9) in alphabetical order.
 #[derive(Clone, Copy)]
 pub enum ReservedWord {
     Abort,
@@ -159,7 +159,7 @@ const RESERVED_WORDS: [ReservedWord; 73] = [
     ReservedWord::Xor,
 ];
 
-/// The words in lower case, by the alphabet.
+/// The words in lower case, in alphabetical order.
 const SPELLINGS: [&[u8]; 73] = [
     b"abort",
     b"abs",
@@ -236,7 +236,7 @@ const SPELLINGS: [&[u8]; 73] = [
     b"xor",
 ];
 
-/// By a spelling's place, where the word stands by the alphabet; 73 where none has that place.
+/// For each place of a spelling, the number of the word in alphabetical order; 73 if no word has that place.
 const NUMBERS: [u8; 256] = [
     73, 73, 18, 73, 73, 73, 73, 68, 73, 73, 73, 22, 73, 73, 73, 32, 73, 2, 73, 73, 73, 73, 73, 73,
     73, 24, 45, 73, 73, 20, 73, 73, 53, 60, 44, 73, 36, 27, 73, 73, 73, 73, 15, 1, 73, 67, 73, 73,
@@ -262,7 +262,7 @@ impl ReservedWord {
 }
 
 #[tactic(auto, unfolding(crate::specs::ReservedWords::reserved_words))]
-/// Each of them, by the alphabet.
+/// The reserved words in alphabetical order.
 pub fn reserved_words() -> &'static [ReservedWord]
     ensures { result.now ≡ reserved_words }
 {
@@ -295,7 +295,7 @@ fn candidate(word: &[u8]) -> Option<ReservedWord>
     word_at(place_of(word))
 }
 
-/// Where the spelling of the word has its place: the first, the middle and the last byte tell the reserved words apart.
+/// The place of the spelling of the word: no two reserved words agree in the first, the middle and the last byte.
 fn place_of(word: &[u8]) -> usize
     requires { 0 < length word.now }
     ensures exact { result ≡ place_of (map to_ascii_lowercase word.now) }

@@ -5,7 +5,7 @@ ghost use Rattle.al_base.specs.Rules.{number_of};
 /// The rules that a diagnostic can say are broken, by their numbers.
 #[derive(Clone, Copy)]
 pub enum Rule {
-    /// No lexeme begins there.
+    /// No lexeme begins at that byte.
     IllegalCharacter,
     /// Two underscores together, or one at the end.
     BadIdentifier,
@@ -17,7 +17,7 @@ pub enum Rule {
     BadString,
     /// An identifier of more than 200 bytes.
     IdentifierTooLong,
-    /// The text is no compilation unit.
+    /// The source is no compilation unit.
     Syntax,
     /// The unit belongs in another file.
     FileName,
@@ -25,7 +25,7 @@ pub enum Rule {
     MissingUnit,
     /// The unit depends on itself (ARM 10.1.1(26)).
     DependenceCycle,
-    /// A private child is mentioned where it may not be (ARM 10.1.2(8)).
+    /// A private child is mentioned in a place that doesn't allow it (ARM 10.1.2(8)).
     PrivateChild,
     /// The parent has no declaration, or is no package (ARM 10.1.1(10)).
     MissingParent,
@@ -47,7 +47,7 @@ pub enum Rule {
     NotStatic,
     /// A priority, a bound or a size is beyond its limits.
     OutOfLimits,
-    /// A stub, a dotted name or a mode that may not stand there.
+    /// A stub, a dotted name or a mode is in a place that doesn't allow it.
     NotAllowedHere,
     /// A pragma that is unknown, misplaced or has a wrong argument.
     BadPragma,
@@ -55,7 +55,7 @@ pub enum Rule {
     EndName,
     /// A constant without a value.
     NoValue,
-    /// A private type is used before its full declaration where that must be complete (ARM 3.11.1(8), 7.3(5), 13.14).
+    /// A private type is used before its full declaration in a place that needs a complete type (ARM 3.11.1(8), 7.3(5), 13.14).
     NotComplete,
     /// No declaration of an identifier is visible (ARM 8.3).
     NotVisible,
@@ -89,7 +89,7 @@ pub enum Rule {
     NotYet,
 }
 
-/// Their numbers, by the places of the rules.
+/// The numbers of the rules, in the order of `Rule`.
 const NUMBERS: [u16; 41] = [
     1, 2, 3, 4, 5, 6, 101, 201, 202, 203, 204, 205, 206, 207, 208, 209, 301, 302, 303, 304, 305,
     306, 307, 308, 309, 310, 401, 402, 403, 404, 405, 406, 501, 502, 503, 504, 601, 602, 603, 604,
@@ -97,7 +97,7 @@ const NUMBERS: [u16; 41] = [
 ];
 
 impl Rule {
-    /// The number by which a diagnostic tells it.
+    /// The number of the rule in diagnostics: 401 is printed as E401.
     #[tactic(auto, unfolding(crate::specs::Rules::number_of))]
     pub fn number(self) -> u16
         ensures { result ≡ number_of self }

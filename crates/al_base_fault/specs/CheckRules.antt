@@ -36,6 +36,6 @@ as_rule NotYet = rules.NotYet
 abbrev pub rule_number : CheckRule → ℕ
 rule_number r = number_of (as_rule r)
 
--- which of two stands first, by their numbers
+-- which of two comes first, by their numbers
 unfoldable pub ranks_before : CheckRule → CheckRule → Bool
 ranks_before r other = nat_lt (rule_number r) (rule_number other)

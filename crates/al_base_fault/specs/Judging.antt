@@ -16,7 +16,7 @@ unless None checked = checked
 unless (Some f) (Ok a) = Err f
 unless (Some f) (Err g) = Err (first f g)
 
--- what is judged only where something else is right
+-- what is judged only if something else is right
 abbrev pub next : {A B : Type 0} → Result A Fault → (A → Result B Fault) → Result B Fault
 next (Ok a) f = f a
 next (Err g) f = Err g

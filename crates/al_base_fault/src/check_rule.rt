@@ -18,7 +18,7 @@ pub enum CheckRule {
     NotStatic,
     /// A priority, a bound or a size is beyond its limits.
     OutOfLimits,
-    /// A stub, a dotted name or a mode that may not stand there.
+    /// A stub, a dotted name or a mode is in a place that doesn't allow it.
     NotAllowedHere,
     /// A pragma that is unknown, misplaced or has a wrong argument.
     BadPragma,
@@ -26,7 +26,7 @@ pub enum CheckRule {
     EndName,
     /// A constant without a value.
     NoValue,
-    /// A private type is used before its full declaration where that must be complete (ARM 3.11.1(8), 7.3(5), 13.14).
+    /// A private type is used before its full declaration in a place that needs a complete type (ARM 3.11.1(8), 7.3(5), 13.14).
     NotComplete,
     /// No declaration of an identifier is visible (ARM 8.3).
     NotVisible,
@@ -61,7 +61,7 @@ pub enum CheckRule {
 }
 
 impl CheckRule {
-    /// The same among all rules.
+    /// This rule among all rules.
     fn rule(self) -> Rule
         ensures { result ≡ as_rule self }
     {
@@ -94,14 +94,14 @@ impl CheckRule {
         }
     }
 
-    /// Its number (401 is shown as E401).
+    /// The number of the rule: 401 is printed as E401.
     pub fn number(self) -> u16
         ensures { result ≡ rule_number self }
     {
         self.rule().number()
     }
 
-    /// Whether its number is less than another's.
+    /// Whether the number of this rule is less than that of the other.
     #[tactic(auto, unfolding(crate::specs::CheckRules::ranks_before))]
     pub(crate) fn ranks_before(self, other: CheckRule) -> bool
         ensures { result ≡ ranks_before self other }

@@ -5,7 +5,7 @@ ghost use Rattle.al_base_fault.specs.Faults.{earlier, is_before};
 use crate::check_rule::CheckRule;
 use al_base::Place;
 
-/// A rule that is broken, and where.
+/// A rule that is broken, and the place.
 #[derive(Clone, Copy)]
 pub struct Fault {
     /// The place at which it is reported.
@@ -14,7 +14,7 @@ pub struct Fault {
     pub rule: CheckRule,
 }
 
-/// Whether a fault stands before another one, or at its place with a lesser number.
+/// Whether a fault comes before another one: by place, and at one place by number.
 fn is_before(fault: &Fault, other: &Fault) -> bool
     ensures { result ≡ is_before fault.now other.now }
 {

@@ -28,11 +28,11 @@ grow same next zero xs others = xs
 grow same next (suc n) xs others =
     option_map_or (λ r. grow same next n (xs ++ r.0 ∷ []) r.1) (pick (is_next same next xs) others) xs
 
--- all that is reached from the first items, where each step begins at one of the nodes
+-- all that is reached from the first items by steps that begin at one of the nodes
 unfoldable pub closing : {X : Type 0} → (X → X → Bool) → (X → List X) → List X → List X → List X
 closing same next nodes first = grow same next (length (flat_map next nodes)) first (flat_map next nodes)
 
--- a test that tells which items are equal
+-- a test of which items are equal
 abbrev pub IsEquality : {X : Type 0} → (X → X → Bool) → Type 0
 IsEquality {X = X} same = (a b : X) → Decides (same a b) (a ≡ b)
 

@@ -5,7 +5,7 @@ use Rattle.al_base_graph.specs.Graphs.{successors_of, Step}
 use Rattle.al_base_graph.specs.Orders.{IsLeast, IsStuck, TakesLeast}
 use Rattle.al_base_graph.specs.declared.placing.Placing.{Placing}
 
--- how often the number stands in the list
+-- how often the number is in the list
 abbrev pub times : ℕ → List ℕ → ℕ
 times a xs = count_by (λ x. x == a) xs
 

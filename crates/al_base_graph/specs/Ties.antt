@@ -1,4 +1,4 @@
--- The ties between nodes, and the lines that show a cycle.
+-- The edges between nodes, and the edges that show a cycle.
 use Rattle.std.specs.Prelude.{◌≡◌, ◌⊎◌, ℕ, ◌<◌, ◌≤◌, List, [], length, replicate, fold, slice_index_or}
 use Rattle.std.specs.List.{Contains, HoldsAt}
 use Rattle.al_base_graph.specs.Graphs.{with_step}
@@ -21,7 +21,7 @@ IsUpto s t =
 abbrev pub IsBetween : ℕ → ℕ → Edge → Type 0
 IsBetween a b t = (t.after ≡ a) × (t.before ≡ b)
 
--- of the ties between two nodes the one that a line names
+-- of the edges between two nodes the one that is named
 abbrev pub IsLine : List Edge → ℕ → ℕ → Edge → Type 0
 IsLine edges a b t = Contains edges t × IsBetween a b t × ((s : Edge) → Contains edges s → IsBetween a b s → IsUpto t s)
 

@@ -18,8 +18,8 @@ IsJoined begins j i = (b : ℕ) → Contains begins b → j < b → i < b
 abbrev pub IsSettled : List Place → List ℕ → ℕ → ℕ → Type 0
 IsSettled places begins i a = (place_of places a ≡ Done) ⊎ ((j : ℕ) × (place_of places a ≡ OnPath j) × IsJoined begins j i)
 
--- the walk: where each node is, how many of its successors are still to be looked at (the first ones), the path, the places of
--- the path that are visited, those at which a stretch begins, and for the nodes that are done, whether they are on a cycle
+-- the walk: what is known of each node, how many of its successors are still to be looked at (the first ones), the path, the places
+-- of the path that are visited, those at which a stretch begins, and for the nodes that are done, whether they are on a cycle
 pub record IsWalk (g : List (List ℕ)) (places : List Place) (left path visiting begins : List ℕ) (flags : List Bool) : Type 0 where
   pub places_count : length places ≡ length g
   pub left_count : length left ≡ length g

@@ -48,7 +48,7 @@ impl Cycle {
     }
 }
 
-// Where a node stands.
+// The place of a node in the cycle.
 fn place_of(nodes: &[usize], node: usize) -> usize
     requires { Contains nodes.now node }
     ensures within { result < length nodes.now }

@@ -1,4 +1,4 @@
-// What ties one node to another: the pair of items that carries an edge, and its reason.
+// The edges between nodes: the pair of items that an edge is for, and its reason.
 ghost use Rattle.std.specs.Prelude.{◌≡◌, ◌↔◌, ◌⊎◌, ◌<◌, ℕ, List, length, IfOk, IsTrue, MatchOption, MatchResult, slice_index};
 ghost use Rattle.std.specs.List.{All, Contains};
 ghost use Rattle.al_base_graph.specs.Orders.{IsOrdered, next_in};
@@ -17,7 +17,7 @@ pub enum Reason {
     ElaborateAll,
 }
 
-/// An item of one node, which comes after an item of another node. Items are told by their places in the order of keys.
+/// An item of one node, which comes after an item of another node. An item is given by its place in the order of keys.
 #[derive(Clone, Copy)]
 pub struct Edge {
     /// The node that comes later.
@@ -73,7 +73,7 @@ pub fn line(edges: &[Edge], after: usize, before: usize) -> Option<Edge>
     least
 }
 
-// The graph of the ties.
+// The graph with a step for each edge.
 fn graph_of(alloc: Global, count: usize, edges: &[Edge]) -> Result<Graph, AllocError>
     requires { All (λ t. (t.after < count) × (t.before < count)) edges.now }
     ensures { IfOk result (λ graph. graph ≡ graph_from count edges.now) }
@@ -104,7 +104,7 @@ fn lines_of(alloc: Global, edges: &[Edge], cycle: &[usize]) -> Result<Vec<Edge>,
     Ok(lines)
 }
 
-/// The order of so many nodes under the ties, or the lines that show a cycle.
+/// An order of so many nodes in which each edge leads from an earlier node to a later one, or the edges of a cycle.
 ///
 /// # Errors
 ///

@@ -48,7 +48,7 @@ impl Graph {
         Ok(Graph { alloc, successors })
     }
 
-    // Where the graph takes its memory from.
+    // The allocator from which the graph takes its memory.
     pub(crate) fn alloc(&self) -> Global {
         self.alloc
     }

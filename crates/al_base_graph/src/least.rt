@@ -3,7 +3,7 @@ ghost use Rattle.std.specs.Prelude.{◌≡◌, ℕ, ◌<◌, length, slice_index
 ghost use Rattle.std.specs.List.{All, Contains};
 ghost use Rattle.al_base_graph.specs.Orders.{IsLeast};
 
-// Of all nodes.
+// The least of all nodes that have predecessors which aren't placed.
 pub(crate) fn least_open(missing: &[usize]) -> Option<usize>
     ensures { MatchOption result (All (λ count. count ≡ 0) missing.now) (IsLeast (λ a. 0 < slice_index missing.now a)) }
 {
@@ -15,7 +15,7 @@ pub(crate) fn least_open(missing: &[usize]) -> Option<usize>
     None
 }
 
-// Of some nodes, one of which is such a node.
+// The least of some nodes that have predecessors which aren't placed. At least one of them must be such a node.
 pub(crate) fn least_open_of(nodes: &[usize], missing: &[usize]) -> usize
     requires nodes_in { All (λ node. node < length missing.now) nodes.now }
     requires some { (a : ℕ) × Contains nodes.now a × (0 < slice_index missing.now a) }

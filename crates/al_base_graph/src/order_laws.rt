@@ -21,7 +21,7 @@ pub fn stuck_is_greatest()
     ensures nodes { (g : List (List ℕ)) (a : ℕ) → IsStuck g a → a < length g }
 {}
 
-/// Where there is an order, no node is stuck.
+/// If there is an order, no node is stuck.
 pub fn ordered_is_not_stuck()
     ensures { (g : List (List ℕ)) (order : List ℕ) → IsOrder g order → (a : ℕ) → IsStuck g a → ⊥ }
 {}

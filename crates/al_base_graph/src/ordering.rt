@@ -10,7 +10,8 @@ use crate::placing::Placing;
 use std::alloc::{AllocError, Global};
 
 /// The order of a graph's nodes, each of whose steps leads to a predecessor: all nodes, each time the least whose predecessors all
-/// stand before it. It is there exactly where no node is stuck; and else the cycle to which the walk over stuck nodes comes.
+/// come before it. There is such an order exactly if no node is stuck; otherwise the result is the cycle to which the walk over
+/// stuck nodes comes.
 ///
 /// # Errors
 ///

@@ -38,7 +38,7 @@ impl Placing {
         })
     }
 
-    // One more of the node's predecessors is placed.
+    // Counts that one more of the node's predecessors is placed.
     fn close(&mut self, node: usize) -> Result<(), AllocError>
         requires node_in { node < length self.old.missing.items }
         requires some { 0 < slice_index self.old.missing.items node }
@@ -53,7 +53,7 @@ impl Placing {
         Ok(())
     }
 
-    // One more predecessor is placed of each of the nodes.
+    // Counts for each of the nodes that one more predecessor is placed.
     fn close_all(&mut self, nodes: &[usize]) -> Result<(), AllocError>
         requires nodes_in { All (λ node. node < length self.old.missing.items) nodes.now }
         requires some { (a : ℕ) → times a nodes.now ≤ slice_index_or self.old.missing.items a 0 }

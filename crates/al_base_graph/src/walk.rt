@@ -9,7 +9,7 @@ ghost use Rattle.al_base_graph.specs.declared.walk.Place.TheVariants.{Unseen, On
 use crate::graph::Graph;
 use std::alloc::AllocError;
 
-// Where a node is: not seen yet, on the path at a place, or done, with all that it leads to.
+// What is known of a node: it is not seen yet, on the path at a place, or done, with all that it leads to.
 #[derive(Clone, Copy)]
 pub(crate) enum Place {
     Unseen,
@@ -17,8 +17,9 @@ pub(crate) enum Place {
     Done,
 }
 
-// The walk so far: where each node is, how many of its successors are still to be looked at (the first ones), the path, the places
-// of the path that are visited, those at which a stretch begins, and for the nodes that are done, whether they are on a cycle.
+// The walk so far: what is known of each node, how many of its successors are still to be looked at (the first ones), the path, the
+// places of the path that are visited, those at which a stretch begins, and for the nodes that are done, whether they are on a
+// cycle.
 #[derive(Drop)]
 pub(crate) struct Walk {
     places: Vec<Place>,
@@ -91,7 +92,7 @@ impl Walk {
         Ok(())
     }
 
-    // The visit of a node is over: where it begins a stretch, the nodes of the stretch are done.
+    // Ends the visit of a node: if it begins a stretch, the nodes of the stretch are done.
     fn leave(&mut self, graph: &Graph, at: usize)
         requires walk { IsWalk graph.now self.old.places.items self.old.left.items self.old.path.items (self.old.visiting.items ++ at ∷ []) self.old.begins.items self.old.flags.items }
         requires none_left { slice_index self.old.left.items (slice_index self.old.path.items at) ≡ 0 }

@@ -1,12 +1,12 @@
-// The count of wants of memory.
+// The count of refused growths.
 ghost use Rattle.std.specs.Prelude.{◌≡◌, is_ok};
 ghost use Rattle.al_base_shortage.specs.Counts.{one_more, counted};
 
 use al_base::NoMemory;
 use std::marker::Model;
 
-/// How often want of memory was counted, to 2^64-1. A call that keeps this count promises to raise it by one where it answers
-/// want of memory, and not to touch it elsewhere; its code raises it through `of`, over what a growth gave.
+/// How many calls failed for memory, to 2^64-1. A call that keeps this count promises to raise it by one if it fails for memory,
+/// and not to touch it otherwise. Its code raises it only through `of`, with the result of a growth.
 pub struct AllocFailures {
     count: u64,
 }
@@ -26,14 +26,14 @@ impl Model for AllocFailures {
 }
 
 impl AllocFailures {
-    /// None so far.
+    /// A count of 0.
     pub fn new() -> Self
         ensures { result ≡ 0 }
     {
         AllocFailures { count: 0 }
     }
 
-    /// How many there were.
+    /// The count.
     pub fn count(&self) -> u64
         ensures { result ≡ self.now }
     {
@@ -56,7 +56,7 @@ impl AllocFailures {
     }
 }
 
-/// One more, to 2^64-1.
+/// The count and one more, to 2^64-1.
 pub fn one_more(count: u64) -> u64
     ensures { result ≡ one_more count }
 {

@@ -1,4 +1,4 @@
--- What diagnostics say of the rules that they tell.
+-- What diagnostics print for rules.
 use Rattle.std.specs.Prelude.{ℕ, ◌==◌, List, [], ◌∷◌, Option, codes, unwrap_or}
 use Rattle.std.specs.List.{find}
 use Rattle.al_base.specs.Rules.{number_of}

@@ -1,4 +1,4 @@
-// What diagnostics say of the rules that they tell.
+// What diagnostics print for rules.
 ghost use Rattle.std.specs.Prelude.{◌≡◌, ◌≢◌, IfNone, IfSome};
 ghost use Rattle.al_base.specs.Rules.{number_of};
 ghost use Rattle.al_base.specs.declared.rule.Rule.{Rule};
@@ -6,7 +6,7 @@ ghost use Rattle.al_base_words.specs.Messages.{message_of, rule_of, words_of};
 
 use al_base::Rule;
 
-/// Each rule, by their numbers.
+/// The rules, by their numbers.
 const RULES: [Rule; 41] = [
     Rule::IllegalCharacter,
     Rule::BadIdentifier,
@@ -51,7 +51,7 @@ const RULES: [Rule; 41] = [
     Rule::NotYet,
 ];
 
-/// What is said of each, by the places of the rules.
+/// What is printed for each rule, in the order of `RULES`.
 const MESSAGES: [&[u8]; 41] = [
     b"E001 illegal character",
     b"E002 bad identifier",
@@ -122,8 +122,8 @@ fn found(number: u16) -> Option<Rule>
     RULES.iter().copied().find(|rule| rule.number() == number)
 }
 
-/// What the rule of a number says when it is broken: the letter E, the number in three digits, and what is wrong in a few words. Of a
-/// number that no rule has it is that the unit isn't compiled yet.
+/// What a diagnostic prints for the rule of a number: the letter E, the number in three digits, and what is wrong in a few words.
+/// If no rule has the number, it is the message of E700.
 pub fn message_of(number: u16) -> &'static [u8]
     ensures { result.now ≡ message_of number }
 {

@@ -1,4 +1,4 @@
-// What replies say of refusals.
+// What replies print for refusals.
 ghost use Rattle.std.specs.Prelude.{◌≡◌};
 ghost use Rattle.al_base_words.specs.Refusals.{word_of};
 

@@ -18,14 +18,14 @@ pub record CompiledCode : Type 0 where
   pub protected : List Region
   pub lines : List LineEntry
 
--- the code is a list of instructions, and the uses are the places in it where these use symbols
+-- the code is a list of instructions, and the uses are the places in it at which these use symbols
 pub record IsCode (code : List ℕ) (uses : List Relocation) : Type 0 where
   pub parts : List Part
   pub are_parts : All IsPart parts
   pub code_is : code ≡ code_of parts
   pub uses_are : uses ≡ uses_from 0 parts
 
--- a symbol stands in its unit: at the end of its code at the latest, in or after its words, or as one of its protected
+-- the place of a symbol is in its unit: at the end of its code at the latest, in or after its words, or as one of its protected
 -- objects
 abbrev pub StandsAt : CompiledCode → LinkKind → ℕ → Type 0
 StandsAt o kind.Code offset = offset ≤ length o.code

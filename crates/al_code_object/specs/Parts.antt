@@ -12,7 +12,7 @@ use Rattle.al_code_object.specs.declared.object.Relocation.{Relocation}
 pub data Part : Type 0 where
   -- an instruction
   Whole : Instr → Part
-  -- one whose first operand counts from where the symbol stands
+  -- an instruction whose first operand counts from the place of the symbol
   Using : Instr → LinkSymbol → Part
 
 abbrev pub instr_of : Part → Instr
@@ -26,12 +26,12 @@ part_bytes p = encoded (instr_of p)
 abbrev pub code_of : List Part → List ℕ
 code_of ps = flat_map part_bytes ps
 
--- where a part that begins at `from` uses a symbol: its operand stands after the instruction's number
+-- the places at which a part that begins at `from` uses a symbol: its operand comes after the instruction's number
 abbrev pub uses_at : ℕ → Part → List Relocation
 uses_at from (Whole i) = []
 uses_at from (Using i symbol) = record { place = from + 1; symbol = symbol } ∷ []
 
--- where a code that begins at `from` uses symbols
+-- the places at which a code that begins at `from` uses symbols
 abbrev pub uses_from : ℕ → List Part → List Relocation
 uses_from from [] = []
 uses_from from (p ∷ ps) = uses_at from p ++ uses_from (from + length (part_bytes p)) ps

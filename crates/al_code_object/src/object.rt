@@ -6,8 +6,8 @@ use al_instr::LineEntry;
 use al_view::{LinkSymbol, Priority};
 use std::marker::Model;
 
-/// Where a symbol stands: so many bytes after the front of the unit's code, at this of its words, or as this of its
-/// protected objects.
+/// The place of a symbol: so many bytes after the beginning of the unit's code, one of the unit's words, or one of its protected
+/// objects.
 pub struct Address {
     /// The symbol.
     pub symbol: LinkSymbol,
@@ -24,7 +24,7 @@ impl Drop for Address {
     }
 }
 
-/// Where the operand of an instruction counts from the place of a symbol.
+/// The place of an operand that counts from the place of a symbol.
 pub struct Relocation {
     /// The place of the operand in the unit's code, in bytes.
     pub place: u32,
@@ -66,7 +66,7 @@ pub struct Compiled {
 
 /// What a unit leaves for the linker.
 pub enum Object {
-    /// Its code is longer than that of any image.
+    /// The unit has no object: its code is longer than that of any image.
     Large,
     Compiled(Compiled),
 }
@@ -91,8 +91,8 @@ impl Model for Compiled {
 }
 
 impl Compiled {
-    /// The code of a unit, where the symbols stand that it uses and defines, how many words and tasks it has, its
-    /// protected objects, and where its lines begin.
+    /// The code of a unit, the places of the symbols that it uses and defines, how many words and tasks it has, its protected
+    /// objects, and the places at which its lines begin.
     pub fn new(
         code: Vec<u8>,
         uses: Vec<Relocation>,
@@ -131,14 +131,14 @@ impl Compiled {
         self.code.as_slice()
     }
 
-    /// Where symbols are used, in the order of their places.
+    /// The places at which symbols are used, in their order.
     pub fn uses(&self) -> &[Relocation]
         ensures { result.now ≡ self.now.uses }
     {
         self.uses.as_slice()
     }
 
-    /// Where symbols stand.
+    /// The places of the symbols that the unit defines.
     pub fn defines(&self) -> &[Address]
         ensures { result.now ≡ self.now.defines }
     {
@@ -159,14 +159,14 @@ impl Compiled {
         self.tasks
     }
 
-    /// Its protected objects by their numbers.
+    /// The unit's protected objects, by their numbers.
     pub fn protected(&self) -> &[Region]
         ensures { result.now ≡ self.now.protected }
     {
         self.protected.as_slice()
     }
 
-    /// From which places of its code on it is of which lines of the unit's text.
+    /// The table of lines: from which places on the code is of which lines of the unit's source.
     pub fn lines(&self) -> &[LineEntry]
         ensures { result.now ≡ self.now.lines }
     {

@@ -1,4 +1,4 @@
--- Which line of its unit's text code is of.
+-- Which line of its unit's source code is of.
 use Rattle.std.specs.Prelude.{ℕ, ◌+◌, ◌<◌, nat_le, nat_lt, Bool, true, ◌&&◌, IsTrue, List, [], ◌∷◌, map, All, Option, Some, if◌then◌else◌}
 use Rattle.al_instr.specs.declared.lines.LineEntry.{LineEntry}
 
@@ -21,7 +21,7 @@ abbrev pub line_at : List LineEntry → ℕ → Option ℕ → Option ℕ
 line_at [] place before = before
 line_at (e ∷ es) place before = line_at es place (if nat_le e.place place then Some e.line else before)
 
--- ---- which of the marks in code stay: those after which a byte stands before the next one that stays
+-- ---- which of the marks in code stay: those after which a byte comes before the next one that stays
 
 abbrev pub first_place : ℕ → List LineEntry → ℕ
 first_place end [] = end

@@ -7,12 +7,12 @@ use crate::numbers::{Plain, Protected, Sized};
 use crate::text::{Text, Word, Words};
 use al_base::NoMemory;
 
-/// One instruction of compiled code.
+/// An instruction of compiled code.
 #[derive(Drop)]
 pub enum Instr {
-    /// One without operands.
+    /// An instruction without operands.
     Plain(Plain),
-    /// One with a number of words, an offset or a code.
+    /// An instruction with a number of words, an offset or a code.
     Sized(Sized, u32),
     /// What is done to the protected object of this number.
     Protected(Protected, u32),
@@ -22,13 +22,13 @@ pub enum Instr {
     Frame { depth: u32, word: u32 },
     /// Pushes the address of a data word.
     Global(u32),
-    /// Sees that the word on top lies within the bounds.
+    /// Checks that the word on top lies within the bounds.
     Check { low: i64, high: i64 },
     /// Replaces an address and an index by the address of a component.
     Index { low: i64, high: i64, words: u32 },
     /// Goes on so many bytes after the end of the instruction.
     Jump(i32),
-    /// The same where the popped word is 0.
+    /// Goes on so many bytes after the end of the instruction, if the popped word is 0.
     JumpZero(i32),
     /// Calls the routine at a place, with so many words of parameters.
     Call { place: u32, words: u32 },

@@ -5,10 +5,10 @@ ghost use Rattle.al_instr.specs.Lines.{line_at, line_table, rise, shifted};
 use al_base::NoMemory;
 use std::alloc::Global;
 
-/// From this byte of the code on, up to the next entry's, it is of this line of its unit's text.
+/// From this byte of the code on, up to the next entry's, it is of this line of its unit's source.
 #[derive(Clone, Copy)]
 pub struct LineEntry {
-    /// In bytes from the front of the code.
+    /// The place in the code, in bytes from its beginning.
     pub place: u32,
     /// 1 or more.
     pub line: u32,

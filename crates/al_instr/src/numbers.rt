@@ -67,7 +67,7 @@ const PLAIN_ONES: [Plain; 28] = [
 ];
 
 impl Plain {
-    /// Its number.
+    /// The number of the instruction.
     pub(crate) fn number(self) -> u8
         ensures { result ≡ plain_number self }
     {
@@ -116,7 +116,7 @@ const SIZED_ONES: [Sized; 11] = [
 ];
 
 impl Sized {
-    /// Its number.
+    /// The number of the instruction.
     pub(crate) fn number(self) -> u8
         ensures { result ≡ sized_number self }
     {
@@ -153,7 +153,7 @@ const PROTECTED_ONES: [Protected; 5] = [
 ];
 
 impl Protected {
-    /// Its number.
+    /// The number of the instruction.
     pub(crate) fn number(self) -> u8
         ensures { result ≡ protected_number self }
     {

@@ -113,7 +113,7 @@ fn other(alloc: Global, number: u8, bytes: &[u8]) -> Result<(Instr, &[u8]), Deco
     Err(DecodeFault::Damaged)
 }
 
-/// The number in four bytes at the front, and what is after it.
+/// The number in four bytes at the beginning, and what is after it.
 #[tactic(auto, unfolding(crate::specs::Reading::word_at))]
 fn word_at(bytes: &[u8]) -> Result<(u32, &[u8]), DecodeFault>
     ensures { Gives (λ x. (x.0, x.1.now)) result (word_at bytes.now) }

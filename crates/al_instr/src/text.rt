@@ -22,7 +22,7 @@ impl Model for Text {
 }
 
 impl Text {
-    /// The text of these bytes.
+    /// A text with a copy of these bytes.
     ///
     /// # Errors
     ///
@@ -110,7 +110,7 @@ impl Model for Words {
 }
 
 impl Words {
-    /// No names yet.
+    /// A list without names.
     pub fn new(alloc: Global) -> Words
         ensures { result ≡ [] }
     {

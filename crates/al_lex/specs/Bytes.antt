@@ -12,6 +12,6 @@ is_inside_line b = not (is_line_end b)
 abbrev pub is_blank : ℕ → Bool
 is_blank b = b == 32 || b == 9
 
--- what may stand in a string
+-- what may be in a string
 abbrev pub is_printable : ℕ → Bool
 is_printable b = nat_le 32 b && nat_le b 126

@@ -24,32 +24,32 @@ unfoldable pub run_len : Digits → List ℕ → ℕ
 run_len d [] = 0
 run_len d (b ∷ bs) = if goes_on d b (slice_index bs 0) then 1 + run_len d bs else 0
 
--- how long the longest numeral at the front is: digits, single underscores between them
+-- how long the longest numeral at the beginning is: digits, single underscores between them
 abbrev pub numeral_len : Digits → List ℕ → ℕ
 numeral_len d bs = if is_digit d (slice_index bs 0) then run_len d bs else 0
 
--- how long X is where `# X #` stands at the front, with hexadecimal digits X; else 0
+-- how long X is if `# X #` is at the beginning, with hexadecimal digits X; else 0
 abbrev pub based_len : List ℕ → ℕ
 based_len bs =
     let x = numeral_len Hexadecimal (drop 1 bs) in
     if slice_index bs 0 == 35 && slice_index (drop 1 bs) x == 35 then x else 0
 
--- how many bytes stand before the digits of an exponent: `E` and perhaps `+`
+-- how many bytes come before the digits of an exponent: `E` and perhaps `+`
 abbrev pub exponent_start : List ℕ → ℕ
 exponent_start bs = if slice_index bs 1 == 43 then 2 else 1
 
--- how long the digits of an exponent at the front are, 0 where there is none
+-- how long the digits of an exponent at the beginning are, 0 if there is none
 abbrev pub exponent_len : List ℕ → ℕ
 exponent_len bs = if slice_index bs 0 == 69 || slice_index bs 0 == 101 then numeral_len Decimal (drop (exponent_start bs) bs) else 0
 
--- with what stands around them
+-- with the two `#` around them
 abbrev pub with_hashes : ℕ → ℕ
 with_hashes n = if n == 0 then 0 else n + 2
 
 abbrev pub with_start : ℕ → ℕ → ℕ
 with_start s n = if n == 0 then 0 else s + n
 
--- the longest text `N`, `N E [+] N`, `N # X #` or `N # X # E [+] N` at the front
+-- the longest spelling `N`, `N E [+] N`, `N # X #` or `N # X # E [+] N` at the beginning
 unfoldable pub parts_of : List ℕ → Parts
 parts_of bs =
     let n = numeral_len Decimal bs in
@@ -72,7 +72,7 @@ digit_value b =
 abbrev pub with_byte : ℕ → ℕ → ℕ → ℕ
 with_byte base n b = if b == 95 then n else n * base + digit_value b
 
--- the value of a numeral, where its digits so far have the value n
+-- the value of a numeral, if its digits so far have the value n
 unfoldable pub numeral_value : ℕ → ℕ → List ℕ → ℕ
 numeral_value base n [] = n
 numeral_value base n (b ∷ bs) = numeral_value base (with_byte base n b) bs
@@ -110,7 +110,7 @@ is_well_formed p bs =
     (nat_le 2 (base_value p bs) && nat_le (base_value p bs) 16)
     && (is_below (base_value p bs) (digits_of p bs) && not (runs_on (drop (number_len p) bs)))
 
--- the value of the number at the front, or why it has none
+-- the value of the number at the beginning, or why it has none
 unfoldable pub number_at : Parts → List ℕ → Result ℕ LexCode
 number_at p bs =
     if is_well_formed p bs
@@ -128,6 +128,6 @@ abbrev pub ok : Result ℕ LexCode → Option ℕ
 ok (Ok n) = Some n
 ok (Err c) = None
 
--- the value of a number's text
+-- the value of a number's spelling
 unfoldable pub number_value : List ℕ → Option ℕ
 number_value bs = ok (number_at (parts_of bs) bs)

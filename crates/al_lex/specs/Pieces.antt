@@ -1,4 +1,4 @@
--- The longest piece at the front of a text.
+-- The longest piece at the beginning of a source.
 use Rattle.std.specs.Prelude.{ℕ, ◌==◌, ◌&&◌, List, [], ◌∷◌, drop, Option, Some, None, Result, Ok, Err, if◌then◌else◌, slice_index}
 use Rattle.std.specs.List.{prefix_len}
 use Rattle.std.specs.Char.{is_ascii_alphabetic, is_ascii_digit}
@@ -33,7 +33,7 @@ delimiter [] = Err IllegalCharacter
 delimiter (b ∷ []) = lone (single b)
 delimiter (b ∷ c ∷ bs) = paired (double b c) (single b)
 
--- of a text that isn't empty
+-- the piece at the beginning of a source that isn't empty
 unfoldable pub front_piece : List ℕ → Result Piece LexCode
 front_piece bs =
     let b = slice_index bs 0 in

@@ -101,7 +101,7 @@ IsGood (Lexeme Number) bs n = (is_well_formed (parts_of bs) bs ≡ true) × (val
 IsGood (Lexeme Str) bs n = Unit {0}
 IsGood (Lexeme (Delimiter d)) bs n = written d ≡ take n bs
 
--- what is wrong with the piece at the front
+-- what is wrong with the piece at the beginning
 abbrev pub IsFaulty : LexCode → List ℕ → Type 0
 IsFaulty IllegalCharacter bs = ((slice_index bs 0 ≡ 34) → ⊥) × ((s : Sort) (n : ℕ) → 0 < n → n ≤ length bs → IsOf s (take n bs) → ⊥)
 IsFaulty BadIdentifier bs = (n : ℕ) × IsLongest IsWord bs n × (has_bad_underscore (take n bs) ≡ true)

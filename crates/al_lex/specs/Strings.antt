@@ -7,7 +7,7 @@ use Rattle.al_lex.specs.declared.token.LexCode.TheVariants.{BadString}
 use Rattle.al_lex.specs.declared.token.Piece.{Piece}
 use Rattle.al_lex.specs.Bytes.{is_printable}
 
--- how long a string is after its opening quote; a quote inside stands twice
+-- how long a string is after its opening quote; a quote inside is written twice
 unfoldable pub body_len : List ℕ → Option ℕ
 body_len [] = None
 body_len (b ∷ []) = if b == 34 then Some 1 else None

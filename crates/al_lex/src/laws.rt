@@ -1,7 +1,7 @@
-// What holds of the tokens of every text. The functions have no code: their contracts are the laws.
+// What holds of the tokens of every source. The functions have no code: their contracts are the laws.
 ghost use Rattle.al_lex.specs.Laws.{EndIsAfter, FaultEndsCut, PiecesAreLongest, PlacesRise, TokensAreCut, TokensLieInText};
 
-/// A text is cut into pieces in one way: each is the longest that begins where the one before ended.
+/// A source is cut into pieces in one way: each is the longest that begins where the one before ended.
 pub fn texts_are_cut()
     ensures tokens { TokensAreCut }
     ensures fault { FaultEndsCut }
@@ -13,12 +13,12 @@ pub fn pieces_are_longest()
     ensures { PiecesAreLongest }
 {}
 
-/// The spans of a text's tokens lie in the text, each after the one before.
+/// The spans of a source's tokens lie in the source, each after the one before.
 pub fn tokens_lie_in_text()
     ensures { TokensLieInText }
 {}
 
-/// The places of a text's tokens rise: by lines, and on one line by columns.
+/// The places of a source's tokens rise: by lines, and on one line by columns.
 pub fn places_rise()
     ensures { PlacesRise }
 {}

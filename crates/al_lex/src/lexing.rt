@@ -1,4 +1,4 @@
-// The tokens of a text.
+// The tokens of a source.
 ghost use Rattle.std.specs.Prelude.{◌≡◌, ◌≤◌, ◌<◌, ◌+◌, ◌^◌, ◌++◌, [], length, Ok, IfOk, IfErr, OnOk};
 ghost use Rattle.al_lex.specs.Tokens.{FaultOf, after, end_place_of, lexed, mark_len, with_token};
 
@@ -7,10 +7,10 @@ use crate::token::{LexError, LexFault, Piece, Sort, Token};
 use al_base::{Place, Span};
 use std::alloc::{AllocError, Global};
 
-/// Where a text begins.
+/// The place at which a source begins.
 const FIRST_PLACE: Place = Place { line: 1, col: 1 };
 
-/// How many bytes the mark EF BB BF takes at the front.
+/// How many bytes the mark EF BB BF takes at the beginning.
 fn mark_len(text: &[u8]) -> usize
     ensures exact { result ≡ mark_len text.now }
     ensures within { result ≤ length text.now }
@@ -40,7 +40,7 @@ fn after(place: Place, piece: Piece) -> Place
     }
 }
 
-/// Adds the token, where the piece is a lexeme, and gives the place after the piece.
+/// Adds the token, if the piece is a lexeme, and gives the place after the piece.
 #[inline(always)]
 fn note(
     tokens: &mut Vec<Token>,
@@ -68,16 +68,16 @@ fn note(
     Ok(after(place, piece))
 }
 
-/// The lexemes of the text, or its first fault (ARM 2.1 to 2.9).
+/// The lexemes of the source, or its first fault (ARM 2.1 to 2.9).
 ///
-/// Each lexeme is the longest that begins where the one before and the separators after it end. The mark EF BB BF is
-/// skipped at the front. Lines and columns count from 1, columns in bytes, the mark uncounted. So many bytes have places whose
-/// numbers are below 2^32.
+/// Each lexeme is the longest that begins where the one before and the separators after it end. The mark EF BB BF is skipped at the
+/// beginning. Lines and columns count from 1, columns in bytes, the mark uncounted. So many bytes have places whose numbers are
+/// below 2^32.
 ///
 /// # Errors
 ///
-/// `Fault` names the first lexeme that is malformed, or the first byte that begins none; `NoMemory` that there was no
-/// room for the tokens.
+/// `Fault` names the first lexeme that is malformed, or the first byte that begins none; `NoMemory` that there was no room for the
+/// tokens.
 pub fn lex(alloc: Global, text: &[u8]) -> Result<Vec<Token>, LexError>
     requires { length text.now ≤ 4294967294 }
     ensures tokens { IfOk result (λ tokens. lexed text.now ≡ Ok tokens.items) }
@@ -99,7 +99,7 @@ pub fn lex(alloc: Global, text: &[u8]) -> Result<Vec<Token>, LexError>
     Ok(tokens)
 }
 
-/// The place after the last byte of a text, or of its first lexical fault.
+/// The place after the last byte of a source, or of its first lexical fault.
 pub fn end_place(text: &[u8]) -> Place
     requires { length text.now ≤ 4294967294 }
     ensures { result ≡ end_place_of text.now }

@@ -23,13 +23,13 @@ pub(crate) enum Digits {
 /// How long the parts of a number are.
 #[derive(Clone, Copy)]
 pub(crate) struct Parts {
-    /// The numeral in front, which is the base where the number has one.
+    /// The numeral that comes first, which is the base if the number has one.
     pub(crate) numeral: usize,
-    /// The digits between the `#`, 0 where there are none.
+    /// The digits between the `#`, 0 if there are none.
     pub(crate) based: usize,
-    /// What stands before the digits of the exponent: `E` and perhaps `+`.
+    /// What comes before the digits of the exponent: `E` and perhaps `+`.
     pub(crate) start: usize,
-    /// The digits of the exponent, 0 where there is none.
+    /// The digits of the exponent, 0 if there is none.
     pub(crate) exponent: usize,
 }
 
@@ -59,7 +59,7 @@ fn goes_on(digits: Digits, b: u8, next: u8) -> bool
     is_digit(digits, b) || (b == b'_' && is_digit(digits, next))
 }
 
-/// How long the longest numeral at the front is.
+/// How long the longest numeral at the beginning is.
 fn numeral_len(digits: Digits, bytes: &[u8]) -> usize
     ensures exact { result ≡ numeral_len digits bytes.now }
     ensures within { result ≤ length bytes.now }
@@ -124,7 +124,7 @@ fn number_len(parts: Parts) -> usize
     parts.numeral + with_hashes(parts.based) + exponent
 }
 
-/// The parts of the longest number at the front.
+/// The parts of the longest number at the beginning.
 #[tactic(auto, unfolding(crate::specs::Numbers::parts_of))]
 fn parts_of(bytes: &[u8]) -> Parts
     ensures exact { result ≡ parts_of bytes.now }
@@ -156,7 +156,7 @@ fn digit_value(b: u8) -> u8
     }
 }
 
-/// The value with one byte more, a digit or an underscore; the largest `u64` stands for all above it.
+/// The value of a numeral with one byte more, a digit or an underscore; the largest `u64` stands for all above it.
 #[inline(always)]
 fn with_byte(base: u64, value: u64, b: u8) -> u64
     ensures { result ≡ min (with_byte base value b) (2 ^ 64 - 1) }
@@ -280,7 +280,7 @@ fn number_at(parts: Parts, bytes: &[u8]) -> Result<u64, LexCode>
     }
 }
 
-/// How many digits stand in front.
+/// How many digits come first.
 fn digit_count(bytes: &[u8]) -> usize
     ensures exact { result ≡ prefix_len is_ascii_digit bytes.now }
     ensures within { result ≤ length bytes.now }
@@ -288,7 +288,7 @@ fn digit_count(bytes: &[u8]) -> usize
     bytes.iter().take_while(|b| b.is_ascii_digit()).count()
 }
 
-/// The length of the number at the front, where it has few digits and nothing else: such a one needs no test of its parts.
+/// The length of the number at the beginning, if it has few digits and nothing else: its parts need no test.
 fn plain_len(bytes: &[u8]) -> Option<usize>
     ensures len { IfSome result (λ n. number_len (parts_of bytes.now) ≡ n) }
     ensures value { IfSome result (λ n. number_at (parts_of bytes.now) bytes.now ≡ Ok (numeral_value 10 0 (take n bytes.now))) }
@@ -304,7 +304,7 @@ fn plain_len(bytes: &[u8]) -> Option<usize>
     }
 }
 
-/// The number at the front of a text that begins with a digit.
+/// The number at the beginning of a source that begins with a digit.
 #[tactic(auto, unfolding(crate::specs::Numbers::number))]
 pub(crate) fn number(bytes: &[u8]) -> Result<Piece, LexCode>
     requires { is_ascii_digit (slice_index bytes.now 0) ≡ true }
@@ -328,7 +328,7 @@ pub(crate) fn number(bytes: &[u8]) -> Result<Piece, LexCode>
     }
 }
 
-/// The value of a number's text, from 0 to 2^63-1; `None` where the text begins with no such number (ARM 2.4).
+/// The value of a number's spelling, from 0 to 2^63-1; `None` if the spelling begins with no such number (ARM 2.4).
 #[tactic(auto, unfolding(crate::specs::Numbers::number_value))]
 pub fn number_value(text: &[u8]) -> Option<u64>
     ensures { result ≡ number_value text.now }

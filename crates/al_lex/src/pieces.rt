@@ -1,4 +1,4 @@
-// The longest piece at the front of a text.
+// The longest piece at the beginning of a source.
 ghost use Rattle.std.specs.Prelude.{◌≡◌, ◌≤◌, ◌<◌, IfOk, length, slice_index};
 ghost use Rattle.std.specs.List.{prefix_len};
 ghost use Rattle.al_lex.specs.Bytes.{is_inside_line};
@@ -33,7 +33,7 @@ fn lone(byte: u8) -> Result<Piece, LexCode>
     }
 }
 
-/// The delimiter at the front of a text.
+/// The delimiter at the beginning of a source.
 #[inline(always)]
 fn delimiter(bytes: &[u8]) -> Result<Piece, LexCode>
     ensures exact { result ≡ delimiter bytes.now }
@@ -53,7 +53,7 @@ fn delimiter(bytes: &[u8]) -> Result<Piece, LexCode>
     }
 }
 
-/// The piece at the front of a text that isn't empty.
+/// The piece at the beginning of a source that isn't empty.
 #[tactic(auto, unfolding(crate::specs::Pieces::front_piece))]
 #[inline(always)]
 pub(crate) fn front_piece(bytes: &[u8]) -> Result<Piece, LexCode>

@@ -1,4 +1,4 @@
-// What a text is cut into.
+// What a source is cut into.
 ghost use Rattle.std.specs.Prelude.{◌≡◌};
 ghost use Rattle.al_lex.specs.declared.token.LexError.TheVariants.{NoMemory};
 ghost use Rattle.al_lex.specs.Codes.{number_of};
@@ -19,7 +19,7 @@ pub enum Kind {
     Delimiter(Delimiter),
 }
 
-/// A lexeme. Its text is the slice of the source that the span names.
+/// A lexeme. Its spelling is the slice of the source that the span names.
 #[derive(Clone, Copy)]
 pub struct Token {
     /// What sort of lexeme it is.
@@ -33,7 +33,7 @@ pub struct Token {
 pub enum LexCode {
     /// No lexeme begins with the byte.
     IllegalCharacter,
-    /// Two underscores stand together in a word, or one at its end.
+    /// Two underscores come together in a word, or one is at its end.
     BadIdentifier,
     /// A number isn't well formed.
     BadNumber,
@@ -61,20 +61,20 @@ impl LexCode {
     }
 }
 
-/// The first lexical fault of a text.
+/// The first lexical fault of a source.
 #[derive(Clone, Copy)]
 pub struct LexFault {
-    /// Where the faulty lexeme begins.
+    /// The place at which the faulty lexeme begins.
     pub place: Place,
     /// Which rule is broken.
     pub code: LexCode,
 }
 
-/// Why a text has no tokens.
+/// Why a source has no tokens.
 #[derive(Drop)]
 pub enum LexError {
     Fault(LexFault),
-    /// Memory was wanted and not given.
+    /// The allocator refused memory.
     NoMemory,
 }
 
@@ -94,7 +94,7 @@ impl<T: Drop> From<AllocFailed<T>> for LexError {
     }
 }
 
-/// What a piece of a text is.
+/// What a piece of a source is.
 #[derive(Clone, Copy)]
 pub(crate) enum Sort {
     /// A space, a tab or a comment.
@@ -103,7 +103,7 @@ pub(crate) enum Sort {
     Lexeme(Kind),
 }
 
-/// The piece at the front of a text.
+/// The piece at the beginning of a source.
 #[derive(Clone, Copy)]
 pub(crate) struct Piece {
     pub(crate) sort: Sort,

@@ -8,7 +8,7 @@ ghost use Rattle.al_lex.specs.Words.{word, word_kind};
 use crate::token::{Kind, LexCode, Piece, Sort};
 use al_base::{MAX_IDENTIFIER, reserved_word};
 
-/// By the byte, whether it is a letter, a digit or `_`.
+/// For each byte, whether it is a letter, a digit or `_`.
 const WORD_BYTES: [bool; 256] = [
     false, false, false, false, false, false, false, false, false, false, false, false, false,
     false, false, false, false, false, false, false, false, false, false, false, false, false,
@@ -39,7 +39,7 @@ fn is_in_word(b: u8) -> bool
     WORD_BYTES[usize::from(b)]
 }
 
-/// How long the word at the front is; none where an underscore stands at an end of it or after another.
+/// How long the word at the beginning is; none if an underscore is at an end of it or after another.
 fn word_len(bytes: &[u8]) -> Option<usize>
     ensures exact { IfSome result (λ n. n ≡ prefix_len is_word_byte bytes.now) }
     ensures joined { IfSome result (λ n. has_bad_underscore (take n bytes.now) ≡ false) }
@@ -68,7 +68,7 @@ fn word_kind(word: &[u8]) -> Kind
     }
 }
 
-/// The word at the front of a text that begins with a letter.
+/// The word at the beginning of a source that begins with a letter.
 #[tactic(auto, using(crate::proofs::Runs::some_word), unfolding(crate::specs::Words::word))]
 #[inline(always)]
 pub(crate) fn word(bytes: &[u8]) -> Result<Piece, LexCode>

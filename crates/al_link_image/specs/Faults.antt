@@ -1,4 +1,4 @@
--- Why there is no image, where the code isn't one of instructions.
+-- Why there is no image, if the code isn't one of instructions.
 use Rattle.al_instr.specs.declared.fault.DecodeFault.{DecodeFault}
 use Rattle.al_instr.specs.declared.fault.DecodeFault.TheVariants as decoding
 use Rattle.al_link_image.specs.declared.fault.LinkFault.{LinkFault}

@@ -71,7 +71,7 @@ object_bytes o = kind_number o.kind ∷ length o.name ∷ o.name ++ word_bytes o
 abbrev pub objects_bytes : List ImageObject → List ℕ
 objects_bytes objects = word_bytes (length objects) ++ flat_map object_bytes objects
 
--- what stands in front of the code
+-- what comes before the code
 abbrev pub front_bytes : Image → List ℕ
 front_bytes image =
     mark_of image.lines ++ word_bytes image.tasks ++ word_bytes image.data_words ++ regions_bytes image.protected ++ objects_bytes image.objects

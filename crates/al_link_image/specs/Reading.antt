@@ -1,4 +1,4 @@
--- Reading the parts of images: what stands at the front of some bytes, with the bytes after it.
+-- Reading the parts of images: what is at the beginning of some bytes, with the bytes after it.
 use Rattle.std.specs.Prelude.{◌≡◌, ℕ, zero, suc, ◌+◌, ◌==◌, nat_le, nat_lt, Bool, true, false, ◌&&◌, if◌then◌else◌, List, [], ◌∷◌, ◌++◌, length, take, drop, Option, Some, None, Result, Ok, Err}
 use Rattle.std.specs.List.{list_all}
 use Rattle.std.specs.Str.{bytes_eq}
@@ -21,7 +21,7 @@ Finds view (Err faults.TooLarge) read = ⊥
 Finds view (Err faults.Damaged) read = read ≡ None
 Finds view (Err faults.NoMemory) read = Unit {0}
 
--- a value, where it passes a test
+-- a value, if it passes a test
 abbrev pub checked : {A : Type 0} → Bool → A → Option A
 checked b x = if b then Some x else None
 
@@ -95,7 +95,7 @@ entry_at bytes = word_at bytes >>= λ p. word_at p.1 >>= λ l. Some (record { pl
 unfoldable pub entries_at : ℕ → List ℕ → Option (List LineEntry)
 entries_at end bytes = counted_at 16777216 entry_at bytes >>= λ es. checked (length es.1 == 0 && rise 0 end es.0) es.0
 
--- they stand in images of version 2 alone
+-- only images of version 2 have them
 unfoldable pub lines_at : Bool → ℕ → List ℕ → Option (Option (List LineEntry))
 lines_at has_lines end bytes = if has_lines then (entries_at end bytes >>= λ es. Some (Some es)) else checked (length bytes == 0) None
 

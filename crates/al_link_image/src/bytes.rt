@@ -164,7 +164,7 @@ fn push_entries(out: &mut Vec<u8>, entries: &[LineEntry]) -> Result<(), NoMemory
     push_all_entries(out, entries)
 }
 
-/// Appends the lines after their number, where there are any.
+/// Appends the lines after their number, if there are any.
 pub(crate) fn push_lines(out: &mut Vec<u8>, lines: &Option<Vec<LineEntry>>) -> Result<(), NoMemory>
     requires { IfSome lines.now (λ v. length v.items ≤ 16777216) }
     ensures value { OnOk result (out.new.items ≡ out.old.items ++ lines_bytes (option_map (λ v. v.items) lines.now)) }
@@ -188,7 +188,7 @@ fn push_numbers(out: &mut Vec<u8>, parts: &ImageParts) -> Result<(), NoMemory>
     push_word(out, parts.data_words)
 }
 
-/// Appends what stands before the code.
+/// Appends what comes before the code.
 pub(crate) fn push_front(out: &mut Vec<u8>, parts: &ImageParts) -> Result<(), NoMemory>
     requires regions { length parts.now.protected.items ≤ 65535 }
     requires count { length parts.now.objects.items ≤ 65535 }

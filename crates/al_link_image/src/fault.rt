@@ -17,7 +17,7 @@ pub enum LinkFault {
     /// The bytes are those of no image.
     #[error("image damaged")]
     Damaged,
-    /// Memory was wanted and not given.
+    /// The allocator refused memory.
     #[error("no memory")]
     NoMemory,
 }

@@ -111,7 +111,8 @@ impl Image {
         self.parts.code.as_slice()
     }
 
-    /// From which places on the code is of which lines, in the order of the places; none in an image of version 1.
+    /// The table of lines: from which places on the code is of which lines, in the order of the places; none in an image of version
+    /// 1.
     pub fn lines(&self) -> Option<&[LineEntry]>
         ensures { option_map (λ x. x.now) result ≡ self.now.lines }
     {

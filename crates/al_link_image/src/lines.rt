@@ -17,7 +17,7 @@ fn entry_at(bytes: &[u8]) -> Result<(LineEntry, &[u8]), LinkFault>
     Ok((LineEntry { place, line }, rest))
 }
 
-/// So many of them.
+/// So many entries of the table of lines.
 #[tactic(auto, using(crate::proofs::Readers::no_more, crate::proofs::Readers::all_there))]
 fn many_entries(
     alloc: Global,
@@ -36,7 +36,7 @@ fn many_entries(
     Ok((entries, rest))
 }
 
-/// Those after their number.
+/// The entries of the table of lines, after their number.
 #[tactic(auto, unfolding(crate::specs::Reading::counted_at))]
 fn counted_entries(alloc: Global, bytes: &[u8]) -> Result<(Vec<LineEntry>, &[u8]), LinkFault>
     ensures { Finds (λ x. (x.0.items, x.1.now)) result (counted_at 16777216 entry_at bytes.now) }

@@ -15,7 +15,7 @@ pub struct Region {
     pub ceiling: u32,
 }
 
-/// The unit of an object, and where its code begins, in bytes from the front of the code.
+/// The unit of an object, and where its code begins, in bytes from the beginning of the code.
 pub struct ImageObject {
     /// Which part of the unit it is.
     pub kind: UnitKind,
@@ -47,7 +47,7 @@ pub struct ImageParts {
     pub objects: Vec<ImageObject>,
     /// The code.
     pub code: Vec<u8>,
-    /// From which places on the code is of which lines; none in an image of version 1.
+    /// The table of lines: from which places on the code is of which lines; none in an image of version 1.
     pub lines: Option<Vec<LineEntry>>,
 }
 

@@ -109,7 +109,7 @@ fn code_at(bytes: &[u8]) -> Result<(&[u8], &[u8]), LinkFault>
     Ok(rest.split_at(len as usize))
 }
 
-/// The lines of a code of this length, where the image's version has any: all that is left.
+/// The table of lines of a code of this length, if the image's version has one: all that is left.
 #[tactic(auto, unfolding(crate::specs::Reading::lines_at))]
 fn lines_at(
     alloc: Global,

@@ -27,7 +27,7 @@ fn region_at(count: u32, bytes: &[u8]) -> Result<(Region, &[u8]), LinkFault>
     Ok((region, rest))
 }
 
-/// So many of them.
+/// So many protected objects.
 #[tactic(auto, using(crate::proofs::Readers::no_more, crate::proofs::Readers::all_there))]
 fn many_regions(
     alloc: Global,

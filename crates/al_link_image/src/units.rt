@@ -78,7 +78,7 @@ fn object_at(alloc: Global, bytes: &[u8]) -> Result<(ImageObject, &[u8]), LinkFa
     Ok((ImageObject { kind, name, place }, rest))
 }
 
-/// So many of them.
+/// So many units' objects.
 #[tactic(auto, using(crate::proofs::Readers::no_more, crate::proofs::Readers::all_there))]
 fn many_objects(
     alloc: Global,

@@ -38,7 +38,7 @@ fn append_image(output: &mut Vec<u8>, word: i64) -> Result<(), NoMemory>
     Ok(())
 }
 
-/// The word so far below the top of the stack, where it lies in the frame.
+/// The word so far below the top of the stack, if it lies in the frame.
 fn word_below(memory: &[i64], registers: &Registers, below: u32) -> Option<i64>
     requires { IsWithin (machine memory.now registers.now) }
     ensures { result ≡ (let m = machine memory.now registers.now in if holds (below + 1) m then Some (word_at m (m.top - 1 - below)) else None) }

@@ -61,7 +61,8 @@ impl Regions {
         self.regions.as_slice()
     }
 
-    /// Whether a word lies apart from all objects: it is open to a task that is inside none. Where the objects don't follow each other, it is not looked for.
+    /// Whether a word lies apart from all objects: it is open to a task that is inside none. If the objects don't follow each
+    /// other, the result is no.
     pub(crate) fn is_apart(&self, place: usize) -> bool
         requires { place + 1 < 2 ^ 63 }
         ensures { result ≡ true → is_open self.now [] 0 place 1 ≡ true }
@@ -104,7 +105,7 @@ fn ended(regions: &[Region], place: usize) -> usize
     low
 }
 
-/// One of the objects.
+/// The object of a number.
 fn known(regions: &[Region], number: usize) -> &Region
     requires { number < length regions.now }
     ensures { slice_get regions.now number ≡ Some result.now }
@@ -112,7 +113,7 @@ fn known(regions: &[Region], number: usize) -> &Region
     &regions[number]
 }
 
-/// Where an object's words begin, and the place after them.
+/// The place at which an object's words begin, and the place after them.
 fn limits_of(region: &Region) -> (usize, usize)
     ensures { result ≡ (region.now.address, region.now.address + region.now.words) }
 {
@@ -140,7 +141,8 @@ pub fn is_entered(inside: &[Entered], number: usize) -> bool
         .any(|entered| entered.object as usize == number)
 }
 
-/// Whether a task inside those objects may touch the words from a place on, of the objects from a number on. Where these follow each other, those behind the words aren't looked at.
+/// Whether a task inside those objects may touch the words from a place on, of the objects from a number on. If these follow each
+/// other, those after the words aren't looked at.
 fn is_open_from(
     regions: &[Region],
     follow: bool,
@@ -167,7 +169,8 @@ fn is_open_from(
     true
 }
 
-/// The same of all objects, which follow each other: those that end before the words are passed over.
+/// Whether a task inside those objects may touch the words from a place on. All objects follow each other: those that end before
+/// the words are passed over.
 fn is_open_by_search(regions: &[Region], inside: &[Entered], from: usize, words: usize) -> bool
     requires follow { follow_from 0 regions.now ≡ true }
     requires words { from + words < 2 ^ 63 }

@@ -9,8 +9,8 @@ use crate::instruction::{BinaryOperator, Exception, Trap, UnaryOperator};
 /// How many words each stack has.
 pub const STACK: usize = 16_384;
 
-/// Where a task stands in memory: the first of its own stack words, the first word of its frame, and the place after the
-/// last word on its stack.
+/// The registers of a task: the first of its own stack words, the first word of its frame, and the place after the last word on its
+/// stack.
 #[derive(Clone, Copy)]
 pub struct Registers {
     /// The first of the task's own stack words.

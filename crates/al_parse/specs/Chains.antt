@@ -21,7 +21,7 @@ level_of Product = TermLevel
 level_of Sum = SimpleLevel
 level_of (Logical o) = ChainLevel (logical_model o)
 
--- The operator joins what stands at the level with this operand, to what stands there too.
+-- The operator joins an expression at the level with this operand to an expression at the level.
 pub record Joins (k : Level) (o : Operator) (right : ExpressionTree) : Type 0 where
   pub leans : left_level o ≡ k
   pub stood : stands (right_level o) right ≡ true

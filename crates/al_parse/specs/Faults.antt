@@ -1,4 +1,4 @@
--- What a parse of a whole text says.
+-- What a parse of a whole source says.
 use Rattle.std.specs.Prelude.{ℕ, ◌≡◌, ◌-◌, ◌≤◌, List, length, Option, Some}
 use Rattle.al_tree_grammar.specs.Grammar.{Lexeme, Sentence}
 use Rattle.al_tree_grammar.specs.Growing.{fault_of}
@@ -15,7 +15,7 @@ use Rattle.al_parse.specs.declared.parsing.ParseError.TheVariants.{Syntax, NoMem
 unfoldable pub IsUnit : List Lexeme → Type 0
 IsUnit xs = Sentence grammar most unit_rule xs
 
--- how many lexemes are before the fault, where they are no compilation unit's
+-- how many lexemes are before the fault, if they are no compilation unit's
 unfoldable pub syntax_fault_of : List Lexeme → Option ℕ
 syntax_fault_of xs = fault_of grammar most unit_rule xs
 
@@ -33,7 +33,7 @@ pub record IsFaultOf (xs : List Lexeme) (at : ℕ) : Type 0 where
   pub found : syntax_fault_of xs ≡ Some at
   pub place : IsSyntaxFaultAt xs at
 
--- the error names the place of the fault; of want of memory it says nothing
+-- the error names the place of the fault; if the allocator refuses memory it says nothing
 abbrev pub FaultOf : ParseError → List Lexeme → Type 0
 FaultOf (Syntax f) xs = IsFaultOf xs f.at
 FaultOf NoMemory xs = Unit {0}

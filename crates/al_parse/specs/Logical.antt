@@ -9,7 +9,7 @@ use Rattle.al_tree_syntax.specs.Symbols.Symbol.{And, Else, Or, Then, Xor}
 use Rattle.al_parse.specs.declared.stop.Stop.{Stop}
 use Rattle.al_parse.specs.Parses.{Lexemes, Stops, reading}
 
--- what may stand after the first relation of an expression
+-- what may come after the first relation of an expression
 unfoldable pub logical_rule : Rule
 logical_rule = Opt (the And ⨾ and_rule ∣ the Or ⨾ or_rule ∣ the Xor ⨾ xor_rule)
 
@@ -25,7 +25,7 @@ after_rule operators.XorOperator = the Xor ⨾ relation_rule
 abbrev pub chain_rule : LogicalOperator → Rule
 chain_rule o = relation_rule ⨾ Many (after_rule o)
 
--- Which operator stands there, if any, tells what to read after it.
+-- The operator there, if there is one, decides what to read after it.
 abbrev pub Decides : {X : Type 0} → (X → LogicalOperator) → (X → Lexemes) → Result (Option X) Stop → Lexemes → Type 0
 Decides operator rest (Ok None) xs = (d : ℕ) → reading d logical_rule xs ≡ Ok xs
 Decides operator rest (Ok (Some x)) xs = (xs ≡ logical_tokens (operator x) ++ rest x) × ((d : ℕ) → reading d logical_rule xs ≡ reading d (chain_rule (operator x)) (rest x))

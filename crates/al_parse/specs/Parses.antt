@@ -15,7 +15,7 @@ use Rattle.al_parse.specs.declared.stop.Stop.TheVariants.{Memory, Fault}
 abbrev pub Lexemes : Type 0
 Lexemes = List Lexeme
 
--- what is left where at most d constructs may be open
+-- what is left if at most d constructs may be open
 abbrev pub reading : ℕ → Rule → Lexemes → Read
 reading d a xs = read grammar d a xs
 
@@ -47,7 +47,7 @@ abbrev pub Enters : {X : Type 0} → (X → ℕ) → (X → Lexemes) → Result 
 Enters inner rest (Ok x) d k xs = IsInside k d (inner x) (rest x) xs
 Enters inner rest (Err e) d k xs = (n : ℕ) → Stops e (reading d (Nest k n) xs)
 
--- the same, where the first word has a label
+-- the first word of a construct is read, if the word has a label
 pub record IsInsideAt (k d inner : ℕ) (label : Label) (rest xs : Lexemes) : Type 0 where
   pub deeper : inner + 1 ≡ d
   pub front : xs ≡ Named k label ∷ rest

@@ -133,7 +133,7 @@ fn named_statement<'a>(
     Ok((statement, rest))
 }
 
-/// A colon, and a loop or block of this name, where one more construct may be open.
+/// A colon, and a loop or block of this name, if one more construct may be open.
 #[cycle(body)]
 fn labelled_statement<'a>(
     alloc: Global,
@@ -525,7 +525,7 @@ pub(crate) fn items<'a>(
     Ok((items, rest))
 }
 
-/// What stands in a declarative part.
+/// An item of a declarative part.
 #[cycle(body)]
 #[tactic(auto, unfolding(al_tree_syntax::specs::Declarations::item_rule))]
 fn item<'a>(
@@ -573,7 +573,7 @@ fn completion<'a>(
     Ok((item, rest))
 }
 
-/// A body, or a stub, which alone may stand where no more construct may be open.
+/// A body, or a stub; only a stub if no more construct may be open.
 #[cycle(body)]
 fn body_or_stub<'a>(
     alloc: Global,

@@ -15,11 +15,11 @@ pub(crate) enum Chain {
     Product,
     /// Adding operators, and terms.
     Sum,
-    /// One logical operator, and relations.
+    /// A single logical operator, and relations.
     Logical(LogicalOperator),
 }
 
-/// One more operator of the chain stands here, as far as its first word tells.
+/// Whether one more operator of the chain comes next, as far as its first word says.
 #[tactic(auto, unfolding(al_tree_syntax::specs::Expressions::adding_rule, al_tree_syntax::specs::Expressions::multiplying_rule))]
 pub(crate) fn begins_link(source: &[u8], tokens: &[Token], links: Chain) -> bool
     ensures { result ≡ begins (first (link_rule links)) (lexemes source.now tokens.now) }

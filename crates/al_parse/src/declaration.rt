@@ -105,7 +105,7 @@ fn array_of<'a>(
     ))
 }
 
-/// The same, where one more construct may be open.
+/// An array type's definition (ARM 3.6), if one more construct may be open.
 fn array_definition<'a>(
     alloc: Global,
     source: &[u8],
@@ -173,7 +173,7 @@ fn typed<'a>(
     Ok((of, value, rest))
 }
 
-/// What stands after the colon of an object or number declaration.
+/// What comes after the colon of an object or number declaration.
 #[tactic(auto, unfolding(al_tree_syntax::specs::Declarations::initial_rule))]
 fn object_form<'a>(
     alloc: Global,
@@ -300,7 +300,7 @@ fn enumeration_literals<'a>(
     Ok((literals, rest))
 }
 
-/// What stands after `is` in a type declaration (ARM 3.2.1).
+/// What comes after `is` in a type declaration (ARM 3.2.1).
 #[tactic(auto, unfolding(al_tree_syntax::specs::Expressions::range_rule, al_tree_syntax::specs::Declarations::array_rule))]
 fn type_definition<'a>(
     alloc: Global,

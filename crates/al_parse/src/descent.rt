@@ -74,7 +74,7 @@ pub fn expression<'a>(
     }
 }
 
-/// What is at the left with the operators and operands of the chain that stand after it.
+/// What is at the left with the operators and operands of the chain that come after it.
 #[cycle(expression)]
 fn chain<'a>(
     alloc: Global,
@@ -251,7 +251,7 @@ fn membership<'a>(
     Ok((not, low, high, rest))
 }
 
-/// The bound of a range after `..`, where that stands.
+/// The bound of a range after `..`, if there is one.
 #[cycle(expression)]
 fn upper_bound<'a>(
     alloc: Global,
@@ -289,7 +289,7 @@ pub fn simple_expression<'a>(
     Ok((whole, rest))
 }
 
-/// The same, as it is read.
+/// Reads a simple expression.
 #[cycle(expression)]
 #[tactic(auto, unfolding(al_tree_syntax::specs::Expressions::simple_expression_rule))]
 fn simple<'a>(
@@ -357,7 +357,7 @@ fn factor<'a>(
     Ok((Expression::prefixed(boxed(alloc, negated)?), rest))
 }
 
-/// A literal, a name, or what stands between parentheses (ARM 4.4(7)).
+/// A literal, a name, or what is between parentheses (ARM 4.4(7)).
 #[cycle(expression)]
 #[tactic(auto, unfolding(al_tree_syntax::specs::Expressions::primary_rule, al_tree_syntax::specs::Expressions::name_rule, al_tree_syntax::specs::Expressions::identifier_rule))]
 fn primary<'a>(
@@ -427,7 +427,7 @@ fn object_name<'a>(
     Ok((name, rest))
 }
 
-/// A selector, what stands between parentheses, or an attribute (ARM 4.1.1, 4.1.3, 4.1.4, 4.6, 6.4).
+/// A selector, what is between parentheses, or an attribute (ARM 4.1.1, 4.1.3, 4.1.4, 4.6, 6.4).
 #[cycle(expression)]
 #[tactic(auto, unfolding(crate::specs::Names::part_rule, al_tree_syntax::specs::Expressions::identifier_rule, al_tree_syntax::specs::Expressions::designator_rule))]
 fn part<'a>(
@@ -473,7 +473,7 @@ fn arguments<'a>(
     Ok((NamePart::arguments(opening, first, others), rest))
 }
 
-/// What stands between parentheses that no name is in front of: an expression, or an aggregate (ARM 4.3.3).
+/// What is between parentheses that come after no name: an expression, or an aggregate (ARM 4.3.3).
 #[cycle(expression)]
 #[tactic(auto, unfolding(al_tree_syntax::specs::Expressions::parentheses_rule, al_tree_syntax::specs::Rules::grammar, al_tree_syntax::specs::Rules::inside, al_tree_syntax::specs::Constructs::construct_at))]
 fn parentheses<'a>(
@@ -497,7 +497,7 @@ fn parentheses<'a>(
     Ok((Group::others_aggregate(opening, value), rest))
 }
 
-/// One expression, or more with commas between them.
+/// At least one expression, with commas between them.
 #[cycle(expression)]
 #[tactic(auto, unfolding(al_tree_syntax::specs::Expressions::expressions_rule))]
 fn expressions<'a>(
@@ -533,7 +533,7 @@ fn more_expressions<'a>(
     Ok((expressions, rest))
 }
 
-/// The name that begins with this identifier, as a statement has it: no qualified expression may stand there.
+/// The name that begins with this identifier, as a statement has it: a qualified expression isn't allowed there.
 ///
 /// # Errors
 ///

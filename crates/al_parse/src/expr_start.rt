@@ -76,7 +76,7 @@ pub(crate) fn begins_expressions(source: &[u8], tokens: &[Token]) -> bool
     }
 }
 
-/// A selector, or what stands between parentheses after a name, begins with this symbol.
+/// Whether a selector, or what is between parentheses after a name, begins with this symbol.
 #[tactic(auto, unfolding(al_tree_syntax::specs::Expressions::selection_rule))]
 fn opens_selection(symbol: Symbol) -> bool
     ensures { result ≡ mem (number (symbol_model symbol)) (first selection_rule) }
@@ -84,7 +84,7 @@ fn opens_selection(symbol: Symbol) -> bool
     matches!(symbol, Symbol::Dot | Symbol::LeftParenthesis)
 }
 
-/// The next token begins a selector, or what stands between parentheses after a name.
+/// Whether the next token begins a selector, or what is between parentheses after a name.
 #[tactic(auto, unfolding(al_tree_syntax::specs::Expressions::selection_rule))]
 pub(crate) fn begins_selection(source: &[u8], tokens: &[Token]) -> bool
     ensures { result ≡ begins (first selection_rule) (lexemes source.now tokens.now) }
@@ -117,7 +117,7 @@ pub(crate) fn begins_part(source: &[u8], tokens: &[Token]) -> bool
     }
 }
 
-/// Another factor of a term stands after this symbol.
+/// Whether another factor of a term comes after this symbol.
 #[tactic(auto, unfolding(al_tree_syntax::specs::Expressions::multiplying_rule))]
 fn opens_multiplied(symbol: Symbol) -> bool
     ensures { result ≡ mem (number (symbol_model symbol)) (first multiplying_rule) }
@@ -139,7 +139,7 @@ pub(crate) fn begins_multiplied(source: &[u8], tokens: &[Token]) -> bool
     }
 }
 
-/// Another term of a simple expression stands after this symbol.
+/// Whether another term of a simple expression comes after this symbol.
 #[tactic(auto, unfolding(al_tree_syntax::specs::Expressions::adding_rule))]
 fn opens_added(symbol: Symbol) -> bool
     ensures { result ≡ mem (number (symbol_model symbol)) (first adding_rule) }
@@ -158,7 +158,7 @@ pub(crate) fn begins_added(source: &[u8], tokens: &[Token]) -> bool
     }
 }
 
-/// The right side of a comparison stands after this symbol.
+/// Whether the right side of a comparison comes after this symbol.
 #[tactic(auto, unfolding(al_tree_syntax::specs::Expressions::relational_rule))]
 fn opens_compared(symbol: Symbol) -> bool
     ensures { result ≡ mem (number (symbol_model symbol)) (first relational_rule) }
@@ -214,8 +214,8 @@ pub(crate) fn begins_related(source: &[u8], tokens: &[Token]) -> bool
     }
 }
 
-/// A name goes on here: with a selector, with what stands between parentheses, or with an attribute. Behind a `'` it is the
-/// token after it that tells an attribute from a qualified expression.
+/// Whether a name goes on here: with a selector, with what is between parentheses, or with an attribute. After a `'` it is the next
+/// token that distinguishes an attribute from a qualified expression.
 #[tactic(auto, unfolding(al_tree_syntax::specs::Expressions::identifier_rule, al_tree_syntax::specs::Expressions::designator_rule))]
 pub(crate) fn goes_on(source: &[u8], tokens: &[Token]) -> bool
     ensures { result ≡ goes_on (lexemes source.now tokens.now) }
@@ -231,7 +231,7 @@ pub(crate) fn goes_on(source: &[u8], tokens: &[Token]) -> bool
     }
 }
 
-/// One more relation stands after this operator here, as far as the operator's first word tells.
+/// Whether one more relation comes here after this operator, as far as the operator's first word says.
 pub(crate) fn begins_operator(source: &[u8], tokens: &[Token], operator: LogicalOperator) -> bool
     ensures { result ≡ begins (first (after_rule (logical_model operator))) (lexemes source.now tokens.now) }
 {

@@ -1,4 +1,4 @@
-// One token.
+// Reading one token.
 ghost use Rattle.std.specs.Prelude.{◌≡◌, ◌∷◌, [], ◌<◌, IfSome, IfNone, true, false};
 ghost use Rattle.al_tree_grammar.specs.Grammar.Lexeme.{Fixed, Named};
 ghost use Rattle.al_tree_grammar.specs.Reading.{any, begins, one};
@@ -13,7 +13,7 @@ use al_lex::Token;
 use al_tree::{Identifier, NumericLiteral, StringLiteral, Symbol, is_symbol};
 use std::alloc::Global;
 
-/// The next token, where it is of this symbol, and what is after it.
+/// The next token, if it is of this symbol, and what is after it.
 fn token_of(tokens: &[Token], symbol: Symbol) -> Option<(&Token, &[Token])>
     ensures found { IfSome result (λ x. IsFirst (symbol_model symbol) tokens.now x.0.now x.1.now) }
     ensures other { IfNone result (IsOther (symbol_model symbol) tokens.now) }
@@ -34,7 +34,7 @@ pub fn is_next(source: &[u8], tokens: &[Token], symbol: Symbol) -> bool
     }
 }
 
-/// What is after this delimiter or reserved word, where it is the next token.
+/// What is after this delimiter or reserved word, if it is the next token.
 pub fn skip<'a>(source: &[u8], tokens: &'a [Token], symbol: Symbol) -> Option<&'a [Token]>
     requires { is_labelled (symbol_model symbol) ≡ false }
     ensures found { IfSome result (λ rest. lexemes source.now tokens.now ≡ Fixed (number (symbol_model symbol)) ∷ lexemes source.now rest.now) }
@@ -77,7 +77,7 @@ pub fn enter<'a>(
     Ok((depth - 1, rest))
 }
 
-/// The place of this delimiter or reserved word, where it is the next token, and what is after it.
+/// The place of this delimiter or reserved word, if it is the next token, and what is after it.
 pub fn skip_at<'a>(
     source: &[u8],
     tokens: &'a [Token],
@@ -150,7 +150,7 @@ pub fn identifier<'a>(
     Ok((identifier, rest))
 }
 
-/// A numeric literal, where it is the next token, and what is after it.
+/// A numeric literal, if it is the next token, and what is after it.
 pub fn number<'a>(source: &[u8], tokens: &'a [Token]) -> Option<(NumericLiteral, &'a [Token])>
     ensures found { IfSome result (λ x. lexemes source.now tokens.now ≡ Named 1 (number_label x.0) ∷ lexemes source.now x.1.now) }
     ensures other { IfNone result (begins (1 ∷ []) (lexemes source.now tokens.now) ≡ false) }

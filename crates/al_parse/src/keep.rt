@@ -37,7 +37,7 @@ pub fn append<T: Drop>(list: &mut Vec<T>, item: T) -> Result<(), Stop>
     Ok(())
 }
 
-/// A term, perhaps with a sign in front.
+/// A term, perhaps with a sign before it.
 #[tactic(auto, using(crate::proofs::Levels::term_is_simple))]
 pub(crate) fn signed(
     alloc: Global,

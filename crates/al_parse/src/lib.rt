@@ -1,5 +1,5 @@
-//! Reads the tokens of a text, names and expressions among them, as the tree of a compilation unit, or finds the place of its syntax
-//! fault.
+//! Reads the tokens of a source, names and expressions among them, as the tree of a compilation unit, or finds the place of its
+//! syntax fault.
 #![tactic(auto)]
 
 mod body;

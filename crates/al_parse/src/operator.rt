@@ -85,7 +85,7 @@ pub(crate) fn adding_operator<'a>(
     Ok((AddingOperator::Concatenate, rest))
 }
 
-/// The `not` in front of `in`, where one stands (ARM 4.4(3)).
+/// The `not` before `in`, if there is one (ARM 4.4(3)).
 pub(crate) fn negation<'a>(source: &[u8], tokens: &'a [Token]) -> (Option<Place>, &'a [Token])
     ensures { Took (not_tokens (option_map place_label result.0)) (lexemes source.now result.1.now) (lexemes source.now tokens.now) (reading 0 (Opt (any Not)) (lexemes source.now tokens.now)) }
 {
@@ -95,7 +95,7 @@ pub(crate) fn negation<'a>(source: &[u8], tokens: &'a [Token]) -> (Option<Place>
     }
 }
 
-/// The sign in front of a simple expression, where one stands (ARM 4.5.4).
+/// The sign before a simple expression, if there is one (ARM 4.5.4).
 pub(crate) fn sign<'a>(source: &[u8], tokens: &'a [Token]) -> (Option<Sign>, &'a [Token])
     ensures { Took (sign_tokens (sign_model result.0)) (lexemes source.now result.1.now) (lexemes source.now tokens.now) (reading 0 (Opt (any Plus ∣ any Minus)) (lexemes source.now tokens.now)) }
 {
@@ -108,8 +108,8 @@ pub(crate) fn sign<'a>(source: &[u8], tokens: &'a [Token]) -> (Option<Sign>, &'a
     }
 }
 
-/// The logical operator after the first relation of an expression, where one stands (ARM 4.4(2)). `and` and `and then`
-/// differ by the token after the `and`, and so do `or` and `or else`.
+/// The logical operator after the first relation of an expression, if there is one (ARM 4.4(2)). `and` and `and then` differ by the
+/// token after the `and`, and so do `or` and `or else`.
 #[tactic(auto, unfolding(crate::specs::Logical::logical_rule, al_tree_syntax::specs::Expressions::identifier_rule, al_tree_syntax::specs::Expressions::name_rule, al_tree_syntax::specs::Expressions::parentheses_rule, al_tree_syntax::specs::Expressions::primary_rule, al_tree_syntax::specs::Expressions::factor_rule, al_tree_syntax::specs::Expressions::term_rule, al_tree_syntax::specs::Expressions::simple_expression_rule, al_tree_syntax::specs::Expressions::relation_rule, al_tree_syntax::specs::Expressions::and_rule, al_tree_syntax::specs::Expressions::or_rule, al_tree_syntax::specs::Expressions::xor_rule))]
 pub(crate) fn logical_operator<'a>(
     source: &[u8],

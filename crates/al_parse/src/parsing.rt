@@ -1,4 +1,4 @@
-// Whole texts.
+// Whole sources.
 ghost use Rattle.std.specs.Prelude.{IfErr, IfOk};
 ghost use Rattle.al_tree.specs.Lexemes.{lexemes};
 ghost use Rattle.al_tree.specs.UnitViews.{unit_model};
@@ -15,7 +15,7 @@ const MOST_OPEN: u32 = 64;
 /// The place of a syntax fault.
 #[derive(Clone, Copy)]
 pub struct SyntaxFault {
-    /// How many tokens are before the first that can't stand where it stands; all of them, where the text ends too soon.
+    /// How many tokens are before the first that can't be there; all of them, if the source ends too soon.
     pub at: usize,
 }
 
@@ -23,7 +23,7 @@ pub struct SyntaxFault {
 #[derive(Drop)]
 pub enum ParseError {
     Syntax(SyntaxFault),
-    /// Memory was wanted and not given.
+    /// The allocator refused memory.
     NoMemory,
 }
 
@@ -38,10 +38,10 @@ fn whole(alloc: Global, source: &[u8], tokens: &[Token]) -> Result<CompilationUn
     Ok(unit)
 }
 
-/// The tree of the tokens of a text, or where they stop being the front of a compilation unit.
+/// The tree of the tokens of a source, or the place at which they stop being the prefix of a compilation unit.
 ///
 /// # Errors
-/// `Syntax` where the tokens are no compilation unit; `NoMemory` where memory is wanted and not given.
+/// `Syntax` if the tokens are no compilation unit; `NoMemory` if the allocator refuses memory.
 pub fn parse(alloc: Global, source: &[u8], tokens: &[Token]) -> Result<CompilationUnit, ParseError>
     ensures found { IfOk result (λ u. IsTreeOf (unit_model u) (lexemes source.now tokens.now)) }
     ensures fault { IfErr result (λ e. FaultOf e (lexemes source.now tokens.now)) }

@@ -102,7 +102,7 @@ fn operation_body<'a>(
     Ok((body, rest))
 }
 
-/// The body of a subprogram in a protected body, where one more construct may be open.
+/// The body of a subprogram in a protected body, if one more construct may be open.
 #[cycle(body)]
 fn protected_subprogram<'a>(
     alloc: Global,

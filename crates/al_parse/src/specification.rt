@@ -353,7 +353,7 @@ fn protected_parts<'a>(
     Ok((operations, private_part, end, rest))
 }
 
-/// What stands after `protected` in a declaration (ARM 9.4).
+/// What comes after `protected` in a declaration (ARM 9.4).
 #[tactic(auto, unfolding(al_tree_syntax::specs::Declarations::protected_rule, al_tree_syntax::specs::Expressions::identifier_rule))]
 pub(crate) fn protected_definition<'a>(
     alloc: Global,

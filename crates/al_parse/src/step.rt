@@ -13,7 +13,7 @@ use crate::{is_next, skip};
 use al_lex::Token;
 use al_tree::Symbol;
 
-/// This word, where it is the next token: whether it is, and what is after it.
+/// Whether this word is the next token, and what is after it; all the tokens, if it isn't.
 pub(crate) fn flag<'a>(source: &[u8], tokens: &'a [Token], symbol: Symbol) -> (bool, &'a [Token])
     requires { is_labelled (symbol_model symbol) ≡ false }
     ensures { Took (flag_tokens (symbol_model symbol) result.0) (lexemes source.now result.1.now) (lexemes source.now tokens.now) (reading 0 (Opt (the (symbol_model symbol))) (lexemes source.now tokens.now)) }

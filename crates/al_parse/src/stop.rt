@@ -8,7 +8,7 @@ use std::alloc::{AllocError, AllocFailed};
 /// Why no tree is read.
 #[derive(Drop)]
 pub enum Stop {
-    /// Memory was wanted and not given.
+    /// The allocator refused memory.
     Memory,
     /// No sentence goes on here, with so many tokens left.
     Fault(usize),
@@ -38,10 +38,10 @@ impl<T: Drop> From<AllocFailed<T>> for Stop {
     }
 }
 
-/// What was read, as by `?`; where reading stopped, the value is let go first.
+/// What was read, as by `?`; if reading stopped, the value is dropped first.
 ///
-/// At a `?` a tree is let go where it stands, each variant of it in turn, and the proof of the function has them all. Here one call lets
-/// it go.
+/// At a `?` a tree would be dropped in the function itself, each variant of it in turn, and the function's proof would have them
+/// all. Here one call drops it.
 #[macro_export]
 macro_rules! read_or_drop {
     ($read:expr, $value:expr) => {

@@ -360,11 +360,11 @@ fn parts_of_unit<'a>(
     Ok((CompilationUnit::new(context, item), rest))
 }
 
-/// A compilation unit (ARM 10.1.1), where one more construct may be open, and the tokens after it. `depth` is how many more
-/// constructs may be open.
+/// A compilation unit (ARM 10.1.1), if one more construct may be open, and the tokens after it. `depth` is how many more constructs
+/// may be open.
 ///
 /// # Errors
-/// `Fault` where no compilation unit goes on, with so many tokens left; `Memory` where memory is wanted and not given.
+/// `Fault` with the number of tokens that are left where no compilation unit goes on; `Memory` if the allocator refuses memory.
 pub fn compilation_unit<'a>(
     alloc: Global,
     source: &[u8],

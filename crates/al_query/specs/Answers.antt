@@ -28,23 +28,23 @@ form_of_profile p = at p.result
     at (Some r) = form.Function
     at None = form.Procedure
 
--- what a unit with that own view is, none where no library unit has such a view
+-- what a unit with that own view is; none if no library unit has such a view
 abbrev pub form_of_view : ViewKind → Option UnitForm
 form_of_view (OfPackage s) = Some form.Package
 form_of_view (OfSubprogram s) = Some (form_of_profile s.profile)
 form_of_view _ = None
 
--- the unit's own view, none where that isn't answered
+-- the unit's own view; none if that isn't answered
 abbrev pub own_view_of : AnswerKind → Option ViewKind
 own_view_of (Kind view) = Some view
 own_view_of _ = None
 
--- what the unit is, none where its own view isn't answered
+-- what the unit is; none if its own view isn't answered
 abbrev pub form_of : AnswerKind → Option UnitForm
 form_of (Kind view) = form_of_view view
 form_of _ = None
 
--- the parent unit, none where there is none or that isn't answered
+-- the parent unit; none if there is none or that isn't answered
 abbrev pub parent_of : AnswerKind → Option UnitKey
 parent_of (Parent parent) = parent
 parent_of _ = None
@@ -59,17 +59,17 @@ abbrev pub needs_body_of : AnswerKind → Bool
 needs_body_of (NeedsBody b) = b
 needs_body_of _ = false
 
--- the context, none where that isn't answered
+-- the context; none if that isn't answered
 abbrev pub context_of : AnswerKind → Option ContextView
 context_of (Context context) = Some context
 context_of _ = None
 
--- the private types that its visible part declares, by their names; none where its context isn't answered
+-- the private types that its visible part declares, by their names; none if its context isn't answered
 abbrev pub names_told : AnswerKind → List (List ℕ)
 names_told (Context c) = c.private_types
 names_told _ = []
 
--- what must be completed, nothing where that isn't answered
+-- what must be completed; nothing if that isn't answered
 abbrev pub completions_of : AnswerKind → List Completion
 completions_of (Completions completions) = completions
 completions_of _ = []

@@ -38,7 +38,8 @@ asks_one_of names _ = false
 abbrev pub by_name : List (List ℕ) → Log → Query → Bool
 by_name names log q = asks_one_of (names ++ names_after log) q
 
--- whether a question is for a name, be it one of a text or one that the place knows otherwise, as a private type's whose full view it sees
+-- whether a question is for a name, be it a word of the source or a name that the place knows otherwise, as that of a private type
+-- whose full view it sees
 abbrev pub by_some_name : Log → Query → Bool
 by_some_name log (Named unit part name) = true
 by_some_name log _ = false

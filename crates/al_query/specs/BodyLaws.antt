@@ -15,13 +15,13 @@ use Rattle.al_query.specs.declared.query.Query.TheVariants.{Of}
 abbrev pub asks_body : List ℕ → AnswerKind → Property → AnswerKind → Log
 asks_body name kind property answer = (Of (declaration name) Kind, kind) ∷ (Of (body name) property, answer) ∷ []
 
--- where a package's declaration is there, its body may not be asked by who knows the declaration alone
+-- if a package's declaration is there, its body may not be asked by who knows the declaration alone
 abbrev pub BodiesAreHidden : Type 0
 BodiesAreHidden =
     (name : List ℕ) (symbol : Symbol) (property : Property) (answer : AnswerKind) → symbol.unit ≡ declaration name
     → Grounded (declaration name ∷ []) (asks_body name (answers.Kind (OfPackage symbol)) property answer) → ⊥
 
--- where no declaration is there, the body may be asked, as it may act as one (ARM 10.1.4(4))
+-- if no declaration is there, the body may be asked, as it may act as one (ARM 10.1.4(4))
 abbrev pub ActingBodiesAreKnown : Type 0
 ActingBodiesAreKnown =
     (name : List ℕ) (property : Property) (answer : AnswerKind)

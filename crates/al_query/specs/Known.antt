@@ -25,8 +25,8 @@ body name = record { name = name; kind = Body }
 abbrev pub predefined_units : List UnitKey
 predefined_units = map declaration (codes "standard" ∷ codes "ada" ∷ codes "ada.text_io" ∷ codes "ada.real_time" ∷ [])
 
--- what the answer to what a unit is tells of the unit's other half: where there is no declaration, a body may act as one
--- (ARM 10.1.4(4)); a body that is there names its declaration
+-- what the answer to what a unit is says of the unit's other half: if there is no declaration, a body may act as one (ARM
+-- 10.1.4(4)); a body that is there names its declaration
 abbrev pub told_of : UnitKey → AnswerKind → List UnitKey
 told_of unit answers.Nothing = if same_kind unit.kind Decl then body unit.name ∷ [] else []
 told_of unit (answers.Kind view) = if same_kind unit.kind Body then declaration unit.name ∷ [] else []
@@ -40,7 +40,7 @@ told_by _ answer = []
 abbrev pub learned : Query → AnswerKind → List UnitKey
 learned q answer = units_named answer ++ told_by q answer
 
--- the units that are known after a log, where these were known before it
+-- the units that are known after a log, if these were known before it
 abbrev pub known_after : List UnitKey → Log → List UnitKey
 known_after known log = known ++ flat_map (λ e. learned e.0 e.1) log
 
@@ -53,8 +53,7 @@ pub Grounded-prop : (known : List UnitKey) (log : Log) → IsProp (Grounded know
 Grounded-prop known [] = Unit-prop
 Grounded-prop known (e ∷ es) = ×_prop (Coded-set coded_bool (has_unit known (unit_of e.0)) true) (Grounded-prop (known ++ learned e.0 e.1) es)
 
--- after a question with this answer, whatever units are known at first: what was known is known, and so is what the
--- answer tells
+-- after a question with this answer, whatever units are known at first: what was known is known, and so is what the answer names
 abbrev pub Learns : Log → Log → Query → AnswerKind → Type 0
 Learns before now q answer =
     (units : List UnitKey) (u : UnitKey)

@@ -1,4 +1,4 @@
--- Tables, logs that agree with them, and what is told under every table that agrees.
+-- Tables, logs that agree with them, and what holds under every table that agrees.
 use Rattle.std.specs.Prelude.{◌≡◌, List, [], ◌∷◌, ◌++◌, ⊤, if◌then◌else◌, Option, is_some}
 use Rattle.std.specs.Coded.{×_prop, Unit-prop, Coded-set}
 use Rattle.std.specs.Map.{lookup}
@@ -24,8 +24,8 @@ pub Agrees-prop : (table : Query → AnswerKind) (log : List (Query × AnswerKin
 Agrees-prop table [] = Unit-prop
 Agrees-prop table (e ∷ es) = ×_prop (Coded-set answer.the_row.coded (table e.0) e.1) (Agrees-prop table es)
 
--- whatever table agrees with the log as it is now: it agreed with the log as it was before, and this holds of it. What a
--- call that asks gives is told so: it depends on what was asked, and on nothing else.
+-- whatever table agrees with the log as it is now: it agreed with the log as it was before, and this holds of it. This states what
+-- a call that asks gives: it depends on what was asked, and on nothing else.
 abbrev pub FromAnswers : Log → Log → (Table → Type 0) → Type 0
 FromAnswers before now claim = (t : Table) → Agrees t now → Agrees t before × claim t
 
@@ -37,6 +37,6 @@ HoldsBy log claim = (t : Table) → Agrees t log → claim t
 abbrev pub recorded : List (Query × AnswerKind) → Query → Option AnswerKind
 recorded log q = lookup (same_query q) log
 
--- the log after a question: appended with its answer where the log lacks it
+-- the log after a question: appended with its answer if the log lacks it
 abbrev pub logged : List (Query × AnswerKind) → Query → AnswerKind → List (Query × AnswerKind)
 logged log q answer = if is_some (recorded log q) then log else log ++ (q, answer) ∷ []

@@ -18,7 +18,7 @@ pub enum UnitForm {
     Function,
 }
 
-/// A subprogram of that profile is a function where it has a result, else a procedure (ARM 6.1).
+/// A subprogram of that profile is a function if it has a result, else a procedure (ARM 6.1).
 fn form_by_profile(profile: &Profile) -> UnitForm
     ensures { result ≡ form_of_profile profile.now }
 {
@@ -28,7 +28,7 @@ fn form_by_profile(profile: &Profile) -> UnitForm
     }
 }
 
-/// What a unit with that view is; none where the view is no library unit's.
+/// What a unit with that view is; none if the view is no library unit's.
 pub fn form_by_view(view: &View) -> Option<UnitForm>
     ensures { result ≡ form_of_view view.now }
 {
@@ -45,7 +45,7 @@ pub enum UseClause {
     Package(UnitKey),
     /// The operators of this type (ARM 8.4(4)), as its package declares them.
     Type(Symbol),
-    /// The operators of this type, which is one of these, as its view has them: its package isn't mentioned where the clause stands, and is
+    /// The operators of this type, which is one of these, as its view has them: its package isn't mentioned at the clause, and is
     /// asked for nothing.
     Operators { of_type: Symbol, types: Types },
 }
@@ -63,7 +63,7 @@ impl Drop for UseClause {
     }
 }
 
-/// The operators of that type, which is one of these, once more.
+/// A copy of the operators of that type, which is one of these.
 fn copied_operators(alloc: Global, of_type: &Symbol, types: &Types) -> Result<UseClause, NoMemory>
     ensures { IfOk result (λ copy. copy ≡ Operators of_type.now types.now) }
 {
@@ -89,7 +89,7 @@ impl UseClause {
     }
 }
 
-/// A use clause that stands immediately in a part of a unit.
+/// A use clause that is immediately in a part of a unit.
 pub struct UseInPart {
     /// The part of the unit.
     pub part: Part,
@@ -115,7 +115,7 @@ pub struct ContextView {
     pub withs: Seq<UnitKey>,
     /// The use clauses of its context clause, in order.
     pub uses: Seq<UseClause>,
-    /// The use clauses that stand immediately in its parts, in order.
+    /// The use clauses that are immediately in the unit's parts, in order.
     pub uses_inside: Seq<UseInPart>,
     /// The private types that its visible part declares, in order (ARM 7.3): whoever sees the full view of one asks for it by its name.
     pub private_types: Seq<Name>,
@@ -150,19 +150,19 @@ impl Drop for Completion {
 /// the answer `Nothing`.
 pub enum AnswerKind {
     Nothing,
-    /// The views of a name in a part, in text order.
+    /// The views of a name in a part, in source order.
     Views(Views),
     /// The unit's own view: a package, or a subprogram with its profile.
     Kind(View),
-    /// Its parent unit; none of a root unit.
+    /// The parent unit; none for a root unit.
     Parent(Option<UnitKey>),
-    /// Whether it is a private unit.
+    /// Whether the unit is private.
     IsPrivate(bool),
-    /// Its context.
+    /// The context of the unit.
     Context(ContextView),
-    /// Whether it needs a body.
+    /// Whether the unit needs a body.
     NeedsBody(bool),
-    /// What its body must complete, in text order.
+    /// What its body must complete, in source order.
     Completions(Seq<Completion>),
 }
 
@@ -242,7 +242,7 @@ impl Answer {
         }
     }
 
-    /// The unit's own view, where it is answered.
+    /// The unit's own view, if it is answered.
     pub fn own_view(&self) -> Option<&View>
         ensures { option_copied result ≡ own_view_of self.now }
     {
@@ -252,7 +252,7 @@ impl Answer {
         }
     }
 
-    /// What the unit is, where its own view is answered.
+    /// What the unit is, if its own view is answered.
     pub fn form(&self) -> Option<UnitForm>
         ensures { result ≡ form_of self.now }
     {
@@ -262,7 +262,7 @@ impl Answer {
         }
     }
 
-    /// The parent unit; none of a root unit, and where that isn't answered.
+    /// The parent unit; none for a root unit, and none if that isn't answered.
     pub fn parent(&self) -> Option<&UnitKey>
         ensures { option_copied result ≡ parent_of self.now }
     {
@@ -286,7 +286,7 @@ impl Answer {
         matches!(self.kind(), AnswerKind::NeedsBody(true))
     }
 
-    /// The with and use clauses, where they are answered.
+    /// The with and use clauses, if they are answered.
     pub fn context(&self) -> Option<&ContextView>
         ensures { option_copied result ≡ context_of self.now }
     {
@@ -296,7 +296,7 @@ impl Answer {
         }
     }
 
-    /// The private types that the unit's visible part declares, by their names; none where its context isn't answered.
+    /// The private types that the unit's visible part declares, by their names; none if its context isn't answered.
     pub fn private_types(&self) -> &[Name]
         ensures { result.now ≡ names_told self.now }
     {
@@ -306,7 +306,7 @@ impl Answer {
         }
     }
 
-    /// What the body must complete; nothing where that isn't answered.
+    /// What the body must complete; nothing if that isn't answered.
     pub fn completions(&self) -> &[Completion]
         ensures { result.now ≡ completions_of self.now }
     {

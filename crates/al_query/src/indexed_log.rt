@@ -40,7 +40,7 @@ impl Model for IndexedLog {
 }
 
 impl IndexedLog {
-    /// No questions. It takes no memory.
+    /// A log without questions. It takes no memory.
     pub(crate) fn new(alloc: Global) -> Self
         ensures { result ≡ [] }
     {

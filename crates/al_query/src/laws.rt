@@ -2,12 +2,12 @@
 // other's bodies whether they need one would else have two results that fit.
 ghost use Rattle.al_query.specs.BodyLaws.{ActingBodiesAreKnown, BodiesAreHidden};
 
-/// Where a package's declaration is there, its body may not be asked by who knows the declaration alone.
+/// If a package's declaration is there, its body may not be asked by who knows the declaration alone.
 pub fn bodies_are_hidden()
     ensures { BodiesAreHidden }
 {}
 
-/// Where no declaration is there, the body may be asked, as it may act as one (ARM 10.1.4(4)).
+/// If no declaration is there, the body may be asked, as it may act as one (ARM 10.1.4(4)).
 pub fn acting_bodies_are_known()
     ensures { ActingBodiesAreKnown }
 {}

@@ -9,17 +9,17 @@ use std::alloc::Global;
 /// What every unit can be asked for.
 #[derive(Clone, Copy)]
 pub enum Property {
-    /// What it is, by its own view (ARM 10.1.1).
+    /// What the unit is, by its own view (ARM 10.1.1).
     Kind,
-    /// Its parent unit (ARM 10.1.1(10)).
+    /// The parent unit (ARM 10.1.1(10)).
     Parent,
-    /// Whether it is a private unit (ARM 10.1.1(12)).
+    /// Whether the unit is private (ARM 10.1.1(12)).
     IsPrivate,
-    /// Its with and use clauses as resolved (ARM 10.1.2, 8.4).
+    /// The with and use clauses as resolved (ARM 10.1.2, 8.4).
     Context,
-    /// Whether it needs a body (ARM 7.2(4)).
+    /// Whether the unit needs a body (ARM 7.2(4)).
     NeedsBody,
-    /// What its body must complete (ARM 3.11.1).
+    /// What the unit's body must complete (ARM 3.11.1).
     Completions,
 }
 
@@ -31,7 +31,7 @@ pub enum Query {
         part: Part,
         name: Name,
     },
-    /// One of its properties.
+    /// A question for one of the unit's properties.
     Of {
         unit: UnitKey,
         property: Property,

@@ -56,7 +56,7 @@ impl Model for ReadLog {
 }
 
 impl ReadLog {
-    /// No questions. It takes no memory.
+    /// A log without questions. It takes no memory.
     pub fn new(alloc: Global) -> Self
         ensures { result ≡ [] }
     {
@@ -81,7 +81,7 @@ impl ReadLog {
     }
 }
 
-/// Asks, and keeps what was asked. Each want of memory that it answers is counted.
+/// Asks, and keeps what was asked. Each call that fails for memory is counted.
 pub struct Recorder<A: Answers> {
     alloc: Global,
     asked: A,

@@ -66,15 +66,15 @@ pub record KeepsSymbols (u : UnitKey) (log : List (Query × AnswerKind)) (i : Un
 abbrev pub is_simple : List ℕ → Bool
 is_simple name = list_all (λ b. not (b == 46)) name
 
--- a stub of the unit, which is a body or a subunit: its name is one that the unit's text has, an identifier (ARM 10.1.3(2)), and what
--- stands before it has the subprogram that it stands for
+-- a stub of the unit, which is a body or a subunit: its name is one that the unit's source has, an identifier (ARM 10.1.3(2)), and
+-- what comes before it has the subprogram that it stands for
 pub record IsToldStub (u : UnitKey) (h : Header) (i : UnitInterface) (stub : StubDeclarations) : Type 0 where
   pub inside : u.kind ≢ Decl
   pub named : Contains h.stubs stub.stub
   pub simple : is_simple stub.stub ≡ true
   pub answered : Contains (views_links (one_view (first_view (views_of (part_of i.parts (Stub stub.stub)) separate)))) (link Code stub.symbol)
 
--- the text of the unit is that of its declaration: it is one, or a body where there is none (ARM 10.1.4(4))
+-- the source of the unit is that of its declaration: it is one, or a body if there is none (ARM 10.1.4(4))
 abbrev pub DeclaresItself : UnitKey → (Query → AnswerKind) → Type 0
 DeclaresItself u t = (u.kind ≡ Decl) ⊎ ((u.kind ≡ Body) × (own_view_of (t (Of (declaration u.name) Kind)) ≡ None))
 

@@ -20,7 +20,7 @@ use Rattle.al_query_outcome.specs.ReadsLaw.{AsksOthers, NamesOnly, named_by, sub
 use Rattle.al_query_outcome.specs.Results.{Outcome, Faulty, Sound, table_entry}
 use Rattle.al_query_outcome.specs.Tables.{no_answer}
 
--- the outcome of each unit of a library under a table of answers: what a checker makes of the unit's text
+-- the outcome of each unit of a library under a table of answers: what a checker makes of the unit's source
 abbrev pub Meaning : Type 0
 Meaning = UnitKey → (Query → AnswerKind) → Outcome
 
@@ -30,7 +30,7 @@ pub record Check (meaning : Meaning) (u : UnitKey) (h : Header) (t : Query → A
   pub agrees : Agrees t log
   -- every table that agrees with the log gives the same outcome
   pub reads : (v : Query → AnswerKind) → Agrees v log → meaning u t ≡ meaning u v
-  -- each question is of another unit, which the text or an earlier answer names
+  -- each question is of another unit, which the source or an earlier answer names
   pub others : AsksOthers u log
   pub grounded : Grounded (named_by h) log
   -- the outcome names only these units and its own
@@ -62,7 +62,7 @@ is_sound None = false
 is_sound (Some (Faulty faults)) = false
 is_sound (Some (Sound interface tree)) = true
 
--- a unit is reached where it breaks no rule of the graph and all on which it depends is sound
+-- a unit is reached if it breaks no rule of the graph and all on which it depends is sound
 abbrev pub is_reached : Setting → (UnitKey → Option Outcome) → UnitKey → Bool
 is_reached s f u = s.is_faultless u && list_all (λ k. is_sound (f (unit_named k))) (direct s.files (key_of u))
 

@@ -1,4 +1,4 @@
--- What a unit is left to define, told from answers: a body what its declaration leaves to it, a subunit what its stub stands for (ARM
+-- What a unit is left to define, by answers: a body what its declaration leaves to it, a subunit what its stub stands for (ARM
 -- 3.11.1, 10.1.3).
 use Rattle.std.specs.Prelude.{ℕ, ◌+◌, Bool, true, false, List, [], ◌∷◌, length, drop, map, codes, Option, Some, None, is_some, if◌then◌else◌}
 use Rattle.std.specs.List.{filter, flat_map}
@@ -44,11 +44,11 @@ completed_views a = map (λ c. c.view) (completions_of a)
 abbrev pub left_by : AnswerKind → List LinkSymbol
 left_by a = views_links (completed_views a)
 
--- what stands after the last dot of a unit's full name
+-- what comes after the last dot of a unit's full name
 abbrev pub last_of : List ℕ → List ℕ
 last_of name = option_map_or (λ p. drop (length p + 1) name) (parent_of name) name
 
--- the code of the subprogram that a library unit is, where its own text declares it
+-- the code of the subprogram that a library unit is, if its own source declares it
 abbrev pub own_code : UnitKey → LinkSymbol
 own_code u = link kind.Code (record { unit = u; name = last_of u.name; number = 0 })
 
@@ -60,7 +60,8 @@ abbrev pub first_view : List ViewKind → Option ViewKind
 first_view [] = None
 first_view (v ∷ vs) = Some v
 
--- the name under which what stands before a stub has the subprogram that the stub stands for: a reserved word, which no text can name
+-- the name under which what comes before a stub has the subprogram that the stub stands for: a reserved word, which no source can
+-- name
 abbrev pub separate : List ℕ
 separate = codes "separate"
 

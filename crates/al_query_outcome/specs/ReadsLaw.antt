@@ -36,9 +36,9 @@ abbrev pub own_names : Header → Option Mention → List UnitKey
 own_names h None = (if is_library_body h.form then declaration h.name ∷ [] else []) ++ option_map_or (λ p. declaration p ∷ []) (parent_of h.name) []
 own_names h (Some parent) = body parent.name ∷ subunit parent.name ∷ []
 
--- the units that a unit's text names: its own declaration, its parent's, its parent body, and each unit of a with clause with
--- its ancestors (ARM 10.1.1(26)); the predefined ones it needn't name. A body is named as a parent body alone: that a body acts as
--- its declaration is learned where there is no declaration.
+-- the units that a unit's source names: its own declaration, its parent's, its parent body, and each unit of a with clause with its
+-- ancestors (ARM 10.1.1(26)); the predefined ones it needn't name. A body is named as a parent body alone: that a body acts as its
+-- declaration is learned if there is no declaration.
 unfoldable pub named_by : Header → List UnitKey
 named_by h = predefined_units ++ own_names h h.parent_body ++ flat_map (λ m. map declaration (lineage m.name)) h.mentions
 
@@ -56,7 +56,7 @@ is_by_names unit names (Named of part name) = list_any (bytes_eq name) names
 is_by_names unit names (Of of Completions) = same_unit of (declaration unit.name)
 is_by_names unit names (Of of _) = true
 
--- all questions of a log are so, where a name that an answer tells may be asked for from there on
+-- all questions of a log are so; a name that an answer gives may be asked for after it
 abbrev pub asks_by_names : UnitKey → List (List ℕ) → List (Query × AnswerKind) → Bool
 asks_by_names unit names [] = true
 asks_by_names unit names (e ∷ es) = is_by_names unit names e.0 && asks_by_names unit (names ++ names_told e.1) es
@@ -72,8 +72,8 @@ property_answers i = answers.Kind i.properties.kind ∷ i.properties.parent ∷ 
 abbrev pub declarations_of : UnitInterface → List Declarations
 declarations_of i = i.parts.visible ∷ i.parts.private_part ∷ i.parts.body ∷ map (λ s. s.before) i.parts.stubs
 
--- the units that an outcome names: a parent, and those of with clauses. Symbols name no unit: of these is told what they may be used
--- for, and who defines them.
+-- the units that an outcome names: a parent, and those of with clauses. Symbols name no unit: other definitions say what they may
+-- be used for, and who defines them.
 unfoldable pub outcome_units : Outcome → List UnitKey
 outcome_units (Faulty faults) = []
 outcome_units (Sound interface tree) = flat_map units_named (property_answers interface)

@@ -41,11 +41,11 @@ property_of p property.Context = p.context
 property_of p property.NeedsBody = answer.NeedsBody p.needs_body
 property_of p property.Completions = p.completions
 
--- what stands before the stub of a name, where there is one
+-- what comes before the stub of a name, if there is one
 abbrev pub before_stub : List StubDeclarations → List ℕ → Option Declarations
 before_stub stubs name = option_map (λ s. s.before) (find (λ s. bytes_eq s.stub name) stubs)
 
--- what a part declares; nothing where there is no such stub
+-- what a part declares; nothing if there is no such stub
 abbrev pub part_of : Parts → Part → Declarations
 part_of p part.Visible = p.visible
 part_of p part.Private = p.private_part

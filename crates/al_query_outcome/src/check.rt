@@ -24,28 +24,28 @@ pub trait UnitCheck {
     ghost use Rattle.al_query.specs.declared.query.Query.{Query};
     ghost use Rattle.al_query_outcome.specs.Results.{Outcome};
 
-    /// What is read of a text for a check.
+    /// What is read of a source for a check.
     type Text: ReadText;
 
-    /// The outcome of a unit with a text under a table. No checker's state has a part in it.
+    /// The outcome of a unit with a source under a table. No checker's state has a part in it.
     ghost meaning: { UnitKey → List ℕ → (Query → AnswerKind) → Outcome };
 
     /// How many checks were made.
     ghost count: { Self → ℕ };
 
-    /// Checks a unit with its text, as it was read.
+    /// Checks a unit with its source, as it was read. What its contract says:
     /// - `asked`: who is asked stays the same.
     /// - `meaning`: under every table that agrees with the log the outcome is the same.
-    /// - `others`, `grounded`: each question is of a predefined unit, or of another unit, which this one names (ARM 10.1.1(26))
-    ///   or an earlier answer does.
-    /// - `words`: it is for a property, or by a word of the text, an operator's sign too, or by the name of a private type that an answer
-    ///   before it told; that for what a body must complete is of the unit's own declaration.
+    /// - `others`, `grounded`: each question is of a predefined unit, or of another unit, which this one names (ARM 10.1.1(26)) or
+    /// an earlier answer does.
+    /// - `words`: it is for a property, or by a word of the source, an operator's sign too, or by the name of a private type that
+    /// an answer before it gave; that for what a body must complete is of the unit's own declaration.
     /// - `names`: the result names no unit but these and its own.
     /// - `uses`, `defines`, `shows`, `code`: what the linker needs of its labelled tree and of what it answers.
     /// - `parts`: a body defines the code that its declaration leaves to it, save that of its stubs, a subunit that of its stub, a
-    ///   procedure that may be the main one its own; only a declaration that needs a body leaves code to it.
-    /// - `faults`: where something is wrong, it is said, of the unit's own file.
-    /// - `counted`: one more check was made, also where memory lacked.
+    /// procedure that may be the main one its own; only a declaration that needs a body leaves code to it.
+    /// - `faults`: if something is wrong, it is reported for the unit's own file.
+    /// - `counted`: one more check was made, also if the allocator refused memory.
     ///
     /// # Errors
     ///

@@ -4,7 +4,7 @@ ghost use Rattle.al_query_outcome.specs.Left.{last_of};
 
 use al_unit_graph::parent_of;
 
-/// What stands after a prefix and a dot; nothing where there is no more.
+/// What comes after a prefix and a dot; nothing if there is no more.
 fn after(name: &[u8], prefix: usize) -> &[u8]
     ensures { result.now ≡ drop (prefix + 1) name.now }
 {
@@ -14,7 +14,7 @@ fn after(name: &[u8], prefix: usize) -> &[u8]
     &[]
 }
 
-/// What stands after the last dot of a unit's full name.
+/// What comes after the last dot of a unit's full name.
 pub fn last_of(name: &[u8]) -> &[u8]
     ensures { result.now ≡ last_of name.now }
 {

@@ -13,22 +13,22 @@ use std::alloc::Global;
 /// What a unit without faults says of itself beside what it declares.
 #[derive(Drop)]
 pub struct Properties {
-    /// What it is, by its own view (ARM 10.1.1).
+    /// What the unit is, by its own view (ARM 10.1.1).
     pub kind: View,
-    /// Its parent unit; none of a root unit (ARM 10.1.1(10)).
+    /// The parent unit; none for a root unit (ARM 10.1.1(10)).
     pub parent: Option<UnitKey>,
-    /// Whether it is a private unit (ARM 10.1.1(12)).
+    /// Whether the unit is private (ARM 10.1.1(12)).
     pub is_private: bool,
-    /// Its with and use clauses as resolved (ARM 10.1.2, 8.4).
+    /// The with and use clauses as resolved (ARM 10.1.2, 8.4).
     pub context: ContextView,
-    /// Whether it needs a body (ARM 7.2(4)).
+    /// Whether the unit needs a body (ARM 7.2(4)).
     pub needs_body: bool,
-    /// What its body must complete (ARM 3.11.1).
+    /// What the unit's body must complete (ARM 3.11.1).
     pub completions: Seq<Completion>,
 }
 
-/// A stub (ARM 10.1.3): its name, the subprogram whose body it stands for, and what stands before it in its body, with the
-/// regions round it (ARM 10.1.3(8)).
+/// A stub (ARM 10.1.3): its name, the subprogram whose body it stands for, and what comes before it in its body, with the regions
+/// round it (ARM 10.1.3(8)).
 pub struct StubDeclarations {
     /// The name of the stub in lower case.
     pub stub: Name,
@@ -135,7 +135,7 @@ impl PropertyAnswers {
         })
     }
 
-    /// One of the properties.
+    /// The answer to a question for one of the properties.
     fn answer(&self, alloc: Global, property: Property) -> Result<Answer, NoMemory>
         ensures { IfOk result (λ answer. answer ≡ property_of self.now property) }
     {
@@ -151,7 +151,7 @@ impl PropertyAnswers {
 }
 
 impl Parts {
-    /// The views of a name in a part, in text order; none where the part doesn't declare it, or isn't there.
+    /// The views of a name in a part, in source order; none if the part doesn't declare it, or isn't there.
     fn views(&self, part: &Part, name: &[u8]) -> &[View]
         ensures { result.now ≡ views_of (part_of self.now part.now) name.now }
     {
@@ -166,7 +166,7 @@ impl Parts {
         }
     }
 
-    /// What stands before the stub of that name, where there is one.
+    /// What comes before the stub of that name, if there is one.
     fn before(&self, name: &[u8]) -> Option<&Interface>
         ensures { option_copied result ≡ before_stub self.now.stubs name.now }
     {

@@ -1,22 +1,22 @@
-// The text of a unit, as a checker takes it.
+// The source of a unit, as a checker takes it.
 ghost use Rattle.std.specs.Prelude.{◌≡◌, IfOk};
 
 use al_base::NoMemory;
 use std::alloc::Global;
 use std::rc::Rc;
 
-/// The text of a unit with what was read in it.
+/// The source of a unit with what was read in it.
 pub trait ReadText: Drop {
     ghost use Rattle.std.specs.Prelude.{ℕ, List};
     ghost use Rattle.al_unit_graph.specs.Headers.{Header};
 
-    /// What a text says of its unit.
+    /// What a source says of its unit.
     ghost header: { List ℕ → Header };
 
-    /// The text that was read.
+    /// The source that was read.
     ghost text: { Self → List ℕ };
 
-    /// Reads a text.
+    /// Reads a source.
     ///
     /// # Errors
     ///

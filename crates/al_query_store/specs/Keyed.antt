@@ -22,7 +22,7 @@ pub record State (E : Type 0) : Type 0 where
 abbrev pub empty : Cell
 empty = record { settled = None; made = None; was_reached = false; is_reached = false; leaves = false }
 
--- the cell of a unit; an empty one where it has none
+-- the cell of a unit; an empty one if it has none
 abbrev pub cell_at : List (UnitKey × Cell) → UnitKey → Cell
 cell_at cells u = unwrap_or (at_unit cells u) empty
 
@@ -139,7 +139,7 @@ module _ {E : Type 0} where
   abbrev pub now_at : List (UnitKey × State E) → UnitKey → Option E
   now_at store u = let s = state store u in if s.is_reached then first_of (entry_of s.made) (entry_of s.settled) else None
 
-  -- what is held, where it is a settled entry; and where it is one that was made
+  -- what is held, if it is a settled entry; and what is held, if it was made since
   abbrev pub if_settled : Option (Held E) → Option (Held E)
   if_settled None = None
   if_settled (Some h) = if h.is_settled then Some h else None

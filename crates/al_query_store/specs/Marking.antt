@@ -60,6 +60,6 @@ MarksTell t [] (d ∷ ds) = ⊥
 MarksTell t (e ∷ es) [] = ⊥
 MarksTell t (e ∷ es) (d ∷ ds) = Tells t e d × MarksTell t es ds
 
--- no mark is set exactly where the table agrees with the log
+-- no mark is set exactly if the table agrees with the log
 abbrev pub MarksAreTests : Type 0
 MarksAreTests = (t : Query → AnswerKind) (log : List (Query × AnswerKind)) (marks : List Bool) → MarksTell t log marks → (list_any (λ d. d) marks ≡ false) ↔ Agrees t log

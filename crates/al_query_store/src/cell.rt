@@ -1,4 +1,4 @@
-// Where the entries of a unit are.
+// The places of the entries of a unit.
 ghost use Rattle.std.specs.Prelude.{◌≡◌, ◌||◌, true, OnOk, is_some, if◌then◌else◌};
 ghost use Rattle.al_base.specs.declared.unit_key.UnitKey.{UnitKey};
 ghost use Rattle.al_view.specs.Symbols.{same_unit};
@@ -27,7 +27,7 @@ pub struct Cell {
 }
 
 impl Cell {
-    /// No entry.
+    /// A cell without entries.
     fn empty() -> Cell
         ensures { result ≡ empty }
     {
@@ -41,7 +41,7 @@ impl Cell {
     }
 }
 
-/// The key of the entry of now: of the one that was made, or else of the settled one, where the unit is reached.
+/// The key of the entry of now: of the one that was made, or else of the settled one, if the unit is reached.
 pub(crate) fn now_key(cell: Cell) -> Option<usize>
     ensures { result ≡ now_key cell }
 {
@@ -64,7 +64,7 @@ pub(crate) fn has_moved(cell: Cell) -> bool
     cell.was_reached != cell.is_reached
 }
 
-/// The cell of a unit; an empty one where it has none.
+/// The cell of a unit; an empty one if it has none.
 pub(crate) fn cell_of(cells: &BTreeMap<UnitKey, Cell>, unit: &UnitKey) -> Cell
     ensures { result ≡ cell_at cells.now.entries unit.now }
 {
@@ -74,7 +74,7 @@ pub(crate) fn cell_of(cells: &BTreeMap<UnitKey, Cell>, unit: &UnitKey) -> Cell
     }
 }
 
-/// Gives a unit an empty cell, where it has none.
+/// Gives a unit an empty cell, if it has none.
 pub(crate) fn add(
     alloc: Global,
     cells: &mut BTreeMap<UnitKey, Cell>,

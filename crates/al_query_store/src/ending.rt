@@ -57,7 +57,7 @@ impl<E: Logged> Store<E> {
         self.slots.settle(key);
     }
 
-    /// The last build reached a unit where it is reached now. It doesn't leave.
+    /// Notes that the last build reached a unit, if it is reached now. The unit no longer leaves.
     fn reached_as_now(&mut self, unit: &UnitKey)
         ensures { Changes as_now unit.now self.old self.new }
     {
@@ -70,7 +70,7 @@ impl<E: Logged> Store<E> {
         change(&mut self.cells, unit, reached);
     }
 
-    /// A unit is reached now where the last build reached it. It doesn't leave.
+    /// Notes that a unit is reached now, if the last build reached it. The unit no longer leaves.
     fn reached_as_before(&mut self, unit: &UnitKey)
         ensures { Changes as_before unit.now self.old self.new }
     {

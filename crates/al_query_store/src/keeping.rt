@@ -23,7 +23,7 @@ impl<E> Held<E> {
         self.marks.put_back();
     }
 
-    /// It is settled from here on, with the marks that it was made with.
+    /// Settles the entry, with the marks that it was made with.
     fn settle(&mut self)
         ensures { self.new ≡ settled self.old }
     {

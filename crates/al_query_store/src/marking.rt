@@ -47,7 +47,8 @@ fn set_mark<E>(entries: &mut Slab<Held<E>>, place: &Place, differs: bool)
     }
 }
 
-/// Compares what is stored at a place so, and marks it by whether it differs. Its key is noted where the mark wasn't that.
+/// Compares an answer that is stored at a place with that of now, and marks it by whether it differs. The entry's key is noted if
+/// the mark changes. The result says whether the answer is to a question of the unit.
 fn mark_place<E: Logged, A: Answers>(
     entries: &mut Slab<Held<E>>,
     touched: &mut Vec<usize>,
@@ -77,7 +78,7 @@ fn mark_place<E: Logged, A: Answers>(
     Ok(true)
 }
 
-/// The same for what is stored at each of these places; how many answers were compared.
+/// Compares and marks the answers at each of these places. The result is how many were compared.
 pub(crate) fn mark_places<E: Logged, A: Answers>(
     entries: &mut Slab<Held<E>>,
     touched: &mut Vec<usize>,

@@ -30,7 +30,7 @@ impl Model for Marks {
     ghost invariant = { λ m. length m.now.items ≡ length m.last.items };
 }
 
-/// None of so many is set.
+/// So many marks, none of which is set.
 fn unset(alloc: Global, len: usize) -> Result<Vec<bool>, NoMemory>
     ensures { IfOk result (λ marks. marks.items ≡ replicate len false) }
 {
@@ -40,7 +40,7 @@ fn unset(alloc: Global, len: usize) -> Result<Vec<bool>, NoMemory>
 }
 
 impl Marks {
-    /// None of so many answers differs.
+    /// Marks of so many answers, none of which differs.
     ///
     /// # Errors
     ///

@@ -1,6 +1,6 @@
-// Where an answer is stored.
+// The places of stored answers.
 
-/// Where an answer is stored: the key of an entry, and the place of the answer in the entry's log.
+/// The place of a stored answer: the key of an entry, and the answer's place in the entry's log.
 #[derive(Clone, Copy, PartialEq, Eq, PartialOrd, Ord)]
 pub struct Place {
     /// The key of the entry.

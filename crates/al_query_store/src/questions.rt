@@ -36,7 +36,7 @@ impl Model for Questions {
 }
 
 impl Questions {
-    /// No question. It takes no memory.
+    /// An index without questions. It takes no memory.
     pub fn new(alloc: Global) -> Self
         ensures { result ≡ [] }
     {
@@ -64,7 +64,7 @@ impl Questions {
         Ok(())
     }
 
-    /// One place less. It takes no memory.
+    /// Removes a place of an answer to a question. It takes no memory.
     pub fn remove(&mut self, query: &Query, place: Place)
         ensures { (q : Query) (p : Place) → has self.new q p ≡ (has self.old q p && not (same_query query.now q && same_place place p)) }
     {

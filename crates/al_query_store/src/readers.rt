@@ -17,7 +17,7 @@ use std::alloc::Global;
 use std::collections::{BTreeMap, BTreeSet};
 use std::marker::Model;
 
-/// An index from each question to the places where an answer to it is stored. It is ordered by the units that are asked.
+/// An index from each question to the places of the stored answers to it. It is ordered by the units that are asked.
 pub struct Readers {
     alloc: Global,
     units: BTreeMap<UnitKey, Questions>,
@@ -42,7 +42,7 @@ impl Model for Readers {
 }
 
 impl Readers {
-    /// No reader. It takes no memory.
+    /// An index without questions. It takes no memory.
     pub fn new(alloc: Global) -> Self
         ensures { (q : Query) (p : Place) → reads result q p ≡ false }
     {
@@ -73,7 +73,7 @@ impl Readers {
         Ok(())
     }
 
-    /// One place less. It takes no memory.
+    /// Removes a place of an answer to a question. It takes no memory.
     pub fn remove(&mut self, query: &Query, place: Place)
         ensures { (q : Query) (p : Place) → reads self.new q p ≡ (reads self.old q p && not (same_query query.now q && same_place place p)) }
     {

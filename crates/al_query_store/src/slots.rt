@@ -44,7 +44,7 @@ pub struct Slots<E: Logged> {
     alloc: Global,
     entries: Slab<Held<E>>,
     readers: Readers,
-    /// Keys of what may have other marks of now than the last build's: a key is noted where a mark of now becomes another one.
+    /// The keys of entries whose marks of now may differ from the last build's: a key is noted when a mark of now changes.
     touched: Vec<usize>,
 }
 
@@ -72,7 +72,7 @@ impl<E: Logged> Model for Slots<E> {
 }
 
 impl<E: Logged> Slots<E> {
-    /// No entry. It takes no memory.
+    /// A store without entries. It takes no memory.
     pub fn new(alloc: Global) -> Self
         ensures { result.slots ≡ [] }
     {
@@ -130,8 +130,8 @@ impl<E: Logged> Slots<E> {
         settle_one(&mut self.entries, key);
     }
 
-    /// Compares the stored answers of settled entries to the questions of a unit with the answers of now, and marks each by whether it
-    /// differs. It tells how many answers were compared.
+    /// Compares the stored answers of settled entries to the questions of a unit with the answers of now, and marks each by whether
+    /// it differs. The result is how many answers were compared.
     ///
     /// # Errors
     ///
@@ -153,7 +153,7 @@ impl<E: Logged> Slots<E> {
         Ok(compared)
     }
 
-    /// Whether it is known that no mark of now is another one than the last build's. It takes no memory.
+    /// Whether it is known that no mark of now differs from the last build's. It takes no memory.
     pub fn is_untouched(&self) -> bool
         ensures { IsTrue result → HaveLastMarks self.now }
     {

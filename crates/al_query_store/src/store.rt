@@ -67,7 +67,7 @@ fn entry_in<E: Logged>(slots: &Slots<E>, key: Option<usize>) -> Option<&E>
 }
 
 impl<E: Logged> Store<E> {
-    /// No entry. It takes no memory.
+    /// A store without entries. It takes no memory.
     pub fn new(alloc: Global) -> Self
         ensures { result ≡ [] }
     {
@@ -176,8 +176,8 @@ impl<E: Logged> Store<E> {
         change(&mut self.cells, unit, left);
     }
 
-    /// Compares the answers of settled entries to the questions of a unit with those of now, and marks each by whether it differs. It tells
-    /// how many were compared.
+    /// Compares the answers of settled entries to the questions of a unit with those of now, and marks each by whether it differs.
+    /// The result is how many were compared.
     ///
     /// # Errors
     ///
@@ -190,7 +190,7 @@ impl<E: Logged> Store<E> {
         self.slots.mark(unit, asked)
     }
 
-    /// Whether it is known that no mark of now of a settled entry is another one than the last build's. It takes no memory.
+    /// Whether it is known that no mark of now of a settled entry differs from the last build's. It takes no memory.
     pub fn is_untouched(&self) -> bool
         ensures { IsTrue result → AreMarkedAsBefore self.now }
     {

@@ -36,7 +36,7 @@ impl<T> Model for UnitMap<T> {
 }
 
 impl<T: Drop> UnitMap<T> {
-    /// No unit. It takes no memory.
+    /// A map without units. It takes no memory.
     pub fn new(alloc: Global) -> Self
         ensures { result ≡ [] }
     {

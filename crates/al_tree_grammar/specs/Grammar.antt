@@ -2,7 +2,7 @@
 use Rattle.std.specs.Prelude.{Bool, true, false, ℕ, zero, suc, ◌≡◌, ◌⊎◌, List, [], ◌∷◌, ◌++◌, Option, Some, None}
 use Rattle.std.proofs.Common.{inl, inr}
 
--- what one lexeme has that others of its kind need not have: its text, and the line and column where it stands
+-- what one lexeme has that others of its kind need not have: its spelling, and its line and column
 pub record Label : Type 0 where
   pub text : List ℕ
   pub line : ℕ
@@ -17,11 +17,10 @@ abbrev pub kind : Lexeme → ℕ
 kind (Fixed k) = k
 kind (Named k label) = k
 
--- Nest k n: the construct n, which begins with the word k. Its inside is one deeper.
--- Begun k n: the construct n, which begins with a lexeme of kind k that has a label. Its inside is one deeper.
--- Room a: a, where one more construct may be open, since a cannot do without.
--- RoomOr a b: a, where one more construct may be open, and b, where none may.
--- Marked k a b: any number of a, each after the mark k, and then perhaps one b after the mark k.
+-- Nest k n: the construct n, which begins with the word k. Its inside is one deeper. Begun k n: the construct n, which begins with
+-- a lexeme of kind k that has a label. Its inside is one deeper. Room a: a, if one more construct may be open, since a cannot do
+-- without. RoomOr a b: a, if one more construct may be open, and b, if none may. Marked k a b: any number of a, each after the mark
+-- k, and then perhaps one b after the mark k.
 pub data Rule : Type 0 where
   One : ℕ → Rule
   Any : ℕ → Rule
@@ -51,7 +50,7 @@ abbrev pub ByRoom : Bool → Type 0 → Type 0 → Type 0
 ByRoom true A B = A
 ByRoom false A B = B
 
--- The trees of a rule, where those of a construct's inside are known.
+-- The trees of a rule, if those of a construct's inside are known.
 abbrev pub Layer : Bool → (ℕ → Type 0) → Rule → Type 0
 Layer room In (One k) = Unit {0}
 Layer room In (Any k) = Label

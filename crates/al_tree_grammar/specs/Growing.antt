@@ -34,7 +34,7 @@ unfoldable pub grow_times : {A : Type 0} → ℕ → List ℕ → (List Lexeme �
 grow_times zero s f xs = Some ([], xs)
 grow_times (suc n) s f xs = if begins s xs then grow_on (f xs) (λ y ys. remade (λ l. y ∷ l) (grow_times n s f ys)) else Some ([], xs)
 
--- with x in front
+-- with x before each
 abbrev pub put_before : {A B : Type 0} → A → List A × Option B → List A × Option B
 put_before x y = (x ∷ y.0, y.1)
 
@@ -46,7 +46,7 @@ grow_turns (suc n) k s f g xs =
     then grow_on (grow_one k xs) (λ _ ys. if begins s ys then grow_on (f ys) (λ x zs. remade (λ y. put_before x y) (grow_turns n k s f g zs)) else remade (λ y. ([], Some y)) (g ys))
     else Some (([], None), xs)
 
--- where there is room
+-- if there is room
 abbrev pub grow_within : {A : Type 0} → (room : Bool) → Grown A → Grown (Within room A)
 grow_within true x = x
 grow_within false x = None
@@ -75,7 +75,7 @@ construct_grow g (suc d) n xs = layer_grow (has_room d) (Construct g d) (constru
 abbrev pub grow : (g : Grammar) (d : ℕ) (a : Rule) → List Lexeme → Grown (Tree g d a)
 grow g d a xs = layer_grow (has_room d) (Construct g d) (construct_grow g d) a xs
 
--- where nothing is left
+-- if nothing is left
 abbrev pub with_nothing_left : {A : Type 0} → A → List Lexeme → Option A
 with_nothing_left x [] = Some x
 with_nothing_left x (c ∷ rest) = None
@@ -94,6 +94,6 @@ fault_before n (Ok []) = None
 fault_before n (Ok (c ∷ rest)) = Some (n - length (c ∷ rest))
 fault_before n (Err rest) = Some (n - length rest)
 
--- how many lexemes are before the fault, where these are no sentence
+-- how many lexemes are before the fault, if these are no sentence
 unfoldable pub fault_of : Grammar → ℕ → Rule → List Lexeme → Option ℕ
 fault_of g d a xs = fault_before (length xs) (read g d a xs)

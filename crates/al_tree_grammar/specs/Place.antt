@@ -1,4 +1,4 @@
--- Where a list of lexemes stops being the front of a sentence.
+-- The place at which a list of lexemes stops being the prefix of a sentence.
 use Rattle.std.specs.Prelude.{ℕ, ◌+◌, ◌≤◌, ◌<◌, List, ◌++◌, length, take}
 use Rattle.al_tree_grammar.specs.Grammar.{Lexeme, Rule, Grammar, Sentence}
 

@@ -62,7 +62,7 @@ more (Room a) = more a
 more (RoomOr a b) = more a ++ more b
 more (Marked k a b) = k ∷ (more a ++ more b)
 
--- there is a tree with no construct in it, or, where there is room, with none inside another
+-- there is a tree with no construct in it, or, if there is room, with none inside another
 abbrev pub is_plain : Bool → Rule → Bool
 is_plain r (One k) = true
 is_plain r (Any k) = true
@@ -76,7 +76,7 @@ is_plain r (Room a) = r && is_plain true a
 is_plain r (RoomOr a b) = is_plain true a && is_plain false b
 is_plain r (Marked k a b) = true
 
--- The next lexeme tells what to read. Behind a mark it is the one after the mark.
+-- The next lexeme decides what to read. After a mark it is the lexeme after the mark.
 abbrev pub is_clear : Bool → Rule → Bool
 is_clear r (One k) = true
 is_clear r (Any k) = true
@@ -123,13 +123,13 @@ unfoldable pub times : ℕ → List ℕ → (List Lexeme → Read) → List Lexe
 times zero s f xs = Ok xs
 times (suc n) s f xs = if begins s xs then (f xs >>= λ ys. times n s f ys) else Ok xs
 
--- At most n marks k are read. Behind one the next lexeme tells whether f reads, and then goes on, or g does, and then ends.
+-- At most n marks k are read. After one the next lexeme decides whether f reads, and then goes on, or g does, and then ends.
 unfoldable pub turns : ℕ → ℕ → List ℕ → (List Lexeme → Read) → (List Lexeme → Read) → List Lexeme → Read
 turns zero k s f g xs = if begins (k ∷ []) xs then Err xs else Ok xs
 turns (suc n) k s f g xs =
     if begins (k ∷ []) xs then (one k xs >>= λ ys. if begins s ys then (f ys >>= λ zs. turns n k s f g zs) else g ys) else Ok xs
 
--- f reads what a construct has after its first lexeme. That lexeme is read only where one more construct may be open.
+-- f reads what a construct has after its first lexeme. That lexeme is read only if one more construct may be open.
 abbrev pub layer_read : Bool → (ℕ → List Lexeme → Read) → Rule → List Lexeme → Read
 layer_read room f (One k) xs = one k xs
 layer_read room f (Any k) xs = any k xs

@@ -3,7 +3,7 @@ use Rattle.std.specs.Prelude.{ℕ, Bool, not, ◌&&◌}
 use Rattle.al_tree_grammar.specs.Grammar.{Rule}
 use Rattle.al_tree_grammar.specs.Grammar.Rule.{One, Any, Seq, Alt, Opt, Many, Nest, Begun, Room, RoomOr, Marked}
 
--- Each kind is used with a label where it is a labelled one, and without where it is not.
+-- Each kind is used with a label if it is a labelled one, and without if it is not.
 abbrev pub uses : (ℕ → Bool) → Rule → Bool
 uses labelled (One k) = not (labelled k)
 uses labelled (Any k) = labelled k

@@ -76,7 +76,7 @@ common_rule = object_rule ∣ type_rule ∣ subtype_rule ∣ use_rule ∣ pragma
 unfoldable pub declaration_rule : Rule
 declaration_rule = common_rule ∣ specification_rule ⨾ the Semicolon ∣ any Task ⨾ task_rule ∣ opens_at Protected ProtectedDeclaration
 
--- Behind the specification of a subprogram. Where no more construct may be open `is` begins a stub alone.
+-- What comes after the specification of a subprogram. If no more construct may be open `is` begins only a stub.
 unfoldable pub subprogram_rule : Rule
 subprogram_rule = the Semicolon ∣ RoomOr (opens Is BodyOrStub) (the Is ⨾ any Separate ⨾ the Semicolon)
 

@@ -51,7 +51,8 @@ pub data Prefix : Type 0 where
   Negation : Label → Prefix
 
 mutual
-  -- A name or an expression. A chain of operators leans to the left, and so do the parts of a name. Range bounds may stand after `in`.
+  -- A name or an expression. A chain of operators leans to the left, and so do the parts of a name. Range bounds may come after
+  -- `in`.
   pub data ExpressionTree : Type 0 where
     Number : Label → ExpressionTree
     Text : Label → ExpressionTree
@@ -80,7 +81,8 @@ mutual
     RangeAttribute : PartTree
     Operand : GroupTree → PartTree
 
--- Where an expression may stand: a level has what the one before it has, and more. A chain has relations joined by one operator.
+-- The levels at which an expression may be: a level has what the one before it has, and more. A chain has relations joined by one
+-- operator.
 pub data Level : Type 0 where
   NameLevel : Level
   PrimaryLevel : Level
@@ -138,7 +140,7 @@ prefix_tokens (Signed s) = sign_tokens (Some s)
 prefix_tokens (Absolute l) = labelled symbols.Abs l ∷ []
 prefix_tokens (Negation l) = labelled symbols.Not l ∷ []
 
--- ---- where an expression may stand
+-- ---- the levels at which an expression may be
 
 abbrev pub left_level : Operator → Level
 left_level (Logical o) = ChainLevel o
@@ -207,7 +209,7 @@ abbrev pub is_joined : LogicalOperator → ExpressionTree → Bool
 is_joined o (Infix l p r) = is_logical o p
 is_joined o e = false
 
--- the expression may stand at the level
+-- the expression may be at the level
 abbrev pub stands : Level → ExpressionTree → Bool
 stands NameLevel e = leb (rank e) 0
 stands PrimaryLevel e = leb (rank e) 1
@@ -219,7 +221,7 @@ stands (ChainLevel o) e = leb (rank e) 5 || is_joined o e
 
 -- ---- lexemes
 
--- An expression that stands where it may not has this lexeme, an identifier without its label: no rule has it, so no sentence.
+-- An expression at a level at which it may not be has this lexeme, an identifier without its label: no rule has it, so no sentence.
 abbrev pub misplaced : List Lexeme
 misplaced = word symbols.Identifier ∷ []
 

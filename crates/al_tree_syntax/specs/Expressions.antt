@@ -23,18 +23,18 @@ compound_names_rule = parted Comma compound_name_rule
 unfoldable pub selection_rule : Rule
 selection_rule = the Dot ⨾ identifier_rule ∣ opens_at LeftParenthesis Arguments
 
--- what stands after the ' of an attribute
+-- what comes after the ' of an attribute
 unfoldable pub designator_rule : Rule
 designator_rule = identifier_rule ∣ the Range
 
--- after the identifier that a name begins with, where no qualified expression may stand
+-- after the identifier that a name begins with, if no qualified expression is allowed
 unfoldable pub name_rest_rule : Rule
 name_rest_rule = Many (the Dot ⨾ identifier_rule ∣ opens_at LeftParenthesis Arguments ∣ the Apostrophe ⨾ designator_rule)
 
 unfoldable pub parentheses_rule : Rule
 parentheses_rule = opens_at LeftParenthesis Parentheses
 
--- A name, or a qualified expression. The lexeme after a ' tells whether the name goes on or is the subtype of what is qualified.
+-- A name, or a qualified expression. The lexeme after a ' decides whether the name goes on or is the subtype of what is qualified.
 unfoldable pub name_rule : Rule
 name_rule = identifier_rule ⨾ Many selection_rule ⨾ Marked (number Apostrophe) (designator_rule ⨾ Many selection_rule) parentheses_rule
 

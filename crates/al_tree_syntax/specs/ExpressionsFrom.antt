@@ -1,4 +1,4 @@
--- What the grammar's trees of names and expressions stand for, where it is known of the constructs inside.
+-- What the grammar's trees of names and expressions stand for, if it is known of the constructs inside.
 use Rattle.std.specs.Prelude.{List, [], ◌∷◌, Some, None}
 use Rattle.std.proofs.Common.{inl, inr}
 use Rattle.al_tree_grammar.specs.Grammar.{Label}

@@ -13,7 +13,7 @@ pub record NamedHandledTree : Type 0 where
   pub name : Label
   pub handled : HandledTree
 
--- The label that a construct opens with is given where the tree has it.
+-- The label that a construct opens with is given if the tree has it.
 abbrev pub InsideTree : Construct → Type 0
 InsideTree Parentheses = Label → GroupTree
 InsideTree Arguments = Label → PartTree
@@ -39,7 +39,7 @@ InsideTree PlainLoop = Label → LoopTree
 InsideTree DeclareBlock = Label → BlockTree
 InsideTree PlainBlock = Label → BlockTree
 
--- the constructs that may stand inside, and what becomes of them
+-- the constructs that may be inside, and what becomes of them
 pub record Nested : Type 1 where
   pub room : Bool
   pub Tree : ℕ → Type 0
@@ -54,7 +54,7 @@ unfoldable pub each_from : {A B C : Type 0} → (B → C) → List (A × B) → 
 each_from f [] = []
 each_from f ((mark, x) ∷ xs) = f x ∷ each_from f xs
 
--- There is one only where there is room.
+-- There is one only if there is room.
 unfoldable pub roomed : {A : Type 0} (room : Bool) → Within room A → A
 roomed true x = x
 roomed false x = absurd x

@@ -52,7 +52,7 @@ at_least f (Some x) = f x
 -- ---- names and expressions
 
 module _ (w : ℕ) where
-  -- an expression that stands where it may not counts as w
+  -- an expression at a level at which it may not be counts as w
   abbrev pub nested_in_place : Bool → ℕ → ℕ
   nested_in_place true n = n
   nested_in_place false n = w
@@ -296,6 +296,7 @@ module _ (w : ℕ) where
   unfoldable pub nesting_by : CompilationUnitTree → ℕ
   nesting_by u = max (deepest context_nesting u.context) (library_item_nesting u.item)
 
--- of a unit; what stands where it may not counts as one more than may be open, as the grammar has no such tree
+-- the nesting of a unit; an expression at a level at which it may not be counts as one more than may be open, as the grammar has no
+-- such tree
 abbrev pub nesting : CompilationUnitTree → ℕ
 nesting u = nesting_by (suc most) u

@@ -10,7 +10,7 @@ infixr 20 ◌∣◌
 abbrev pub ◌⨾◌ : Rule → Rule → Rule
 a ⨾ b = Seq a b
 
--- one rule or another, as the next lexeme tells
+-- one rule or another, as the next lexeme decides
 abbrev pub ◌∣◌ : Rule → Rule → Rule
 a ∣ b = Alt a b
 

@@ -36,7 +36,7 @@ mutual
     NoStatement : MoreStatementsTree
     MoreStatements : StatementTree → MoreStatementsTree → MoreStatementsTree
 
-  -- with the place of its first word, where it begins with one, and of the last word of `end if` and `end case`
+  -- a statement with the place of its first word, if it begins with one, and of the last word of `end if` and `end case`
   pub data StatementTree : Type 0 where
     NullStatement : StatementTree
     Assignment : ExpressionTree → ExpressionTree → StatementTree

@@ -8,7 +8,7 @@ use Rattle.al_tree_syntax.specs.UnitTrees.{CompilationUnitTree, tokens_of}
 use Rattle.al_tree_syntax.specs.UnitsFrom.{unit_from}
 use Rattle.al_tree_syntax.specs.Nesting.{nesting}
 
--- the tree of a list of lexemes, where it is a sentence
+-- the tree of a list of lexemes, if it is a sentence
 unfoldable pub unit_of : List Lexeme → Option CompilationUnitTree
 unit_of xs = option_map (unit_from most) (tree_of grammar most unit_rule xs)
 
@@ -16,7 +16,7 @@ unit_of xs = option_map (unit_from most) (tree_of grammar most unit_rule xs)
 abbrev pub LexemesStay : Type 0
 LexemesStay = (d : ℕ) (x : Tree grammar d unit_rule) → tokens_of (unit_from d x) ≡ lexemes_of grammar d unit_rule x
 
--- No two trees have one list of lexemes, where that is a sentence, however deep it nests.
+-- No two trees have one list of lexemes that is a sentence, however deep it nests.
 abbrev pub TreesAreUnique : Type 0
 TreesAreUnique = (d : ℕ) (u v : CompilationUnitTree) → Sentence grammar d unit_rule (tokens_of u) → tokens_of u ≡ tokens_of v → u ≡ v
 

@@ -106,7 +106,7 @@ unfolding grammar
 construct_from zero n x = absurd x
 construct_from (suc d) n x = inside_from (record { room = has_room d; Tree = Deep grammar d; from = construct_from d }) (construct_at n) x
 
--- where at most d constructs are open
+-- if at most d constructs are open
 abbrev pub nested : ℕ → Nested
 nested d = record { room = has_room d; Tree = Deep grammar d; from = construct_from d }
 

@@ -16,7 +16,7 @@ pub fn units_are_unique()
     ensures { UnitsAreUnique }
 {}
 
-/// `tree_of` gives the tree of a compilation unit that has the lexemes, where there is one.
+/// `tree_of` gives the tree of a compilation unit that has the lexemes, if there is one.
 pub fn units_are_found()
     ensures { UnitsAreFound }
 {}
@@ -31,8 +31,8 @@ pub fn symbols_are_numbered()
     ensures { SymbolsAreNumbered }
 {}
 
-/// Where the rules have a lexeme they have it with a label just where its symbol is labelled: an identifier, a literal, or a
-/// reserved word or delimiter whose place a tree keeps.
+/// The rules have a lexeme with a label exactly if its symbol is labelled: an identifier, a literal, or a reserved word or
+/// delimiter whose place a tree keeps.
 pub fn lexemes_are_labelled()
     ensures { LexemesAreLabelled }
 {}

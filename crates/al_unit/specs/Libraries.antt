@@ -11,14 +11,14 @@ abbrev pub contents_of : Reading → Contents
 contents_of (Sentence u) = Headed (header_of u)
 contents_of (Fails place code) = Unread place code
 
--- what the graph of units has of a file of this text
+-- what the graph of units has of a file with this source
 abbrev pub source_of : List ℕ → Source
 source_of text = record { text = text; contents = contents_of (reading_of text) }
 
--- the library of the texts, by what each text is read as
+-- the library of the sources, by what each source is read as
 unfoldable pub library_of : Texts → Library
 library_of files = map (λ file. (file.0, source_of file.1)) files
 
--- the texts of a library
+-- the sources of a library
 abbrev pub texts_of : Library → Texts
 texts_of lib = map (λ file. (file.0, file.1.text)) lib

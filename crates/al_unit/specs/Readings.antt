@@ -1,4 +1,4 @@
--- What the text of a file is.
+-- What the source in a file is.
 use Rattle.std.specs.Prelude.{ℕ, List, Option, Some, None, Result, Ok, Err, slice_get, unwrap_or, option_map}
 use Rattle.al_base.specs.declared.place.Place.{Place}
 use Rattle.al_lex.specs.declared.token.Token.{Token}
@@ -20,7 +20,7 @@ abbrev pub unit_read : Reading → Option CompilationUnitTree
 unit_read (Sentence unit) = Some unit
 unit_read (Fails place code) = None
 
--- where a token stands; after the last one, the end of the text
+-- the place of a token; after the last one, the end of the source
 abbrev pub token_place : List ℕ → List Token → ℕ → Place
 token_place text tokens n = unwrap_or (option_map (λ t. t.span.place) (slice_get tokens n)) (end_place_of text)
 

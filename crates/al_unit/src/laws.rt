@@ -1,9 +1,9 @@
-// What texts are read as. The functions do nothing: their contracts are the laws.
+// What sources are read as. The functions do nothing: their contracts are the laws.
 ghost use Rattle.al_unit.specs.Laws.{TextsAreRead, TextsAreReadAlike};
 
 use al_tree_syntax::{faults_are_found, sentences_are_trees, trees_are_found};
 
-/// Each text has one reading: the one tree of its tokens, or its first lexical fault, or its syntax fault.
+/// Each source has one reading: the one tree of its tokens, or its first lexical fault, or its syntax fault.
 pub fn texts_are_read()
     ensures { TextsAreRead }
 {
@@ -12,7 +12,7 @@ pub fn texts_are_read()
     faults_are_found();
 }
 
-/// What the files of two libraries are read as goes by their texts, so that equal texts are read alike.
+/// What the files of two libraries are read as depends only on their sources, so that equal sources are read alike.
 pub fn texts_are_read_alike()
     ensures { TextsAreReadAlike }
 {}

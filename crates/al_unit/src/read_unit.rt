@@ -1,4 +1,4 @@
-// The unit of a text.
+// The unit of a source.
 ghost use Rattle.std.specs.Prelude.{◌≡◌, IfOk, IfSome, option_map};
 ghost use Rattle.al_tree.specs.UnitViews.{unit_model};
 ghost use Rattle.al_unit_graph.specs.Views.{header_model};
@@ -12,7 +12,7 @@ use al_unit_graph::Header;
 use al_unit_header::header_of;
 use std::alloc::Global;
 
-/// The unit that a text is read as, and what it says of itself.
+/// The unit that a source is read as, and what it says of itself.
 pub struct ReadUnit {
     /// The tree of the compilation unit.
     pub tree: CompilationUnit,
@@ -40,7 +40,7 @@ fn headed(alloc: Global, tree: CompilationUnit) -> Result<ReadUnit, NoMemory>
     }
 }
 
-/// The same of a unit, if there is one.
+/// The unit of a tree with its header, if there is a tree.
 fn headed_if(alloc: Global, tree: Option<CompilationUnit>) -> Result<Option<ReadUnit>, NoMemory>
     ensures tree { IfOk result (λ unit. option_map (λ u. unit_model u.tree) unit ≡ option_map (λ u. unit_model u) tree) }
     ensures header { IfOk result (λ unit. IfSome unit (λ u. header_model u.header ≡ headers.header_of (unit_model u.tree))) }
@@ -54,7 +54,7 @@ fn headed_if(alloc: Global, tree: Option<CompilationUnit>) -> Result<Option<Read
     }
 }
 
-/// The unit that a text is read as; none where it is no unit, or has more bytes than can be read.
+/// The unit that a source is read as; none if it is no unit, or has more bytes than can be read.
 #[tactic(auto, using(crate::proofs::CheckTextReading::fits, crate::proofs::CheckTextReading::is_long))]
 pub(crate) fn unit_in(alloc: Global, text: &[u8]) -> Result<Option<ReadUnit>, NoMemory>
     ensures tree { IfOk result (λ unit. option_map (λ u. unit_model u.tree) unit ≡ unit_in text.now) }

@@ -1,4 +1,4 @@
-// What the text of a file is.
+// What the source in a file is.
 ghost use Rattle.std.specs.Prelude.{◌≡◌, ◌≤◌, IfOk, length, option_map};
 ghost use Rattle.al_lex.specs.Tokens.{lexed};
 ghost use Rattle.al_tree.specs.UnitViews.{unit_model};
@@ -12,7 +12,7 @@ use al_tree::CompilationUnit;
 use al_tree_syntax::{faults_are_found, sentences_are_trees, trees_are_found, trees_are_unique};
 use std::alloc::Global;
 
-/// What the text of a file is read as.
+/// What the source in a file is read as.
 pub enum Reading {
     /// A compilation unit.
     Sentence(CompilationUnit),
@@ -20,7 +20,8 @@ pub enum Reading {
     Fails(Place, u16),
 }
 
-// Written out, as a crate above then lets a reading go by this call, and needn't prove again how each kind of tree is let go.
+// It is written out so that a crate above drops a reading by this one call and needn't prove again how each kind of tree is
+// dropped.
 impl Drop for Reading {
     fn drop(self) {
         match self {
@@ -42,7 +43,7 @@ impl Reading {
     }
 }
 
-/// Reads a text.
+/// Reads a source.
 ///
 /// # Errors
 ///
@@ -73,7 +74,7 @@ pub fn read(alloc: Global, text: &[u8]) -> Result<Reading, NoMemory>
     }
 }
 
-// Where a token stands; after the last one, the end of the text.
+// The place of a token; after the last one, the end of the source.
 fn token_place(text: &[u8], tokens: &[Token], at: usize) -> Place
     requires { length text.now ≤ 4294967294 }
     ensures { result ≡ token_place text.now tokens.now at }

@@ -1,4 +1,4 @@
-// A text of Ada.
+// A source of Ada.
 ghost use Rattle.std.specs.Prelude.{◌≡◌, IfSome, option_map};
 ghost use Rattle.al_tree.specs.UnitViews.{unit_model};
 ghost use Rattle.al_unit_graph.specs.Views.{header_model};
@@ -12,7 +12,7 @@ use std::alloc::Global;
 use std::marker::Model;
 use std::rc::Rc;
 
-/// A text of Ada with the unit that was read in it, if it is one. The text is shared.
+/// A source of Ada with the unit that was read in it, if it is one. The bytes are shared.
 pub struct AdaText {
     bytes: Rc<Vec<u8>>,
     unit: Option<ReadUnit>,
@@ -36,14 +36,14 @@ impl Model for AdaText {
 }
 
 impl AdaText {
-    /// The bytes of the text.
+    /// The bytes of the source.
     pub fn as_slice(&self) -> &[u8]
         ensures { result.now ≡ self.now }
     {
         self.bytes.as_slice()
     }
 
-    /// The unit that was read in the text; none where it is no unit, or has more bytes than can be read.
+    /// The unit that was read in the source; none if it is no unit, or has more bytes than can be read.
     pub fn unit(&self) -> Option<&ReadUnit>
         ensures tree { option_map (λ u. unit_model u.now.tree) result ≡ unit_in self.now }
         ensures header { IfSome result (λ u. header_model u.now.header ≡ headers.header_of (unit_model u.now.tree)) }

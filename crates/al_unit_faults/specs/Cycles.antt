@@ -24,6 +24,6 @@ depends_on_itself lib key = list_any (is_same_key key) (all_dependences lib key)
 abbrev pub cycle_faults : Library → List ℕ → Header → List Finding
 cycle_faults lib file h = finding_if (depends_on_itself lib (key_of_unit h)) file (record { line = 1; col = 1 }) 203
 
--- the list has what the relation tells, and nothing else
+-- the list has exactly what is in the relation
 abbrev pub DependencesAreAll : Type 0
 DependencesAreAll = (lib : Library) (key other : Key) → Contains (all_dependences lib key) other ↔ DependsOn lib key other

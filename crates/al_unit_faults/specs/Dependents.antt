@@ -40,6 +40,6 @@ depends dependents file = option_map_or (λ n. slice_index_or dependents.flags.i
 abbrev pub is_dependent : Library → (List ℕ → Bool) → List ℕ → Bool
 is_dependent lib marked file = option_map_or (λ h. depends_on_unfit lib marked (key_of_unit h)) (unit_in lib file) false
 
--- the flags tell of which files that is so
+-- the flags say of which files that is so
 abbrev pub TellsDependents : Library → (List ℕ → Bool) → Dependents → Type 0
 TellsDependents lib marked dependents = (file : List ℕ) → depends dependents file ≡ is_dependent lib marked file

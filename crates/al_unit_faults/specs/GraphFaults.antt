@@ -14,7 +14,7 @@ use Rattle.al_unit_faults.specs.Orders.{ascending}
 abbrev pub rule_faults : Library → List ℕ → Header → List Finding
 rule_faults lib file h = (own_faults lib file h ++ cycle_faults lib file h) ++ flat_map (private_faults lib file h) h.mentions
 
--- the others where there are none of these
+-- the others if there are none of these
 abbrev pub or_else : List Finding → List Finding → List Finding
 or_else [] others = others
 or_else (f ∷ fs) others = f ∷ fs

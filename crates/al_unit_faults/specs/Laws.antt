@@ -22,6 +22,6 @@ FileFaultsAreBroken = (lib : Library) (file : List ℕ) (f : Finding) → Contai
 abbrev pub GraphFaultsAreBroken : Type 0
 GraphFaultsAreBroken = (lib : Library) (f : Finding) → Contains (graph_faults lib) f ↔ IsFaultOf lib f.file f
 
--- where the names of the files ascend, so that each stands once
+-- if the names of the files ascend, so that each is there once
 abbrev pub GraphFaultsAscend : Type 0
 GraphFaultsAscend = (lib : Library) → IsStrictlySortedBy name_cmp (keys_of lib) → IsStrictlySortedBy finding_cmp (graph_faults lib)

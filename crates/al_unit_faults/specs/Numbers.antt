@@ -27,7 +27,7 @@ pub record IsNumbering (files : List (List ℕ)) (count : ℕ) (ns : List (List 
   pub right : (file : List ℕ) (n : ℕ) → number_at ns file ≡ Some n → (n < length files) × (slice_index_or files n [] ≡ file)
   pub total : (i : ℕ) → i < count → (n : ℕ) × (number_at ns (slice_index_or files i []) ≡ Some n)
 
--- the number of a unit's file, where the library has the unit
+-- the number of a unit's file, if the library has the unit
 abbrev pub node_of : Library → List (List ℕ × ℕ) → Key → Option ℕ
 node_of lib ns key = if is_some (unit_at lib key) then number_at ns (file_name_of key) else None
 
@@ -49,6 +49,6 @@ pub record StepsBelow (lib : Library) (files : List (List ℕ)) (ns : List (List
 abbrev pub told : Cycles → List ℕ → Bool
 told cycles file = option_map_or (λ n. slice_index_or cycles.flags.items n false) (number_at (numbers_model cycles.numbers) file) false
 
--- the flags tell which units depend on themselves
+-- the flags say which units depend on themselves
 abbrev pub TellsCycles : Library → Cycles → Type 0
 TellsCycles lib cycles = (file : List ℕ) (h : Header) → unit_in lib file ≡ Some h → told cycles file ≡ depends_on_itself lib (key_of_unit h)

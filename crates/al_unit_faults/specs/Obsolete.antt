@@ -18,7 +18,7 @@ use Rattle.al_unit_faults.specs.Units.{keys_of_units}
 unfoldable pub met : Library → List ℕ → List (List ℕ)
 met lib file = closing bytes_eq (wants lib) (keys_of lib) (file ∷ [])
 
--- each of them with its text, or with that it isn't there
+-- each of them with its source, or with that it isn't there
 abbrev pub trace : Library → List ℕ → List (List ℕ × Option (List ℕ))
 trace lib file = map (λ f. (f, text_at lib f)) (met lib file)
 
@@ -37,7 +37,7 @@ abbrev pub is_obsolete : Library → List (List ℕ) → Library → Key → Boo
 is_obsolete old faulty new key =
     is_none (unit_at old key) || (is_among bytes_eq (file_name_of key) faulty || not (is_same_trace old new (file_name_of key)))
 
--- the obsolete units of the new library since the old one, where the files of these names had a diagnostic
+-- the obsolete units of the new library since the old one, in which the files of these names had a diagnostic
 unfoldable pub obsolete_of : Library → List (List ℕ) → Library → List Key
 obsolete_of old faulty new = in_order (filter (is_obsolete old faulty new) (keys_of_units new))
 

@@ -17,7 +17,7 @@ pub record AreThere (lib : Library) : Type 0 where
   pub unit : (key : Key) → is_faultless lib key ≡ true → (h : Header) × (unit_at lib key ≡ Some h) × (key_of_unit h ≡ key)
   -- a faultless declaration is the declaration of its name
   pub declared : (n : List ℕ) → is_faultless lib (n, Decl) ≡ true → declaration_of lib n ≡ Some (n, Decl)
-  -- where a body is faultless it acts as the declaration, or a file for the declaration is there (ARM 10.1.4(4))
+  -- if a body is faultless it acts as the declaration, or a file for the declaration is there (ARM 10.1.4(4))
   pub acting : (n : List ℕ) → is_faultless lib (n, Body) ≡ true → declaration_of lib n ≡ Some (n, Body) ⊎ declaration_of lib n ≡ Some (n, Decl)
   -- a body depends on the declaration that it completes
   pub completes : NameParentBodies lib → (n : List ℕ) → is_faultless lib (n, Body) ≡ true → is_faultless lib (n, Decl) ≡ true → Contains (direct lib (n, Body)) (n, Decl)
@@ -27,7 +27,7 @@ pub record AreThere (lib : Library) : Type 0 where
   -- the implementation's names are no faultless unit's (ARM A.2(4))
   pub reserved : (key : Key) → is_reserved key.0 ≡ true → is_faultless lib key ≡ false
 
--- how many keys stand before one
+-- how many keys come before one
 abbrev pub rank_in : List Key → Key → ℕ
 rank_in [] key = 0
 rank_in (k ∷ ks) key = if is_same_key k key then 0 else 1 + rank_in ks key

@@ -16,6 +16,6 @@ part_within (suc n) lib h =
 unfoldable pub part_of : Library → Header → Option (List ℕ)
 part_of lib h = part_within (suc (length lib)) lib h
 
--- it is the unit that the relation tells
+-- it is the unit that the relation gives
 abbrev pub PartsAreReported : Type 0
 PartsAreReported = (lib : Library) (h : Header) (name : List ℕ) → (part_of lib h ≡ Some name) ↔ IsPartOf lib h name

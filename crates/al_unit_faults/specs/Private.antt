@@ -1,4 +1,4 @@
--- Where private children are mentioned that may not be (ARM 10.1.1(12), 10.1.2(8)), as it is computed.
+-- The mentions of private children that aren't allowed (ARM 10.1.1(12), 10.1.2(8)), as they are computed.
 use Rattle.std.specs.Prelude.{ℕ, Bool, true, false, not, ◌&&◌, ◌||◌, List, Option}
 use Rattle.std.specs.Bool.{Decides}
 use Rattle.std.specs.Option.{option_map_or}

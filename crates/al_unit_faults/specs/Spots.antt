@@ -1,4 +1,4 @@
--- Where the rules are broken in one file, and their numbers.
+-- The places at which the rules are broken in one file, and their numbers.
 use Rattle.std.specs.Prelude.{ℕ, List}
 use Rattle.al_base.specs.Batch.{Finding}
 use Rattle.al_base.specs.declared.diagnostic.Diagnostic.{Diagnostic}

@@ -12,11 +12,11 @@ use Rattle.al_unit_faults.specs.Dependents.{depends}
 use Rattle.al_unit_faults.specs.declared.dependents.Dependents.{Dependents}
 use Rattle.al_unit_faults.specs.Reached.{is_none_found}
 
--- the unit of a file, where nothing is wrong with it
+-- the unit of a file, if nothing is wrong with it
 abbrev pub faultless_in : Library → List ℕ × List Finding → List Key
 faultless_in lib faults = if is_none_found faults.1 then listed (option_map key_of_unit (unit_in lib faults.0)) else []
 
--- the same, where it depends on no faulty unit
+-- the unit of a file, if nothing is wrong with it and it depends on no faulty unit
 abbrev pub reachable_in : Library → Dependents → List ℕ × List Finding → List Key
 reachable_in lib dependents faults = if depends dependents faults.0 then [] else faultless_in lib faults
 
@@ -24,7 +24,7 @@ reachable_in lib dependents faults = if depends dependents faults.0 then [] else
 abbrev pub key_at : List Key → ℕ → Key
 key_at keys i = slice_index_or keys i ([], Decl)
 
--- the key stands at this place
+-- the key is at this place
 abbrev pub IsAt : List Key → Key → ℕ → Type 0
 IsAt keys key i = (i < length keys) × (slice_index_or keys i key ≡ key)
 

@@ -9,7 +9,7 @@ use Rattle.al_unit_graph.specs.Headers.{Header, Library, key_of_unit}
 use Rattle.al_unit_graph.specs.Library.{unit_in, unit_at}
 use Rattle.al_unit_graph.specs.Dependence.{listed}
 
--- the file of a library, and the unit that it holds, where it is sound
+-- the file of a library, and the unit that it holds, if it is sound
 abbrev pub unit_of_file : Library → List ℕ → List ℕ × Option Key
 unit_of_file lib file = (file, option_map key_of_unit (unit_in lib file))
 

@@ -13,7 +13,7 @@ use Rattle.al_unit_graph.specs.Traces.{wants, IsTouched, AreReadAlike}
 use Rattle.al_unit_faults.specs.Units.{unit_of_file}
 use Rattle.al_unit_faults.specs.Obsolete.{is_obsolete, obsolete_of}
 
--- the name stands at this place
+-- the name is at this place
 abbrev pub IsAt : List (List ℕ) → ℕ → List ℕ → Type 0
 IsAt names place name = (place < length names) × (slice_index_or names place [] ≡ name)
 
@@ -39,20 +39,20 @@ pub record IsWantedTo (lib : Library) (names : List (List ℕ)) (steps : List (�
   pub before : IsWanted lib names steps count
   pub led : (name : List ℕ) → Contains wanted name → (b : ℕ) × IsAt names b name × Contains steps (count, b)
 
--- the flags of the files, which come first, tell whether a file that they meet is changed
+-- the flags of the files, which come first, say whether a file that they meet is changed
 abbrev pub AreTouched : Library → Library → List (List ℕ) → List Bool → Type 0
 AreTouched old new files flags =
     (length files ≤ length flags) × ((a : ℕ) → a < length files → Decides (slice_index_or flags a false) (IsTouched old new (slice_index_or files a [])))
 
--- the unit of a file, where it is obsolete, as it is told by a flag whether a file that it meets is changed
+-- the unit of a file, if it is obsolete, where a flag says whether a file that it meets is changed
 abbrev pub obsolete_by : Library → List (List ℕ) → Library → List ℕ → Bool → List Key
 obsolete_by old faulty new file is_touched =
     option_map_or (λ h. if not (is_some (unit_at old (key_of_unit h))) || (is_among bytes_eq file faulty || is_touched) then key_of_unit h ∷ [] else []) (unit_in new file) []
 
--- the unit of a file, where it is obsolete
+-- the unit of a file, if it is obsolete
 abbrev pub obsolete_in : Library → List (List ℕ) → Library → List ℕ → List Key
 obsolete_in old faulty new file = filter (is_obsolete old faulty new) (listed (unit_of_file new file).1)
 
--- the keys are the list of the obsolete units, where both libraries read equal texts alike
+-- the keys are the list of the obsolete units, if both libraries read equal sources alike
 abbrev pub ListsObsolete : Library → List (List ℕ) → Library → List Key → Type 0
 ListsObsolete old faulty new keys = AreReadAlike old new → keys ≡ obsolete_of old faulty new

@@ -42,7 +42,7 @@ impl Numbers {
         self.places.get(file).copied()
     }
 
-    /// The number of the file that holds a unit, where the library has the unit.
+    /// The number of the file that holds a unit, if the library has the unit.
     pub(crate) fn of_unit(
         &self,
         alloc: Global,
@@ -124,7 +124,7 @@ impl Drop for Cycles {
 }
 
 impl Cycles {
-    /// Those of a library with these files.
+    /// The units of a library with these files that depend on themselves.
     pub(crate) fn of(alloc: Global, sources: &Sources, files: &[&[u8]]) -> Result<Cycles, NoMemory>
         requires { map (λ n. n.now) files.now ≡ keys_of sources.now }
         ensures { IfOk result (λ cycles. TellsCycles sources.now cycles) }

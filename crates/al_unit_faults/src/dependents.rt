@@ -97,7 +97,8 @@ fn goals_of(
 }
 
 impl Dependents {
-    /// Those of a library, where the files are marked that have a flag, in the order of their names. Each unit is looked at once.
+    /// The dependents in a library of the files that have a flag; the flags are in the order of the files' names. Each unit is
+    /// looked at once.
     ///
     /// # Errors
     ///

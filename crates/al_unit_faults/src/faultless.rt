@@ -14,7 +14,7 @@ use al_base::{Name, NoMemory, UnitKey};
 use al_unit_graph::{KeySet, Sources, kind_of};
 use std::alloc::Global;
 
-/// Adds the unit of a file, where nothing is wrong with it.
+/// Adds the unit of a file, if nothing is wrong with it.
 pub(crate) fn add_faultless(
     alloc: Global,
     sources: &Sources,

@@ -20,7 +20,7 @@ use al_base_shortage::AllocFailures;
 use al_unit_graph::{Contents, Header, Sources, name_faults};
 use std::alloc::Global;
 
-/// Adds that a unit depends on itself, where it does.
+/// Adds that a unit depends on itself, if it does.
 fn add_cycle(
     alloc: Global,
     is_so: bool,
@@ -113,10 +113,10 @@ fn add_file_faults(
     }
 }
 
-/// All that is wrong with the units of a library's files as a graph, by file, place and number: where the name of a unit is wrong,
-/// that it wants another file (201) or is reserved (207); elsewhere units and bodies that aren't there (202), cycles (203), private
-/// children that may not be mentioned (204), parents (205), stubs (206) and bodies that don't fit (209). A file that is no unit has
-/// none of these.
+/// All that is wrong with the units of a library's files as a graph, by file, place and number: if the name of a unit is wrong,
+/// that it asks for another file (201) or is reserved (207); otherwise units and bodies that aren't there (202), cycles (203),
+/// private children that may not be mentioned (204), parents (205), stubs (206) and bodies that don't fit (209). A file that is no
+/// unit has none of these.
 ///
 /// # Errors
 ///
@@ -168,7 +168,7 @@ fn add_file(all: &mut Vec<FileFaults>, file: FileFaults) -> Result<(), NoMemory>
     Ok(())
 }
 
-/// The same file by file, in the order of the names: also the files that have none.
+/// All that `faults` gives, file by file, in the order of the names, with the files that have no errors too.
 ///
 /// # Errors
 ///

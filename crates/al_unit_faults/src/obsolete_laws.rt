@@ -7,8 +7,8 @@ pub fn units_are_held()
     ensures { UnitsAreHeld }
 {}
 
-/// The obsolete units that are listed are just those that are obsolete: units of the library that weren't sound in the older
-/// one, had a diagnostic there, or have another trace. Each stands once, in the order of the keys.
+/// The obsolete units that are listed are exactly those that are obsolete: units of the library that weren't sound in the older
+/// one, had a diagnostic there, or have another trace. Each is there once, in the order of the keys.
 pub fn obsolete_are_listed()
     ensures listed { ObsoleteAreListed }
     ensures ascend { ObsoleteAscend }

@@ -13,8 +13,8 @@ use al_unit_graph::{KeySet, Sources};
 use std::alloc::Global;
 use std::collections::BTreeSet;
 
-/// A flag for each of the files, which is set where a file that it meets is changed; more flags may follow. Each file and each
-/// name that a unit wants is looked at once.
+/// A flag for each of the files, which is set if a file that it meets is changed; more flags may follow. Each file and each name
+/// that a unit asks for is looked at once.
 fn touched(
     alloc: Global,
     built: &Sources,
@@ -30,14 +30,14 @@ fn touched(
     Ok(flags)
 }
 
-/// A unit is obsolete where it wasn't one, its file had a diagnostic, or a file that it meets is changed.
+/// A unit is obsolete if it wasn't one, its file had a diagnostic, or a file that it meets is changed.
 fn differs(was_unit: bool, is_faulty: bool, is_touched: bool) -> bool
     ensures { result ≡ (not was_unit || (is_faulty || is_touched)) }
 {
     !was_unit || is_faulty || is_touched
 }
 
-/// The unit of a file, where it wasn't sound in the older library, its file had a diagnostic there, or a file that it meets is
+/// The unit of a file, if it wasn't sound in the older library, its file had a diagnostic there, or a file that it meets is
 /// changed.
 fn obsolete_unit(
     alloc: Global,
@@ -58,8 +58,8 @@ fn obsolete_unit(
     if is_obsolete { Ok(Some(key)) } else { Ok(None) }
 }
 
-/// The units that are obsolete since an older library, where the files of these names had a diagnostic, in the order of their
-/// keys. Each file, and each name that a unit wants, is looked at once.
+/// The units that are obsolete since an older library in which the files of these names had a diagnostic, in the order of their
+/// keys. Each file, and each name that a unit asks for, is looked at once.
 ///
 /// # Errors
 ///

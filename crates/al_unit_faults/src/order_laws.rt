@@ -5,7 +5,7 @@ ghost use Rattle.al_unit_graph.specs.Headers.{Library};
 ghost use Rattle.al_unit_faults.specs.OrderLaws.{AreRanked, AreThere};
 ghost use Rattle.al_unit_faults.specs.Reached.{IsDependenceOrder};
 
-/// Which declaration and which parent body a name has, where its units break no rule of the graph.
+/// Which declaration and which parent body a name has, if its units break no rule of the graph.
 pub fn faultless_units_are_there()
     ensures { (lib : Library) → AreThere lib }
 {}

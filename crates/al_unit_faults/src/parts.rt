@@ -29,8 +29,8 @@ fn part_within<'a>(sources: &'a Sources, count: usize, header: &'a Header) -> Op
     }
 }
 
-/// The library unit of which a unit is part: itself, or the one of the body in which a subunit's stub stands (ARM 10.1.3(8)); none
-/// where subunits go round.
+/// The library unit of which a unit is part: itself, or the one of the body with a subunit's stub (ARM 10.1.3(8)); none if subunits
+/// go round in a cycle.
 #[tactic(auto, unfolding(crate::specs::Parts::part_of))]
 pub(crate) fn part_of<'a>(
     sources: &'a Sources,

@@ -1,4 +1,4 @@
-// Where units stand in the order of keys.
+// The places of units in the order of keys.
 ghost use Rattle.std.specs.Prelude.{◌≡◌, ◌<◌, ◌≤◌, length, map, IfOk, MatchOption};
 ghost use Rattle.std.specs.List.{All, Contains};
 ghost use Rattle.std.specs.List.Sorted.{IsStrictlySortedBy};
@@ -20,7 +20,7 @@ fn rank(kind: UnitKind) -> u8
     }
 }
 
-/// By the bytes of the names, and of one name the declaration, the body, the subunit.
+/// Compares by the bytes of the names; of one name the declaration comes first, then the body, then the subunit.
 fn compare(key: &UnitKey, other: &UnitKey) -> Ordering
     ensures { result ≡ key_cmp (key_of key.now) (key_of other.now) }
 {
@@ -30,7 +30,7 @@ fn compare(key: &UnitKey, other: &UnitKey) -> Ordering
         .then(rank(key.kind).cmp(&rank(other.kind)))
 }
 
-/// Where a unit stands among some in order.
+/// The place of a unit among some in order.
 pub(crate) fn place_of(units: &[UnitKey], key: &UnitKey) -> Option<usize>
     requires { IsStrictlySortedBy key_cmp (map key_of units.now) }
     ensures { MatchOption result (Contains (map key_of units.now) (key_of key.now) → ⊥) (IsAt (map key_of units.now) (key_of key.now)) }
@@ -48,7 +48,7 @@ pub(crate) fn place_of(units: &[UnitKey], key: &UnitKey) -> Option<usize>
     None
 }
 
-/// The same key.
+/// A copy of the key.
 fn copy_of(alloc: Global, key: &UnitKey) -> Result<UnitKey, NoMemory>
     ensures { IfOk result (λ copy. key_of copy ≡ key_of key.now) }
 {

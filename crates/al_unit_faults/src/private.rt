@@ -1,4 +1,4 @@
-// Private children that are mentioned where they may not be (ARM 10.1.1(12), 10.1.2(8)).
+// Mentions of private children that aren't allowed (ARM 10.1.1(12), 10.1.2(8)).
 ghost use Rattle.std.specs.Prelude.{◌≡◌, ◌++◌, ◌&&◌, length, map, IfOk, OnOk};
 ghost use Rattle.std.specs.Option.{option_map};
 ghost use Rattle.std.specs.List.{flat_map, list_any};
@@ -58,7 +58,7 @@ fn descends_below(alloc: Global, name: &[u8], ancestor: Option<&[u8]>) -> Result
     Ok(is_one_of(names.as_slice(), ancestor))
 }
 
-/// Whether one of these is private and stands below the ancestor.
+/// Whether one of these is private and comes below the ancestor.
 fn has_private_below(
     alloc: Global,
     sources: &Sources,

@@ -26,7 +26,7 @@ fn faulty_files(alloc: Global, faults: &[FileFaults]) -> Result<Vec<bool>, NoMem
     Ok(flags)
 }
 
-/// Adds the unit of a file, where nothing is wrong with it and it depends on no faulty unit.
+/// Adds the unit of a file, if nothing is wrong with it and it depends on no faulty unit.
 fn add_reachable(
     alloc: Global,
     sources: &Sources,
@@ -60,12 +60,12 @@ fn units_on_sound(
     Ok(list)
 }
 
-/// The units that break no rule of the graph and depend on no unit that breaks one or isn't there, in the order of their keys. A build
-/// reaches each of these unless a check finds a fault in a unit on which it depends. It takes what is wrong with each file.
+/// The units that break no rule of the graph and depend on no unit that breaks one or isn't there, in the order of their keys. A
+/// build reaches each of these unless a check finds a fault in a unit on which it depends. It takes what is wrong with each file.
 ///
 /// # Errors
 ///
-/// `NoMemory` where memory is wanted.
+/// `NoMemory` if the allocator refuses memory.
 pub fn reachable(
     alloc: Global,
     sources: &Sources,

@@ -11,7 +11,7 @@ use al_base_graph::Graph;
 use al_unit_graph::Sources;
 use std::alloc::Global;
 
-/// Adds steps from one place to those of these keys that stand among the units.
+/// Adds steps from one place to those of these keys that are among the units.
 fn add_steps(
     graph: &mut Graph,
     units: &[UnitKey],

@@ -31,7 +31,7 @@ impl Drop for WantedFiles {
 }
 
 impl WantedFiles {
-    /// No file.
+    /// A list without files.
     fn new(alloc: Global) -> Self
         ensures names { result.names.items ≡ [] }
         ensures numbers { AreNumbered result.names.items result.numbers.entries }
@@ -45,7 +45,7 @@ impl WantedFiles {
         }
     }
 
-    /// One more file.
+    /// Adds a file.
     fn add(&mut self, name: &[u8]) -> Result<usize, NoMemory>
         requires { AreNumbered self.old.names.items self.old.numbers.entries }
         ensures names { OnOk result (self.new.names.items ≡ self.old.names.items ++ name.now ∷ []) }
@@ -119,7 +119,7 @@ impl WantedFiles {
         Ok(wanted)
     }
 
-    /// The numbers of the files that have another text in an older library, or are there in one of the two alone.
+    /// The numbers of the files that have another source in an older library, or are there in one of the two alone.
     pub(crate) fn changed(&self, built: &Sources, now: &Sources) -> Result<Vec<usize>, NoMemory>
         ensures { IfOk result (λ numbers. (a : ℕ) → Contains numbers.items a ↔ ((a < length self.now.names.items) × (is_changed built.now now.now (slice_index_or self.now.names.items a []) ≡ true))) }
     {

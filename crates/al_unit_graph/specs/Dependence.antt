@@ -16,7 +16,7 @@ listed (Some x) = x ∷ []
 abbrev pub parent_declaration : Library → List ℕ → List Key
 parent_declaration lib name = listed (option_and_then (declaration_of lib) (parent_of name))
 
--- of a body the declaration that it completes, where that is another file's
+-- of a body the declaration that it completes, if that is another file's
 abbrev pub own_declaration : Library → Header → List Key
 own_declaration lib h = if is_library_body h.form && has_declaration_file lib h.name then (h.name, Decl) ∷ [] else []
 
@@ -25,7 +25,7 @@ abbrev pub parent_dependences : Library → Header → Option Mention → List K
 parent_dependences lib h None = parent_declaration lib h.name ++ own_declaration lib h
 parent_dependences lib h (Some parent) = listed (parent_body_of lib parent.name)
 
--- the declaration of a unit, where there is one
+-- the declaration of a unit, if there is one
 abbrev pub declared : Library → List ℕ → List Key
 declared lib name = listed (declaration_of lib name)
 
@@ -36,7 +36,7 @@ mention_dependences lib m = flat_map (declared lib) (lineage m.name)
 unfoldable pub dependences : Library → Header → List Key
 dependences lib h = parent_dependences lib h h.parent_body ++ flat_map (mention_dependences lib) h.mentions
 
--- what a unit of this key depends on by itself; none where there is no such unit
+-- what a unit of this key depends on by itself; none if there is no such unit
 abbrev pub direct : Library → Key → List Key
 direct lib key = option_map_or (dependences lib) (unit_at lib key) []
 

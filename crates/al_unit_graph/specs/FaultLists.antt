@@ -12,7 +12,7 @@ use Rattle.al_unit_graph.specs.Names.{parent_of, is_predefined, is_reserved}
 use Rattle.al_unit_graph.specs.Library.{unit_at, declaration_of, parent_body_of, has_declaration_file, has_body_file}
 use Rattle.al_unit_graph.specs.Faults.{finding, Misnames, BreaksByItself}
 
--- a finding where a test says so, and nothing else
+-- a finding if a test says so, and nothing else
 abbrev pub finding_if : Bool → List ℕ → Place → ℕ → List Finding
 finding_if true file place code = finding file place code ∷ []
 finding_if false file place code = []

@@ -18,8 +18,8 @@ finding file place code = record { file = file; line = place.line; col = place.c
 abbrev pub IsPrivate : Library → List ℕ → Type 0
 IsPrivate lib name = (h : Header) × (unit_at lib (name, Decl) ≡ Some h) × (h.is_private ≡ true)
 
--- the library unit of which a unit is part: of a subunit the one of its parent body (ARM 10.1.3(8)); where that isn't there, the
--- one that its parent's name gives
+-- the library unit of which a unit is part: of a subunit the one of its parent body (ARM 10.1.3(8)); if that isn't there, the one
+-- that its parent's name gives
 pub data IsPartOf (lib : Library) : Header → List ℕ → Type 0 where
   itself : {h : Header} → h.parent_body ≡ None → IsPartOf lib h h.name
   of_body : {h : Header} {parent : Mention} → h.parent_body ≡ Some parent → unit_at lib (parent.name, Sub) ≡ None → IsPartOf lib h parent.name
@@ -43,7 +43,7 @@ IsPrivateDescendant lib name ancestor = (between : List ℕ) × Contains (lineag
 abbrev pub IsAfterDeclaration : Library → Header → Type 0
 IsAfterDeclaration lib h = (kind_of h.form ≢ Decl) × (acts_as_declaration lib h ≡ false)
 
--- where private children of a unit may be mentioned (ARM 10.1.2(8))
+-- the units that may mention private children of a unit (ARM 10.1.2(8))
 abbrev pub MayMentionChildrenOf : Library → Header → Option (List ℕ) → Type 0
 MayMentionChildrenOf lib h parent =
     (name : List ℕ) × IsPartOf lib h name × (IsPrivateDescendant lib name parent ⊎ (Descends name parent × IsAfterDeclaration lib h))
@@ -85,7 +85,7 @@ pub data Breaks (lib : Library) (file : List ℕ) (h : Header) : Finding → Typ
   by_itself : {f : Finding} → BreaksByItself lib file h f → Breaks lib file h f
   -- the unit depends on itself (ARM 10.1.1(26))
   cycle : DependsOn lib (key_of_unit h) (key_of_unit h) → Breaks lib file h (finding file (record { line = 1; col = 1 }) 203)
-  -- a private child is mentioned where that isn't allowed, by its name or by a descendant's (ARM 10.1.2(8))
+  -- a private child is mentioned by a unit that may not, by its name or by a descendant's (ARM 10.1.2(8))
   private_child : {m : Mention} {child : List ℕ} → Contains h.mentions m → Contains (lineage m.name) child → IsPrivate lib child → (MayMentionChildrenOf lib h (parent_of child) → ⊥) → Breaks lib file h (finding file m.place 204)
 
 -- What is wrong with the files: with each its first lexical fault, or else its syntax fault, or else the faults of its name, or else

@@ -7,16 +7,16 @@ use Rattle.al_base.specs.declared.unit_key.UnitKind.TheVariants.{Decl, Body, Sub
 use Rattle.al_unit_graph.specs.declared.header.UnitForm.{UnitForm}
 use Rattle.al_unit_graph.specs.declared.header.UnitForm.TheVariants.{PackageDeclaration, SubprogramDeclaration, PackageBody, SubprogramBody, SubunitBody}
 
--- the name of a unit, and where it stands: its first identifier
+-- the name of a unit, and its place: that of its first identifier
 pub record Mention : Type 0 where
   pub name : List ℕ
   pub place : Place
 
 -- what a compilation unit says of itself
 pub record Header : Type 0 where
-  -- of a subunit with that of its parent body in front (ARM 10.1.3(8))
+  -- for a subunit with that of its parent body before it (ARM 10.1.3(8))
   pub name : List ℕ
-  -- where the name stands; of a subunit the name of its body
+  -- the place of the name; for a subunit that of the name of its body
   pub place : Place
   pub form : UnitForm
   -- declared with the word private (ARM 10.1.1(12))
@@ -25,11 +25,11 @@ pub record Header : Type 0 where
   pub needs_body : Bool
   -- of a subunit the name of its parent body (ARM 10.1.3(8))
   pub parent_body : Option Mention
-  -- the name as it stands in the declaration or the body; of a subunit without that of its parent body
+  -- the name as it is written in the declaration or the body; for a subunit without that of its parent body
   pub designator : List ℕ
   -- the names in the with clauses (ARM 10.1.2(4))
   pub mentions : List Mention
-  -- the names of the stubs that stand immediately in a body's declarative part (ARM 10.1.3(2))
+  -- the names of the stubs that are immediately in a body's declarative part (ARM 10.1.3(2))
   pub stubs : List (List ℕ)
   -- the names in the pragmas Elaborate of the context clause (ARM 10.2.1(20))
   pub elaborate : List (List ℕ)
@@ -45,7 +45,7 @@ pub data Contents : Type 0 where
   Headed : Header → Contents
   Unread : Place → ℕ → Contents
 
--- the text of a file, and what it is read as
+-- the source in a file, and what it is read as
 pub record Source : Type 0 where
   pub text : List ℕ
   pub contents : Contents
@@ -80,7 +80,7 @@ is_package_body PackageBody = true
 is_package_body SubprogramBody = false
 is_package_body SubunitBody = false
 
--- a subprogram's body as a library item: where it completes no declaration it acts as one (ARM 10.1.4(4))
+-- a subprogram's body as a library item: if it completes no declaration it acts as one (ARM 10.1.4(4))
 abbrev pub is_subprogram_body : UnitForm → Bool
 is_subprogram_body PackageDeclaration = false
 is_subprogram_body SubprogramDeclaration = false

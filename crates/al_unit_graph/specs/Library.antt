@@ -23,11 +23,11 @@ source_at lib file = lookup (is_at (name_cmp file)) lib
 abbrev pub is_there : Library → List ℕ → Bool
 is_there lib file = is_some (source_at lib file)
 
--- the unit stands in the file that its name wants, and its name isn't the implementation's
+-- the unit is in the file that its name asks for, and its name isn't the implementation's
 abbrev pub is_rightly_named : List ℕ → Header → Bool
 is_rightly_named file h = bytes_eq file (file_name_of (key_of_unit h)) && not (is_reserved h.name)
 
--- the unit that a file of this name holds, where it is sound
+-- the unit that a file of this name holds, if it is sound
 abbrev pub held : List ℕ → Contents → Option Header
 held file (Headed h) = if is_rightly_named file h then Some h else None
 held file (Unread place code) = None
@@ -68,7 +68,7 @@ is_unit lib key = is_some (unit_at lib key)
 abbrev pub has_declaration_file : Library → List ℕ → Bool
 has_declaration_file lib name = not (is_without_file name) && is_there lib (file_name_of (name, Decl))
 
--- the body of a subprogram acts as its declaration where there is no file for one (ARM 10.1.4(4))
+-- the body of a subprogram acts as its declaration if there is no file for one (ARM 10.1.4(4))
 abbrev pub acts_as_declaration : Library → Header → Bool
 acts_as_declaration lib h = is_subprogram_body h.form && not (has_declaration_file lib h.name)
 

@@ -3,7 +3,7 @@ use Rattle.std.specs.Prelude.{ℕ, Bool, ◌||◌, ◌==◌, List, [], ◌∷◌
 use Rattle.std.specs.List.{list_any, last_or}
 use Rattle.std.specs.Str.{bytes_eq}
 
--- what stands before each dot: the names of a unit's parent, of the parent's parent, and so on, the farthest first
+-- what comes before each dot: the names of a unit's parent, of the parent's parent, and so on, the farthest first
 abbrev pub ancestors : List ℕ → List (List ℕ)
 ancestors [] = []
 ancestors (b ∷ bs) =
@@ -14,7 +14,7 @@ ancestors (b ∷ bs) =
 abbrev pub lineage : List ℕ → List (List ℕ)
 lineage name = ancestors name ++ name ∷ []
 
--- what stands before the last dot; a root library unit has no dot, and its parent is Standard (ARM 10.1.1(10))
+-- what comes before the last dot; a root library unit has no dot, and its parent is Standard (ARM 10.1.1(10))
 abbrev pub parent_of : List ℕ → Option (List ℕ)
 parent_of name = last_or None (ancestors name)
 

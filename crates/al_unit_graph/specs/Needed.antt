@@ -14,7 +14,7 @@ pub record ListsUnits (lib : Library) (keys : List Key) (IsSo : Key → Type 0) 
   pub ascend : IsStrictlySortedBy key_cmp keys
   pub all : (y : Key) → Contains keys y ↔ (IsSo y × (is_unit lib y ≡ true))
 
--- the unit of this key, where the library has it
+-- the unit of this key, if the library has it
 abbrev pub present : Library → Key → List Key
 present lib key = if is_unit lib key then key ∷ [] else []
 

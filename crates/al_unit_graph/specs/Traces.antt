@@ -28,7 +28,7 @@ declaration_files lib name =
 abbrev pub body_files : List ℕ → List (List ℕ)
 body_files name = if has_no_file name then [] else file_name_of (name, Body) ∷ []
 
--- those of its declaration, where it is a body
+-- the files of its declaration, if it is a body
 abbrev pub own_files : Library → Header → List (List ℕ)
 own_files lib h = if is_library_body h.form then declaration_files lib h.name else []
 
@@ -49,33 +49,33 @@ pub data Meets (lib : Library) (first : List ℕ) : List ℕ → Type 0 where
   itself : Meets lib first first
   wanted : {file next : List ℕ} {h : Header} → Meets lib first file → unit_in lib file ≡ Some h → Contains (wanted_files lib h) next → Meets lib first next
 
--- The trace of a file: what it meets, each with its text, or with that it isn't there.
+-- The trace of a file: what it meets, each with its source, or with that it isn't there.
 abbrev pub InTrace : Library → List ℕ → List ℕ × Option (List ℕ) → Type 0
 InTrace lib first pair = Meets lib first pair.0 × (text_at lib pair.0 ≡ pair.1)
 
 abbrev pub HasSameTrace : Library → Library → List ℕ → Type 0
 HasSameTrace old new file = (pair : List ℕ × Option (List ℕ)) → InTrace old file pair ↔ InTrace new file pair
 
--- A unit of the library is obsolete since an older one, where these files had a diagnostic: it wasn't sound there or had a diagnostic,
--- or its trace was another.
+-- A unit of the library is obsolete since an older one in which these files had a diagnostic: it wasn't sound there or had a
+-- diagnostic, or its trace was another.
 pub record IsObsolete (old : Library) (faulty : List (List ℕ)) (new : Library) (key : Key) : Type 0 where
   pub unit : Header
   pub is_unit : unit_at new key ≡ Some unit
   pub differs : (unit_at old key ≡ None) ⊎ (Contains faulty (file_name_of key) ⊎ (HasSameTrace old new (file_name_of key) → ⊥))
 
--- a file that is met has another text, or is there in one library alone
+-- a file that is met has another source, or is there in one library alone
 abbrev pub IsTouched : Library → Library → List ℕ → Type 0
 IsTouched old new first = (file : List ℕ) × Meets new first file × (text_at old file ≢ text_at new file)
 
--- what the files are read as goes by their texts
+-- what the files are read as depends only on their sources
 abbrev pub AreReadAlike : Library → Library → Type 0
 AreReadAlike old new = (file : List ℕ) → text_at old file ≡ text_at new file → source_at old file ≡ source_at new file
 
--- Where no file that is met in the one library differs, the traces are the same, so it is enough to go through one library.
+-- If no file that is met in the one library differs, the traces are the same, so it is enough to go through one library.
 abbrev pub TracesAreTouched : Type 0
 TracesAreTouched = (old new : Library) (first : List ℕ) → AreReadAlike old new → HasSameTrace old new first ↔ (IsTouched old new first → ⊥)
 
--- what the unit of a file wants; nothing where it holds none
+-- the files that the unit of a file asks for; none if it holds no unit
 abbrev pub wants : Library → List ℕ → List (List ℕ)
 wants lib file = option_map_or (wanted_files lib) (unit_in lib file) []
 
@@ -85,10 +85,10 @@ is_same_text None (Some b) = false
 is_same_text (Some a) None = false
 is_same_text (Some a) (Some b) = bytes_eq a b
 
--- a file has another text in one of two libraries, or is there in one alone
+-- a file has another source in one of two libraries, or is there in one alone
 abbrev pub is_changed : Library → Library → List ℕ → Bool
 is_changed old new file = not (is_same_text (text_at old file) (text_at new file))
 
--- an answer tells whether the unit is obsolete, where both libraries read equal texts alike
+-- an answer says whether the unit is obsolete, if both libraries read equal sources alike
 abbrev pub TellsObsolete : Library → List (List ℕ) → Library → Key → Bool → Type 0
 TellsObsolete old faulty new key answer = AreReadAlike old new → Decides answer (IsObsolete old faulty new key)

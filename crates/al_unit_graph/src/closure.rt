@@ -18,12 +18,12 @@ use crate::source::Sources;
 use al_base::{Name, NoMemory, UnitKey, UnitKind};
 use std::alloc::Global;
 
-/// Where a step from a unit leads.
+/// The units to which a step from a unit leads.
 #[derive(Clone, Copy)]
 pub(crate) enum Step {
-    /// To what it depends on.
+    /// The units that it depends on.
     Dependence,
-    /// To what it needs in a partition (ARM 10.2(2..7)).
+    /// The units that it needs in a partition (ARM 10.2(2..7)).
     Need,
 }
 
@@ -42,7 +42,7 @@ impl Sources {
         }
     }
 
-    /// Adds the unit of this name and kind, where the library has it.
+    /// Adds the unit of this name and kind, if the library has it.
     fn add_present(
         &self,
         name: &[u8],
@@ -131,7 +131,7 @@ impl Sources {
         Ok(list.keys)
     }
 
-    /// Adds a key, where the library has the unit.
+    /// Adds a key, if the library has the unit.
     fn add_unit(&self, key: &UnitKey, units: &mut KeySet) -> Result<(), NoMemory>
         ensures { OnOk result (units.new ≡ fold (insert_key key_cmp) units.old (filter (is_unit self.now) (key_of key.now ∷ []))) }
     {

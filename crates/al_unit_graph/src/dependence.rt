@@ -15,21 +15,21 @@ use crate::source::Sources;
 use al_base::{Name, NoMemory, UnitKey, UnitKind};
 use std::alloc::Global;
 
-/// Whether it is the body of a library unit.
+/// Whether this form is the body of a library unit.
 pub(crate) fn is_library_body(form: UnitForm) -> bool
     ensures { result ≡ is_library_body form }
 {
     matches!(form, UnitForm::PackageBody | UnitForm::SubprogramBody)
 }
 
-/// Whether it is a subprogram's body as a library item.
+/// Whether this form is a subprogram's body as a library item.
 pub fn is_subprogram_body(form: UnitForm) -> bool
     ensures { result ≡ is_subprogram_body form }
 {
     matches!(form, UnitForm::SubprogramBody)
 }
 
-/// Adds the key of this name, where there is a kind.
+/// Adds the key of this name, if there is a kind.
 fn add_key(
     alloc: Global,
     name: &[u8],
@@ -84,7 +84,7 @@ impl Sources {
         }
     }
 
-    /// Adds the declaration that a body completes, where that is another file's.
+    /// Adds the declaration that a body completes, if that is another file's.
     fn add_own(&self, header: &Header, keys: &mut Vec<UnitKey>) -> Result<(), NoMemory>
         ensures { OnOk result (map key_of keys.new.items ≡ map key_of keys.old.items ++ own_declaration self.now (header_model header.now)) }
     {

@@ -28,7 +28,7 @@ fn add(found: &mut Vec<Diagnostic>, finding: Diagnostic) -> Result<(), NoMemory>
     Ok(())
 }
 
-/// Adds a finding at a place, where it is so.
+/// Adds a finding at a place, if it is so.
 fn add_if(
     alloc: Global,
     is_so: bool,
@@ -68,8 +68,7 @@ fn add_name_faults(
     add_if(alloc, is_taken, file, header.place, 207, found, failures)
 }
 
-/// What is wrong with the name of a file's unit: it wants another file, or is the implementation's. Each want of memory that it
-/// answers is counted.
+/// What is wrong with the name of a file's unit: it asks for another file, or is the implementation's.
 ///
 /// # Errors
 ///
@@ -88,14 +87,14 @@ pub fn name_faults(
     Ok(found)
 }
 
-/// Whether it is a package's declaration.
+/// Whether this form is a package's declaration.
 fn is_package(form: UnitForm) -> bool
     ensures { result ≡ is_package form }
 {
     matches!(form, UnitForm::PackageDeclaration)
 }
 
-/// Whether it is a package's body as a library item.
+/// Whether this form is a package's body as a library item.
 fn is_package_body(form: UnitForm) -> bool
     ensures { result ≡ is_package_body form }
 {
@@ -304,8 +303,7 @@ impl Sources {
     }
 
     /// What is wrong with a unit of the library by itself and with what it names: units that aren't there, a parent that is no
-    /// package, a stub that isn't there, a body that doesn't fit. Where it answers want of memory, one more is counted, and
-    /// none elsewhere.
+    /// package, a stub that isn't there, a body that doesn't fit.
     ///
     /// # Errors
     ///

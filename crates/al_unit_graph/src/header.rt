@@ -11,7 +11,7 @@ pub enum UnitForm {
     SubunitBody,
 }
 
-/// The name of a unit in lower case, and where it stands: its first identifier.
+/// The name of a unit in lower case, and its place: that of its first identifier.
 pub struct Mention {
     /// The name in lower case.
     pub name: Name,
@@ -27,31 +27,31 @@ impl Drop for Mention {
 
 /// What a compilation unit says of itself.
 pub struct Header {
-    /// Of a subunit with that of its parent body in front (ARM 10.1.3(8)).
+    /// The full name in lower case; for a subunit with that of its parent body before it (ARM 10.1.3(8)).
     pub name: Name,
-    /// Where the name stands; of a subunit the name of its body.
+    /// The place of the name; for a subunit that of the name of its body.
     pub place: Place,
     /// What kind of compilation unit it is.
     pub form: UnitForm,
-    /// Declared with the word private (ARM 10.1.1(12)).
+    /// Whether it is declared with the word private (ARM 10.1.1(12)).
     pub is_private: bool,
-    /// A declaration that a body completes (ARM 6.1(20), 7.2(4)).
+    /// Whether it is a declaration that a body completes (ARM 6.1(20), 7.2(4)).
     pub needs_body: bool,
-    /// Of a subunit the name of its parent body (ARM 10.1.3(8)).
+    /// The name of the parent body of a subunit (ARM 10.1.3(8)).
     pub parent_body: Option<Mention>,
-    /// The name as it stands in the declaration or the body; of a subunit without that of its parent body.
+    /// The name as it is written in the declaration or the body; for a subunit without that of its parent body.
     pub designator: Name,
     /// The names in the with clauses (ARM 10.1.2(4)).
     pub mentions: Vec<Mention>,
-    /// The names of the stubs that stand immediately in a body's declarative part (ARM 10.1.3(2)).
+    /// The names of the stubs that are immediately in a body's declarative part (ARM 10.1.3(2)).
     pub stubs: Vec<Name>,
     /// The names in the pragmas Elaborate of the context clause (ARM 10.2.1(20)).
     pub elaborate: Vec<Name>,
     /// The names in the pragmas Elaborate_All of the context clause (ARM 10.2.1(20)).
     pub elaborate_all: Vec<Name>,
-    /// A package's declaration with the pragma Elaborate_Body in its place (ARM 10.2.1(20)).
+    /// Whether it is a package's declaration with the pragma Elaborate_Body in its place (ARM 10.2.1(20)).
     pub has_elaborate_body: bool,
-    /// A procedure without parameters, which alone can be the main unit (ARM 10.2(7)).
+    /// Whether it is a procedure without parameters, which alone can be the main unit (ARM 10.2(7)).
     pub is_parameterless_procedure: bool,
 }
 

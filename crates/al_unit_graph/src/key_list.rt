@@ -15,7 +15,7 @@ pub(crate) struct KeyList {
     seen: BTreeSet<(Vec<u8>, UnitKind)>,
 }
 
-/// The same key.
+/// A copy of the key.
 pub(crate) fn copy_of(alloc: Global, key: &UnitKey) -> Result<UnitKey, NoMemory>
     ensures { IfOk result (λ copy. key_of copy ≡ key_of key.now) }
 {
@@ -26,7 +26,7 @@ pub(crate) fn copy_of(alloc: Global, key: &UnitKey) -> Result<UnitKey, NoMemory>
 }
 
 impl KeyList {
-    /// No key.
+    /// A list without keys.
     pub(crate) fn new(alloc: Global) -> Self
         ensures keys { result.keys.items ≡ [] }
         ensures seen { result.seen.keys ≡ [] }
@@ -38,7 +38,7 @@ impl KeyList {
         }
     }
 
-    /// Adds a key, where it isn't there yet.
+    /// Adds a key, if it isn't there yet.
     fn add(&mut self, key: &UnitKey) -> Result<(), NoMemory>
         requires { AreAlike is_same_key (map (λ s. (s.0.items, s.1)) self.old.seen.keys) (map key_of self.old.keys.items) }
         ensures keys { OnOk result (map key_of self.new.keys.items ≡ with_item is_same_key (map key_of self.old.keys.items) (key_of key.now)) }

@@ -27,7 +27,7 @@ impl Model for KeySet {
 }
 
 impl KeySet {
-    /// No key.
+    /// A set without keys.
     pub fn new(alloc: Global) -> Self
         ensures { result ≡ [] }
     {

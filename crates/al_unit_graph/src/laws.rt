@@ -2,8 +2,8 @@
 ghost use Rattle.al_unit_graph.specs.FaultLists.{NameFaultsAreMisnames, OwnFaultsAreBroken};
 ghost use Rattle.al_unit_graph.specs.Traces.{TracesAreTouched};
 
-/// Two libraries that read equal texts alike give a file the same trace just where none of the files that it meets in the
-/// second has another text in the first, or is there in one of the two alone.
+/// Two libraries that read equal sources alike give a file the same trace exactly if none of the files that it meets in the second
+/// has another source in the first, or is there in one of the two alone.
 pub fn traces_are_touched()
     ensures { TracesAreTouched }
 {}
@@ -13,8 +13,8 @@ pub fn name_faults_are_misnames()
     ensures { NameFaultsAreMisnames }
 {}
 
-/// What is found wrong with a unit by itself and with what it names is just what breaks one of these rules, each told by
-/// itself.
+/// What is found wrong with a unit by itself and with what it names is exactly what breaks one of these rules, each of which is
+/// stated by itself.
 pub fn own_faults_are_broken()
     ensures { OwnFaultsAreBroken }
 {}

@@ -16,7 +16,7 @@ use std::collections::BTreeMap;
 use std::marker::Model;
 use std::rc::Rc;
 
-/// What the text of a file is read as.
+/// What the source in a file is read as.
 pub enum Contents {
     /// A compilation unit.
     Headed(Header),
@@ -33,7 +33,7 @@ impl Drop for Contents {
     }
 }
 
-/// The text of a file, and what it is read as.
+/// The source in a file, and what it is read as.
 pub struct Source {
     /// The bytes of the file.
     pub text: Rc<Vec<u8>>,
@@ -75,7 +75,7 @@ impl Model for Sources {
 }
 
 impl Sources {
-    /// No file.
+    /// A map without files.
     pub fn new(alloc: Global) -> Self
         ensures { result ≡ [] }
     {

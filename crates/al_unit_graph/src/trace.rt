@@ -17,7 +17,7 @@ fn is_same_text(a: Option<&[u8]>, b: Option<&[u8]>) -> bool
 }
 
 impl Sources {
-    /// What the unit of a file wants; nothing where it holds none.
+    /// The files that the unit of a file asks for; none if it holds no unit.
     ///
     /// # Errors
     ///
@@ -31,7 +31,7 @@ impl Sources {
         }
     }
 
-    /// Whether a file has another text in an older library, or is there in one of the two alone.
+    /// Whether a file has another source in an older library, or is there in one of the two alone.
     pub fn is_changed(&self, old: &Sources, file: &[u8]) -> bool
         ensures { result ≡ is_changed old.now self.now file.now }
     {

@@ -22,7 +22,7 @@ pub fn kind_of(form: UnitForm) -> UnitKind
     }
 }
 
-/// Whether the unit stands in the file that its name wants, and its name isn't the implementation's.
+/// Whether the unit is in the file that its name asks for, and its name isn't the implementation's.
 fn is_rightly_named(file: &[u8], header: &Header) -> bool
     requires { length file.now ≤ 255 }
     ensures { result ≡ is_rightly_named file.now (header_model header.now) }
@@ -34,7 +34,7 @@ fn is_rightly_named(file: &[u8], header: &Header) -> bool
     }
 }
 
-/// The unit that a file of this name holds, where it is sound.
+/// The unit that a file of this name holds, if it is sound.
 fn held<'a>(file: &[u8], contents: &'a Contents) -> Option<&'a Header>
     requires { length file.now ≤ 255 }
     ensures { option_map (λ h. header_model h.now) result ≡ held file.now (contents_model contents.now) }

@@ -29,7 +29,7 @@ fn has_no_file(name: &[u8]) -> bool
 }
 
 impl Sources {
-    /// The text of a file.
+    /// The source in a file.
     pub fn text_at(&self, file: &[u8]) -> Option<&[u8]>
         ensures { option_map (λ text. text.now) result ≡ text_at self.now file.now }
     {
@@ -118,7 +118,7 @@ impl Sources {
         Ok(())
     }
 
-    /// The files that a unit wants, which may not be there.
+    /// The files that a unit asks for, which may not be there.
     ///
     /// # Errors
     ///

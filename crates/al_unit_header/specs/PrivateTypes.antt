@@ -16,7 +16,7 @@ is_private_definition (EnumerationDefinition l i) = false
 is_private_definition (ArrayDefinition a) = false
 is_private_definition (RecordDefinition c l) = false
 
--- the name of a type, where it is private
+-- the name of a type, if it is private
 abbrev pub private_name : TypeTree → List (List ℕ)
 private_name t = if is_private_definition t.definition then t.name.text ∷ [] else []
 
@@ -30,7 +30,7 @@ private_names (SubprogramDeclaration s) = []
 private_names (TaskDeclaration t) = []
 private_names (ProtectedDeclaration l p) = []
 
--- the names of the private types that stand in the visible part of a package, in order; elsewhere none may stand
+-- the names of the private types in the visible part of a package, in order; no other place may have any
 abbrev pub private_types : LibraryItemTree → List (List ℕ)
 private_types (LibrarySubprogram p s) = []
 private_types (LibraryPackage p l k) = flat_map private_names k.visible

@@ -57,7 +57,7 @@ form_of (LibraryBody s b) = SubprogramBody
 form_of (LibraryPackageBody l k) = PackageBody
 form_of (Subunit l o n s b) = SubunitBody
 
--- a name stands where its first identifier does
+-- the place of a name is that of its first identifier
 abbrev pub place_of : CompoundNameTree → Place
 place_of n = record { line = n.first.line; col = n.first.col }
 
@@ -115,7 +115,7 @@ stubs_in (MoreItems i is) = stub_of i ++ stubs_in is
 abbrev pub body_items : BodyTree → ItemsTree
 body_items (Body is b ss e) = is
 
--- the names of the stubs that stand immediately in a body's declarative part (ARM 10.1.3(2))
+-- the names of the stubs that are immediately in a body's declarative part (ARM 10.1.3(2))
 abbrev pub stubs : LibraryItemTree → List (List ℕ)
 stubs (LibrarySubprogram p s) = []
 stubs (LibraryPackage p l k) = []
@@ -178,7 +178,7 @@ asks_for_body name (SubprogramDeclaration s) = false
 asks_for_body name (TaskDeclaration t) = false
 asks_for_body name (ProtectedDeclaration l p) = false
 
--- the pragma stands before every declaration of the package (ARM 10.1.5(4), 10.2.1(20))
+-- the pragma comes before every declaration of the package (ARM 10.1.5(4), 10.2.1(20))
 abbrev pub has_elaborate_body : PackageTree → Bool
 has_elaborate_body k = list_any (asks_for_body k.name) (take_while declares_nothing (declarations_of k))
 

@@ -17,9 +17,9 @@ use al_tree::{CompilationUnit, LibraryItem};
 use al_unit_graph::{Header, Mention};
 use std::alloc::Global;
 
-/// What a compilation unit says of itself: its name, where that stands, what it is, whether it is private and needs a body, its
-/// parent body, the names in its with clauses and the stubs in it (ARM 10.1.1 to 10.1.3), what its pragmas say of elaboration
-/// (ARM 10.2.1), and whether it is a procedure without parameters.
+/// What a compilation unit says of itself: its name, the name's place, what it is, whether it is private and needs a body, its
+/// parent body, the names in its with clauses and the stubs in it (ARM 10.1.1 to 10.1.3), what its pragmas say of elaboration (ARM
+/// 10.2.1), and whether it is a procedure without parameters.
 ///
 /// # Errors
 ///
@@ -55,7 +55,7 @@ pub fn unit_needs_body(unit: &CompilationUnit) -> bool
     needs_body(&unit.item)
 }
 
-/// The parent body of a subunit, with where its name stands (ARM 10.1.3(8)).
+/// The parent body of a subunit, with the place of its name (ARM 10.1.3(8)).
 fn parent_body(alloc: Global, item: &LibraryItem) -> Result<Option<Mention>, NoMemory>
     ensures { IfOk result (λ parent. option_map mention_model parent ≡ option_map mention_of (parent_body_name (library_item_model item.now))) }
 {

@@ -46,7 +46,7 @@ pub(crate) fn form_of(item: &LibraryItem) -> UnitForm
     }
 }
 
-/// Whether it is declared with the word private (ARM 10.1.1(12)).
+/// Whether the item is declared with the word private (ARM 10.1.1(12)).
 pub(crate) fn is_private(item: &LibraryItem) -> bool
     ensures { result ≡ is_private (library_item_model item.now) }
 {
@@ -59,7 +59,7 @@ pub(crate) fn is_private(item: &LibraryItem) -> bool
     }
 }
 
-/// Whether it is a declaration that a body completes: each of a subprogram, and some of packages.
+/// Whether the item is a declaration that a body completes: each of a subprogram, and some of packages.
 pub(crate) fn needs_body(item: &LibraryItem) -> bool
     ensures { result ≡ needs_body (library_item_model item.now) }
 {
@@ -72,7 +72,7 @@ pub(crate) fn needs_body(item: &LibraryItem) -> bool
     }
 }
 
-/// Whether it is a package's declaration with the pragma Elaborate_Body in its place (ARM 10.2.1(20)).
+/// Whether the item is a package's declaration with the pragma Elaborate_Body in its place (ARM 10.2.1(20)).
 pub(crate) fn item_has_elaborate_body(item: &LibraryItem) -> bool
     ensures { result ≡ item_has_elaborate_body (library_item_model item.now) }
 {
@@ -85,7 +85,7 @@ pub(crate) fn item_has_elaborate_body(item: &LibraryItem) -> bool
     }
 }
 
-/// Whether it specifies a procedure without parameters.
+/// Whether this specifies a procedure without parameters.
 fn is_parameterless(specification: &Specification) -> bool
     ensures { result ≡ is_parameterless (specification_model specification.now) }
 {
@@ -95,7 +95,7 @@ fn is_parameterless(specification: &Specification) -> bool
     }
 }
 
-/// Whether it is the declaration or the body of a library procedure without parameters (ARM 10.2(7)).
+/// Whether the item is the declaration or the body of a library procedure without parameters (ARM 10.2(7)).
 pub(crate) fn is_parameterless_procedure(item: &LibraryItem) -> bool
     ensures { result ≡ is_parameterless_procedure (library_item_model item.now) }
 {

@@ -43,7 +43,7 @@ pub(crate) fn designator(specification: &Specification) -> &CompoundName
     }
 }
 
-/// The full name of a unit: of a subunit with that of its parent body in front (ARM 10.1.3(8)).
+/// The full name of a unit: for a subunit with that of its parent body before it (ARM 10.1.3(8)).
 pub(crate) fn full_name(
     alloc: Global,
     parent: Option<&CompoundName>,
@@ -62,14 +62,14 @@ pub(crate) fn full_name(
     }
 }
 
-/// Where a name stands.
+/// The place of a name.
 pub(crate) fn place_of(name: &CompoundName) -> Place
     ensures { result ≡ place_of (compound_model name.now) }
 {
     name.first.place
 }
 
-/// A name and where it stands.
+/// A name and its place.
 pub(crate) fn mention_of(alloc: Global, name: &CompoundName) -> Result<Mention, NoMemory>
     ensures { IfOk result (λ mention. mention_model mention ≡ mention_of (compound_model name.now)) }
 {

@@ -44,8 +44,8 @@ fn are_completed(declarations: &[Declaration]) -> bool
     false
 }
 
-/// Whether the pragma Elaborate_Body stands before every declaration of the package, in its visible part or, where that
-/// declares nothing, in its private part (ARM 10.1.5(4), 10.2.1(20)).
+/// Whether the pragma Elaborate_Body comes before every declaration of the package, in its visible part or, if that declares
+/// nothing, in its private part (ARM 10.1.5(4), 10.2.1(20)).
 pub(crate) fn has_elaborate_body(library_package: &PackageDeclaration) -> bool
     ensures { result ≡ has_elaborate_body (package_model library_package.now) }
 {
@@ -55,7 +55,7 @@ pub(crate) fn has_elaborate_body(library_package: &PackageDeclaration) -> bool
         || declare_nothing(visible) && ask_in_front(&library_package.name, private)
 }
 
-/// Whether a pragma Elaborate_Body for the package of the name stands among these before every declaration.
+/// Whether a pragma Elaborate_Body for the package of the name is among these before every declaration.
 fn ask_in_front(name: &CompoundName, declarations: &[Declaration]) -> bool
     ensures { result ≡ list_any (asks_for_body (compound_model name.now)) (take_while declares_nothing (map declaration_model declarations.now)) }
 {
@@ -94,7 +94,7 @@ fn is_completed_by_body(declaration: &Declaration) -> bool
     }
 }
 
-/// Whether it is a use clause or a pragma, which declares nothing (ARM 3.1).
+/// Whether the declaration is a use clause or a pragma, which declares nothing (ARM 3.1).
 fn declares_nothing(declaration: &Declaration) -> bool
     ensures { result ≡ declares_nothing (declaration_model declaration.now) }
 {
@@ -110,7 +110,7 @@ fn declares_nothing(declaration: &Declaration) -> bool
     }
 }
 
-/// Whether it is a pragma Elaborate_Body for the package of the name.
+/// Whether the declaration is a pragma Elaborate_Body for the package of the name.
 fn asks_for_body(name: &CompoundName, declaration: &Declaration) -> bool
     ensures { result ≡ asks_for_body (compound_model name.now) (declaration_model declaration.now) }
 {
@@ -126,7 +126,8 @@ fn asks_for_body(name: &CompoundName, declaration: &Declaration) -> bool
     }
 }
 
-/// Whether it is `pragma Elaborate_Body;` or has the last identifier of the package's name as its argument (ARM 10.2.1(20)).
+/// Whether the pragma is `pragma Elaborate_Body;` or has the last identifier of the package's name as its argument (ARM
+/// 10.2.1(20)).
 fn is_elaborate_body(name: &CompoundName, pragma: &Pragma) -> bool
     ensures { result ≡ is_elaborate_body (compound_model name.now) (pragma_model pragma.now) }
 {

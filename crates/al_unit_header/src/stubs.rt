@@ -9,7 +9,7 @@ use al_base::{Name, NoMemory};
 use al_tree::{Item, LibraryItem, SubprogramBody};
 use std::alloc::Global;
 
-/// The names of the stubs that stand immediately in the declarative part of a body (ARM 10.1.3(2)).
+/// The names of the stubs that are immediately in the declarative part of a body (ARM 10.1.3(2)).
 pub(crate) fn stubs(alloc: Global, item: &LibraryItem) -> Result<Vec<Name>, NoMemory>
     ensures { IfOk result (λ names. names.items ≡ stubs (library_item_model item.now)) }
 {
@@ -41,7 +41,7 @@ fn stubs_in(alloc: Global, items: &[Item]) -> Result<Vec<Name>, NoMemory>
     Ok(names)
 }
 
-/// Adds the name of the item, where it is a stub.
+/// Adds the name of the item, if it is a stub.
 #[tactic(auto, using(al_tree::proofs::StatementsMade::item_stub_model))]
 fn add_stub(alloc: Global, item: &Item, names: &mut Vec<Name>) -> Result<(), NoMemory>
     ensures { OnOk result (names.new.items ≡ names.old.items ++ stub_of (item_model item.now)) }

@@ -22,7 +22,7 @@ fn is_private_definition(definition: &TypeDefinition) -> bool
     }
 }
 
-/// Adds the name of a type, where it is private.
+/// Adds the name of a type, if it is private.
 fn add_type(
     alloc: Global,
     declaration: &TypeDeclaration,
@@ -38,7 +38,7 @@ fn add_type(
     Ok(())
 }
 
-/// Adds the name of the private type that it declares, where it declares one.
+/// Adds the name of the private type that the declaration declares, if it declares one.
 fn add_private(
     alloc: Global,
     declaration: &Declaration,
@@ -69,7 +69,7 @@ fn private_in(alloc: Global, declarations: &[Declaration]) -> Result<Vec<Name>, 
     Ok(names)
 }
 
-/// The names of the private types that stand in the visible part of a package, in order (ARM 7.3); elsewhere none may stand.
+/// The names of the private types in the visible part of a package, in order (ARM 7.3); no other place may have any.
 ///
 /// # Errors
 ///

@@ -23,8 +23,8 @@ signature_of _ = None
 abbrev pub types_of : Signature → List Symbol × Option Symbol
 types_of s = (map (λ p. p.subtype.base) s.0, s.1)
 
--- two declarations of one name are homographs (ARM 8.3(8)): where both may be overloaded, they have the same parameter
--- and result types
+-- two declarations of one name are homographs (ARM 8.3(8)): if both may be overloaded, they have the same parameter and result
+-- types
 abbrev pub Homographs : ViewKind → ViewKind → Type 0
 Homographs a b = (s u : Signature) → signature_of a ≡ Some s → signature_of b ≡ Some u → types_of s ≡ types_of u
 

@@ -1,4 +1,4 @@
--- Where a name stands among names with their views.
+-- The place of a name among names with their views.
 use Rattle.std.specs.Prelude.{◌≡◌, ℕ, suc, List, [], ◌∷◌, Option, Some, None, Vec, if◌then◌else◌}
 use Rattle.std.specs.Map.{lookup}
 use Rattle.std.specs.Option.{option_map}

@@ -23,6 +23,6 @@ layout_words (Array component words) = words
 layout_words (Record offsets words) = words
 layout_words (Words words) = words
 
--- the type with this symbol, where it is one of these
+-- the type with this symbol, if it is one of these
 abbrev pub type_in : List TypeView → Symbol → Option TypeView
 type_in types symbol = find (λ t. same_symbol t.symbol symbol) types

@@ -26,7 +26,7 @@ abbrev pub flag_uses : Option ObjectPlace → List LinkSymbol
 flag_uses (Some place) = place_uses Flag place
 flag_uses None = []
 
--- the code of what is called: that of an operator or of a predefined subprogram stands where it is called
+-- the code of what is called: that of an operator or of a predefined subprogram is at the call itself
 abbrev pub callee_uses : CallKind → Symbol → List LinkSymbol
 callee_uses (call.Operator of_type) s = []
 callee_uses call.Predefined s = []

@@ -9,7 +9,7 @@ use crate::symbol::Symbol;
 use crate::view::{Parameter, View, ViewKind};
 
 impl View {
-    /// Whether it may be overloaded (ARM 8.3(7)).
+    /// Whether the declaration may be overloaded (ARM 8.3(7)).
     pub fn may_be_overloaded(&self) -> bool
         ensures { result ≡ may_be_overloaded self.now }
     {

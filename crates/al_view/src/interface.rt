@@ -12,15 +12,15 @@ use std::alloc::{AllocError, Global};
 use std::collections::HashMap;
 use std::marker::Model;
 
-/// What a part of a unit declares: its names in the order of their first declarations, each with its views in text
-/// order. A name is found without a walk.
+/// What a part of a unit declares: its names in the order of their first declarations, each with its views in source order. A name
+/// is found without a walk over all of them.
 pub struct Interface {
     alloc: Global,
     names: Vec<(Vec<u8>, Views)>,
     places: HashMap<Vec<u8>, usize>,
 }
 
-// Written out, as a crate above then lets one go by this call, and needn't prove again how each part is let go.
+// It is written out so that a crate above drops a value by this one call and needn't prove again how each part is dropped.
 impl Drop for Interface {
     fn drop(self) {
         let Interface {
@@ -68,7 +68,7 @@ fn put_place(
 }
 
 impl Interface {
-    /// No names. It takes no memory.
+    /// An interface that declares nothing. It takes no memory.
     pub fn new(alloc: Global) -> Self
         ensures { result ≡ [] }
     {
@@ -94,14 +94,14 @@ impl Interface {
         Some((named.0.as_slice(), named.1.as_slice()))
     }
 
-    /// Where a name stands, none where it isn't declared.
+    /// The place of a name; none if it isn't declared.
     fn place(&self, name: &[u8]) -> Option<usize>
         ensures { result ≡ place_of name.now self.now }
     {
         self.places.get(name).copied()
     }
 
-    /// The views of a name, none where it isn't declared.
+    /// The views of a name; none if it isn't declared.
     pub fn views(&self, name: &[u8]) -> &[View]
         ensures { result.now ≡ views_of self.now name.now }
     {
@@ -114,7 +114,7 @@ impl Interface {
         }
     }
 
-    /// One more view of a name that stands at this place.
+    /// Adds a view of the name at this place.
     fn declare_at(&mut self, name: &[u8], place: usize, view: View) -> Result<(), AllocError>
         requires { place_of name.now self.old ≡ Some place }
         ensures ok { OnOk result (self.new ≡ with_view self.old name.now view) }

@@ -4,13 +4,13 @@ use crate::symbol::Symbol;
 /// What of a declaration the linker places.
 #[derive(Clone, Copy, PartialEq, Eq, PartialOrd, Ord, Hash)]
 pub enum LinkKind {
-    /// Where the code of a subprogram's or a task's body begins.
+    /// The beginning of the code of a subprogram's or a task's body.
     Code,
-    /// Where the gate of an entry begins, which is what its callers call (ARM 9.5.2, 9.5.3).
+    /// The beginning of the gate of an entry, which is what its callers call (ARM 9.5.2, 9.5.3).
     Gate,
-    /// Where the body of an entry begins.
+    /// The beginning of the code of an entry's body.
     EntryBody,
-    /// The word that tells whether the body of a subprogram or of a protected object is elaborated (ARM 3.11(10)).
+    /// The word that says whether the body of a subprogram or of a protected object is elaborated (ARM 3.11(10)).
     Flag,
     /// The first word of an object, of a protected one the first word of its components.
     Data,
@@ -18,7 +18,7 @@ pub enum LinkKind {
     Protected,
 }
 
-/// A symbol for the linker: a subprogram has code and may have a flag beside it, and both go by the one symbol.
+/// A symbol for the linker: a subprogram has code and may have a flag too, and both have the one declaration's symbol.
 #[derive(PartialEq, Eq, PartialOrd, Ord, Hash)]
 pub struct LinkSymbol {
     /// The declaration that it is for.

@@ -6,8 +6,8 @@ use crate::symbol::Symbol;
 use crate::view::{CallKind, View, ViewKind};
 
 impl View {
-    /// Whether it is an operator of the type with this symbol: one that a use clause of the type makes visible
-    /// (ARM 8.4(8.1)).
+    /// Whether the view is of an operator of the type with this symbol: one that a use clause of the type makes visible (ARM
+    /// 8.4(8.1)).
     pub fn is_operator_of(&self, symbol: &Symbol) -> bool
         ensures { result ≡ is_operator_of self.now symbol.now }
     {

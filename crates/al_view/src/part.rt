@@ -14,7 +14,7 @@ pub enum Part {
     Private,
     /// The declarative part of a body.
     Body,
-    /// What stands before the stub of that name in a body (ARM 10.1.3(8)), with the regions round it.
+    /// What comes before the stub of that name in a body (ARM 10.1.3(8)), with the regions round it.
     Stub(Name),
 }
 

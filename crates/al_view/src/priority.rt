@@ -22,7 +22,7 @@ impl Model for Priority {
 }
 
 impl Priority {
-    /// The priority of this level, where there is one.
+    /// The priority of this level, if there is one.
     pub fn new(level: u64) -> Option<Priority>
         ensures { result ≡ (if nat_le level 30 then Some level else None) }
     {

@@ -9,7 +9,7 @@ pub struct Seq<T> {
     items: Vec<T>,
 }
 
-// Written out, as a crate above then lets one go by this call, and needn't prove again how each part is let go.
+// It is written out so that a crate above drops a value by this one call and needn't prove again how each part is dropped.
 impl<T: Drop> Drop for Seq<T> {
     fn drop(self) {
         let Seq { items: _ } = self;

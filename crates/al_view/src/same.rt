@@ -7,7 +7,7 @@ use crate::types::{Bounds, Component, Layout, Names, Subtype, TypeDefinition, Ty
 use crate::unit::is_unit;
 use al_base::{Name, UnitKey};
 
-/// Values that can be told apart: whatever clauses see of them.
+/// Values that can be compared. Two of them are the same if their models are equal.
 pub trait Same {
     /// Whether the two are equal.
     fn is_same(&self, other: &Self) -> bool

@@ -10,11 +10,11 @@ use std::alloc::Global;
 /// ordered by unit, name and number.
 #[derive(PartialEq, Eq, PartialOrd, Ord, Hash)]
 pub struct Symbol {
-    /// The unit whose text declares it.
+    /// The unit whose source declares it.
     pub unit: UnitKey,
-    /// Its name in lower case; of an operator, its symbol.
+    /// The name in lower case; for an operator its symbol.
     pub name: Name,
-    /// How many declarations of that name stand before it in that unit, in all its parts and in all bodies there.
+    /// How many declarations of that name come before it in that unit, in all its parts and in all bodies there.
     pub number: usize,
 }
 

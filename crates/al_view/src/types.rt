@@ -10,7 +10,7 @@ use std::alloc::{AllocError, Global};
 use std::marker::Model;
 use std::rc::Rc;
 
-/// The value of a static expression (ARM 4.9): the word that stands for it. Of an enumeration value it is the position.
+/// The value of a static expression (ARM 4.9): the word that stands for it. For an enumeration value it is the position.
 #[derive(Clone, Copy)]
 pub struct StaticValue {
     /// The word, of 64 bits.
@@ -56,7 +56,7 @@ impl Drop for Component {
 pub enum TypeDefinition {
     /// An integer type with these bounds (ARM 3.5.4).
     Integer(Bounds),
-    /// An enumeration type of so many literals (ARM 3.5.1). Their names stand where the type or a subtype of it is declared.
+    /// An enumeration type of so many literals (ARM 3.5.1). Their names are in the views of the type and of its subtypes.
     Enumeration { literals: u32 },
     /// A constrained array type of one dimension (ARM 3.6).
     Array { index: Subtype, component: Subtype },
@@ -64,7 +64,7 @@ pub enum TypeDefinition {
     Record(Seq<Component>),
     /// A moment or a span of time (ARM D.8), one word that is never checked against a range.
     Time,
-    /// A private type where only its partial view is seen (ARM 7.3).
+    /// A private type of which only the partial view is seen (ARM 7.3).
     Private,
 }
 
@@ -86,13 +86,13 @@ impl Drop for TypeDefinition {
 
 /// How the values of a type lie in memory, in words.
 pub enum Layout {
-    /// One word.
+    /// A scalar value: one word.
     Scalar,
     /// The components in order, each of so many words.
     Array { component: u32, words: u32 },
     /// The components in order, each from its offset on.
     Record { offsets: Seq<u32>, words: u32 },
-    /// So many words, of which no more is known (ARM 7.3).
+    /// A value of so many words, of which no more is known (ARM 7.3).
     Words(u32),
 }
 
@@ -151,7 +151,7 @@ impl Subtype {
 }
 
 impl TypeDefinition {
-    /// The bounds of a scalar type, positions where it is an enumeration; none of another.
+    /// The bounds of a scalar type, which are positions if it is an enumeration; none for another type.
     pub fn bounds(&self) -> Option<Bounds>
         ensures { result ≡ definition_bounds self.now }
     {
@@ -185,7 +185,7 @@ pub struct Names {
     names: Rc<Seq<Name>>,
 }
 
-// Written out, as a crate above then lets one go by this call, and needn't prove again how each part is let go.
+// It is written out so that a crate above drops a value by this one call and needn't prove again how each part is dropped.
 impl Drop for Names {
     fn drop(self) {
         let Names { names: _ } = self;
@@ -238,7 +238,7 @@ pub struct Types {
     types: Rc<Seq<TypeView>>,
 }
 
-// Written out, as a crate above then lets one go by this call, and needn't prove again how each part is let go.
+// It is written out so that a crate above drops a value by this one call and needn't prove again how each part is dropped.
 impl Drop for Types {
     fn drop(self) {
         let Types { types: _ } = self;
@@ -274,7 +274,7 @@ impl Types {
         self.types.as_slice()
     }
 
-    /// The type with this symbol, where it is one of these.
+    /// The type with this symbol, if it is one of these.
     pub fn find(&self, symbol: &Symbol) -> Option<&TypeView>
         ensures { option_copied result ≡ type_in self.now symbol.now }
     {

@@ -10,9 +10,9 @@ use std::alloc::{AllocError, Global};
 use std::marker::Model;
 use std::rc::Rc;
 
-/// A declaration as other units see it. It has no name and no place: its name is the one that it was asked for by.
-/// It holds each type that it is of with its definition, through all components, each once and components first; those
-/// of Standard, which every unit has, only where it is one of them.
+/// A declaration as other units see it. It has no name and no place: its name is the one that was looked up. It holds the
+/// definitions of its types, through all components, each once and components first. Those of Standard, which every unit has, it
+/// holds only if it is one of them itself.
 pub enum ViewKind {
     /// A type (ARM 3.2.1).
     OfType(DeclaredType),
@@ -33,8 +33,8 @@ pub enum ViewKind {
     OfTask(TaskView),
     /// A single protected object (ARM 9.4).
     OfProtected(ProtectedView),
-    /// A package of the library, which other units see only where its name is mentioned (ARM 10.1.2): its symbol. No
-    /// part of a unit declares one.
+    /// A package of the library, which other units see only if they mention its name (ARM 10.1.2), by its symbol. No part of a unit
+    /// declares one.
     OfPackage(Symbol),
 }
 
@@ -55,7 +55,7 @@ impl Drop for ViewKind {
     }
 }
 
-/// A type where it is declared. Other views don't have the names of its literals, so that n of them aren't compared n times.
+/// The declaration of a type. Other views don't have the names of its literals, so that n literals aren't compared n times.
 pub struct DeclaredType {
     /// The types that it is of, itself last.
     pub types: Types,
@@ -83,12 +83,12 @@ pub struct SubtypeView {
     pub literals: Names,
 }
 
-/// Where an object or a flag lies.
+/// The place of an object or a flag.
 pub enum ObjectPlace {
-    /// In the frame of the body at this depth of nesting, 1 of the outermost, from this word on.
+    /// It is in the frame of the body at this depth of nesting, from this word on. The outermost body has depth 1.
     Frame { depth: u32, word: u32 },
-    /// In the words of a unit that the symbol stands for, from this word of them on. A protected object's symbol stands for
-    /// its components, where an object is meant, and for its flag where a flag is.
+    /// It is in the words of a unit that the symbol stands for, from this word of them on. A protected object's symbol stands for
+    /// its components in the place of an object, and for its flag in the place of a flag.
     Static { symbol: Symbol, word: u32 },
 }
 
@@ -221,8 +221,7 @@ impl Drop for Profile {
 pub enum CallKind {
     /// A predefined operator (ARM 4.5), with the type that declares it (ARM 3.2.1(9), 3.2.3(6)).
     Operator { of_type: Symbol },
-    /// A subprogram that the body at this depth of nesting declares, 1 of the outermost; 0 where it is declared at library
-    /// level.
+    /// A subprogram that the body at this depth of nesting declares. The outermost body has depth 1; library level is 0.
     Subprogram { depth: u32 },
     /// A subprogram of a predefined unit (ARM A).
     Predefined,
@@ -254,7 +253,7 @@ pub struct SubprogramView {
     pub types: Types,
     /// How it is called.
     pub call: CallKind,
-    /// Where it has a declaration of its own: what tells that its body is elaborated (ARM 3.11(10)).
+    /// The flag that says whether its body is elaborated (ARM 3.11(10)), if it has a declaration of its own.
     pub flag: Option<ObjectPlace>,
 }
 
@@ -335,7 +334,7 @@ pub struct View {
     kind: Rc<ViewKind>,
 }
 
-// Written out, as a crate above then lets one go by this call, and needn't prove again how each part is let go.
+// It is written out so that a crate above drops a value by this one call and needn't prove again how each part is dropped.
 impl Drop for View {
     fn drop(self) {
         let View { kind: _ } = self;

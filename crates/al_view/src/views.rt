@@ -10,7 +10,7 @@ pub struct Views {
     views: Vec<View>,
 }
 
-// Written out, as a crate above then lets one go by this call, and needn't prove again how each part is let go.
+// It is written out so that a crate above drops a value by this one call and needn't prove again how each part is dropped.
 impl Drop for Views {
     fn drop(self) {
         let Views { views: _ } = self;
@@ -27,7 +27,7 @@ impl Model for Views {
 }
 
 impl Views {
-    /// No views. It takes no memory.
+    /// A list without views. It takes no memory.
     pub fn new(alloc: Global) -> Self
         ensures { result ≡ [] }
     {

@@ -71,7 +71,7 @@ real_time =
     let sum = with_operator time time_types Later [] clock Plus in
     with_time_function milliseconds time_span span_types sum (codes "milliseconds")
 
--- what the predefined package of this name declares (ARM A(2)), where there is one
+-- what the predefined package of this name declares (ARM A(2)), if there is one
 abbrev pub predefined : List ℕ → Option Declarations
 predefined name =
     if bytes_eq name (codes "standard") then Some standard

@@ -1,4 +1,4 @@
--- What is told of the predefined declarations.
+-- What holds of the predefined declarations.
 use Rattle.std.specs.Prelude.{ℕ, Bool, true, ◌&&◌, not, List, [], ◌∷◌, map, codes}
 use Rattle.std.specs.List.{list_all, list_any}
 use Rattle.al_view.specs.declared.view.ViewKind.{ViewKind}

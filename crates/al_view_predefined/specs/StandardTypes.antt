@@ -10,7 +10,7 @@ use Rattle.al_view_predefined.specs.Operators.{operators_of, standard_symbol, wi
 use Rattle.al_view_predefined.specs.Standard.{boolean_types, integer_types, scalar}
 use Rattle.std.specs.Option.{option_or}
 
--- the root type of all integer types (ARM 3.4.1(8)), which no text can name
+-- the root type of all integer types (ARM 3.4.1(8)), which no source can name
 abbrev pub root_integer : Symbol
 root_integer = standard_symbol (codes "root_integer")
 

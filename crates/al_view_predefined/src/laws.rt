@@ -1,4 +1,4 @@
-//! What is told of the predefined declarations.
+//! What holds of the predefined declarations.
 ghost use Rattle.std.specs.Prelude.{◌≡◌, true};
 ghost use Rattle.al_view_predefined.specs.Standard.{standard};
 ghost use Rattle.al_view_predefined.specs.Predefined.{real_time, text_io};

@@ -194,7 +194,7 @@ fn whole_span(alloc: Global) -> Result<Subtype, NoMemory>
     Ok(Subtype { base, bounds: None })
 }
 
-/// One parameter of mode `in`.
+/// A list of one parameter of mode `in`.
 pub(crate) fn one_operand(
     alloc: Global,
     name: &[u8],
@@ -338,7 +338,7 @@ pub fn operator_view(
     Ok(view)
 }
 
-/// One more operator of the type. Its number counts its homonyms in the interface and in what its unit declares elsewhere.
+/// Declares one more operator of the type. Its number counts its homonyms in the interface and in what its unit declares elsewhere.
 ///
 /// # Errors
 ///
@@ -495,7 +495,7 @@ pub fn declare_operators(
     Ok(())
 }
 
-/// The same, where the unit declares nothing elsewhere.
+/// Declares the operators of a type, if the unit declares nothing elsewhere.
 pub(crate) fn declare_first_operators(
     alloc: Global,
     interface: &mut Interface,
@@ -511,7 +511,7 @@ pub(crate) fn declare_first_operators(
     declared
 }
 
-/// The operators of an integer type, where the unit declares nothing elsewhere.
+/// Declares the operators of an integer type, if the unit declares nothing elsewhere.
 pub(crate) fn declare_integer_operators(
     alloc: Global,
     interface: &mut Interface,

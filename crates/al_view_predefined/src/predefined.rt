@@ -20,7 +20,7 @@ use al_view::{
 };
 use std::alloc::Global;
 
-/// What the predefined package of this name in lower case declares, where there is one (ARM A(2)).
+/// What the predefined package of this name in lower case declares, if there is one (ARM A(2)).
 ///
 /// # Errors
 ///
@@ -78,7 +78,7 @@ fn text_procedure(alloc: Global, parameters: Seq<Parameter>, name: &[u8]) -> Res
     Ok(view)
 }
 
-/// One more procedure of `Ada.Text_IO`.
+/// Declares one more procedure of `Ada.Text_IO`.
 fn declare_procedure(
     alloc: Global,
     interface: &mut Interface,
@@ -142,7 +142,7 @@ fn time_function(
     Ok(view)
 }
 
-/// One more function of `Ada.Real_Time`.
+/// Declares one more function of `Ada.Real_Time`.
 fn declare_function(
     alloc: Global,
     interface: &mut Interface,
@@ -227,7 +227,7 @@ fn time_type(alloc: Global, name: &[u8]) -> Result<(Symbol, Types), NoMemory>
     Ok((symbol, types))
 }
 
-/// Time_Span, after what is told of Time, and the functions.
+/// Declares Time_Span, after Time, and the functions.
 fn declare_spans(
     alloc: Global,
     interface: &mut Interface,

@@ -66,7 +66,7 @@ impl StandardTypes {
         }
     }
 
-    /// Its bounds, where it is a scalar type; positions where it is an enumeration.
+    /// The bounds of the type with this symbol, if it is scalar. They are positions if it is an enumeration.
     pub fn bounds_of(&self, types: &Types, symbol: &Symbol) -> Option<Bounds>
         ensures { result ≡ option_and_then (λ of. definition_bounds of.definition) (type_of types.now symbol.now) }
     {
@@ -76,7 +76,7 @@ impl StandardTypes {
         }
     }
 
-    /// How many words its values take.
+    /// How many words the values of the type with this symbol take.
     pub fn words_of(&self, types: &Types, symbol: &Symbol) -> Option<u32>
         ensures { result ≡ option_map (λ of. layout_words of.layout) (type_of types.now symbol.now) }
     {
@@ -132,7 +132,7 @@ fn one(symbol: Symbol, definition: TypeDefinition) -> TypeView
     }
 }
 
-/// What the root type of all integer types is known by (ARM 3.4.1(8)). No text can name it.
+/// The symbol of the root type of all integer types (ARM 3.4.1(8)). No source can name it.
 ///
 /// # Errors
 ///

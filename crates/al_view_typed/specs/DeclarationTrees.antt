@@ -1,4 +1,4 @@
--- What declarations do where they stand, as plain data, and what the program's are.
+-- What declarations do when they are elaborated, as plain data, and what the program's are.
 use Rattle.std.specs.Prelude.{ℕ, List, Option, map, option_map}
 use Rattle.al_view.specs.declared.symbol.Symbol.{Symbol}
 use Rattle.al_view.specs.declared.view.ObjectPlace.{ObjectPlace}
@@ -18,7 +18,7 @@ pub record ComponentValueTree : Type 0 where
 pub data DeclarationFormTree : Type 0 where
   -- objects of so many words each, with their initial value
   Objects : List ObjectPlace → ℕ → Option ValueTree → DeclarationFormTree
-  -- what tells that the body is elaborated begins with no
+  -- the flag that says whether the body is elaborated begins with no
   Subprogram : ObjectPlace → DeclarationFormTree
   -- the body is elaborated from here on
   Elaborated : ObjectPlace → DeclarationFormTree

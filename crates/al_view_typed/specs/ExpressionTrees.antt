@@ -34,7 +34,7 @@ mutual
 
   -- what has an address
   pub data NameTree : Type 0 where
-    -- where the object lies, and whether it is a constant
+    -- the place of the object, and whether it is a constant
     ObjectName : ObjectPlace → Bool → NameTree
     -- from this word of the record on
     ComponentName : NameTree → ℕ → NameTree
@@ -58,6 +58,7 @@ mutual
     NoActual : ActualsTree
     MoreActuals : ActualTree → ActualsTree → ActualsTree
 
-  -- what is called, what tells that it is elaborated, the words of the actuals, these in the order of the formals
+  -- what is called, the flag that says whether it is elaborated, the words of the actuals, and the actuals in the order of the
+  -- formals
   pub data CallTree : Type 0 where
     Called : Callee → Option ObjectPlace → ℕ → ActualsTree → CallTree

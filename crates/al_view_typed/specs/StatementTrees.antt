@@ -37,7 +37,7 @@ mutual
     PutStatement : List PieceTree → Bool → StatementFormTree
     -- the value of a function, and its words
     ReturnStatement : Option ValueTree → ℕ → StatementFormTree
-    -- how many loops stand between it and the one that is left, and the condition
+    -- how many loops are between it and the one that is left, and the condition
     ExitStatement : ℕ → Option TypedTree → StatementFormTree
     DelayStatement : TypedTree → StatementFormTree
     IfStatement : BranchesTree → StatementsTree → StatementFormTree

@@ -28,7 +28,7 @@ pub record BodyTree : Type 0 where
   pub formals : List FormalWords
   pub inside : ElaborationTree
 
--- a unit: its elaboration, its bodies in text order, the words of its objects, flags and protected objects
+-- a unit: its elaboration, its bodies in source order, the words of its objects, flags and protected objects
 pub record UnitTree : Type 0 where
   pub unit : UnitKey
   pub elaboration : Option ElaborationTree

@@ -1,4 +1,4 @@
--- Which labelled units can be made code of as they stand.
+-- For which labelled units code can be made.
 use Rattle.std.specs.Prelude.{ℕ, ◌+◌, ◌≤◌}
 use Rattle.std.specs.List.{All}
 use Rattle.al_view_typed.specs.UnitTrees.{UnitTree}

@@ -1,4 +1,4 @@
-// What a declaration does where it stands (ARM 3.11).
+// What a declaration does when it is elaborated (ARM 3.11).
 ghost use Rattle.std.specs.Prelude.{◌≡◌, map, option_map};
 ghost use Rattle.al_view_typed.specs.DeclarationTrees.{declaration_model, form_model, DeclarationFormTree as forms};
 ghost use Rattle.al_view_typed.specs.ExpressionViews.{value_model};
@@ -6,7 +6,7 @@ ghost use Rattle.al_view_typed.specs.ExpressionViews.{value_model};
 use crate::expression::CheckedValue;
 use al_view::{ObjectPlace, Priority, Seq, Symbol};
 
-/// A declaration or body that does something where it stands, with the line of its first token.
+/// A declaration or body that does something when it is elaborated, with the line of its first token.
 pub struct TypedDeclaration {
     /// The line of its first token, from 1.
     pub line: usize,
@@ -49,8 +49,8 @@ pub enum DeclarationForm {
         words: u32,
         value: Option<CheckedValue>,
     },
-    /// A subprogram's declaration: what tells that its body is elaborated begins with no (ARM 3.11(10)). A flag among a unit's
-    /// words does so by itself.
+    /// A subprogram's declaration: the flag that says whether its body is elaborated begins with no (ARM 3.11(10)). A flag among a
+    /// unit's words does so by itself.
     Subprogram(ObjectPlace),
     /// A body or stub of what has a declaration of its own: its body is elaborated from here on (ARM 3.11(10), 10.1.3).
     Elaborated(ObjectPlace),

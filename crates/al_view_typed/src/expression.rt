@@ -29,8 +29,8 @@ pub enum Form {
     Unary(UnaryOperator, Box<Typed>),
     Binary(BinaryOperator, Box<Typed>, Box<Typed>),
     ShortCircuit(ShortCircuit, Box<Typed>, Box<Typed>),
-    /// A membership test (ARM 4.5.2(3)): the value, whether it has a `not`, both bounds, and the word of the frame that keeps
-    /// the value meanwhile, 0 where the test is static.
+    /// A membership test (ARM 4.5.2(3)): the value, whether it has a `not`, both bounds, and the word of the frame that keeps the
+    /// value meanwhile, which is 0 if the test is static.
     Membership {
         value: Box<Typed>,
         is_negated: bool,
@@ -73,7 +73,7 @@ pub enum TypedName {
     },
 }
 
-// What stands before a component is let go by the loop, so that no name takes more of the stack than its nesting.
+// The loop drops what comes before a component, so that no name takes more of the stack than its nesting.
 impl Drop for TypedName {
     #[cycle(drop)]
     fn drop(mut self) {
@@ -95,8 +95,8 @@ impl Drop for TypedName {
     }
 }
 
-/// A value with the range that it is checked against where it is stored, passed, returned, converted or qualified
-/// (ARM 3.2.2(11), 4.6, 4.7); none of what isn't scalar.
+/// A value with the range that it is checked against when it is stored, passed, returned, converted or qualified (ARM 3.2.2(11),
+/// 4.6, 4.7). A value that isn't scalar has none.
 #[cycle(expression)]
 pub struct CheckedValue {
     /// The expression.
@@ -119,10 +119,10 @@ impl Drop for CheckedValue {
 #[derive(Drop)]
 #[cycle(expression)]
 pub enum Actual {
-    /// Of a formal of mode `in`.
+    /// The actual of a formal of mode `in`.
     In(CheckedValue),
-    /// Of a formal of mode `out` or `in out`, which is copied back: the variable, its number of words, the mode, the ranges of
-    /// the formal and of the variable, and the word of the frame that keeps its address meanwhile.
+    /// The actual of a formal of mode `out` or `in out`, which is copied back: the variable, its number of words, the mode, the
+    /// ranges of the formal and of the variable, and the word of the frame that keeps its address meanwhile.
     Variable {
         name: TypedName,
         words: u32,
@@ -135,8 +135,7 @@ pub enum Actual {
 
 /// What is called. Operators and the subprograms of predefined packages are forms of their own.
 pub enum Callee {
-    /// A subprogram that the body at this depth of nesting declares, 1 of the outermost; 0 where it is declared at library
-    /// level (ARM 6.4).
+    /// A subprogram that the body at this depth of nesting declares (ARM 6.4). The outermost body has depth 1; library level is 0.
     Subprogram { symbol: Symbol, depth: u32 },
     /// A subprogram of a protected object (ARM 9.5.1).
     Protected(Symbol),
@@ -162,11 +161,11 @@ impl Drop for Callee {
 pub struct TypedCall {
     /// What is called.
     pub callee: Callee,
-    /// What tells that its body is elaborated (ARM 3.11(10)), where there is something to tell.
+    /// The flag that says whether its body is elaborated (ARM 3.11(10)); none if no check is needed.
     pub flag: Option<ObjectPlace>,
     /// How many words the actuals take together.
     pub words: u32,
-    /// In the order of the formals.
+    /// The actuals, in the order of the formals.
     pub actuals: Vec<Actual>,
 }
 
@@ -365,8 +364,8 @@ impl Form {
     }
 }
 
-// A chain of operators leans to the left: what stands at the left is let go by the loop, and all else of a form by a call, so that no
-// chain takes more of the stack than its nesting.
+// A chain of operators leans to the left: the loop drops what is at the left, and a call drops all else of a form, so that no chain
+// takes more of the stack than its nesting.
 impl Drop for Form {
     #[cycle(drop)]
     fn drop(mut self) {
@@ -451,7 +450,7 @@ impl TypedName {
 }
 
 impl CheckedValue {
-    /// A value with the range that it is checked against, where there is one.
+    /// A value with the range that it is checked against, if there is one.
     #[tactic(auto, using(crate::proofs::ExpressionsMade::value_made))]
     pub fn new(value: Typed, bounds: Option<Bounds>) -> CheckedValue
         ensures { value_model result ≡ value_trees.Checked (typed_model value) bounds }
@@ -526,7 +525,7 @@ fn both_boxed<T: Drop, U: Drop>(
     Ok((left, right))
 }
 
-/// The same of three.
+/// A box for each of three expressions.
 fn all_boxed<T: Drop>(
     alloc: Global,
     value: T,

@@ -22,20 +22,20 @@ impl Drop for ExpressionType {
 /// What an expression is labelled with.
 #[derive(Drop)]
 pub struct Labels {
-    /// Where its first token stands.
+    /// The place of its first token.
     pub place: Place,
-    /// Its type (ARM 8.6).
+    /// The type of the expression (ARM 8.6).
     pub of: ExpressionType,
-    /// The range of its nominal subtype, where it is a scalar name of an object or of a part of one, a call, a conversion or a
+    /// The range of its nominal subtype, if it is a scalar name of an object or of a part of one, a call, a conversion or a
     /// qualified expression whose subtype is static (ARM 3.3(23), 4.9(26), 5.4(7)).
     pub bounds: Option<Bounds>,
     /// How many words its value takes.
     pub words: u32,
-    /// Its value, where it is static (ARM 4.9). The code of such an expression is its value, whatever its form is.
+    /// The value of the expression, if it is static (ARM 4.9). The code of such an expression is its value, whatever its form is.
     pub value: Option<StaticValue>,
 }
 
-/// An operator in front of its operand (ARM 4.5.4, 4.5.6).
+/// An operator before its operand (ARM 4.5.4, 4.5.6).
 #[derive(Clone, Copy)]
 pub enum UnaryOperator {
     Plus,

@@ -16,7 +16,8 @@ pub enum Piece {
     Text(Seq<u8>),
     /// `S'Image (value)` of an integer type (ARM 3.5(35)).
     IntegerImage(Typed),
-    /// The same of an enumeration type, with the names of its literals in upper case, by position, each of at most 255 bytes.
+    /// `S'Image (value)` of an enumeration type, with the names of its literals in upper case, by position, each of at most 255
+    /// bytes.
     EnumerationImage { value: Typed, names: Seq<Name> },
 }
 
@@ -34,8 +35,8 @@ impl Drop for Piece {
 pub enum LoopScheme {
     Forever,
     While(Typed),
-    /// From one bound to the other, with the range of the mark that stands before `range`, and the two words of the frame that
-    /// keep the parameter and the last value that it is to have.
+    /// A loop from one bound to the other, with the range of the mark before `range`, and the two words of the frame that keep the
+    /// parameter and the last value that it is to have.
     For {
         is_reverse: bool,
         low: Typed,
@@ -83,7 +84,7 @@ impl Drop for TypedStatement {
 #[cycle(statement)]
 pub enum StatementForm {
     Null,
-    /// To a target of so many words (ARM 5.2).
+    /// An assignment to a target of so many words (ARM 5.2).
     Assignment {
         target: TypedName,
         words: u32,
@@ -101,19 +102,20 @@ pub enum StatementForm {
         value: Option<CheckedValue>,
         words: u32,
     },
-    /// An exit statement (ARM 5.7): how many loops stand between it and the loop that is left, and its condition.
+    /// An exit statement (ARM 5.7): how many loops are between it and the loop that is left, and its condition.
     Exit {
         loops: u32,
         condition: Option<Typed>,
     },
     /// `delay until moment` (ARM 9.6)
     Delay(Typed),
-    /// ARM 5.3; no statements after `else` where there is none.
+    /// An if statement (ARM 5.3), with no statements after `else` if there is no `else`.
     If {
         branches: Vec<Branch>,
         otherwise: Vec<TypedStatement>,
     },
-    /// ARM 5.4, with the word of the frame that keeps the selector's value; no other statements where there is no `others`.
+    /// A case statement (ARM 5.4), with the word of the frame that keeps the selector's value, and with no other statements if
+    /// there is no `others`.
     Case {
         selector: Typed,
         slot: u32,
@@ -175,7 +177,7 @@ impl Drop for StatementForm {
     }
 }
 
-/// A condition and what is done where it holds (ARM 5.3), with the line of `if` or `elsif`.
+/// A condition and what is done if it holds (ARM 5.3), with the line of `if` or `elsif`.
 #[cycle(statement)]
 pub struct Branch {
     /// The line of `if` or `elsif`, from 1.
@@ -287,7 +289,7 @@ impl StatementForm {
         StatementForm::Delay(moment)
     }
 
-    /// Branches, and what is done where no condition holds.
+    /// Branches, and what is done if no condition holds.
     #[tactic(auto, using(crate::proofs::StatementsMade::if_made))]
     pub fn branching(branches: Vec<Branch>, otherwise: Vec<TypedStatement>) -> StatementForm
         ensures { statement_form_model result ≡ form_trees.IfStatement (branches_of (map branch_model branches.items)) (statements_of (map statement_model otherwise.items)) }

@@ -39,11 +39,12 @@ impl Drop for EntryOf {
 
 /// What has a body.
 pub enum BodyKind {
-    /// With the number of words that it copies back: those of its formals of mode `out` and `in out` (ARM 6.3, 6.4.1(17)).
+    /// A procedure, with the number of words that it copies back: those of its formals of mode `out` and `in out` (ARM 6.3,
+    /// 6.4.1(17)).
     Procedure {
         copied: u32,
     },
-    /// With the number of words of its result, and the line of its `end` (ARM 6.3, 6.5(20)).
+    /// A function, with the number of words of its result and the line of its `end` (ARM 6.3, 6.5(20)).
     Function {
         words: u32,
         end: usize,
@@ -118,8 +119,8 @@ impl Drop for Elaboration {
     }
 }
 
-/// A body: of what, at which depth of nesting, with which parameters. The depth is in how many bodies it stands, itself
-/// counted, so 1 at library level. The elaboration of a unit has depth 1 too.
+/// A body: of what, at which depth of nesting, with which parameters. The depth is in how many bodies it lies, itself counted, so 1
+/// at library level. The elaboration of a unit has depth 1 too.
 pub struct TypedBody {
     /// The symbol of what it is the body of.
     pub symbol: Symbol,
@@ -193,7 +194,7 @@ pub struct TypedUnit {
     pub bodies: Vec<TypedBody>,
     /// How many words its objects, flags and protected objects take.
     pub words: u32,
-    /// Its objects, those in protected objects apart.
+    /// Its objects, without those in protected objects.
     pub objects: Seq<DataPlace>,
     /// The flags of its subprograms and protected objects.
     pub flags: Seq<DataPlace>,
@@ -216,7 +217,7 @@ impl Drop for TypedUnit {
 }
 
 impl ProtectedWords {
-    /// The words of a protected object with this ceiling, where there is such a priority.
+    /// The words of a protected object with this ceiling, if there is such a priority.
     pub fn new(symbol: Symbol, word: u32, words: u32, ceiling: u64) -> Option<ProtectedWords>
         ensures { result ≡ (if nat_le ceiling 30 then Some (record { symbol = symbol; word = word; words = words; ceiling = ceiling }) else None) }
     {
