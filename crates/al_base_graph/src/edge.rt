@@ -12,8 +12,11 @@ use std::alloc::{AllocError, Global};
 /// Why an item comes after another one. The first reason is `Depends`.
 #[derive(Clone, Copy)]
 pub enum Reason {
+    /// The one depends on the other.
     Depends,
+    /// The one names the other in a pragma Elaborate.
     Elaborate,
+    /// The one needs the other by a pragma Elaborate_All.
     ElaborateAll,
 }
 
@@ -50,7 +53,7 @@ fn is_upto(one: &Edge, two: &Edge) -> bool
     a < b || (a == b && (one.x < two.x || (one.x == two.x && one.y <= two.y)))
 }
 
-// The tie that a line names: the one found so far, or one more.
+// The edge that `line` gives: the one found so far, or one more.
 fn first_of(found: Option<Edge>, edge: Edge) -> Edge
     ensures { MatchOption found (result ≡ edge) (λ f. ((result ≡ f) × IsUpto f edge) ⊎ ((result ≡ edge) × (IsUpto f edge → ⊥))) }
 {
@@ -60,7 +63,7 @@ fn first_of(found: Option<Edge>, edge: Edge) -> Edge
     }
 }
 
-/// The tie that a line names: of those between two nodes the one with the first reason, then the least x, then the least y.
+/// The edge that stands for all edges between two nodes: the one with the first reason, then the least x, then the least y.
 pub fn line(edges: &[Edge], after: usize, before: usize) -> Option<Edge>
     ensures { MatchOption result ((t : Edge) → Contains edges.now t → IsBetween after before t → ⊥) (IsLine edges.now after before) }
 {
@@ -85,7 +88,7 @@ fn graph_of(alloc: Global, count: usize, edges: &[Edge]) -> Result<Graph, AllocE
     Ok(graph)
 }
 
-// The lines of a cycle.
+// The edges of a cycle, one for each step.
 fn lines_of(alloc: Global, edges: &[Edge], cycle: &[usize]) -> Result<Vec<Edge>, AllocError>
     requires { (i : ℕ) → i < length cycle.now → (t : Edge) × Contains edges.now t × IsBetween (slice_index cycle.now i) (next_in cycle.now i) t }
     ensures { IfOk result (λ lines. AreLines edges.now cycle.now lines.items) }

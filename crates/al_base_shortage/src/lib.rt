@@ -1,5 +1,8 @@
-//! How often memory was wanted and not given. Who keeps the count says so of each want of memory that it answers: there is none
-//! without a growth that was refused.
+//! The count of calls that failed because the allocator refused memory.
+//!
+//! A *growth* is a call that may ask the allocator for memory. A function that keeps the count (`AllocFailures`) raises it by one if
+//! it fails for memory, and its code can do so only with the result of a growth that was refused. So it cannot report that memory
+//! is short without a refused growth.
 #![tactic(auto)]
 
 mod failures;

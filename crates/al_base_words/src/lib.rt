@@ -1,4 +1,7 @@
-//! What users are told of rules that are broken and of refusals, in words. Only who writes replies stands on it.
+//! The words that are printed for rules and for refusals. Only crates that write replies use it.
+//!
+//! - `message`: what a diagnostic prints for the rule of a number, as `E401 not visible`.
+//! - `refusal`: the word that a reply gives for a refusal.
 #![tactic(auto)]
 
 mod message;

@@ -68,6 +68,7 @@ pub struct Compiled {
 pub enum Object {
     /// The unit has no object: its code is longer than that of any image.
     Large,
+    /// The unit has this object.
     Compiled(Compiled),
 }
 

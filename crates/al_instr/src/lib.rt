@@ -1,4 +1,11 @@
 //! The machine's instructions and their bytes.
+//!
+//! An instruction is one byte for its number and then its operands, in all numbers the highest byte first. A *line table* says from
+//! which places on code is of which lines of its unit's source.
+//!
+//! - `instruction`, `numbers`, `text`: instructions, their numbers, and the bytes that a program puts out.
+//! - `reading`, `fault`: reading an instruction, and why bytes are none.
+//! - `lines`: line tables.
 #![tactic(auto)]
 
 mod fault;

@@ -21,7 +21,7 @@ fn mark_len(text: &[u8]) -> usize
     }
 }
 
-/// The place after a piece that stands at `place`.
+/// The place after a piece that is at `place`.
 #[inline(always)]
 fn after(place: Place, piece: Piece) -> Place
     requires line { place.line + 1 < 2 ^ 32 }

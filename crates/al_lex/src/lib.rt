@@ -1,9 +1,14 @@
-//! Cuts a text into tokens.
+//! Cuts a source into tokens.
 //!
-//! `lexed` (`specs/Tokens.antt`) is what a text means: its tokens, or its first fault; `lex` computes it, and `end_place`
-//! the place after the text. `specs/Shapes.antt` says what words, numbers, strings, delimiters, comments and line ends
-//! are as whole lists of bytes. The functions of `laws` have no code: their contracts say that a text is cut in one way
+//! `lexed` (`specs/Tokens.antt`) is what a source means: its tokens, or its first fault; `lex` computes it, and `end_place`
+//! the place after the source. `specs/Shapes.antt` says what words, numbers, strings, delimiters, comments and line ends
+//! are as whole lists of bytes. The functions of `laws` have no code: their contracts say that a source is cut in one way
 //! into pieces, each the longest of any sort that begins where the one before ended.
+//!
+//! A *piece* is a lexeme or what separates lexemes; a *token* is a lexeme with its kind and its span.
+//!
+//! - `lexing`, `pieces`: tokens, and the piece at the beginning of a source.
+//! - `words`, `numbers`, `strings`, `delimiter`, `bytes`: pieces by their sort.
 #![tactic(auto)]
 
 mod bytes;

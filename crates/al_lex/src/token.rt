@@ -10,12 +10,15 @@ use std::alloc::{AllocError, AllocFailed};
 /// What a lexeme is.
 #[derive(Clone, Copy)]
 pub enum Kind {
+    /// An identifier (ARM 2.3).
     Identifier,
+    /// A reserved word (ARM 2.9).
     Reserved(ReservedWord),
     /// A number; `number_value` gives its value.
     Number,
     /// A string with its quotes.
     Str,
+    /// A delimiter (ARM 2.2).
     Delimiter(Delimiter),
 }
 
@@ -73,6 +76,7 @@ pub struct LexFault {
 /// Why a source has no tokens.
 #[derive(Drop)]
 pub enum LexError {
+    /// The source has this lexical fault.
     Fault(LexFault),
     /// The allocator refused memory.
     NoMemory,

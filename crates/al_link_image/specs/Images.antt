@@ -93,7 +93,7 @@ abbrev pub IsNotDamaged : {X : Type 0} → Result X LinkFault → Type 0
 IsNotDamaged (Ok x) = Unit {0}
 IsNotDamaged (Err fault) = IsNoDamage fault
 
--- what was read is the image, unless memory was wanted
+-- what was read is the image, unless the allocator refused memory
 abbrev pub IsReadAs : Image → Result Image LinkFault → Type 0
 IsReadAs image (Ok read) = read ≡ image
 IsReadAs image (Err fault) = IsNoDamage fault

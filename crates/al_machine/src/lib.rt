@@ -1,4 +1,14 @@
 //! The instructions of compiled programs, and what each does to memory and the stack of the running task.
+//!
+//! Memory is a vector of words of 64 bits. The *registers* of a task are the first of its stack words, the first word of its frame,
+//! and the place after the last word on its stack. A *trap* is why an instruction changed nothing: it raises an exception, or is
+//! stuck. A *burst* is many instructions of the running task, carried out in *groups*.
+//!
+//! - `instruction`, `operation`, `code`: instructions, by what they work on, decoded and found by their places.
+//! - `table` with `stack`, `frames`, `memory`, `arithmetic`: what each instruction on words does.
+//! - `output`: what a program puts out.
+//! - `regions`: the protected objects, whose words only the task inside them may touch.
+//! - `burst`, `bursts`, `spot`, `singles`: groups of instructions, and bursts.
 #![tactic(auto)]
 
 mod arithmetic;

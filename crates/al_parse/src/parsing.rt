@@ -22,6 +22,7 @@ pub struct SyntaxFault {
 /// Why tokens have no tree.
 #[derive(Drop)]
 pub enum ParseError {
+    /// The tokens are no compilation unit.
     Syntax(SyntaxFault),
     /// The allocator refused memory.
     NoMemory,

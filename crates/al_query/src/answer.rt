@@ -13,8 +13,11 @@ use std::rc::Rc;
 /// What a unit is (ARM 10.1.1).
 #[derive(Clone, Copy)]
 pub enum UnitForm {
+    /// A package.
     Package,
+    /// A procedure.
     Procedure,
+    /// A function.
     Function,
 }
 
@@ -95,7 +98,7 @@ pub struct UseInPart {
     pub part: Part,
     /// The names of the clause.
     pub clause: UseClause,
-    /// The stubs of a body or subunit that it stands before.
+    /// The stubs of a body or subunit that it comes before.
     pub before: Seq<Name>,
 }
 
@@ -149,6 +152,7 @@ impl Drop for Completion {
 /// What is answered. Of a unit that has faults, or that isn't there, no name has views, no part has names, and each property has
 /// the answer `Nothing`.
 pub enum AnswerKind {
+    /// There is no answer: the unit has faults, or isn't there.
     Nothing,
     /// The views of a name in a part, in source order.
     Views(Views),

@@ -20,7 +20,7 @@ pub trait ReadText: Drop {
     ///
     /// # Errors
     ///
-    /// `NoMemory` where memory was wanted and not given. What is wrong with the text is no error.
+    /// `NoMemory` if the allocator refuses memory. What is wrong with the source is no error.
     fn read(alloc: Global, bytes: Rc<Vec<u8>>) -> Result<Self, NoMemory>
         ensures { IfOk result (λ read. text read ≡ bytes.value.items) };
 }

@@ -135,7 +135,7 @@ impl<E: Logged> Slots<E> {
     ///
     /// # Errors
     ///
-    /// `NoMemory` where memory was wanted and not given: all is the same but for marks of now.
+    /// `NoMemory` if the allocator refuses memory. All is then as before but for marks of now.
     pub fn mark<A: Answers>(&mut self, unit: &UnitKey, asked: &A) -> Result<usize, NoMemory>
         ensures base { SameBase self.old self.new }
         ensures sized { IsSized E.log self.new }

@@ -135,7 +135,7 @@ impl<E: Logged> Store<E> {
     ///
     /// # Errors
     ///
-    /// `NoMemory` where memory was wanted and not given: all is as before.
+    /// `NoMemory` if the allocator refuses memory. All is then as before.
     pub fn make(&mut self, unit: &UnitKey, entry: E) -> Result<(), NoMemory>
         requires { (state self.old unit.now).made ≡ None }
         ensures ok { OnOk result (Changes (with_made E.log entry) unit.now self.old self.new) }
@@ -181,7 +181,7 @@ impl<E: Logged> Store<E> {
     ///
     /// # Errors
     ///
-    /// `NoMemory` where memory was wanted and not given: all is the same but for marks of now.
+    /// `NoMemory` if the allocator refuses memory. All is then as before but for marks of now.
     pub fn mark<A: Answers>(&mut self, unit: &UnitKey, asked: &A) -> Result<usize, NoMemory>
         ensures marked { OnOk result (ComparesUnit E.log (A.table asked.now) unit.now self.old self.new) }
         ensures counted { IfOk result (λ n. HasAnswers E.log (λ u. true) (λ u. same_unit u unit.now) self.old n) }

@@ -47,7 +47,7 @@ impl Reading {
 ///
 /// # Errors
 ///
-/// `NoMemory` where memory is wanted. A text that is no compilation unit is no error.
+/// `NoMemory` if the allocator refuses memory. A source that is no compilation unit is no error.
 #[tactic(auto, using(crate::proofs::Faults::fault_has_no_unit, crate::proofs::Faults::tree_is_found), unfolding(crate::specs::Readings::reading_of))]
 pub fn read(alloc: Global, text: &[u8]) -> Result<Reading, NoMemory>
     requires { length text.now ≤ 4294967294 }

@@ -44,7 +44,7 @@ abbrev pub AreTouched : Library → Library → List (List ℕ) → List Bool �
 AreTouched old new files flags =
     (length files ≤ length flags) × ((a : ℕ) → a < length files → Decides (slice_index_or flags a false) (IsTouched old new (slice_index_or files a [])))
 
--- the unit of a file, if it is obsolete, where a flag says whether a file that it meets is changed
+-- the unit of a file, if it is obsolete; a flag says whether a file that it meets is changed
 abbrev pub obsolete_by : Library → List (List ℕ) → Library → List ℕ → Bool → List Key
 obsolete_by old faulty new file is_touched =
     option_map_or (λ h. if not (is_some (unit_at old (key_of_unit h))) || (is_among bytes_eq file faulty || is_touched) then key_of_unit h ∷ [] else []) (unit_in new file) []

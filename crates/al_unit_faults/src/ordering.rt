@@ -19,7 +19,7 @@ use std::alloc::Global;
 ///
 /// # Errors
 ///
-/// `NoMemory` where memory is wanted.
+/// `NoMemory` if the allocator refuses memory.
 pub fn dependence_order(
     alloc: Global,
     sources: &Sources,

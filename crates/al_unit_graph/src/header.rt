@@ -4,10 +4,15 @@ use al_base::{Name, Place};
 /// What a compilation unit is (ARM 10.1.1, 10.1.3).
 #[derive(Clone, Copy)]
 pub enum UnitForm {
+    /// A library package's declaration.
     PackageDeclaration,
+    /// A library subprogram's declaration.
     SubprogramDeclaration,
+    /// A library package's body.
     PackageBody,
+    /// A library subprogram's body.
     SubprogramBody,
+    /// A subunit.
     SubunitBody,
 }
 

@@ -23,7 +23,7 @@ use std::alloc::Global;
 ///
 /// # Errors
 ///
-/// `NoMemory` where memory is wanted.
+/// `NoMemory` if the allocator refuses memory.
 #[tactic(auto, unfolding(al_tree::specs::UnitViews::unit_model, crate::specs::Units::header_of))]
 pub fn header_of(alloc: Global, unit: &CompilationUnit) -> Result<Header, NoMemory>
     ensures { IfOk result (λ header. header_model header ≡ header_of (unit_model unit.now)) }

@@ -73,7 +73,7 @@ fn private_in(alloc: Global, declarations: &[Declaration]) -> Result<Vec<Name>, 
 ///
 /// # Errors
 ///
-/// `NoMemory` where memory is wanted.
+/// `NoMemory` if the allocator refuses memory.
 pub fn private_types(alloc: Global, item: &LibraryItem) -> Result<Vec<Name>, NoMemory>
     ensures { IfOk result (λ names. names.items ≡ private_types (library_item_model item.now)) }
 {

@@ -1,4 +1,13 @@
 //! Declarations as other units see them.
+//!
+//! A *view* (`View`) is a declaration without its name and place. A *symbol* is what types and code are known by: a unit, a name,
+//! and a number among the declarations of that name in the unit. An *interface* is what a part of a unit declares: its names, each
+//! with its views. A *part* is the visible part, the private part or the body of a unit, or what comes before a stub.
+//!
+//! - `view`, `views`, `types`: declarations, and the types and subtypes that they are of.
+//! - `interface`, `part`, `homographs`, `operators`: the names of a part, and what may be declared together.
+//! - `symbol`, `link`, `unit`: symbols, the symbols of the linker, and keys of units.
+//! - `row`, `same`, `same_views`, `priority`: shared lists, equality, and priorities.
 #![tactic(auto)]
 
 mod homographs;

@@ -175,8 +175,11 @@ impl Drop for LiteralView {
 /// The mode of a formal parameter (ARM 6.1(16)).
 #[derive(Clone, Copy)]
 pub enum Mode {
+    /// `in`, also if no mode is written.
     In,
+    /// `in out`.
     InOut,
+    /// `out`.
     Out,
 }
 

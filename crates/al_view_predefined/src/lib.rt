@@ -1,4 +1,10 @@
 //! The predefined operators of types, what the predefined packages declare, and views of types alone.
+//!
+//! - `standard`, `predefined`: the packages Standard, Ada.Text_IO and Ada.Real_Time, as interfaces.
+//! - `operators`: the operators that the declaration of a type declares (ARM 4.5).
+//! - `types`: the types that every unit has, the root integer type among them.
+//! - `copies`: copies of types.
+//! - `laws`: what holds of the predefined declarations, as contracts of functions without code.
 #![tactic(auto)]
 
 mod copies;

@@ -26,8 +26,11 @@ pub enum Form {
     Literal(StaticValue),
     /// An object or a part of one (ARM 3.3).
     Named(TypedName),
+    /// An operator before its operand.
     Unary(UnaryOperator, Box<Typed>),
+    /// An operator between its operands.
     Binary(BinaryOperator, Box<Typed>, Box<Typed>),
+    /// A short-circuit control form (ARM 4.5.1(1)).
     ShortCircuit(ShortCircuit, Box<Typed>, Box<Typed>),
     /// A membership test (ARM 4.5.2(3)): the value, whether it has a `not`, both bounds, and the word of the frame that keeps the
     /// value meanwhile, which is 0 if the test is static.

@@ -72,7 +72,9 @@ pub enum BinaryOperator {
 /// A short-circuit control form (ARM 4.5.1(1)).
 #[derive(Clone, Copy)]
 pub enum ShortCircuit {
+    /// `and then`.
     AndThen,
+    /// `or else`.
     OrElse,
 }
 

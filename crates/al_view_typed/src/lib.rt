@@ -1,4 +1,11 @@
 //! Labelled trees: a unit as its check leaves it for its code, with a declaration and a type for each name, operator and literal.
+//!
+//! A *label* of an expression is its type, its place, the words of its value, and its value if it is static. A value is *checked*
+//! if it is held against a range. A *frame* is the words of a body that runs, numbered from 3 on, its parameters first.
+//!
+//! - `label`, `expression`: expressions, names and calls.
+//! - `statement`, `declaration`: statements, and declarations that do something when they are elaborated.
+//! - `unit`: bodies, and a unit with the words of its objects, flags and protected objects.
 #![tactic(auto)]
 
 mod declaration;

@@ -33,7 +33,9 @@ impl Drop for Piece {
 
 /// How often a loop goes round (ARM 5.5).
 pub enum LoopScheme {
+    /// A loop without an iteration scheme.
     Forever,
+    /// A loop that goes on while the condition holds.
     While(Typed),
     /// A loop from one bound to the other, with the range of the mark before `range`, and the two words of the frame that keep the
     /// parameter and the last value that it is to have.
@@ -83,6 +85,7 @@ impl Drop for TypedStatement {
 /// What a statement does.
 #[cycle(statement)]
 pub enum StatementForm {
+    /// A null statement (ARM 5.1(6)).
     Null,
     /// An assignment to a target of so many words (ARM 5.2).
     Assignment {
