@@ -2,7 +2,8 @@
 //! checking units one by one.
 //!
 //! An *outcome* is what a unit with its source means under a table of answers: its errors, or what it answers to others and its
-//! labelled tree. A checker *keeps the reads law* if its outcome depends only on the answers that it asked for.
+//! labelled tree. A checker *keeps the reads law* if its outcome depends only on the answers that it asked for,
+//! and each question is of a unit that the source or an earlier answer names.
 //!
 //! - `check`, `text`: the traits of a checker, and of the sources that it takes.
 //! - `checked`, `interface`: what a check gives, and what a unit answers.
