@@ -23,7 +23,7 @@ pub record AreFiles (files : Texts) : Type 0 where
   pub few : length files ≤ 4096
   pub each : AllByRecursion IsFile files
 
--- by their bytes
+-- the order of names by their bytes
 abbrev pub name_cmp : List ℕ → List ℕ → Ordering
 name_cmp = slice_cmp nat_cmp
 
@@ -31,7 +31,7 @@ name_cmp = slice_cmp nat_cmp
 abbrev pub text_of : Texts → List ℕ → Option (List ℕ)
 text_of files name = lookup (is_at (name_cmp name)) files
 
--- with this source under the name, and the others as they were
+-- the files with this source under the name, and the others as they were
 abbrev pub with_file : Texts → List ℕ → List ℕ → Texts
 with_file files name text = insert_entry name_cmp files name text
 
@@ -39,7 +39,7 @@ with_file files name text = insert_entry name_cmp files name text
 abbrev pub without_file : Texts → List ℕ → Texts
 without_file files name = remove_entry (is_at (name_cmp name)) files
 
--- with this source, if there is one, under the name
+-- the files with this source, if there is one, under the name
 abbrev pub with_text : Option (List ℕ) → Texts → List ℕ → Texts
 with_text None files name = files
 with_text (Some text) files name = with_file files name text

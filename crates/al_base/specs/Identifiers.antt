@@ -25,7 +25,7 @@ begins_with_letter (b ∷ bs) = is_ascii_alphabetic b
 abbrev pub has_identifier_shape : List ℕ → Bool
 has_identifier_shape word = nat_le (length word) 200 && begins_with_letter word && list_all is_word_byte word && not (has_bad_underscore word)
 
--- such a word that isn't reserved
+-- an identifier: a well-formed word that isn't reserved
 unfoldable pub is_identifier : List ℕ → Bool
 is_identifier word = has_identifier_shape word && is_none (reserved_at (map to_ascii_lowercase word))
 

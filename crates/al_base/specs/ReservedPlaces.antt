@@ -3,7 +3,7 @@ use Rattle.std.specs.Prelude.{◌≡◌, ℕ, ◌+◌, ◌*◌, ◌-◌, ◌/◌
 use Rattle.al_base.specs.ReservedWords.{spelling}
 use Rattle.al_base.specs.declared.reserved.ReservedWord.{ReservedWord}
 
--- by the first, the middle and the last byte
+-- the place of a spelling, by its first, middle and last byte
 unfoldable pub place_of : List ℕ → ℕ
 place_of text = (slice_index text 0 + 28 * slice_index text (length text / 2) + 38 * slice_index text (length text - 1)) % 256
 

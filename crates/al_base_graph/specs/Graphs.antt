@@ -51,6 +51,6 @@ Lists xs P = IsAscending xs × ((a : ℕ) → Contains xs a ↔ P a)
 abbrev pub with_step : List (List ℕ) → ℕ → ℕ → List (List ℕ)
 with_step g a b = slice_set g a (successors_of g a ++ b ∷ [])
 
--- as many nodes, and each step the other way round
+-- a graph with as many nodes, and each step the other way round
 abbrev pub IsReverse : List (List ℕ) → List (List ℕ) → Type 0
 IsReverse g r = (length r ≡ length g) × ((a b : ℕ) → Step r b a ↔ Step g a b)

@@ -31,7 +31,7 @@ EachHasOneBefore g held = (a : ℕ) → IsTrue (held a) → (b : ℕ) × Step g 
 abbrev pub IsStuck : List (List ℕ) → ℕ → Type 0
 IsStuck g a = (held : ℕ → Bool) × EachHasOneBefore g held × IsTrue (held a)
 
--- from the least stuck node to its least stuck predecessor, and on
+-- the walk from the least stuck node to its least stuck predecessor, and on
 pub record IsStuckWalk (g : List (List ℕ)) (walk : List ℕ) : Type 0 where
   pub begins : IsLeast (IsStuck g) (slice_index_or walk 0 0)
   pub goes_on : (i : ℕ) → i + 1 < length walk → IsLeast (λ b. Step g (slice_index_or walk i 0) b × IsStuck g b) (slice_index_or walk (i + 1) 0)

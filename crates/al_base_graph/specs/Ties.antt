@@ -25,7 +25,7 @@ IsBetween a b t = (t.after ≡ a) × (t.before ≡ b)
 abbrev pub IsLine : List Edge → ℕ → ℕ → Edge → Type 0
 IsLine edges a b t = Contains edges t × IsBetween a b t × ((s : Edge) → Contains edges s → IsBetween a b s → IsUpto t s)
 
--- each tie is a step
+-- each edge is a step
 abbrev pub graph_from : ℕ → List Edge → List (List ℕ)
 graph_from count edges = fold (λ g t. with_step g t.after t.before) (replicate count []) edges
 

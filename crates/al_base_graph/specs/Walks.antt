@@ -40,7 +40,7 @@ pub record IsWalk (g : List (List ℕ)) (places : List Place) (left path visitin
   pub done_closed : (a b : ℕ) → place_of places a ≡ Done → Step g a b → place_of places b ≡ Done
   pub done_flags : (a : ℕ) → place_of places a ≡ Done → IsTrue (slice_index_or flags a false) ↔ IsOnCycle g a
 
--- the same of the code's walk
+-- the laws of a walk, for the walk of the code
 abbrev pub Walks : List (List ℕ) → Walk → Type 0
 Walks g walk = IsWalk g walk.places.items walk.left.items walk.path.items walk.visiting.items walk.begins.items walk.flags.items
 

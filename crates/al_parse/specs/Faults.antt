@@ -38,7 +38,7 @@ abbrev pub FaultOf : ParseError → List Lexeme → Type 0
 FaultOf (Syntax f) xs = IsFaultOf xs f.at
 FaultOf NoMemory xs = Unit {0}
 
--- with so many lexemes left
+-- reading stops for memory, or at the fault with so many lexemes left
 abbrev pub Refuses : Stop → List Lexeme → Type 0
 Refuses Memory xs = Unit {0}
 Refuses (Fault left) xs = (left ≤ length xs) × (syntax_fault_of xs ≡ Some (length xs - left))

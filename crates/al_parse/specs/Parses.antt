@@ -32,12 +32,12 @@ abbrev pub Gives : {X : Type 0} → (X → Lexemes) → (X → Lexemes) → Resu
 Gives front rest (Ok x) xs read = Took (front x) (rest x) xs read
 Gives front rest (Err e) xs read = Stops e read
 
--- the same after what was taken before
+-- what was taken and what is left, of a result, after what was taken before
 abbrev pub Behind : {X : Type 0} → Lexemes → (X → Lexemes) → (X → Lexemes) → Result X Stop → Lexemes → Read → Type 0
 Behind before front rest (Ok x) xs read = (before ++ xs ≡ front x ++ rest x) × (read ≡ Ok (rest x))
 Behind before front rest (Err e) xs read = Stops e read
 
--- Behind the first word k of a construct, of whatever sort n, reading goes on inside it.
+-- After the first word k of a construct, of whatever sort n, reading goes on inside it.
 pub record IsInside (k d inner : ℕ) (rest xs : Lexemes) : Type 0 where
   pub deeper : inner + 1 ≡ d
   pub front : xs ≡ Fixed k ∷ rest

@@ -113,7 +113,7 @@ fn statement<'a>(
     Ok((statement, rest))
 }
 
-/// Behind the identifier that a statement begins with: a call, an assignment, or a loop or block of that name.
+/// What comes after the identifier that a statement begins with: a call, an assignment, or a loop or block of that name.
 #[cycle(body)]
 #[tactic(auto, unfolding(al_tree_syntax::specs::Statements::named_rule))]
 fn named_statement<'a>(
@@ -202,7 +202,7 @@ fn compound_statement<'a>(
     Ok((Statement::block(None, boxed(alloc, statement)?), rest))
 }
 
-/// Behind `if` (ARM 5.3).
+/// What comes after `if` (ARM 5.3).
 #[cycle(body)]
 #[tactic(auto, unfolding(al_tree_syntax::specs::Rules::grammar, al_tree_syntax::specs::Rules::inside, al_tree_syntax::specs::Constructs::construct_at, al_tree_syntax::specs::Statements::if_rule))]
 fn if_statement<'a>(
@@ -298,7 +298,7 @@ fn otherwise<'a>(
     }
 }
 
-/// Behind `case` (ARM 5.4).
+/// What comes after `case` (ARM 5.4).
 #[cycle(body)]
 #[tactic(auto, unfolding(al_tree_syntax::specs::Rules::grammar, al_tree_syntax::specs::Rules::inside, al_tree_syntax::specs::Constructs::construct_at, al_tree_syntax::specs::Statements::case_rule))]
 fn case_statement<'a>(
@@ -472,7 +472,7 @@ fn block_statement<'a>(
     Ok((BlockStatement::plain_block(opening, statements, end), rest))
 }
 
-/// Behind `begin`.
+/// What comes after `begin`.
 #[cycle(body)]
 #[tactic(auto, unfolding(al_tree_syntax::specs::Statements::plain_block_rule, al_tree_syntax::specs::Expressions::identifier_rule))]
 fn plain_block<'a>(
@@ -554,7 +554,7 @@ fn item<'a>(
     Ok((item, rest))
 }
 
-/// Behind the specification of a subprogram: a declaration, a stub or a body.
+/// What comes after the specification of a subprogram: a declaration, a stub or a body.
 #[cycle(body)]
 #[tactic(auto, unfolding(al_tree_syntax::specs::Declarations::subprogram_rule))]
 fn completion<'a>(
@@ -648,7 +648,7 @@ pub(crate) fn proper_body<'a>(
     Ok((specification, body, rest))
 }
 
-/// Behind `task`: a declaration or a body (ARM 9.1).
+/// What comes after `task`: a declaration or a body (ARM 9.1).
 #[cycle(body)]
 fn task_item<'a>(
     alloc: Global,
@@ -675,7 +675,7 @@ fn task_item<'a>(
     Ok((Item::task_body(opening, name, statements), rest))
 }
 
-/// Behind `task body`.
+/// What comes after `task body`.
 #[cycle(body)]
 #[tactic(auto, unfolding(al_tree_syntax::specs::Rules::grammar, al_tree_syntax::specs::Rules::inside, al_tree_syntax::specs::Constructs::construct_at, al_tree_syntax::specs::Expressions::identifier_rule))]
 fn task_body<'a>(

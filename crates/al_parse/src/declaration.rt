@@ -269,7 +269,7 @@ fn components<'a>(
     Ok((Components::Null, rest))
 }
 
-/// Behind `record` (ARM 3.8).
+/// What comes after `record` (ARM 3.8).
 #[tactic(auto, unfolding(al_tree_syntax::specs::Rules::grammar, al_tree_syntax::specs::Rules::inside, al_tree_syntax::specs::Constructs::construct_at))]
 fn record_definition<'a>(
     alloc: Global,
@@ -285,7 +285,7 @@ fn record_definition<'a>(
     Ok((components, end, rest))
 }
 
-/// Behind the parenthesis of an enumeration type (ARM 3.5.1).
+/// What comes after the parenthesis of an enumeration type (ARM 3.5.1).
 #[tactic(auto, unfolding(al_tree_syntax::specs::Rules::grammar, al_tree_syntax::specs::Rules::inside, al_tree_syntax::specs::Constructs::construct_at, al_tree_syntax::specs::Expressions::identifiers_rule, al_tree_syntax::specs::Expressions::identifier_rule))]
 fn enumeration_literals<'a>(
     alloc: Global,

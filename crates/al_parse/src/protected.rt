@@ -23,7 +23,7 @@ use al_lex::Token;
 use al_tree::{Identifier, Item, NamedEnd, OperationBody, Symbol};
 use std::alloc::Global;
 
-/// Behind `protected`: a declaration or a body (ARM 9.4).
+/// What comes after `protected`: a declaration or a body (ARM 9.4).
 #[cycle(body)]
 #[tactic(auto, unfolding(al_tree_syntax::specs::Rules::grammar, al_tree_syntax::specs::Rules::inside, al_tree_syntax::specs::Constructs::construct_at))]
 pub(crate) fn protected_item<'a>(
@@ -44,7 +44,7 @@ pub(crate) fn protected_item<'a>(
     Ok((Item::protected_body(opening, name, operations, end), rest))
 }
 
-/// Behind `protected body`.
+/// What comes after `protected body`.
 #[cycle(body)]
 #[tactic(auto, unfolding(al_tree_syntax::specs::Declarations::protected_body_rule, al_tree_syntax::specs::Expressions::identifier_rule))]
 fn protected_body<'a>(
@@ -119,7 +119,7 @@ fn protected_subprogram<'a>(
     Ok((OperationBody::subprogram(specification, body), rest))
 }
 
-/// Behind `entry` (ARM 9.5.2).
+/// What comes after `entry` (ARM 9.5.2).
 #[cycle(body)]
 #[tactic(auto, unfolding(al_tree_syntax::specs::Rules::grammar, al_tree_syntax::specs::Rules::inside, al_tree_syntax::specs::Constructs::construct_at, al_tree_syntax::specs::Expressions::identifier_rule))]
 fn entry_body<'a>(

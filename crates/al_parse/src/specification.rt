@@ -77,7 +77,7 @@ fn more_formals<'a>(
     Ok((items, rest))
 }
 
-/// Behind the parenthesis of a formal part.
+/// What comes after the parenthesis of a formal part.
 #[tactic(auto, unfolding(al_tree_syntax::specs::Rules::grammar, al_tree_syntax::specs::Rules::inside, al_tree_syntax::specs::Constructs::construct_at, al_tree_syntax::specs::Declarations::formal_rule, al_tree_syntax::specs::Expressions::identifiers_rule, al_tree_syntax::specs::Expressions::identifier_rule, al_tree_syntax::specs::Expressions::compound_name_rule))]
 fn formals<'a>(
     alloc: Global,
@@ -168,7 +168,7 @@ fn aspect<'a>(
     }
 }
 
-/// Behind the `task` of a declaration (ARM 9.1).
+/// What comes after the `task` of a declaration (ARM 9.1).
 #[tactic(auto, unfolding(al_tree_syntax::specs::Declarations::task_rule, al_tree_syntax::specs::Expressions::identifier_rule))]
 pub(crate) fn task_declaration<'a>(
     alloc: Global,
@@ -326,7 +326,7 @@ pub(crate) fn named_end<'a>(
     Ok((NamedEnd { end, end_name }, rest))
 }
 
-/// Behind the `is` of a protected declaration.
+/// What comes after the `is` of a protected declaration.
 #[tactic(auto, unfolding(al_tree_syntax::specs::Expressions::identifier_rule))]
 fn protected_parts<'a>(
     alloc: Global,
@@ -383,7 +383,7 @@ pub(crate) fn protected_definition<'a>(
     ))
 }
 
-/// Behind the `protected` of a package's declaration.
+/// What comes after the `protected` of a package's declaration.
 #[tactic(auto, unfolding(al_tree_syntax::specs::Rules::grammar, al_tree_syntax::specs::Rules::inside, al_tree_syntax::specs::Constructs::construct_at))]
 fn protected_declaration<'a>(
     alloc: Global,

@@ -106,7 +106,7 @@ fn private_part<'a>(
     }
 }
 
-/// Behind the `is` of a package's declaration.
+/// What comes after the `is` of a package's declaration.
 #[tactic(auto, unfolding(al_tree_syntax::specs::Expressions::compound_name_rule, al_tree_syntax::specs::Expressions::identifier_rule))]
 fn package_parts<'a>(
     alloc: Global,
@@ -178,7 +178,7 @@ fn package_statements<'a>(
     }
 }
 
-/// Behind the name of a package's body.
+/// What comes after the name of a package's body.
 #[tactic(auto, unfolding(al_tree_syntax::specs::Expressions::compound_name_rule, al_tree_syntax::specs::Expressions::identifier_rule))]
 fn package_body_parts<'a>(
     alloc: Global,
@@ -276,7 +276,7 @@ fn subprogram_item<'a>(
     Ok((LibraryItem::Body(specification, body), rest))
 }
 
-/// Behind `package`: a declaration or a body.
+/// What comes after `package`: a declaration or a body.
 #[tactic(auto, unfolding(al_tree_syntax::specs::Rules::grammar, al_tree_syntax::specs::Rules::inside, al_tree_syntax::specs::Constructs::construct_at))]
 fn package_item<'a>(
     alloc: Global,

@@ -74,7 +74,7 @@ outcome meaning s f u = if is_reached s f u then Some (meaning u (table s f)) el
 abbrev pub Solves : Meaning → Setting → (UnitKey → Option Outcome) → Type 0
 Solves meaning s f = (u : UnitKey) → f u ≡ outcome meaning s f u
 
--- from nothing, so many times
+-- the outcomes after so many rounds, from nothing
 abbrev pub rounds : Meaning → Setting → ℕ → UnitKey → Option Outcome
 rounds meaning s zero = λ u. None
 rounds meaning s (suc n) = outcome meaning s (rounds meaning s n)

@@ -30,8 +30,8 @@ use Rattle.al_query_outcome.specs.declared.interface.UnitInterface.{UnitInterfac
 abbrev pub subunit : List ℕ → UnitKey
 subunit name = record { name = name; kind = Sub }
 
--- of a library body its declaration; of a library unit its parent's; of a subunit the parent body (ARM 10.1.3(8)), which is a
--- body or a subunit: both want one file, so one of them at most is there
+-- the units that a unit names without a clause: for a library body its declaration; for a library unit its parent's; for a subunit
+-- the parent body (ARM 10.1.3(8)), which is a body or a subunit: both ask for one file, so one of them at most is there
 abbrev pub own_names : Header → Option Mention → List UnitKey
 own_names h None = (if is_library_body h.form then declaration h.name ∷ [] else []) ++ option_map_or (λ p. declaration p ∷ []) (parent_of h.name) []
 own_names h (Some parent) = body parent.name ∷ subunit parent.name ∷ []
@@ -64,7 +64,7 @@ asks_by_names unit names (e ∷ es) = is_by_names unit names e.0 && asks_by_name
 abbrev pub AsksByNames : UnitKey → List (List ℕ) → List (Query × AnswerKind) → Type 0
 AsksByNames unit names log = asks_by_names unit names log ≡ true
 
--- its answers to questions of its properties, but for those that name no unit
+-- a unit's answers to questions of its properties, but for those that name no unit
 abbrev pub property_answers : UnitInterface → List AnswerKind
 property_answers i = answers.Kind i.properties.kind ∷ i.properties.parent ∷ i.properties.context ∷ i.properties.completions ∷ []
 
@@ -78,7 +78,7 @@ unfoldable pub outcome_units : Outcome → List UnitKey
 outcome_units (Faulty faults) = []
 outcome_units (Sound interface tree) = flat_map units_named (property_answers interface)
 
--- it names none but these
+-- an outcome names no units but these
 abbrev pub NamesOnly : List UnitKey → Outcome → Type 0
 NamesOnly units outcome = list_all (has_unit units) (outcome_units outcome) ≡ true
 

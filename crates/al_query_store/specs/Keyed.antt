@@ -39,7 +39,7 @@ first_key None other = other
 abbrev pub now_key : Cell → Option ℕ
 now_key c = if c.is_reached then first_key c.made c.settled else None
 
--- of one of two tests alone
+-- exactly one of two tests holds
 abbrev pub differ : Bool → Bool → Bool
 differ true b = not b
 differ false b = b
@@ -63,7 +63,7 @@ module _ {E : Type 0} where
   abbrev pub state : List (UnitKey × State E) → UnitKey → State E
   state store u = unwrap_or (at_unit store u) nothing
 
-  -- of one unit there is another state, of all others the same
+  -- the state of one unit changes, and those of all others stay
   abbrev pub Changes : (State E → State E) → UnitKey → List (UnitKey × State E) → List (UnitKey × State E) → Type 0
   Changes f unit old new = (u : UnitKey) → state new u ≡ (if same_unit unit u then f (state old u) else state old u)
 

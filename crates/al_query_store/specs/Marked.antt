@@ -1,12 +1,12 @@
 -- The marks of a log's answers.
 use Rattle.std.specs.Prelude.{ℕ, Bool, false, List, replicate}
 
--- of each answer, whether it differs from the one of the last build, and from the one of now
+-- for each answer, whether it differs from that of the last build, and from that of now
 pub record Marked : Type 0 where
   pub last : List Bool
   pub now : List Bool
 
--- none of so many differs
+-- marks of so many answers, none of which differs
 abbrev pub unmarked : ℕ → Marked
 unmarked n = record { last = replicate n false; now = replicate n false }
 

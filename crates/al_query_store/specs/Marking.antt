@@ -48,7 +48,7 @@ module _ {E : Type 0} where
   abbrev pub mark_at : Slab (Held E) → Place → Option Bool
   mark_at slots p = mark_in (get slots p.entry) p.at
 
--- of the places for which a test holds the marks of now say whether the answer differs from a table's; the others' are as before
+-- at the places for which a test holds the marks of now say whether the answer differs from a table's; the others' are as before
 pub record IsMarked {E : Type 0} (log : E → List (Query × AnswerKind)) (t : Query → AnswerKind) (test : Place → Bool) (old new : Slab (Held E)) : Type 0 where
   pub answered : (p : Place) (e : Query × AnswerKind) → test p ≡ true → answer_at log old p ≡ Some e → (differs : Bool) × (mark_at new p ≡ Some differs) × Tells t e differs
   pub left : (p : Place) → test p ≡ false → mark_at new p ≡ mark_at old p

@@ -182,8 +182,8 @@ impl<E: Logged> Store<E> {
         }
     }
 
-    /// A build of which these units moved found no memory: what it made is let go, and the marks of now are those of the last build. It takes
-    /// no memory.
+    /// A build in which these units moved ran out of memory: what it made is dropped, and the marks of now are those of the last
+    /// build. It takes no memory.
     pub fn cancel(&mut self, moved: &[UnitKey])
         ensures { (u : UnitKey) → state self.new u ≡ base_state (if has_unit moved.now u then cancelled_state (state self.old u) else state self.old u) }
     {

@@ -34,7 +34,7 @@ unfoldable pub grow_times : {A : Type 0} → ℕ → List ℕ → (List Lexeme �
 grow_times zero s f xs = Some ([], xs)
 grow_times (suc n) s f xs = if begins s xs then grow_on (f xs) (λ y ys. remade (λ l. y ∷ l) (grow_times n s f ys)) else Some ([], xs)
 
--- with x before each
+-- the pair with x at the beginning of its list
 abbrev pub put_before : {A B : Type 0} → A → List A × Option B → List A × Option B
 put_before x y = (x ∷ y.0, y.1)
 

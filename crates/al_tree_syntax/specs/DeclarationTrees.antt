@@ -61,7 +61,7 @@ pub record ComponentTree : Type 0 where
   pub names : IdentifiersTree
   pub subtype : SubtypeIndicationTree
 
--- of a record: components, one at least, or null
+-- the components of a record, at least one, or null
 pub data ComponentsTree : Type 0 where
   NullComponents : ComponentsTree
   SomeComponents : ComponentTree → List ComponentTree → ComponentsTree
@@ -139,7 +139,7 @@ pub record ProtectedComponentTree : Type 0 where
   pub subtype : SubtypeIndicationTree
   pub initial : Option ExpressionTree
 
--- with the place of `private`
+-- the private part of a protected declaration, with the place of `private`
 pub record ProtectedPrivateTree : Type 0 where
   pub opening : Label
   pub components : List ProtectedComponentTree
@@ -161,7 +161,7 @@ pub data CommonTree : Type 0 where
   UseClause : UseTree → CommonTree
   PragmaItem : PragmaTree → CommonTree
 
--- of a package; a protected declaration with the place of `protected`
+-- a declaration of a package; a protected declaration has the place of `protected`
 pub data DeclarationTree : Type 0 where
   CommonDeclaration : CommonTree → DeclarationTree
   SubprogramDeclaration : SpecificationTree → DeclarationTree

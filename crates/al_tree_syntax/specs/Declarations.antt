@@ -26,7 +26,7 @@ array_rule = Room (the Array ⨾ opens_at LeftParenthesis ArrayIndex ⨾ the Of 
 unfoldable pub initial_rule : Rule
 initial_rule = the Assign ⨾ expression_rule
 
--- of an object: its type, and perhaps a value
+-- what comes after the colon of an object: its type, and perhaps a value
 unfoldable pub typed_rule : Rule
 typed_rule = (subtype_indication_rule ∣ array_rule) ⨾ Opt initial_rule
 
@@ -72,7 +72,7 @@ task_rule = identifier_rule ⨾ aspect_rule ⨾ the Semicolon
 unfoldable pub common_rule : Rule
 common_rule = object_rule ∣ type_rule ∣ subtype_rule ∣ use_rule ∣ pragma_rule
 
--- of a package
+-- a declaration of a package
 unfoldable pub declaration_rule : Rule
 declaration_rule = common_rule ∣ specification_rule ⨾ the Semicolon ∣ any Task ⨾ task_rule ∣ opens_at Protected ProtectedDeclaration
 
@@ -80,7 +80,7 @@ declaration_rule = common_rule ∣ specification_rule ⨾ the Semicolon ∣ any 
 unfoldable pub subprogram_rule : Rule
 subprogram_rule = the Semicolon ∣ RoomOr (opens Is BodyOrStub) (the Is ⨾ any Separate ⨾ the Semicolon)
 
--- of a body (ARM 3.11)
+-- an item of a body's declarative part (ARM 3.11)
 unfoldable pub item_rule : Rule
 item_rule = common_rule ∣ specification_rule ⨾ subprogram_rule ∣ any Task ⨾ (task_rule ∣ opens Body TaskBody) ∣ opens_at Protected ProtectedUnit
 

@@ -49,7 +49,7 @@ pub record Nested : Type 1 where
 abbrev pub Of : Nested → Rule → Type 0
 Of c r = Layer c.room c.Tree r
 
--- of what is parted by words or delimiters
+-- the trees of what is separated by words or delimiters
 unfoldable pub each_from : {A B C : Type 0} → (B → C) → List (A × B) → List C
 each_from f [] = []
 each_from f ((mark, x) ∷ xs) = f x ∷ each_from f xs

@@ -39,12 +39,12 @@ use Rattle.al_tree_syntax.specs.UnitTrees.{CompilationUnitTree, ContextTree, Lib
 use Rattle.al_tree_syntax.specs.UnitTrees.ContextTree.{ContextPragma, ContextUse, WithClause}
 use Rattle.al_tree_syntax.specs.UnitTrees.LibraryItemTree.{LibraryBody, LibraryPackage, LibraryPackageBody, LibrarySubprogram, Subunit}
 
--- of one of a list, at most
+-- the greatest number of the items of a list
 abbrev pub deepest : {A : Type 0} → (A → ℕ) → List A → ℕ
 deepest f [] = 0
 deepest f (x ∷ xs) = max (f x) (deepest f xs)
 
--- of what may be absent
+-- the number of what may be absent, or 0
 abbrev pub at_least : {A : Type 0} → (A → ℕ) → Option A → ℕ
 at_least f None = 0
 at_least f (Some x) = f x

@@ -83,7 +83,7 @@ mutual
   pub data HandledTree : Type 0 where
     Handled : ItemsTree → Label → StatementsTree → NamedEndTree → HandledTree
 
-  -- of a subprogram, after `is` (ARM 6.3)
+  -- the body of a subprogram, after `is` (ARM 6.3)
   pub data BodyTree : Type 0 where
     Body : ItemsTree → Label → StatementsTree → CompoundEndTree → BodyTree
 
@@ -91,8 +91,8 @@ mutual
     NoItem : ItemsTree
     MoreItems : ItemTree → ItemsTree → ItemsTree
 
-  -- of a declarative part (ARM 3.11). A stub has the place of `separate`, a task body that of `task`, a protected declaration or
-  -- body that of `protected`.
+  -- an item of a declarative part (ARM 3.11). A stub has the place of `separate`, a task body that of `task`, a protected
+  -- declaration or body that of `protected`.
   pub data ItemTree : Type 0 where
     CommonItem : CommonTree → ItemTree
     SubprogramItem : SpecificationTree → ItemTree
@@ -107,7 +107,7 @@ mutual
     NoOperationBody : OperationBodiesTree
     MoreOperationBodies : OperationBodyTree → OperationBodiesTree → OperationBodiesTree
 
-  -- in a protected body; an entry body has the place of `entry`, its name and its barrier (ARM 9.5.2)
+  -- the body of an operation in a protected body; an entry body has the place of `entry`, its name and its barrier (ARM 9.5.2)
   pub data OperationBodyTree : Type 0 where
     SubprogramOperation : SpecificationTree → BodyTree → OperationBodyTree
     EntryOperation : Label → Label → ExpressionTree → HandledTree → OperationBodyTree

@@ -15,7 +15,7 @@ loop_rule = opens_at Loop PlainLoop ∣ opens_at While WhileLoop ∣ opens_at Fo
 unfoldable pub block_rule : Rule
 block_rule = opens_at Declare DeclareBlock ∣ opens_at Begin PlainBlock
 
--- Behind the identifier that a statement begins with: an assignment, a call, or a loop or block of that name.
+-- What comes after the identifier that a statement begins with: an assignment, a call, or a loop or block of that name.
 unfoldable pub named_rule : Rule
 named_rule = name_rest_rule ⨾ Opt initial_rule ⨾ the Semicolon ∣ Room (the Colon ⨾ (loop_rule ∣ block_rule))
 

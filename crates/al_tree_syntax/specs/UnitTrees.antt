@@ -12,7 +12,7 @@ pub data ContextTree : Type 0 where
   ContextUse : UseTree → ContextTree
   ContextPragma : PragmaTree → ContextTree
 
--- with the place of `private`
+-- the private part of a package, with the place of `private`
 pub record PrivatePartTree : Type 0 where
   pub opening : Label
   pub declarations : List DeclarationTree
@@ -24,7 +24,7 @@ pub record PackageTree : Type 0 where
   pub private_part : Option PrivatePartTree
   pub end : CompoundEndTree
 
--- with the place of `begin`
+-- the statements of a package body, with the place of `begin`
 pub record PackageStatementsTree : Type 0 where
   pub opening : Label
   pub statements : StatementsTree

@@ -19,7 +19,7 @@ is_unfit lib marked key = is_none (unit_at lib key) || marked (file_name_of key)
 abbrev pub depends_on_unfit : Library → (List ℕ → Bool) → Key → Bool
 depends_on_unfit lib marked key = list_any (is_unfit lib marked) (all_dependences lib key)
 
--- the same of a unit by the flag at its file's number
+-- whether a unit is marked, by the flag at its file's number
 abbrev pub is_flagged : Library → List (List ℕ × ℕ) → List Bool → Key → Bool
 is_flagged lib ns flags key = option_map_or (λ n. slice_index_or flags n false) (node_of lib ns key) true
 
@@ -27,7 +27,7 @@ is_flagged lib ns flags key = option_map_or (λ n. slice_index_or flags n false)
 abbrev pub steps_to_flagged : Library → List (List ℕ × ℕ) → List Bool → List ℕ → Bool
 steps_to_flagged lib ns flags file = list_any (is_flagged lib ns flags) (option_map_or (dependences lib) (unit_in lib file) [])
 
--- those of the first so many files
+-- the goals among the first so many files
 abbrev pub AreGoals : Library → List (List ℕ) → List (List ℕ × ℕ) → List Bool → ℕ → List ℕ → Type 0
 AreGoals lib files ns flags count goals =
     (a : ℕ) → Contains goals a ↔ ((a < count) × (steps_to_flagged lib ns flags (slice_index_or files a []) ≡ true))

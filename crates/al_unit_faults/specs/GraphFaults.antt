@@ -31,6 +31,6 @@ contents_faults lib file (Unread place code) = []
 unfoldable pub file_faults : Library → List ℕ → List Finding
 file_faults lib file = ascending (option_map_or (λ source. contents_faults lib file source.contents) (source_at lib file) [])
 
--- those of all files, in the order of their names
+-- the errors of all files, in the order of their names
 unfoldable pub graph_faults : Library → List Finding
 graph_faults lib = flat_map (λ e. file_faults lib e.0) lib

@@ -14,7 +14,7 @@ use Rattle.al_unit_graph.specs.Traces.{text_at, is_same_text, wants, IsObsolete}
 use Rattle.al_unit_graph.specs.Orders.{key_cmp, in_order}
 use Rattle.al_unit_faults.specs.Units.{keys_of_units}
 
--- the files that a file meets: itself, and what the units in them want
+-- the files that a file meets: itself, and what the units in them ask for
 unfoldable pub met : Library → List ℕ → List (List ℕ)
 met lib file = closing bytes_eq (wants lib) (keys_of lib) (file ∷ [])
 
@@ -41,7 +41,7 @@ is_obsolete old faulty new key =
 unfoldable pub obsolete_of : Library → List (List ℕ) → Library → List Key
 obsolete_of old faulty new = in_order (filter (is_obsolete old faulty new) (keys_of_units new))
 
--- they are those that are obsolete
+-- the obsolete units that are computed are those that are obsolete
 abbrev pub ObsoleteAreListed : Type 0
 ObsoleteAreListed = (old : Library) (faulty : List (List ℕ)) (new : Library) (key : Key) → Contains (obsolete_of old faulty new) key ↔ IsObsolete old faulty new key
 

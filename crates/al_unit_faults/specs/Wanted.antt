@@ -28,7 +28,8 @@ GoesOn old new = (rest : List (List ℕ)) × (new ≡ old ++ rest)
 abbrev pub StepsWithin : List (ℕ × ℕ) → ℕ → Type 0
 StepsWithin steps count = (s : ℕ × ℕ) → Contains steps s → (s.0 < count) × (s.1 < count)
 
--- each step leads from a file to one that its unit wants, and from each of the first files one leads to all that its unit wants
+-- each step leads from a file to one that its unit asks for, and from each of the first files one leads to all that its unit asks
+-- for
 pub record IsWanted (lib : Library) (names : List (List ℕ)) (steps : List (ℕ × ℕ)) (count : ℕ) : Type 0 where
   pub within : StepsWithin steps (length names)
   pub leads : (s : ℕ × ℕ) → Contains steps s → Contains (wants lib (slice_index_or names s.0 [])) (slice_index_or names s.1 [])

@@ -2,7 +2,7 @@
 ghost use Rattle.al_unit_faults.specs.Units.{UnitsAreHeld};
 ghost use Rattle.al_unit_faults.specs.Obsolete.{ObsoleteAreListed, ObsoleteAscend};
 
-/// The units that are listed by file are just those that the library has.
+/// The units that are listed by file are exactly those that the library has.
 pub fn units_are_held()
     ensures { UnitsAreHeld }
 {}

@@ -1,4 +1,4 @@
-// The files that are there or wanted, as the nodes of a graph: a step leads from a file to each one that its unit wants.
+// The files that are there or asked for, as the nodes of a graph: a step leads from a file to each one that its unit asks for.
 ghost use Rattle.std.specs.Prelude.{◌≡◌, ◌↔◌, ℕ, ◌+◌, ◌<◌, ◌++◌, ◌∷◌, [], true, length, map, IfOk, OnOk, slice_index_or};
 ghost use Rattle.std.specs.List.{Contains};
 ghost use Rattle.al_base_graph.specs.Graphs.{Step};
@@ -87,7 +87,7 @@ impl WantedFiles {
         Ok(wanted)
     }
 
-    /// Adds what the unit of one file wants.
+    /// Adds what the unit of one file asks for.
     fn add_wants(&mut self, sources: &Sources, from: usize) -> Result<(), NoMemory>
         requires from_in { from < length self.old.names.items }
         requires numbers { AreNumbered self.old.names.items self.old.numbers.entries }
@@ -104,7 +104,7 @@ impl WantedFiles {
         Ok(())
     }
 
-    /// The files of a library and what their units want, the files of the library first.
+    /// The files of a library and what their units ask for, the files of the library first.
     pub(crate) fn of(alloc: Global, sources: &Sources, files: &[&[u8]]) -> Result<Self, NoMemory>
         ensures names { IfOk result (λ wanted. GoesOn (map (λ f. f.now) files.now) wanted.names.items) }
         ensures wanted { IfOk result (λ wanted. IsWanted sources.now wanted.names.items wanted.steps.items (length wanted.names.items)) }

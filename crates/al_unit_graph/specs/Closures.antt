@@ -23,7 +23,7 @@ next lib Need key = needs lib key
 abbrev pub is_same_key : Key → Key → Bool
 is_same_key a b = bytes_eq a.0 b.0 && is_kind a.1 b.1
 
--- with the item at the end, if it isn't there yet
+-- the items with this one at the end, if it isn't there yet
 abbrev pub with_item : {X : Type 0} → (X → X → Bool) → List X → X → List X
 with_item is_same xs x = if list_any (λ y. is_same y x) xs then xs else xs ++ x ∷ []
 

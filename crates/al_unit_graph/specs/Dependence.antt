@@ -16,7 +16,7 @@ listed (Some x) = x ∷ []
 abbrev pub parent_declaration : Library → List ℕ → List Key
 parent_declaration lib name = listed (option_and_then (declaration_of lib) (parent_of name))
 
--- of a body the declaration that it completes, if that is another file's
+-- the declaration that a body completes, if that is another file's
 abbrev pub own_declaration : Library → Header → List Key
 own_declaration lib h = if is_library_body h.form && has_declaration_file lib h.name then (h.name, Decl) ∷ [] else []
 

@@ -46,7 +46,7 @@ lacks_stub lib stub key = option_map_or (λ parent. not (has_stub stub parent)) 
 abbrev pub has_no_stub : Library → List ℕ → List ℕ → Bool
 has_no_stub lib parent stub = option_map_or (lacks_stub lib stub) (parent_body_of lib parent) false
 
--- of a subunit its parent body, of another unit its parent
+-- what is wrong with the parent body of a subunit, or with the parent of another unit
 abbrev pub parent_faults : Library → List ℕ → Header → Option Mention → List Finding
 parent_faults lib file h None = finding_if (has_no_parent lib (parent_of h.name)) file h.place 205
 parent_faults lib file h (Some m) =

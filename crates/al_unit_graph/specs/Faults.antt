@@ -58,7 +58,7 @@ Fits declaration body = (declaration.needs_body ≡ true) × (is_package declara
 
 -- a file's unit has a name that the file can't hold
 pub data Misnames (file : List ℕ) (h : Header) : Finding → Type 0 where
-  -- the name wants another file
+  -- the name asks for another file
   other_file : file ≢ file_name_of (key_of_unit h) → Misnames file h (finding file h.place 201)
   -- the name is the implementation's (ARM A.2(4))
   reserved : is_reserved h.name ≡ true → Misnames file h (finding file h.place 207)

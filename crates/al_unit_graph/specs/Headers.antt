@@ -14,7 +14,7 @@ pub record Mention : Type 0 where
 
 -- what a compilation unit says of itself
 pub record Header : Type 0 where
-  -- for a subunit with that of its parent body before it (ARM 10.1.3(8))
+  -- the full name; for a subunit with that of its parent body before it (ARM 10.1.3(8))
   pub name : List ℕ
   -- the place of the name; for a subunit that of the name of its body
   pub place : Place
@@ -23,7 +23,7 @@ pub record Header : Type 0 where
   pub is_private : Bool
   -- a declaration that a body completes (ARM 6.1(20), 7.2(4))
   pub needs_body : Bool
-  -- of a subunit the name of its parent body (ARM 10.1.3(8))
+  -- the name of the parent body of a subunit (ARM 10.1.3(8))
   pub parent_body : Option Mention
   -- the name as it is written in the declaration or the body; for a subunit without that of its parent body
   pub designator : List ℕ

@@ -47,11 +47,11 @@ is_kind Body Sub = false
 is_kind Sub Decl = false
 is_kind Sub Body = false
 
--- a body and a subunit of one name want one file
+-- a body and a subunit of one name ask for one file
 abbrev pub of_key : Key → Header → Option Header
 of_key key h = if bytes_eq h.name key.0 && is_kind (kind_of h.form) key.1 then Some h else None
 
--- the same of what the unit's own file holds
+-- the header of a unit, by what the unit's own file holds
 abbrev pub headed_as : Contents → Key → Option Header
 headed_as (Headed h) key = if (bytes_eq h.name key.0 && is_kind (kind_of h.form) key.1) && not (is_reserved key.0) then Some h else None
 headed_as (Unread place code) key = None

@@ -10,7 +10,7 @@ ancestors (b ∷ bs) =
     if b == 46 then [] ∷ map (λ a. b ∷ a) (ancestors bs)
     else map (λ a. b ∷ a) (ancestors bs)
 
--- and the unit's own name
+-- the names of the ancestors, and the unit's own name
 abbrev pub lineage : List ℕ → List (List ℕ)
 lineage name = ancestors name ++ name ∷ []
 

@@ -32,7 +32,8 @@ body_files name = if has_no_file name then [] else file_name_of (name, Body) ∷
 abbrev pub own_files : Library → Header → List (List ℕ)
 own_files lib h = if is_library_body h.form then declaration_files lib h.name else []
 
--- a subunit, which has no declaration of its own, wants its parent body, other units want their parent's declaration and their own
+-- a subunit, which has no declaration of its own, asks for its parent body, other units ask for their parent's declaration and
+-- their own
 abbrev pub parent_files : Library → Header → Option Mention → List (List ℕ)
 parent_files lib h None = option_map_or (declaration_files lib) (parent_of h.name) [] ++ own_files lib h
 parent_files lib h (Some parent) = body_files parent.name
@@ -40,11 +41,11 @@ parent_files lib h (Some parent) = body_files parent.name
 abbrev pub mention_files : Library → Mention → List (List ℕ)
 mention_files lib m = flat_map (declaration_files lib) (lineage m.name)
 
--- the files that a unit wants, which may not be there
+-- the files that a unit asks for, which may not be there
 unfoldable pub wanted_files : Library → Header → List (List ℕ)
 wanted_files lib h = parent_files lib h h.parent_body ++ flat_map (mention_files lib) h.mentions
 
--- the least set of files that holds the first one and what the units in it want
+-- the least set of files that holds the first one and what the units in it ask for
 pub data Meets (lib : Library) (first : List ℕ) : List ℕ → Type 0 where
   itself : Meets lib first first
   wanted : {file next : List ℕ} {h : Header} → Meets lib first file → unit_in lib file ≡ Some h → Contains (wanted_files lib h) next → Meets lib first next

@@ -1,4 +1,4 @@
-// What a unit wants, and whether a file has changed (ARM 10.1.4(5, 7)).
+// The files that a unit asks for, and whether a file has changed (ARM 10.1.4(5, 7)).
 ghost use Rattle.std.specs.Prelude.{◌≡◌, IfOk};
 ghost use Rattle.std.specs.Option.{option_map};
 ghost use Rattle.al_unit_graph.specs.Traces.{wants, is_same_text, is_changed};

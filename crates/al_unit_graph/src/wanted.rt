@@ -1,4 +1,4 @@
-// The files that a unit wants, and whether one that it meets differs between two libraries (ARM 10.1.4(5, 7)).
+// The files that a unit asks for, and whether one that it meets differs between two libraries (ARM 10.1.4(5, 7)).
 ghost use Rattle.std.specs.Prelude.{◌≡◌, ◌++◌, map, IfOk, OnOk};
 ghost use Rattle.std.specs.Option.{option_map};
 ghost use Rattle.std.specs.List.{flat_map};

@@ -37,7 +37,7 @@ item_name (LibraryBody s b) = designator s
 item_name (LibraryPackageBody l k) = k.name
 item_name (Subunit l o n s b) = designator s
 
--- of a subunit the name of its parent body (ARM 10.1.3(8))
+-- the name of the parent body of a subunit (ARM 10.1.3(8))
 abbrev pub parent_body_name : LibraryItemTree → Option CompoundNameTree
 parent_body_name (LibrarySubprogram p s) = None
 parent_body_name (LibraryPackage p l k) = None

@@ -12,7 +12,7 @@ use Rattle.al_view.specs.Symbols.{same_symbol}
 abbrev pub Signature : Type 0
 Signature = List Parameter × Option Symbol
 
--- of a declaration that may be overloaded (ARM 8.3(7)): a subprogram, operator or entry, or an enumeration literal,
+-- the signature of a declaration that may be overloaded (ARM 8.3(7)): a subprogram, operator or entry, or an enumeration literal,
 -- which is like a function without parameters (ARM 3.5.1(6))
 abbrev pub signature_of : ViewKind → Option Signature
 signature_of (OfSubprogram s) = Some (s.profile.parameters, option_map (λ r. r.base) s.profile.result)

@@ -13,7 +13,7 @@ use Rattle.al_view.specs.declared.view.SubprogramView.{SubprogramView}
 use Rattle.al_view.specs.declared.view.ViewKind.{ViewKind}
 use Rattle.al_view.specs.declared.view.ViewKind.TheVariants.{OfObject, OfSubprogram, OfTask, OfProtected}
 
--- this of the declaration with this symbol
+-- the symbol for the linker of this kind, for the declaration with this symbol
 abbrev pub link : LinkKind → Symbol → LinkSymbol
 link kind symbol = record { symbol = symbol; kind = kind }
 

@@ -43,19 +43,19 @@ spelling sign.Abs = codes "abs"
 abbrev pub Group : Type 0
 Group = OperatorProfile × List OperatorSymbol
 
--- of types with an order (ARM 4.5.2)
+-- the relations of types with an order (ARM 4.5.2)
 abbrev pub relations : Group
 relations = (Relation, sign.Equal ∷ sign.NotEqual ∷ sign.Less ∷ sign.LessOrEqual ∷ sign.Greater ∷ sign.GreaterOrEqual ∷ [])
 
--- of arrays and records (ARM 4.5.2)
+-- the equality of arrays and records (ARM 4.5.2)
 abbrev pub equality : Group
 equality = (Relation, sign.Equal ∷ sign.NotEqual ∷ [])
 
--- of Boolean, beside the relations (ARM 4.5.1(2), 4.5.6(3))
+-- the operators of Boolean, beside the relations (ARM 4.5.1(2), 4.5.6(3))
 abbrev pub logical : List Group
 logical = (Binary, sign.And ∷ sign.Or ∷ sign.Xor ∷ []) ∷ (Unary, sign.Not ∷ []) ∷ []
 
--- of integer types, beside the relations (ARM 4.5.3 to 4.5.6)
+-- the operators of integer types, beside the relations (ARM 4.5.3 to 4.5.6)
 abbrev pub arithmetic : List Group
 arithmetic =
     (Unary, sign.Plus ∷ sign.Minus ∷ sign.Abs ∷ [])
@@ -99,7 +99,7 @@ operands t Power = operand (codes "left") (whole_type t) ∷ operand (codes "rig
 operands t Later = operand (codes "left") (whole_type t) ∷ operand (codes "right") (whole_type time_span) ∷ []
 operands t _ = operand (codes "left") (whole_type t) ∷ operand (codes "right") (whole_type t) ∷ []
 
--- and its result
+-- the result of an operator
 abbrev pub gives : Symbol → OperatorProfile → Subtype
 gives t Relation = whole_type (standard_symbol (codes "boolean"))
 gives t _ = whole_type t

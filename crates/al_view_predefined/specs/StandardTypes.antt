@@ -14,14 +14,14 @@ use Rattle.std.specs.Option.{option_or}
 abbrev pub root_integer : Symbol
 root_integer = standard_symbol (codes "root_integer")
 
--- it has the values of all words
+-- the root type's definition: it has the values of all words
 abbrev pub root_definition : TypeDefinition
 root_definition = Integer (record { low = negsuc 9223372036854775807; high = pos 9223372036854775807 })
 
 abbrev pub root_types : List TypeView
 root_types = scalar root_integer root_definition
 
--- and the operators of an integer type, declared in no part
+-- the root type's operators, those of an integer type, which no part declares
 abbrev pub root_operators : Declarations
 root_operators = with_operators root_integer root_types [] [] (operators_of root_definition)
 

@@ -1,4 +1,4 @@
-// Types once more.
+// Copies of types.
 ghost use Rattle.std.specs.Prelude.{◌≡◌, IfOk};
 
 use al_base::{Name, NoMemory};

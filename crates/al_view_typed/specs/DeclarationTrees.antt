@@ -27,7 +27,7 @@ pub data DeclarationFormTree : Type 0 where
   -- a protected object with the components that have a value
   SingleProtected : Symbol → List ComponentValueTree → DeclarationFormTree
 
--- with the line of the first token
+-- a declaration with the line of its first token
 pub record DeclarationTree : Type 0 where
   pub line : ℕ
   pub form : DeclarationFormTree

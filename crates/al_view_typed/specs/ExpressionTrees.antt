@@ -36,7 +36,7 @@ mutual
   pub data NameTree : Type 0 where
     -- the place of the object, and whether it is a constant
     ObjectName : ObjectPlace → Bool → NameTree
-    -- from this word of the record on
+    -- a component, from this word of the record on
     ComponentName : NameTree → ℕ → NameTree
     -- the array, the index with its bounds, the words of a component
     IndexedName : NameTree → TypedTree → Bounds → ℕ → NameTree

@@ -6,7 +6,7 @@ use Rattle.al_view_typed.specs.ExpressionTrees.{CallTree, NameTree, TypedTree, V
 
 -- what is put
 pub data PieceTree : Type 0 where
-  -- these bytes
+  -- the bytes of a string literal
   TextPiece : List ℕ → PieceTree
   IntegerImage : TypedTree → PieceTree
   -- the value, and the names of the literals by position
@@ -20,7 +20,7 @@ pub data SchemeTree : Type 0 where
   ForScheme : Bool → TypedTree → TypedTree → Option Bounds → ℕ → ℕ → SchemeTree
 
 mutual
-  -- with the line of the first token
+  -- a statement with the line of its first token
   pub data StatementTree : Type 0 where
     Numbered : ℕ → StatementFormTree → StatementTree
 
