@@ -37,13 +37,13 @@ pub trait UnitCheck {
     /// - `asked`: who is asked stays the same.
     /// - `meaning`: under every table that agrees with the log the outcome is the same.
     /// - `others`, `grounded`: each question is of a predefined unit, or of another unit, which this one names (ARM 10.1.1(26)) or
-    /// an earlier answer does.
+    ///   an earlier answer does.
     /// - `words`: it is for a property, or by a word of the source, an operator's sign too, or by the name of a private type that
-    /// an answer before it gave; that for what a body must complete is of the unit's own declaration.
+    ///   an answer before it gave; that for what a body must complete is of the unit's own declaration.
     /// - `names`: the result names no unit but these and its own.
     /// - `uses`, `defines`, `shows`, `code`: what the linker needs of its labelled tree and of what it answers.
     /// - `parts`: a body defines the code that its declaration leaves to it, save that of its stubs, a subunit that of its stub, a
-    /// procedure that may be the main one its own; only a declaration that needs a body leaves code to it.
+    ///   procedure that may be the main one its own; only a declaration that needs a body leaves code to it.
     /// - `faults`: if something is wrong, it is reported for the unit's own file.
     /// - `counted`: one more check was made, also if the allocator refused memory.
     ///

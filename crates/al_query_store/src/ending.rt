@@ -10,7 +10,7 @@ use crate::store::Store;
 use al_base::UnitKey;
 
 impl<E: Logged> Store<E> {
-    /// Lets go the settled entry of a unit.
+    /// Drops the settled entry of a unit.
     fn drop_settled(&mut self, unit: &UnitKey)
         ensures { Changes without_settled unit.now self.old self.new }
     {
@@ -26,7 +26,7 @@ impl<E: Logged> Store<E> {
         self.slots.remove(key);
     }
 
-    /// Lets go the entry that was made of a unit.
+    /// Drops the entry that was made of a unit.
     fn drop_made(&mut self, unit: &UnitKey)
         ensures { Changes without_made unit.now self.old self.new }
     {
@@ -92,7 +92,7 @@ impl<E: Logged> Store<E> {
         take_away(&mut self.cells, unit);
     }
 
-    /// Lets go all that there is of a unit.
+    /// Drops all that there is of a unit.
     fn drop_unit(&mut self, unit: &UnitKey)
         ensures { Changes (λ s. nothing) unit.now self.old self.new }
     {
@@ -133,7 +133,7 @@ impl<E: Logged> Store<E> {
         }
     }
 
-    /// Lets go what was made of a unit.
+    /// Drops what was made of a unit.
     fn cancel_unit(&mut self, unit: &UnitKey)
         ensures { Changes cancelled_state unit.now self.old self.new }
     {
@@ -173,7 +173,7 @@ impl<E: Logged> Store<E> {
         }
     }
 
-    /// Lets go what was made of these units.
+    /// Drops what was made of these units.
     fn cancel_units(&mut self, moved: &[UnitKey])
         ensures { (u : UnitKey) → state self.new u ≡ (if has_unit moved.now u then cancelled_state (state self.old u) else state self.old u) }
     {

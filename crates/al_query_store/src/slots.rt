@@ -114,7 +114,7 @@ impl<E: Logged> Slots<E> {
         )
     }
 
-    /// Lets go what is held under a key. It takes no memory.
+    /// Drops what is held under a key. It takes no memory.
     pub fn remove(&mut self, key: usize)
         ensures { Updates self.old self.new key None }
     {

@@ -17,10 +17,11 @@ abbrev pub kind : Lexeme → ℕ
 kind (Fixed k) = k
 kind (Named k label) = k
 
--- Nest k n: the construct n, which begins with the word k. Its inside is one deeper. Begun k n: the construct n, which begins with
--- a lexeme of kind k that has a label. Its inside is one deeper. Room a: a, if one more construct may be open, since a cannot do
--- without. RoomOr a b: a, if one more construct may be open, and b, if none may. Marked k a b: any number of a, each after the mark
--- k, and then perhaps one b after the mark k.
+-- Nest k n: the construct n, which begins with the word k. Its inside is one deeper.
+-- Begun k n: the construct n, which begins with a lexeme of kind k that has a label. Its inside is one deeper.
+-- Room a: a, if one more construct may be open, since a cannot do without.
+-- RoomOr a b: a, if one more construct may be open, and b, if none may.
+-- Marked k a b: any number of a, each after the mark k, and then perhaps one b after the mark k.
 pub data Rule : Type 0 where
   One : ℕ → Rule
   Any : ℕ → Rule
