@@ -9,7 +9,7 @@ use al_view::{ObjectPlace, Priority, Seq, Symbol};
 use al_view_typed::{DataPlace, ProtectedWords};
 use std::alloc::Global;
 
-/// How far the check of a unit's text has come: what the declarations before a place have taken.
+/// How far the check of a unit's source has come: what the declarations before a place have taken.
 pub struct Progress {
     /// The unit.
     pub unit: UnitKey,

@@ -13,7 +13,7 @@ use Rattle.al_overload.specs.HeadsHeads.{bounds_head, head_of}
 use Rattle.al_overload.specs.declared.everywhere.Predefined.{Predefined}
 use Rattle.al_overload.specs.declared.part.Nominal.{Nominal}
 
--- its one acceptable interpretation; E402 or E403 at its first token, where there is none or are several
+-- its one acceptable interpretation; E402 or E403 at its first token, if there is none or are several
 abbrev pub interpreted : Predefined → Context → Option Nominal → TermTree → Result Label Fault
 interpreted p context allowed term = resolved (first_place term) None (head_of p allowed term) (wanted_in p.types context)
 

@@ -31,7 +31,7 @@ fn prefers_root(choices: &[Choice], _operands: &Terms, expected: &Expected) -> b
     ways_in(choices, true, expected).is_any()
 }
 
-/// The one candidate that can stand at this head, with its number.
+/// The one candidate that can be at this head, with its number.
 fn pick<'a>(
     choices: &'a [Choice],
     _operands: &Terms,

@@ -171,7 +171,7 @@ fn joined<'a>(
     signed(alloc, predefined, joint.sign, part, operands)
 }
 
-/// The head of a chain, from its first operand on. The last link of the text comes first.
+/// The head of a chain, from its first operand on. The last link in source order comes first.
 #[tactic(auto, using(crate::proofs::HeadsChainLemmas::first_joined_head, crate::proofs::HeadsChainLemmas::first_joined_universal))]
 pub(crate) fn chained<'a>(
     alloc: Global,

@@ -131,7 +131,7 @@ impl Drop for Terms {
     }
 }
 
-/// Operands, in the order of the text.
+/// Operands, in source order.
 pub struct Operands {
     pub(crate) terms: Terms,
 }

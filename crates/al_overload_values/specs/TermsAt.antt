@@ -1,4 +1,4 @@
--- What texts are at their place, where these packages are mentioned: the names of each text are looked up there, by a table of answers
+-- What texts are at their place, if these packages are mentioned: the names of each text are looked up there, by a table of answers
 -- (ARM 4.1 to 4.7, 8.3).
 use Rattle.std.specs.Prelude.{ℕ, List, ◌++◌, map, Result}
 use Rattle.al_base.specs.declared.unit_key.UnitKey.{UnitKey}

@@ -1,4 +1,4 @@
-// The library units that are mentioned at the start of the text of a unit.
+// The library units that are mentioned at the start of a unit's source.
 ghost use Rattle.std.specs.Prelude.{◌≡◌, ◌∷◌, [], ◌++◌, IfOk, OnOk, is_ok, true};
 ghost use Rattle.std.specs.List.{flat_map};
 ghost use Rattle.al_unit_graph.specs.Names.{lineage};

@@ -454,7 +454,7 @@ impl Scope {
         }
     }
 
-    /// What the visible part of the package declares under a name, in text order and its mentioned children last.
+    /// What the visible part of the package declares under a name, in source order and its mentioned children last.
     fn declared_by<A: Answers>(
         &self,
         prefix: &Symbol,
