@@ -56,7 +56,7 @@ joint_universal (signs.Selector name) of_numbers = false
 joint_universal signs.Indexes of_numbers = false
 joint_universal (signs.Mark candidate) of_numbers = false
 
--- the same of a chain, from its first operand on; the last link of the text comes first
+-- whether a chain is of numbers alone, from its first operand on; the last link in source order comes first
 abbrev pub chained_universal : List Joint → Bool → Bool
 chained_universal [] universal = universal
 chained_universal (joint ∷ joints) universal = joint_universal joint.sign (chained_universal joints universal && joint.right.are_universal)

@@ -23,7 +23,7 @@ numbers_in p (contexts.BoundOf of) = of
 numbers_in p (contexts.ChoiceOf of) = of
 numbers_in p _ = p.types.integer
 
--- the same of a pair of bounds
+-- what a pair of bounds means in its complete context
 abbrev pub bounds_interpreted : Predefined → Context → TermTree → TermTree → Result Label Fault
 bounds_interpreted p context low high =
     resolved (first_place low) None (bounds_head p (numbers_in p context) low high) (wanted_in p.types context)

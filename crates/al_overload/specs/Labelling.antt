@@ -86,7 +86,7 @@ abbrev pub same_bool : Bool → Bool → Bool
 same_bool true b = b
 same_bool false b = not b
 
--- The same by recursion, as two passes compute it: at each head the root type's operators alone, if one of them fits;
+-- The preferred labelling by recursion, as two passes compute it: at each head the root type's operators alone, if one of them fits;
 -- below it each choice of what is preferred there.
 abbrev mutual
   pub preferred : Tree → Expected → List Label

@@ -85,11 +85,11 @@ unfoldable mutual
   all_names es.NoExpression = []
   all_names (es.MoreExpressions x xs) = names_in x ++ all_names xs
 
--- those of the selectors of a name of identifiers, each in what comes before it
+-- the names of the selectors of a name of identifiers, each in what comes before it
 abbrev pub selector_names : List ℕ → List Label → List TextName
 selector_names key [] = []
 selector_names key (l ∷ ls) = Selected key l.text ∷ selector_names (dotted key l.text) ls
 
--- those of a name of identifiers
+-- the names in a name of identifiers
 abbrev pub identifier_names : Label → List Label → List TextName
 identifier_names first selectors = Simple first.text ∷ selector_names first.text selectors

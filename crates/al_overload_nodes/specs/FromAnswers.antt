@@ -115,7 +115,7 @@ test_type p value low high label =
     unwrap_or (option_or (operand_type p value (operand_label 0 label))
     (option_or (operand_type p low (operand_label 1 label)) (operand_type p high (operand_label 2 label)))) (everywhere p.types.integer.symbol)
 
--- the same of a pair of bounds, which have this type if both are of numbers alone
+-- the type of a pair of bounds, which have this type if both are of numbers alone
 abbrev pub pair_type : Predefined → DeterminedType → TermTree → TermTree → Label → DeterminedType
 pair_type p otherwise low high label =
     unwrap_or (option_or (operand_type p low (operand_label 0 label)) (operand_type p high (operand_label 1 label))) otherwise

@@ -56,7 +56,7 @@ bounds_checked_as p own expected context types low high =
 abbrev pub bounds_checked : Predefined → Option Symbol → Context → List TypeView → TermTree → TermTree → Result PairTree Fault
 bounds_checked p own context types low high = bounds_checked_as p own Any context types low high
 
--- the same of bounds that must be static, given what was found in the prefixes of their attributes: E304 at each that isn't
+-- a pair of bounds that must be static, given what was found in the prefixes of their attributes: E304 at each that isn't
 abbrev pub static_bounds_checked : Predefined → Option Symbol → Context → List TypeView → Option Fault → TermTree → TermTree → Result PairTree Fault
 static_bounds_checked p own context types found low high = bounds_checked_as p own (expected_after (first_place low) found) context types low high
 

@@ -194,8 +194,8 @@ fn read_named_call(
 
 /// The call of a procedure or an entry with its labelling.
 /// # Errors
-/// `NoMemory` if the allocator refuses memory. The inner error is E402 at the first token if the labelling doesn't fit a call, or that of
-/// `call_made`.
+/// `NoMemory` if the allocator refuses memory. The inner error is E402 at the first token if the labelling doesn't fit a call; else the
+/// first of the static failures (E405) in the actual parameters and the error of `call_made`.
 #[tactic(auto, using(crate::proofs::TermsSeen::terms_made))]
 pub fn read_call(
     labeller: &Labeller,

@@ -106,7 +106,7 @@ fn component_in(position: usize, definition: &TypeDefinition) -> Option<&Subtype
     }
 }
 
-/// The component of an array type that an aggregate's values have.
+/// The subtype of the component at that position in an aggregate of this type.
 pub fn component_of_type<'a>(
     standard: &'a StandardTypes,
     types: &'a Types,

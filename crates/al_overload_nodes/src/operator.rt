@@ -69,7 +69,7 @@ fn root_right(predefined: &Predefined, operator: BinaryOperator) -> &Symbol
     }
 }
 
-/// The result type of an operator of the root type.
+/// The result type of an operator of the root type: Boolean for a relation, else the root type.
 pub fn root_result(predefined: &Predefined, operator: BinaryOperator) -> &Symbol
     ensures { result.now ≡ root_result predefined.now operator }
 {

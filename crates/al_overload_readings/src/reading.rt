@@ -384,7 +384,8 @@ fn attributed(place: Place, prefix: Prefix, attribute: Attribute) -> CheckResult
 
 /// The reading with an attribute after it.
 /// # Errors
-/// `NoMemory` if the allocator refuses memory. The inner error is E404 at its first token if it has no such attribute.
+/// `NoMemory` if the allocator refuses memory. The inner error is E404 at its first token if it is neither scalar nor an
+/// array, or if the attribute is one of the other of these two.
 pub fn with_attribute(
     alloc: Global,
     standard: &StandardTypes,

@@ -28,10 +28,10 @@ mark_at t place packages x = mark_of_text (denotations_at t place packages x) x
 
 -- ---- which names are asked for
 
--- those of a text
+-- the names in an expression, as they are asked for
 abbrev pub text_names : ExpressionTree → List (List ℕ)
 text_names x = map asked_name (names_in x)
 
--- those of two bounds
+-- the names in two bounds, as they are asked for
 abbrev pub range_names : RangeTree → List (List ℕ)
 range_names r = text_names r.low ++ text_names r.high

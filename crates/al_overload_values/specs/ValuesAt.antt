@@ -32,7 +32,7 @@ abbrev pub checked_at : Table → Surroundings → Context → Option Nominal �
 checked_at t s context allowed types x =
     next (context_with_at t s.place s.packages s.predefined s.own x) (λ (w : With TermTree). unless w.1 (term_checked s.predefined s.own context allowed types w.0))
 
--- the same of an expression that must be static: E304 at its first token, too
+-- an expression that must be static in its context: E304 at its first token, too
 abbrev pub static_checked_at : Table → Surroundings → Context → List TypeView → ExpressionTree → Result TypedTree Fault
 static_checked_at t s context types x =
     next (context_with_at t s.place s.packages s.predefined s.own x) (λ (w : With TermTree). unless w.1 (static_term_checked s.predefined s.own context types w.1 w.0))
@@ -47,7 +47,7 @@ pair_judged_at t s context types r =
     next (bounds_with_at t s.place s.packages s.predefined s.own r)
     (λ (b : With (TermTree × TermTree)). unless b.1 (bounds_checked s.predefined s.own context types b.0.0 b.0.1))
 
--- the same of bounds that must be static: E304 at each that isn't, too
+-- a pair of bounds that must be static: E304 at each that isn't, too
 abbrev pub static_pair_at : Table → Surroundings → Context → List TypeView → RangeTree → Result PairTree Fault
 static_pair_at t s context types r =
     next (bounds_with_at t s.place s.packages s.predefined s.own r)

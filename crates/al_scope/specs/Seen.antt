@@ -48,7 +48,7 @@ full_of t place s = recast_by (full_in (within_unit t s.name s.unit place) s)
 abbrev pub full_if_private : Table → Place → TypeView → List Recast
 full_if_private t place of = if is_private of.definition then full_of t place of.symbol else []
 
--- those of the private types among these
+-- the full views of the private types among these
 abbrev pub full_views : Table → Place → List TypeView → List Recast
 full_views t place types = flat_map (full_if_private t place) types
 

@@ -51,7 +51,7 @@ held_against None whole = OfType whole
 abbrev pub bounds_of : TypedTree → Option Bounds
 bounds_of (Labelled labels form) = labels.bounds
 
--- the same of a selector that has no fault
+-- what the choices are compared with, for a selector that has no fault
 abbrev pub held_by : Result TypedTree Fault → Bounds → Option Selector
 held_by (Ok s) whole = Some (held_against (bounds_of s) whole)
 held_by (Err f) whole = None

@@ -87,7 +87,7 @@ pub record Choosing : Type 0 where
 unfoldable pub choosing : ℕ → Result TypedTree Fault → List (List Choice) → Choosing
 choosing slot selector choices = record { slot = slot; selector = selector; choices = choices; so_far = none_chosen; bodies = [] }
 
--- those of the next alternative, and the rest
+-- the choices of the next alternative, and those after them
 abbrev pub next_choices : List (List Choice) → List Choice
 next_choices [] = []
 next_choices (c ∷ cs) = c

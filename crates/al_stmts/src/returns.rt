@@ -32,7 +32,8 @@ fn may_return(body: EnclosingBody, has_value: bool) -> bool
     }
 }
 
-/// E501 at the first token of a return statement whose value is missing or not wanted.
+/// E501 at the first token of a return statement that isn't allowed in the body: its value is missing or not wanted, or the body allows
+/// none.
 pub fn return_fault(place: Place, body: EnclosingBody, has_value: bool) -> Option<Fault>
     ensures { result ≡ return_fault place body has_value }
 {

@@ -43,7 +43,7 @@ all_words = record { low = negsuc 9223372036854775807; high = pos 92233720368547
 abbrev pub all_values : FoundType → Bounds
 all_values found = unwrap_or (positions_in found.types found.of) all_words
 
--- the same of a selector that is judged; of a faulty one nothing is asked
+-- the range of the whole type of a selector that was checked; of a faulty one nothing is asked
 abbrev pub values_of : Result FoundTree Fault → Bounds
 values_of (Ok x) = all_values x.found
 values_of (Err f) = all_words
