@@ -17,7 +17,7 @@ pub struct Actuals {
     pub failure: Option<Fault>,
     /// The first fault in them.
     pub fault: Option<Fault>,
-    /// Those that are right, in order.
+    /// The actual parameters that are right, in order.
     pub items: Vec<Actual>,
 }
 
@@ -28,7 +28,7 @@ pub struct Values {
     pub failure: Option<Fault>,
     /// The first fault in them.
     pub fault: Option<Fault>,
-    /// Those that are right, in order.
+    /// The values that are right, in order.
     pub items: Vec<CheckedValue>,
 }
 

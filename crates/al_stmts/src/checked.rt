@@ -26,7 +26,7 @@ pub struct CheckedStatement {
 pub struct CheckedStatements {
     /// What is wrong with them.
     pub faults: FaultList,
-    /// Those whose own parts are right.
+    /// The statements whose own parts are right.
     pub statements: Vec<TypedStatement>,
 }
 
