@@ -45,7 +45,7 @@ more_after p now new xs i x inside is there made =
     ∙ sym (fold_push after_formal p (map formal_model (take i xs)) (formal_model x))
     ∙ ap (after_formals p) (sym (seen_more xs i x inside is))
 
--- ---- what round the region of formals stands stays
+-- ---- what is round the region of formals is unchanged
 
 formals-inner : (outer : List Region) (start place : Place) (fs : List FormalTree) → IsInner outer start place → IsInner outer start (after_formals place fs)
 formals-inner outer start place [] h = h

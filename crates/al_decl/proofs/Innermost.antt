@@ -1,4 +1,4 @@
--- What round a region stands stays.
+-- What is round a region is unchanged.
 use Rattle.std.proofs.Common.{◌≡◌, List, [], ◌∷◌, ◌++◌, refl, ap, ◌∙◌}
 use Rattle.al_decl_judged.specs.declared.names.DefiningName.{DefiningName}
 use Rattle.al_decl.specs.Declaring.{begun, begun_one, in_innermost}

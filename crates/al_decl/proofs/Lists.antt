@@ -56,13 +56,13 @@ region-inner place cs = components-inner place.regions place (in_region place) c
 
 -- ---- what is found
 
--- what may be wrong besides stands before what is made of a subtype
+-- what may be wrong besides comes before what is made of a subtype
 pub unless_model : {A B : Type 0} (d : Option Fault) (f : A → B) (r : Result A Fault) → unless d (map_ok f r) ≡ map_ok f (unless d r)
 unless_model {A} {B} None f r = refl
 unless_model {A} {B} (Some d) f (Ok a) = refl
 unless_model {A} {B} (Some d) f (Err g) = refl
 
--- the parts of a subtype that is right stand after those found; where something is wrong they don't matter
+-- the parts of a subtype that is right come after those found; if something is wrong they don't matter
 pub found_right : (d : Option Fault) (ps qs : List Part) → unless d (Ok (ps ++ qs)) ≡ parts_of_both (unless d (Ok ps)) (Ok qs)
 found_right None ps qs = refl
 found_right (Some d) ps qs = refl

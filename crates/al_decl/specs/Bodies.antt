@@ -4,6 +4,6 @@ use Rattle.al_decl.specs.declared.body.PlacedBody.{PlacedBody}
 use Rattle.al_view_typed.specs.DeclarationTrees.{DeclarationTree, declaration_model}
 use Rattle.al_view.specs.declared.symbol.Symbol.{Symbol}
 
--- what it does where it stands, and its symbol
+-- what it does at its place, and its symbol
 abbrev pub placed_model : PlacedBody → Option DeclarationTree × Symbol
 placed_model b = (option_map declaration_model b.effect, b.symbol)

@@ -21,7 +21,7 @@ use Rattle.al_view.specs.declared.view.ViewKind.TheVariants.{OfComponent}
 abbrev pub part : SubtypeView → DefiningName → Part
 part of n = record { name = n.name; of = of }
 
--- a component of the record has the name already, or it stands twice in its list
+-- a component of the record has the name already, or it is there twice in its list
 abbrev pub names_fault : (Query → AnswerKind) → Place → List DefiningName → Option Fault
 names_fault t place names = earlier (duplicates t place OfComponent names) (repeated [] names)
 

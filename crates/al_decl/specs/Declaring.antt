@@ -20,7 +20,7 @@ use Rattle.al_decl.specs.declared.env.Environment.{Environment}
 abbrev pub in_innermost : (Region → Region) → Place → Place
 in_innermost change place = record { mentioned = place.mentioned; regions = in_last change place.regions }
 
--- ---- names that are begun hide what stands outside from then on (ARM 8.3(15, 16))
+-- ---- names that are begun hide what is outside from then on (ARM 8.3(15, 16))
 
 abbrev pub begun_one : Place → DefiningName → Place
 begun_one place n = in_innermost (with_begun n.name) place

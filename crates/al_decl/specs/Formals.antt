@@ -32,7 +32,7 @@ one_read R place f = formal_read R (begun place (defining_names f.names)) f (def
 abbrev pub after_formal : Place → FormalTree → Place
 after_formal place f = made_visible (begun place (defining_names f.names)) (defining_names f.names)
 
--- those of all lists, each read after those before it
+-- the formals of all lists, each read after those before it
 abbrev pub formals_read : PartReading → Place → List FormalTree → List FormalPart
 formals_read R place [] = []
 formals_read R place (f ∷ fs) = one_read R place f ++ formals_read R (after_formal place f) fs
@@ -40,7 +40,7 @@ formals_read R place (f ∷ fs) = one_read R place f ++ formals_read R (after_fo
 abbrev pub after_formals : Place → List FormalTree → Place
 after_formals place fs = fold after_formal place fs
 
--- those of a specification
+-- the formals of a specification
 abbrev pub formal_list : Option FormalPartTree → List FormalTree
 formal_list None = []
 formal_list (Some p) = p.first ∷ p.others

@@ -93,7 +93,7 @@ value_read R place (Ok os) (Some e) = first_read R place os e
 abbrev pub objects_read : PartReading → Environment → List DefiningName → ObjectTypeTree → Result (List NewObject) Fault
 objects_read R h names type = next (type_read R (begun h.scope names) type) (λ (of : ObjectType). new_objects h.progress of names)
 
--- names : [constant] type [:= value], whose first token stands on that line
+-- names : [constant] type [:= value], whose first token is on that line
 abbrev pub objects_checked : PartReading → (Query → AnswerKind) → Environment → ℕ → List DefiningName → Bool → ObjectTypeTree → Option ExpressionTree → Result (Environment × Option DeclarationTree) Fault
 objects_checked R t h line names constant type initial =
     let objects = objects_read R h names type in

@@ -28,7 +28,7 @@ formals_of s = formal_list (formal_part_of s)
 abbrev pub last_of : CompoundNameTree → Label
 last_of n = unwrap_or (slice_get n.selectors (length n.selectors - 1)) n.first
 
--- the defining name of a unit with dots is its last identifier; it stands at its first token
+-- the defining name of a unit with dots is its last identifier; its place is its first token
 abbrev pub compound_defined : CompoundNameTree → DefiningName
 compound_defined n = record { name = (last_of n).text; place = place_of n.first }
 
@@ -50,7 +50,7 @@ bare s = record { name = compound_defined (name_of s); is_dotted = is_dotted (na
 abbrev pub filled : PartReading → Place → SpecificationTree → Heading → Heading
 filled R place s h = record h { formals = h.formals ++ formals_read R place (formals_of s); returned = returned_read R (after_formals place (formals_of s)) s }
 
--- formals stand in a region of their own (ARM 8.1)
+-- formals are in a region of their own (ARM 8.1)
 abbrev pub heading_read : PartReading → Place → SpecificationTree → Heading
 heading_read R place s = record {
   name = compound_defined (name_of s);

@@ -1,4 +1,4 @@
--- One declaration as it stands in a text, at its place (ARM 3.2.1, 3.2.2, 3.3.1, 3.3.2).
+-- One declaration as it is written, at its place (ARM 3.2.1, 3.2.2, 3.3.1, 3.3.2).
 use Rattle.std.specs.Prelude.{ℕ, List, Option, Some, None, Result, Err, unwrap_or}
 use Rattle.al_base_fault.specs.declared.check_rule.CheckRule.TheVariants.{NotAllowedHere}
 use Rattle.al_decl.specs.Forms.{array_checked, enumeration_checked, integer_checked, number_checked, objects_checked, private_checked, subtype_checked}
@@ -32,11 +32,11 @@ object_checked R t h o = form_checked R t h o.names.first.line (defining_names o
 abbrev pub refused : Option Fault → DefiningName → Fault
 refused duplicate n = unwrap_or duplicate (fault_at n.place NotAllowedHere)
 
--- a private type stands in the visible part of a package alone (ARM 7.3(4))
+-- a private type is allowed only in the visible part of a package (ARM 7.3(4))
 abbrev pub private_fault : (Query → AnswerKind) → Environment → DefiningName → Fault
 private_fault t h n = refused (duplicate t h.scope OfComponent n) n
 
--- where it may stand, with the words of its values
+-- where it is allowed, with the words of its values
 abbrev pub private_item : (Query → AnswerKind) → Environment → TypeName → Option ℕ → Result (Environment × Option DeclarationTree) Fault
 private_item t h n (Some words) = private_checked t h n words
 private_item t h n None = Err (private_fault t h n.defining)
@@ -49,7 +49,7 @@ definition_checked R t h words n (EnumerationDefinition opening literals) = enum
 definition_checked R t h words n (ArrayDefinition array) = array_checked R t h n array
 definition_checked R t h words n (RecordDefinition components end) = record_checked R t h n components
 
--- the words of a private type are given where one may stand
+-- the words of a private type are given where one is allowed
 abbrev pub type_checked : PartReading → (Query → AnswerKind) → Environment → Option ℕ → TypeTree → Result (Environment × Option DeclarationTree) Fault
 type_checked R t h words d = definition_checked R t h words (type_name h (defined d.name)) d.definition
 

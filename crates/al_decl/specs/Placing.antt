@@ -34,11 +34,11 @@ is_right_return (Value of) = is_ok of
 abbrev pub has_right_marks : Heading → Bool
 has_right_marks h = list_all (λ (f : FormalPart). is_ok f.of) h.formals && is_right_return h.returned
 
--- a view with its types, as far as homographs tell
+-- a view with its types, as far as it matters for homographs
 abbrev pub head_view : Environment → Heading → ViewKind
 head_view h head = subprogram_view (symbol_of h.progress head.name.name) h.progress.depth None head
 
--- E301 at the name, where the region has a homograph; where the types aren't known, where it has what may not be overloaded
+-- E301 at the name, if the region has a homograph; if the types aren't known, if it has what may not be overloaded
 abbrev pub head_duplicate : (Query → AnswerKind) → Environment → Heading → Option Fault
 head_duplicate t h head =
     if has_right_marks head then duplicate t h.scope (head_view h head) head.name
@@ -55,7 +55,7 @@ subprogram_after h d = after (with_awaiting h d.0.1) (d.0.0, d.1)
 abbrev pub subprogram_placed : (Query → AnswerKind) → Environment → ℕ → Heading → Result (Environment × Option DeclarationTree) Fault
 subprogram_placed t h line head = map_ok (subprogram_after h) (subprogram_declared h.progress h.uncompleted line (head_duplicate t h head) head)
 
--- a specification alone, whose first token stands on that line
+-- a specification alone, whose first token is on that line
 abbrev pub subprogram_checked : PartReading → (Query → AnswerKind) → Environment → ℕ → SpecificationTree → Result (Environment × Option DeclarationTree) Fault
 subprogram_checked R t h line s = subprogram_placed t h line (heading_read R h.scope s)
 

@@ -14,7 +14,7 @@ use Rattle.al_tree_syntax.specs.DeclarationTrees.{ComponentsTree}
 use Rattle.al_view_typed.specs.DeclarationTrees.{DeclarationTree}
 use Rattle.al_decl.specs.Components.{component_list, parts_after}
 
--- type N is record components end record: they stand in a region of their own, in which N is begun
+-- type N is record components end record: they are in a region of their own, in which N is begun
 abbrev pub record_checked : PartReading → (Query → AnswerKind) → Environment → TypeName → ComponentsTree → Result (Environment × Option DeclarationTree) Fault
 record_checked R t h n components =
     finished (inside_type h n)

@@ -1,4 +1,4 @@
--- Blocks and bodies of subprograms at a place, and what stands round them (ARM 5.6, 6.3, 8.1).
+-- Blocks and bodies of subprograms at a place, and what is round them (ARM 5.6, 6.3, 8.1).
 use Rattle.std.specs.Prelude.{List, [], ◌∷◌, ◌++◌}
 use Rattle.al_decl.specs.Declaring.{with_declarations}
 use Rattle.al_decl.specs.Inner.{in_region}

@@ -16,7 +16,7 @@ use Rattle.al_view_predefined.specs.Standard.{literal}
 use Rattle.al_decl.specs.Declaring.{begun_one, duplicate, duplicates, overloaded_duplicates}
 use Rattle.al_decl.specs.declared.env.Environment.{Environment}
 
--- where the part itself declares nothing under a name, the private type of the region under it
+-- if the part itself declares nothing under a name, the private type of the region under it
 abbrev pub partial_among : List ViewKind → List ViewKind → Option Symbol
 partial_among [] views = first_partial views
 partial_among (v ∷ vs) views = None

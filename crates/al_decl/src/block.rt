@@ -9,14 +9,16 @@ use al_view::Interface;
 use std::alloc::Global;
 use std::mem;
 
-/// What waits and what is declared round a block or a body, and goes on after it.
+/// What waits and what is declared round a block or a body, which continues after it.
 #[derive(Drop)]
 pub struct Outside {
+    /// What waits for a body round it.
     pub uncompleted: Uncompleted,
+    /// What is declared round it so far.
     pub declared: Interface,
 }
 
-/// Nothing waits and nothing is declared from here on: what did.
+/// Takes out what waits and what is declared: from here on nothing is and nothing does.
 pub fn set_aside(alloc: Global, env: &mut Environment) -> Outside
     ensures env { env.new ≡ set_aside env.old }
     ensures outside { result ≡ outside_of env.old }
@@ -29,7 +31,7 @@ pub fn set_aside(alloc: Global, env: &mut Environment) -> Outside
     }
 }
 
-/// What waited and was declared goes on.
+/// Puts back what waited and was declared.
 pub fn take_back(env: &mut Environment, outside: Outside)
     ensures { env.new ≡ taken_back env.old outside }
 {
@@ -42,6 +44,8 @@ pub fn take_back(env: &mut Environment, outside: Outside)
 }
 
 /// Enters a block: a region that continues nothing, in which nothing waits.
+/// # Errors
+/// `NoMemory` if the allocator refuses memory.
 pub fn enter_block(alloc: Global, env: &mut Environment) -> Result<Outside, NoMemory>
     ensures env { OnOk result (env.new ≡ block_entered env.old) }
     ensures outside { IfOk result (λ outside. outside ≡ outside_of env.old) }

@@ -22,10 +22,12 @@ use al_view_predefined::StandardTypes;
 use al_view_typed::TypedDeclaration;
 use std::alloc::Global;
 
-/// A body or stub that is right: what it does where it stands, and what its code is known by.
+/// A body or stub that is right: what it does at its place, and the symbol of its code.
 #[derive(Drop)]
 pub struct PlacedBody {
+    /// What it does at its place, if anything.
     pub effect: Option<TypedDeclaration>,
+    /// The symbol of its code.
     pub symbol: Symbol,
 }
 
@@ -78,9 +80,11 @@ fn complete(
     finish_body(env, body)
 }
 
-/// The head of a body or stub, whose first token stands on that line: it completes the first declaration that waits with its name and types, or declares its
-/// subprogram. `stub` is what is wrong with a stub that may not stand there; a body in a protected
-/// object's may not declare.
+/// The head of a body or stub, whose first token is on that line. It completes the first declaration that waits with its name and types, or
+/// declares its subprogram. `stub` is the fault of a stub that isn't allowed there; a body in a protected object's may not declare.
+/// # Errors
+/// `NoMemory` if the allocator refuses memory. The inner error is the first of `stub`, the faults of the heading, E303 if it doesn't
+/// conform, and E301 or E303 if it completes nothing and may not be alone.
 pub fn place_body<A: Answers>(
     alloc: Global,
     standard: &StandardTypes,

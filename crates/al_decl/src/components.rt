@@ -26,7 +26,7 @@ fn part(alloc: Global, of: &SubtypeView, name: &DefiningName) -> Result<Part, No
     Ok(Part { name, of })
 }
 
-/// A part for each of these names, after others.
+/// Adds a part for each of these names.
 fn add_parts(
     alloc: Global,
     parts: &mut Seq<Part>,
@@ -43,7 +43,9 @@ fn add_parts(
 
 /// The components so far, and the first rule that one of them breaks.
 pub struct ComponentList {
+    /// The components so far.
     pub parts: Seq<Part>,
+    /// The first fault of one of them.
     pub fault: Option<Fault>,
 }
 
@@ -54,7 +56,7 @@ impl Drop for ComponentList {
 }
 
 impl ComponentList {
-    /// Nothing so far.
+    /// No components yet.
     pub(crate) fn new(alloc: Global) -> ComponentList
         ensures { found_model result ≡ Ok [] }
     {
@@ -64,7 +66,7 @@ impl ComponentList {
         }
     }
 
-    /// Components of these names of a subtype that was judged, with what else may be wrong with them.
+    /// Adds components of these names of a subtype that was checked, with what else may be wrong with them.
     fn add(
         &mut self,
         alloc: Global,
@@ -92,7 +94,9 @@ impl ComponentList {
     }
 }
 
-/// E301 at the first of these names that a component of the record has already, or that stands twice among them.
+/// E301 at the first of these names that a component of the record has already, or that is twice among them.
+/// # Errors
+/// `NoMemory` if the allocator refuses memory.
 pub fn names_fault<A: Answers>(
     alloc: Global,
     scope: &Scope,
@@ -108,7 +112,7 @@ pub fn names_fault<A: Answers>(
     Ok(earlier(duplicate, twice))
 }
 
-/// The components of these names after others: the names are begun, and then visible.
+/// Adds the components of these names: the names are begun, and then visible.
 fn named_parts<R: PartAnalyzer, A: Answers>(
     alloc: Global,
     analyzer: &R,
@@ -131,7 +135,7 @@ fn named_parts<R: PartAnalyzer, A: Answers>(
     make_visible(alloc, scope, names)
 }
 
-/// The components of one list of names after others.
+/// Adds the components of one list of names.
 pub(crate) fn check_component<R: PartAnalyzer, A: Answers>(
     alloc: Global,
     analyzer: &R,
@@ -151,7 +155,7 @@ pub(crate) fn check_component<R: PartAnalyzer, A: Answers>(
     named_parts(alloc, analyzer, scope, found, component, names, recorder)
 }
 
-/// Those of all lists, in the order of the text.
+/// Adds the components of all lists, in source order.
 pub(crate) fn check_components<R: PartAnalyzer, A: Answers>(
     alloc: Global,
     analyzer: &R,

@@ -35,10 +35,10 @@ fn static_pair(low: CheckResult<Typed>, high: CheckResult<Typed>) -> CheckResult
     }
 }
 
-/// A value is let go.
+/// Drops a value.
 fn let_go(_value: CheckResult<Typed>) {}
 
-/// A subtype is let go.
+/// Drops a subtype.
 fn let_go_subtype(_of: CheckResult<SubtypeView>) {}
 
 /// A bound of an integer type after another one.
@@ -77,7 +77,10 @@ fn integer_range<R: PartAnalyzer, A: Answers>(
     range_to(alloc, analyzer, scope, low, range, recorder)
 }
 
-/// `type name is range low .. high;` (ARM 3.5.4)
+/// `type name is range low .. high;` (ARM 3.5.4).
+/// # Errors
+/// `NoMemory` if the allocator refuses memory. The inner error is the first of E301 at the name, the faults of the bounds, and E304 at a
+/// bound that isn't static.
 pub fn check_integer<R: PartAnalyzer, A: Answers>(
     alloc: Global,
     analyzer: &R,
@@ -98,7 +101,10 @@ pub fn check_integer<R: PartAnalyzer, A: Answers>(
     finish(env, declared)
 }
 
-/// `type name is (literals);` (ARM 3.5.1)
+/// `type name is (literals);` (ARM 3.5.1).
+/// # Errors
+/// `NoMemory` if the allocator refuses memory. The inner error is E301 at the first of the name and the literals that has a homograph or is
+/// there twice.
 pub fn check_enumeration<A: Answers>(
     alloc: Global,
     env: &mut Environment,
@@ -154,7 +160,10 @@ pub(crate) fn array_parts<R: PartAnalyzer, A: Answers>(
     with_component(alloc, analyzer, scope, index, &array.component, recorder)
 }
 
-/// `type name is array (index) of component;` (ARM 3.6)
+/// `type name is array (index) of component;` (ARM 3.6).
+/// # Errors
+/// `NoMemory` if the allocator refuses memory. The inner error is the first of E301 at the name and the faults of the index and the
+/// component; else E305 at the name if a value would have more than 4,096 words.
 pub fn check_array<R: PartAnalyzer, A: Answers>(
     alloc: Global,
     standard: &StandardTypes,
@@ -184,7 +193,11 @@ pub fn check_array<R: PartAnalyzer, A: Answers>(
     finish(env, declared)
 }
 
-/// `type name is record parts end record;` of parts that are judged, E301 of their names among their faults; a null record has none (ARM 3.8).
+/// `type name is record parts end record;` of parts that were checked; a null record has none (ARM 3.8). `duplicate` is E301 at the name if
+/// its region has a homograph.
+/// # Errors
+/// `NoMemory` if the allocator refuses memory. The inner error is the first of `duplicate` and the first fault of the parts, E301 of their
+/// names included; else E305 at the name if a value would have more than 4,096 words.
 pub fn check_record(
     alloc: Global,
     standard: &StandardTypes,
@@ -201,7 +214,9 @@ pub fn check_record(
     finish(env, declared)
 }
 
-/// `type name is private;`, whose values take so many words (ARM 7.3).
+/// `type name is private;`, whose values take this many words (ARM 7.3).
+/// # Errors
+/// `NoMemory` if the allocator refuses memory. The inner error is E301 at the name if its region has a homograph.
 pub fn check_private<A: Answers>(
     alloc: Global,
     env: &mut Environment,

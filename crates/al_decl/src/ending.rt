@@ -1,4 +1,4 @@
-// The end of a declaration, where its names become visible (ARM 8.3(16)).
+// The end of a declaration, at which its names become visible (ARM 8.3(16)).
 ghost use Rattle.std.specs.Prelude.{◌≡◌, ◌<◌, length, option_map, IfOk, OnOk};
 ghost use Rattle.al_decl.specs.Checking.{at_place, after, finished};
 ghost use Rattle.al_decl_judged.specs.Declaring.{declared_model, joined};
@@ -12,7 +12,9 @@ use al_base_fault::CheckResult;
 use al_decl_judged::Declared;
 use al_view_typed::TypedDeclaration;
 
-/// What is declared becomes visible, and what is done takes its words.
+/// Makes what is declared visible, and gives the temporaries of what is done their words.
+/// # Errors
+/// `NoMemory` if the allocator refuses memory.
 pub fn finish_right(
     env: &mut Environment,
     declared: Declared,
@@ -33,7 +35,10 @@ pub fn finish_right(
     }
 }
 
-/// The end of a declaration that was judged: where it is right, its names are visible from there on, and its value's temporaries have their words.
+/// The end of a declaration that was checked: if it is right, its names are visible from there on, and its value's temporaries have their
+/// words.
+/// # Errors
+/// `NoMemory` if the allocator refuses memory. The inner error is the fault of the declaration.
 pub fn finish(
     env: &mut Environment,
     declared: CheckResult<Declared>,

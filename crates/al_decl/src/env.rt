@@ -1,4 +1,4 @@
-// A place in a unit's text with what is declared there so far.
+// A place in a unit's source with what is declared there so far.
 ghost use Rattle.std.specs.Prelude.{◌≡◌, ◌<◌, length, OnOk};
 ghost use Rattle.al_decl.specs.Declaring.{begun, begun_one, with_declaration, with_declarations};
 
@@ -7,7 +7,7 @@ use al_decl_judged::{Declaration, DefiningName, Progress, Uncompleted};
 use al_scope::Scope;
 use al_view::Interface;
 
-/// A place in a unit's text, and how far its check has come there.
+/// A place in a unit's source, and how far its check has come there.
 #[derive(Drop)]
 pub struct Environment {
     /// The regions round the place.
@@ -20,7 +20,9 @@ pub struct Environment {
     pub declared: Interface,
 }
 
-/// Begins the declaration of a name, which may not be overloaded: until the region is left it hides what stands outside (ARM 8.3(15, 16)).
+/// Begins the declaration of a name, which may not be overloaded: until the region is left it hides what is outside (ARM 8.3(15, 16)).
+/// # Errors
+/// `NoMemory` if the allocator refuses memory.
 pub fn begin_one(scope: &mut Scope, name: &DefiningName) -> Result<(), NoMemory>
     requires { 0 < length scope.old.regions }
     ensures begun { OnOk result (scope.new ≡ begun_one scope.old name.now) }
@@ -30,6 +32,8 @@ pub fn begin_one(scope: &mut Scope, name: &DefiningName) -> Result<(), NoMemory>
 }
 
 /// Begins the declaration of these names.
+/// # Errors
+/// `NoMemory` if the allocator refuses memory.
 pub fn begin(scope: &mut Scope, names: &[DefiningName]) -> Result<(), NoMemory>
     requires { 0 < length scope.old.regions }
     ensures begun { OnOk result (scope.new ≡ begun scope.old names.now) }
@@ -42,7 +46,7 @@ pub fn begin(scope: &mut Scope, names: &[DefiningName]) -> Result<(), NoMemory>
 }
 
 impl Environment {
-    /// One more declaration in the innermost region.
+    /// Adds a declaration to the innermost region.
     fn declare_one(&mut self, declaration: &Declaration) -> Result<(), NoMemory>
         requires { 0 < length self.old.scope.regions }
         ensures declared { OnOk result (self.new ≡ with_declaration self.old declaration.now) }
@@ -54,7 +58,9 @@ impl Environment {
         Ok(())
     }
 
-    /// These declarations become visible in the innermost region, in their order. Homographs were asked for before.
+    /// Makes these declarations visible in the innermost region, in their order. Homographs were asked for before.
+    /// # Errors
+    /// `NoMemory` if the allocator refuses memory.
     pub fn declare(&mut self, declarations: &[Declaration]) -> Result<(), NoMemory>
         requires { 0 < length self.old.scope.regions }
         ensures declared { OnOk result (self.new ≡ with_declarations self.old declarations.now) }

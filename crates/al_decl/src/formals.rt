@@ -56,7 +56,7 @@ fn formal_part(
     Ok(FormalPart { name, mode, of })
 }
 
-/// Formals of these names after others.
+/// Adds formals of these names.
 fn add_formals(
     alloc: Global,
     formals: &mut Seq<FormalPart>,
@@ -72,7 +72,7 @@ fn add_formals(
     Ok(())
 }
 
-/// The mark of formals, read where their names are begun, and the formals after others.
+/// Adds the formals of a mark, which is read while their names are begun.
 fn read_formal<R: PartAnalyzer, A: Answers>(
     alloc: Global,
     analyzer: &R,
@@ -90,7 +90,7 @@ fn read_formal<R: PartAnalyzer, A: Answers>(
     add_formals(alloc, formals, mode, &of, names)
 }
 
-/// Formals of one list of names.
+/// Adds the formals of one list of names.
 pub(crate) fn check_formal<R: PartAnalyzer, A: Answers>(
     alloc: Global,
     analyzer: &R,
@@ -112,7 +112,7 @@ pub(crate) fn check_formal<R: PartAnalyzer, A: Answers>(
     make_visible(alloc, scope, names)
 }
 
-/// All formals, in the order of the text.
+/// All formals, in source order.
 pub(crate) fn check_formals<R: PartAnalyzer, A: Answers>(
     alloc: Global,
     analyzer: &R,

@@ -65,7 +65,7 @@ fn formal_part_of(specification: &Specification) -> &Option<FormalPartText>
     }
 }
 
-/// The formals of a specification, if it has some, after others.
+/// Adds the formals of a specification, if it has some.
 fn formals_at<R: PartAnalyzer, A: Answers>(
     alloc: Global,
     analyzer: &R,
@@ -125,7 +125,7 @@ fn bare(alloc: Global, specification: &Specification) -> Result<Heading, NoMemor
     })
 }
 
-/// Its formals and its result, in the region of the formals.
+/// Reads the formals and the result, in the region of the formals.
 fn fill<R: PartAnalyzer, A: Answers>(
     alloc: Global,
     analyzer: &R,
@@ -146,7 +146,7 @@ fn fill<R: PartAnalyzer, A: Answers>(
     Ok(())
 }
 
-/// The same in a region of its own, which is left again.
+/// Reads the formals and the result in a region of their own, which is left again.
 fn fill_inside<R: PartAnalyzer, A: Answers>(
     alloc: Global,
     analyzer: &R,
@@ -165,8 +165,10 @@ fn fill_inside<R: PartAnalyzer, A: Answers>(
     Ok(())
 }
 
-/// The head of a subprogram: its name, its formals and its result. Each mark is read where the formals before it are visible and those of its own list are
-/// begun (ARM 8.3(16)). The place is the same after it.
+/// The head of a subprogram: its name, its formals and its result. Each mark is read where the formals before it are visible and those of
+/// its own list are begun (ARM 8.3(16)). The place is unchanged afterwards.
+/// # Errors
+/// `NoMemory` if the allocator refuses memory.
 pub fn heading_at<R: PartAnalyzer, A: Answers>(
     alloc: Global,
     analyzer: &R,

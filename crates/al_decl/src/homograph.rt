@@ -17,7 +17,9 @@ use al_scope::Scope;
 use al_view::{View, ViewKind};
 use std::alloc::Global;
 
-/// E301 at a name of which the innermost region has a homograph of that view.
+/// E301 at a name, if the innermost region has a homograph of that view under it.
+/// # Errors
+/// `NoMemory` if the allocator refuses memory.
 pub fn duplicate<A: Answers>(
     scope: &Scope,
     view: &View,
@@ -35,7 +37,9 @@ pub fn duplicate<A: Answers>(
     Ok(None)
 }
 
-/// E301 at the first of these names of which the innermost region has a homograph of that view.
+/// E301 at the first of these names under which the innermost region has a homograph of that view.
+/// # Errors
+/// `NoMemory` if the allocator refuses memory.
 pub fn duplicates<A: Answers>(
     scope: &Scope,
     view: &View,
@@ -55,6 +59,8 @@ pub fn duplicates<A: Answers>(
 }
 
 /// E301 at the first of these names, which may not be overloaded, of which the innermost region has any declaration.
+/// # Errors
+/// `NoMemory` if the allocator refuses memory.
 pub fn fixed_duplicates<A: Answers>(
     alloc: Global,
     scope: &Scope,
@@ -70,7 +76,9 @@ pub fn fixed_duplicates<A: Answers>(
     duplicates(scope, &view, names, recorder)
 }
 
-/// E301 at a name, which may not be overloaded, of which the innermost region has any declaration.
+/// E301 at a name, which may not be overloaded, if the innermost region has any declaration of it.
+/// # Errors
+/// `NoMemory` if the allocator refuses memory.
 pub fn fixed_duplicate<A: Answers>(
     alloc: Global,
     scope: &Scope,
@@ -92,8 +100,11 @@ fn has_fixed(views: &[View]) -> bool
     views.iter().any(|view| !view.may_be_overloaded())
 }
 
-/// E301 at a name that may be overloaded, where the innermost region has a declaration of it that may not be: of a literal of a type that is being declared,
-/// as nothing else there can be of its type (ARM 3.5.1(6), 8.3(8)), and of a subprogram whose types aren't known.
+/// E301 at a name that may be overloaded, if the innermost region has a declaration of it that may not be. It serves for a literal of a
+/// type that is being declared, as nothing else there can be of its type (ARM 3.5.1(6), 8.3(8)), and for a subprogram whose types aren't
+/// known.
+/// # Errors
+/// `NoMemory` if the allocator refuses memory.
 pub fn overloaded_duplicate<A: Answers>(
     scope: &Scope,
     name: &DefiningName,
@@ -111,7 +122,9 @@ pub fn overloaded_duplicate<A: Answers>(
     Ok(None)
 }
 
-/// E301 at the first of several such names.
+/// E301 at the first of several names that may be overloaded, as for one such name.
+/// # Errors
+/// `NoMemory` if the allocator refuses memory.
 pub fn overloaded_duplicates<A: Answers>(
     scope: &Scope,
     names: &[DefiningName],

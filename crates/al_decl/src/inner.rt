@@ -9,7 +9,7 @@ use al_scope::Scope;
 use al_view::{Seq, View, ViewKind};
 use std::alloc::Global;
 
-/// A name is visible from there on, without a value.
+/// Makes a name visible from there on, without a value.
 fn make_one_visible(alloc: Global, scope: &mut Scope, name: &DefiningName) -> Result<(), NoMemory>
     requires { 0 < length scope.old.regions }
     ensures made { OnOk result (scope.new ≡ one_visible scope.old name.now) }
@@ -19,7 +19,9 @@ fn make_one_visible(alloc: Global, scope: &mut Scope, name: &DefiningName) -> Re
     scope.add(name.name.as_slice(), view)
 }
 
-/// Names of components or formals are visible from there on in their region, without a value.
+/// Makes names of components or formals visible from there on in their region, without a value.
+/// # Errors
+/// `NoMemory` if the allocator refuses memory.
 pub fn make_visible(
     alloc: Global,
     scope: &mut Scope,
@@ -35,7 +37,9 @@ pub fn make_visible(
     Ok(())
 }
 
-/// Enters a region for them, which continues nothing.
+/// Enters a region for components or formals, which continues nothing.
+/// # Errors
+/// `NoMemory` if the allocator refuses memory.
 pub fn enter_region(alloc: Global, scope: &mut Scope) -> Result<(), NoMemory>
     ensures entered { OnOk result (scope.new ≡ in_region scope.old) }
     ensures depth { OnOk result (length scope.new.regions ≡ length scope.old.regions + 1) }
@@ -43,7 +47,7 @@ pub fn enter_region(alloc: Global, scope: &mut Scope) -> Result<(), NoMemory>
     scope.enter(Seq::empty(alloc))
 }
 
-/// Leaves it: what stands round it is as it was.
+/// Leaves the region: what is round it is as it was.
 pub fn leave_region(scope: &mut Scope)
     requires { 0 < length scope.old.regions }
     ensures { (outer : List Region) (inner : Region) → scope.old.regions ≡ outer ++ inner ∷ [] → scope.new ≡ record { mentioned = scope.old.mentioned; regions = outer } }

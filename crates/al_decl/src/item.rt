@@ -1,4 +1,4 @@
-// One declaration as it stands in a text (ARM 3.2.1, 3.2.2, 3.3.1, 3.3.2).
+// One declaration as it is written (ARM 3.2.1, 3.2.2, 3.3.1, 3.3.2).
 ghost use Rattle.std.specs.Prelude.{◌≡◌, ◌<◌, length, option_map, IfOk, OnOk};
 ghost use Rattle.al_decl.specs.Checking.{at_place};
 ghost use Rattle.al_decl.specs.Forms.{enumeration_checked};
@@ -26,7 +26,7 @@ use al_view_predefined::StandardTypes;
 use al_view_typed::TypedDeclaration;
 use std::alloc::Global;
 
-/// Objects or numbers of these names, whose first token stands on that line.
+/// Objects or numbers of these names, whose first token is on that line.
 fn check_form<R: PartAnalyzer, A: Answers>(
     alloc: Global,
     standard: &StandardTypes,
@@ -59,7 +59,9 @@ fn check_form<R: PartAnalyzer, A: Answers>(
     }
 }
 
-/// `names : ..;` (ARM 3.3.1, 3.3.2)
+/// `names : ..;` (ARM 3.3.1, 3.3.2).
+/// # Errors
+/// `NoMemory` if the allocator refuses memory. The inner error is that of `check_objects` or `check_number`.
 pub fn check_object_item<R: PartAnalyzer, A: Answers>(
     alloc: Global,
     standard: &StandardTypes,
@@ -139,7 +141,10 @@ fn check_definition<R: PartAnalyzer, A: Answers>(
     }
 }
 
-/// `type name is ..;` (ARM 3.2.1). The words of a private type's values are given where one may stand (ARM 7.3(4)).
+/// `type name is ..;` (ARM 3.2.1). `words` is the length of a private type's values where one is allowed (ARM 7.3(4)).
+/// # Errors
+/// `NoMemory` if the allocator refuses memory. The inner error is that of the kind of definition; for a private type where none is allowed,
+/// E301 or else E306 at the name.
 pub fn check_type_item<R: PartAnalyzer, A: Answers>(
     alloc: Global,
     standard: &StandardTypes,
@@ -168,7 +173,9 @@ pub fn check_type_item<R: PartAnalyzer, A: Answers>(
     )
 }
 
-/// `subtype name is indication;` (ARM 3.2.2)
+/// `subtype name is indication;` (ARM 3.2.2).
+/// # Errors
+/// `NoMemory` if the allocator refuses memory. The inner error is that of `check_subtype`.
 pub fn check_subtype_item<R: PartAnalyzer, A: Answers>(
     alloc: Global,
     analyzer: &R,

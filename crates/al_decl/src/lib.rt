@@ -1,4 +1,13 @@
-//! Declarations of objects, numbers, types, subtypes, subprograms and their bodies at a place, by whoever reads their parts.
+//! Declarations of objects, numbers, types, subtypes, subprograms and their bodies at a place in a unit's source.
+//!
+//! An `Environment` (`env`) is the place: the regions round it, what the declarations before it have taken, what waits for its body, and
+//! what the innermost part declares. A `PartAnalyzer` (`analyzer`) reads the parts of declarations there: marks, subtype indications,
+//! values. Each declaration begins its names, reads its parts, has its result from al_decl_judged, and makes its names visible at its end
+//! (`ending`).
+//!
+//! `object`, `simple`, `definition`, `record`, `types`, `heading`, `subprogram` and `body` are the kinds of declarations, `item` chooses
+//! among them. `homograph` finds what is declared twice, `block`, `inner` and `subprogram_body` enter and leave regions, and `slots` gives
+//! temporaries their words.
 #![tactic(auto)]
 
 mod analyzer;

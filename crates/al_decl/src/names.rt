@@ -1,4 +1,4 @@
-// The names that a text defines, with their places (ARM 3.1(4)).
+// The defining names in declarations, with their places (ARM 3.1(4)).
 ghost use Rattle.std.specs.Prelude.{◌≡◌, IfOk};
 ghost use Rattle.al_decl.specs.Defining.{defined, defining_names};
 ghost use Rattle.al_tree.specs.DeclarationViews.{identifiers_model};
@@ -11,6 +11,8 @@ use al_view::Seq;
 use std::alloc::Global;
 
 /// An identifier as a defining name.
+/// # Errors
+/// `NoMemory` if the allocator refuses memory.
 pub fn defining_name(alloc: Global, identifier: &Identifier) -> Result<DefiningName, NoMemory>
     ensures { IfOk result (λ name. name ≡ defined (identifier_label identifier.now)) }
 {
@@ -22,6 +24,8 @@ pub fn defining_name(alloc: Global, identifier: &Identifier) -> Result<DefiningN
 }
 
 /// The defining names of a list of identifiers, in its order.
+/// # Errors
+/// `NoMemory` if the allocator refuses memory.
 pub fn defining_names(
     alloc: Global,
     identifiers: &Identifiers,

@@ -51,7 +51,7 @@ fn anonymous(
     }
 }
 
-/// What stands after the colon, at a place.
+/// What comes after the colon, at a place.
 fn type_read<R: PartAnalyzer, A: Answers>(
     alloc: Global,
     analyzer: &R,
@@ -74,7 +74,7 @@ fn type_read<R: PartAnalyzer, A: Answers>(
     }
 }
 
-/// An object for each name, of a type that was judged.
+/// An object for each name, of a type that was checked.
 fn objects_of(
     alloc: Global,
     standard: &StandardTypes,
@@ -111,7 +111,7 @@ fn first_value<R: PartAnalyzer, A: Answers>(
     }
 }
 
-/// The value of objects that were judged.
+/// The value of objects that were checked.
 fn value_read<R: PartAnalyzer, A: Answers>(
     alloc: Global,
     analyzer: &R,
@@ -132,10 +132,10 @@ fn value_read<R: PartAnalyzer, A: Answers>(
     }
 }
 
-/// Objects are let go.
+/// Drops objects.
 fn let_go(_objects: CheckResult<Seq<NewObject>>) {}
 
-/// Objects that were judged, with their value.
+/// Objects that were checked, with their value.
 fn valued<R: PartAnalyzer, A: Answers>(
     alloc: Global,
     standard: &StandardTypes,
@@ -172,7 +172,10 @@ fn valued<R: PartAnalyzer, A: Answers>(
     }
 }
 
-/// `names : [constant] type [:= value];`, whose first token stands on that line (ARM 3.3.1).
+/// `names : [constant] type [:= value];`, whose first token is on that line (ARM 3.3.1).
+/// # Errors
+/// `NoMemory` if the allocator refuses memory. The inner error is the first of E301 at a name that has a homograph or is there twice, E309
+/// at the first name of a constant without a value, and the faults of the type and the value.
 pub fn check_objects<R: PartAnalyzer, A: Answers>(
     alloc: Global,
     standard: &StandardTypes,

@@ -27,7 +27,7 @@ fn refused(duplicate: Option<Fault>, name: &DefiningName) -> Fault
     }
 }
 
-/// `type name is private;` where no private type may stand (ARM 7.3(4)).
+/// `type name is private;` where no private type is allowed (ARM 7.3(4)).
 fn refuse_private<A: Answers>(
     alloc: Global,
     env: &Environment,
@@ -42,7 +42,7 @@ fn refuse_private<A: Answers>(
     Ok(Err(refused(duplicate, name)))
 }
 
-/// `type name is private;`, with the words of its values where one may stand.
+/// `type name is private;`, with the words of its values if one is allowed.
 pub(crate) fn check_private_item<A: Answers>(
     alloc: Global,
     env: &mut Environment,

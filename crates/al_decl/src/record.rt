@@ -25,7 +25,7 @@ use al_view_predefined::StandardTypes;
 use al_view_typed::TypedDeclaration;
 use std::alloc::Global;
 
-/// The components of a record after others, in a region that is entered.
+/// Adds the components of a record, in a region that is entered.
 fn check_parts<R: PartAnalyzer, A: Answers>(
     alloc: Global,
     analyzer: &R,
@@ -50,7 +50,7 @@ fn check_parts<R: PartAnalyzer, A: Answers>(
     }
 }
 
-/// The same in a region of their own, which is left again.
+/// Adds the components of a record in a region of their own, which is left again.
 fn check_inside<R: PartAnalyzer, A: Answers>(
     alloc: Global,
     analyzer: &R,
@@ -90,7 +90,10 @@ fn parts_at<R: PartAnalyzer, A: Answers>(
     }
 }
 
-/// `type name is record components end record;`
+/// `type name is record components end record;`.
+/// # Errors
+/// `NoMemory` if the allocator refuses memory. The inner error is the first of E301 at the name and the first fault of the components; else
+/// E305 at the name if a value would have more than 4,096 words.
 pub fn check_record_type<R: PartAnalyzer, A: Answers>(
     alloc: Global,
     standard: &StandardTypes,
@@ -118,7 +121,9 @@ fn no_parts(alloc: Global) -> CheckResult<Seq<Part>>
     Ok(Seq::empty(alloc))
 }
 
-/// `type name is null record;`
+/// `type name is null record;`.
+/// # Errors
+/// `NoMemory` if the allocator refuses memory. The inner error is E301 at the name if its region has a homograph.
 pub fn check_null_record<A: Answers>(
     alloc: Global,
     standard: &StandardTypes,

@@ -22,7 +22,7 @@ use al_view::StaticValue;
 use al_view_typed::{Typed, TypedDeclaration};
 use std::alloc::Global;
 
-/// The value of an expression that must be static; E304 where it isn't.
+/// The value of an expression that must be static; E304 if it isn't.
 fn static_value(value: CheckResult<Typed>) -> CheckResult<StaticValue>
     ensures { result ≡ next (map_ok typed_model value) static_of }
 {
@@ -47,7 +47,10 @@ fn number_value<R: PartAnalyzer, A: Answers>(
     Ok(static_value(value))
 }
 
-/// `names : constant := value;` (ARM 3.3.2)
+/// `names : constant := value;` (ARM 3.3.2).
+/// # Errors
+/// `NoMemory` if the allocator refuses memory. The inner error is the first of E301 at a name that has a homograph or is there twice, and
+/// the fault of the value, which is E304 if it isn't static.
 pub fn check_number<R: PartAnalyzer, A: Answers>(
     alloc: Global,
     analyzer: &R,
@@ -68,7 +71,10 @@ pub fn check_number<R: PartAnalyzer, A: Answers>(
     finish(env, declared)
 }
 
-/// `subtype name is indication;` (ARM 3.2.2)
+/// `subtype name is indication;` (ARM 3.2.2).
+/// # Errors
+/// `NoMemory` if the allocator refuses memory. The inner error is the first of E301 at the name if its region has a homograph, and the
+/// fault of the indication.
 pub fn check_subtype<R: PartAnalyzer, A: Answers>(
     alloc: Global,
     analyzer: &R,

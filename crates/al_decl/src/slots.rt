@@ -9,7 +9,7 @@ use al_decl_judged::Progress;
 use al_overload_slots::number_slots;
 use al_view_typed::{CheckedValue, ComponentValue, DeclarationForm, TypedDeclaration};
 
-/// A value takes words from this one on: the next word after them.
+/// The temporaries of a value take words from this one on. The result is the next word after them.
 #[tactic(auto, using(al_overload_slots::proofs::Layers::value_layers, al_view_typed::proofs::ExpressionsMade::value_made))]
 fn number_value(value: &mut CheckedValue, word: u32) -> u32
     ensures tree { value_model value.new ≡ value_numbered word (value_model value.old) }
@@ -35,7 +35,7 @@ fn number_component(component: &mut ComponentValue, word: u32) -> u32
     number_value(&mut component.value, word)
 }
 
-/// The values of components, one declaration after the other.
+/// The temporaries of the values of components take their words, one declaration after the other.
 fn number_components(values: &mut Vec<ComponentValue>, word: u32) -> u32
     ensures tree { map component_value_model values.new.items ≡ components_numbered word (map component_value_model values.old.items) }
     ensures word { result ≡ components_after word (map component_value_model values.old.items) }
@@ -70,7 +70,7 @@ fn number_effect(effect: &mut Option<TypedDeclaration>, word: u32) -> u32
     }
 }
 
-/// What a declaration does takes its temporaries' words of the innermost frame.
+/// The temporaries of what a declaration does take their words of the innermost frame.
 pub(crate) fn take_slots(progress: &mut Progress, effect: &mut Option<TypedDeclaration>)
     ensures tree { option_map declaration_model effect.new ≡ effect_numbered progress.old.words.frame (option_map declaration_model effect.old) }
     ensures taken { progress.new ≡ after_effect progress.old (option_map declaration_model effect.old) }

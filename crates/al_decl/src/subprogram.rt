@@ -18,7 +18,10 @@ use al_view_predefined::StandardTypes;
 use al_view_typed::TypedDeclaration;
 use std::alloc::Global;
 
-/// A subprogram's declaration by its head, whose first token stands on that line: it waits for its body.
+/// A subprogram's declaration by its head, whose first token is on that line: it waits for its body.
+/// # Errors
+/// `NoMemory` if the allocator refuses memory. The inner error is the first of E301 at the name if its region has a homograph, and the
+/// faults of the heading.
 pub fn place_subprogram<A: Answers>(
     alloc: Global,
     standard: &StandardTypes,
@@ -45,7 +48,9 @@ pub fn place_subprogram<A: Answers>(
     finish(env, declared)
 }
 
-/// A specification alone, whose first token stands on that line.
+/// A specification alone, whose first token is on that line.
+/// # Errors
+/// `NoMemory` if the allocator refuses memory. The inner error is that of `place_subprogram`.
 pub fn check_subprogram<R: PartAnalyzer, A: Answers>(
     alloc: Global,
     standard: &StandardTypes,

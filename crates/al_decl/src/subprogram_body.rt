@@ -17,11 +17,15 @@ use std::alloc::Global;
 /// The depth of nesting round a body, and the next word of the frame there.
 #[derive(Clone, Copy)]
 pub struct OuterFrame {
+    /// The depth.
     pub depth: u32,
+    /// The next word of the frame.
     pub word: u32,
 }
 
 /// Enters the body of a subprogram: a region of its own, one deeper, with a frame of its own in which nothing waits.
+/// # Errors
+/// `NoMemory` if the allocator refuses memory.
 pub fn enter_subprogram(
     alloc: Global,
     env: &mut Environment,
@@ -37,7 +41,7 @@ pub fn enter_subprogram(
     Ok((OuterFrame { depth, word }, outside))
 }
 
-/// Formals with their places become visible.
+/// Makes formals with their places visible.
 fn make_known(env: &mut Environment, formals: Formals) -> Result<Seq<FormalWords>, NoMemory>
     requires { 0 < length env.old.scope.regions }
     ensures env { OnOk result (env.new ≡ with_declarations env.old formals.declarations) }
@@ -67,7 +71,9 @@ fn declare_each(
     make_known(env, made)
 }
 
-/// The formals of a body that is just entered are declared in it: their words in its frame, in order.
+/// Declares the formals of a body that was just entered: they get their words in its frame, in order.
+/// # Errors
+/// `NoMemory` if the allocator refuses memory.
 pub fn declare_all_formals(
     alloc: Global,
     standard: &StandardTypes,

@@ -49,7 +49,7 @@ fn any_symbol(alloc: Global, progress: &Progress) -> Result<Symbol, NoMemory> {
     })
 }
 
-/// A view with the types of a specification, as far as homographs tell.
+/// A view with the types of a specification, as far as it matters for homographs.
 fn view_of_types(
     alloc: Global,
     standard: &StandardTypes,
@@ -62,7 +62,7 @@ fn view_of_types(
     subprogram_view(alloc, standard, &symbol, 0, None, heading)
 }
 
-/// E301 at the name of a subprogram whose types are known, and of which the region has a homograph.
+/// E301 at the name of a subprogram whose types are known, if the region has a homograph.
 fn typed_duplicate<A: Answers>(
     alloc: Global,
     standard: &StandardTypes,
@@ -78,7 +78,10 @@ fn typed_duplicate<A: Answers>(
     duplicate(&env.scope, &view, &heading.name, recorder)
 }
 
-/// E301 at the name of a subprogram whose region has a homograph. Where a mark has a fault its types aren't known: then what may not be overloaded is one.
+/// E301 at the name of a subprogram whose region has a homograph. If a mark has a fault, its types aren't known: then what may not be
+/// overloaded is a homograph.
+/// # Errors
+/// `NoMemory` if the allocator refuses memory.
 pub fn head_duplicate<A: Answers>(
     alloc: Global,
     standard: &StandardTypes,

@@ -43,6 +43,8 @@ fn completed_at(
 }
 
 /// The name of a type that is declared at a place, with the private type that its declaration completes, if it completes one (ARM 7.3(4)).
+/// # Errors
+/// `NoMemory` if the allocator refuses memory.
 pub fn type_name(alloc: Global, env: &Environment, name: DefiningName) -> Result<TypeName, NoMemory>
     ensures { IfOk result (λ made. made ≡ type_name env.now name) }
 {
@@ -58,7 +60,9 @@ pub fn type_name(alloc: Global, env: &Environment, name: DefiningName) -> Result
     }
 }
 
-/// E301 at the name of a type: what completes a private type is no homograph of it.
+/// E301 at the name of a type whose region has a homograph; a type that completes a private type is no homograph of it.
+/// # Errors
+/// `NoMemory` if the allocator refuses memory.
 pub fn type_duplicate<A: Answers>(
     alloc: Global,
     scope: &Scope,
@@ -75,7 +79,9 @@ pub fn type_duplicate<A: Answers>(
     fixed_duplicate(alloc, scope, &name.defining, recorder)
 }
 
-/// Begins the declaration of a type, unless it completes one, whose partial view is visible until its end.
+/// Begins the declaration of a type, unless it completes a private type, whose partial view is visible until its end.
+/// # Errors
+/// `NoMemory` if the allocator refuses memory.
 pub fn begin_type(scope: &mut Scope, name: &TypeName) -> Result<(), NoMemory>
     requires { 0 < length scope.old.regions }
     ensures begun { OnOk result (scope.new ≡ type_begun scope.old name.now) }
@@ -104,7 +110,7 @@ fn literal_of(alloc: Global, symbol: &Symbol) -> Result<View, NoMemory>
     Ok(view)
 }
 
-/// E301 at the first of the literals of a type that has a homograph: nothing else there is of a new type, but functions may be of a private one.
+/// E301 at the first of the literals of a type that has a homograph. A new type has nothing else, but functions may be of a private one.
 fn literal_duplicates<A: Answers>(
     alloc: Global,
     scope: &Scope,
@@ -126,6 +132,8 @@ fn literal_duplicates<A: Answers>(
 }
 
 /// E301 at the first of an enumeration type's name and its literals whose region has a homograph.
+/// # Errors
+/// `NoMemory` if the allocator refuses memory.
 pub fn enumeration_duplicate<A: Answers>(
     alloc: Global,
     scope: &Scope,

@@ -1,4 +1,4 @@
--- What holds of a range or a constraint holds of it as it stands in the text, where the bounds are boxed.
+-- What holds of a range or a constraint holds of it as it is written, if the bounds are boxed.
 use Rattle.std.proofs.Common.{◌≡◌, Option, Some, None, sym, subst, Box, Global}
 use Rattle.std.specs.Prelude.{option_map}
 use Rattle.al_tree_syntax.specs.DeclarationTrees.{DiscreteRangeTree, DiscreteRangeTree as ranges, RangeTree}

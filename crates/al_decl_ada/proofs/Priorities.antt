@@ -1,4 +1,4 @@
--- E304 is told of a priority that isn't static.
+-- E304 is reported for a priority that isn't static.
 use Rattle.std.proofs.Common.{◌≡◌, ◌⊎◌, inl, inr, [], Option, Some, None, Result, Ok, Err, refl, ◌∙◌, ap}
 use Rattle.al_base_fault.specs.Faults.{fault_at, first}
 use Rattle.al_base_fault.specs.Judging.{next, unless}

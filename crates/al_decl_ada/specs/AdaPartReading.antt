@@ -1,4 +1,4 @@
--- What the parts of declarations are where they stand (ARM 3.2.2, 3.3.1, 3.3.2, 3.5.4, 3.6). Their names are looked up by a table of answers.
+-- What the parts of declarations are at their places (ARM 3.2.2, 3.3.1, 3.3.2, 3.5.4, 3.6). Their names are looked up by a table of answers.
 use Rattle.std.specs.Prelude.{List, [], Option, Some, None, Result}
 use Rattle.al_base.specs.declared.unit_key.UnitKey.{UnitKey}
 use Rattle.al_overload.specs.Parts.{nominal}
@@ -23,7 +23,7 @@ use Rattle.al_view.specs.declared.view.SubtypeView.{SubtypeView}
 abbrev pub surrounded : List UnitKey → Predefined → Option Symbol → Place → Surroundings
 surrounded packages predefined own place = record { place = place; packages = packages; predefined = predefined; own = own }
 
--- the initial value of objects of a subtype, which it is wanted at; an aggregate may stand there (ARM 3.3.1(4))
+-- the initial value of objects of a subtype, which it is wanted at; an aggregate is allowed there (ARM 3.3.1(4))
 abbrev pub initial_at : Table → Surroundings → SubtypeView → ExpressionTree → Result TypedTree Fault
 initial_at t s of x = checked_at t s (contexts.InitialValue (mark_type of)) (Some (nominal of.types of.subtype)) of.types x
 

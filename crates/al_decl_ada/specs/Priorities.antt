@@ -17,7 +17,7 @@ use Rattle.al_query.specs.Reads.{Table}
 use Rattle.al_tree_syntax.specs.ExpressionTrees.{ExpressionTree}
 use Rattle.al_decl_ada.specs.AdaPartReading.{priority_at}
 
--- where the whole has its interpretation and isn't static, E304 is told at its first token, or a fault of a context inside it that stands before
+-- if the whole has its interpretation and isn't static, E304 is reported at its first token, or a fault of a context inside it that comes before
 -- that: no fault further on hides it
 abbrev pub NoFaultInsideHidesIt : Type 0
 NoFaultInsideHidesIt =

@@ -1,4 +1,4 @@
--- Subtype indications and index subtypes where they stand (ARM 3.2.2, 3.6). Their names are looked up by a table of answers.
+-- Subtype indications and index subtypes at their places (ARM 3.2.2, 3.6). Their names are looked up by a table of answers.
 use Rattle.std.specs.Prelude.{ℕ, List, [], ◌++◌, Option, Some, None, Result, Ok, Err}
 use Rattle.al_base.specs.declared.place.Place.{Place}
 use Rattle.al_base.specs.declared.unit_key.UnitKey.{UnitKey}
@@ -54,7 +54,7 @@ index_of_single t s unit x = index_of_mark (first_place x) (completed unit (firs
 abbrev pub index_of_marked : Table → Surroundings → Place → Result SubtypeView Fault → RangeTree → Result SubtypeView Fault
 index_of_marked t s place mark r = index_of_mark place mark (constraint_at t s mark r)
 
--- two bounds, which tell their type
+-- two bounds, which have their type by themselves
 abbrev pub index_of_pair : PairTree → Result SubtypeView Fault
 index_of_pair pair = index_of_bounds pair.range.of pair.range.types (static_pair pair)
 

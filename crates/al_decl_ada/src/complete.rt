@@ -1,4 +1,4 @@
-// Marks that want a type with its full declaration.
+// Marks that need a type with its full declaration.
 ghost use Rattle.std.specs.Prelude.{◌≡◌};
 ghost use Rattle.al_decl_ada.specs.Complete.{completed, is_incomplete};
 
@@ -7,7 +7,7 @@ use al_base_fault::{CheckResult, CheckRule, Fault};
 use al_scope::is_private;
 use al_view::{SubtypeView, is_unit};
 
-/// Whether it is of a private type of the unit itself of which only its partial view is seen yet.
+/// Whether a type is a private type of the unit itself of which only the partial view is seen yet.
 fn is_incomplete(unit: &UnitKey, of: &SubtypeView) -> bool
     ensures { result ≡ is_incomplete unit.now of.now }
 {
@@ -20,7 +20,7 @@ fn is_incomplete(unit: &UnitKey, of: &SubtypeView) -> bool
     }
 }
 
-/// A mark at that place in a unit: E310 where its type has no full declaration yet.
+/// A mark at that place in a unit: E310 if its type has no full declaration yet.
 pub(crate) fn completed(
     unit: &UnitKey,
     place: Place,

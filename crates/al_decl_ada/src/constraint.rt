@@ -30,7 +30,10 @@ pub(crate) fn static_pair(pair: &CheckResult<Pair>) -> CheckResult<StaticRange>
     }
 }
 
-/// Two bounds as one context, which must be static: E304 at the first that isn't (ARM 4.9).
+/// Two bounds as one context, which must be static (ARM 4.9).
+/// # Errors
+/// `NoMemory` if the allocator refuses memory. The inner error is E401 or E404 of a name in either; else E402 or E403 at the low one's
+/// first token, or the first of the faults in them and E304 at a bound that isn't static.
 pub fn static_at<A: Answers>(
     site: &Site<'_>,
     context: &Context,
@@ -46,7 +49,9 @@ pub fn static_at<A: Answers>(
     Ok(static_pair(&pair))
 }
 
-/// The context of what is wanted at the type of this mark (ARM 3.5(5)).
+/// The context of what is expected to have the type of this mark (ARM 3.5(5)).
+/// # Errors
+/// `NoMemory` if the allocator refuses memory.
 pub fn bound_context(labeller: &Labeller, mark: &SubtypeView) -> Result<Context, NoMemory>
     ensures { IfOk result (λ context. context ≡ contexts.BoundOf (mark_type mark.now)) }
 {
@@ -69,7 +74,7 @@ fn constraint_of<A: Answers>(
     static_at(site, &context, &mark.types, range, recorder)
 }
 
-/// The constraint after a mark, which is of the mark's type; it isn't asked for after a mark that is faulty.
+/// The constraint after a mark, which is of the mark's type. If the mark is faulty, it isn't read.
 #[tactic(auto, unfolding(crate::specs::SubtypesAt::constraint_at))]
 pub(crate) fn constraint_at<A: Answers>(
     site: &Site<'_>,

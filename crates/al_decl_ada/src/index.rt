@@ -47,7 +47,7 @@ fn single_index<A: Answers>(
     subtype
 }
 
-/// A mark that is judged, with a constraint.
+/// A mark that was checked, with a constraint.
 fn constrained_index<A: Answers>(
     site: &Site<'_>,
     place: Place,
@@ -118,9 +118,11 @@ fn bounds_index<A: Answers>(
     Ok(subtype)
 }
 
-/// The subtype of an index at a place (ARM 3.6, 3.6.1), or the first rule that is broken: E401 or E404 of a mark, E404 at what is no range
-/// and at a mark that isn't scalar, what is wrong with the bounds, E304 at one that isn't static, E305 at one that lies outside of the mark's; E310 at a mark
-/// whose type has no full declaration yet, in the unit that declares it.
+/// The subtype of an index at a place (ARM 3.6, 3.6.1).
+/// # Errors
+/// `NoMemory` if the allocator refuses memory. The inner error is E401 or E404 of a mark; E404 at what is no range and at a mark that isn't
+/// scalar; what is wrong with the bounds; E304 at one that isn't static; E305 at one that lies outside the mark's; E310 at a mark whose
+/// type has no full declaration yet, in the unit that declares it.
 pub fn index_at<A: Answers>(
     site: &Site<'_>,
     unit: &UnitKey,

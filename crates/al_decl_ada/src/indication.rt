@@ -17,7 +17,7 @@ use al_query::{Answers, Recorder};
 use al_tree::{Range, SubtypeIndication};
 use al_view::SubtypeView;
 
-/// A mark that is judged, with a constraint.
+/// A mark that was checked, with a constraint.
 fn constrained<A: Answers>(
     site: &Site<'_>,
     place: Place,
@@ -36,9 +36,11 @@ fn constrained<A: Answers>(
     Ok(subtype)
 }
 
-/// The subtype that an indication denotes at a place (ARM 3.2.2), or the first rule that is broken: E401 or E404 of the mark, E404 at a
-/// constrained mark that isn't scalar, what is wrong with the bounds, E304 at one that isn't static, E305 at one that lies outside; E310 at a mark whose
-/// type has no full declaration yet, in the unit that declares it (ARM 3.11.1(8), 7.3(5)).
+/// The subtype that an indication denotes at a place (ARM 3.2.2).
+/// # Errors
+/// `NoMemory` if the allocator refuses memory. The inner error is E401 or E404 of the mark; E404 at a constrained mark that isn't scalar;
+/// what is wrong with the bounds; E304 at one that isn't static; E305 at one that lies outside; E310 at a mark whose type has no full
+/// declaration yet, in the unit that declares it (ARM 3.11.1(8), 7.3(5)).
 pub fn indication_at<A: Answers>(
     site: &Site<'_>,
     unit: &UnitKey,

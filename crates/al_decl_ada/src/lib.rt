@@ -1,5 +1,8 @@
-//! Who reads the parts of declarations of Ada where they stand: marks, subtype indications, index subtypes, values and bounds (ARM 3.2.2, 3.3,
+//! The parts of declarations of Ada, read at their place: marks, subtype indications, index subtypes, values and bounds (ARM 3.2.2, 3.3,
 //! 3.5.4, 3.6).
+//!
+//! `AdaPartAnalyzer` (`parts`) implements al_decl's `PartAnalyzer`. `indication` and `index` read subtypes, `constraint` their ranges,
+//! `value` initial values, numbers, bounds and priorities. `complete` finds marks whose type has no full declaration yet.
 #![tactic(auto)]
 
 mod complete;

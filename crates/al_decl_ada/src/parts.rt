@@ -15,13 +15,15 @@ use al_view::SubtypeView;
 use al_view_typed::Typed;
 use std::alloc::Global;
 
-/// What stays the same for the declarations of a part: what every unit has, the protected object in whose bodies they stand if any, and the
+/// What is the same for the declarations of a part: what every unit has, the protected object in whose bodies they are if any, and the
 /// packages that are mentioned in the unit.
 #[derive(Drop)]
 pub struct AdaPartAnalyzer<'a> {
+    /// What labels terms: what every unit has, and the protected object.
     pub labeller: &'a Labeller,
+    /// The packages that are mentioned in the unit.
     pub packages: &'a [UnitKey],
-    /// The unit in which they stand.
+    /// The unit of the declarations.
     pub unit: &'a UnitKey,
 }
 

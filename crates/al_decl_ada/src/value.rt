@@ -21,7 +21,7 @@ use al_tree::Expression;
 use al_view::SubtypeView;
 use al_view_typed::Typed;
 
-/// A subtype as the nominal one of what is declared.
+/// A subtype as the nominal subtype of what is declared.
 fn nominal(labeller: &Labeller, of: &SubtypeView) -> Result<Nominal, NoMemory>
     ensures { IfOk result (λ made. made ≡ nominal of.now.types of.now.subtype) }
 {
@@ -38,7 +38,7 @@ fn initial_context(labeller: &Labeller, of: &SubtypeView) -> Result<Context, NoM
     Ok(Context::InitialValue(of))
 }
 
-/// A value in that context, where an aggregate of this nominal subtype may stand.
+/// A value in that context, which may be an aggregate of this nominal subtype.
 fn value_of<A: Answers>(
     site: &Site<'_>,
     of: &SubtypeView,

@@ -24,7 +24,7 @@ abbrev pub view_completed : ℕ → Place → Specification → ViewKind → Com
 view_completed number place s (OfSubprogram v) = Declared number v.symbol v.flag (conformance place s v.profile)
 view_completed number place s _ = Alone (Some (fault_at place NotConformant))
 
--- the first that waits under that name with these types, where so many stand before the list; else the body stands alone, where it
+-- the first that waits under that name with these types, if this many come before the list; else the body is alone, if it
 -- may declare its subprogram
 abbrev pub first_completed : ℕ → DefiningName → Specification → Bool → Bool → List Completion → Completing
 first_completed number n s may_declare has_homograph [] = Alone (lone_body_fault n.place has_homograph may_declare)
@@ -34,7 +34,7 @@ first_completed number n s may_declare has_homograph (c ∷ cs) =
 abbrev pub completing_found : List Completion → DefiningName → Specification → Bool → Bool → Completing
 completing_found uncompleted n s may_declare has_homograph = first_completed zero n s may_declare has_homograph uncompleted
 
--- the body of a unit completes what waits there, whatever its types are; where nothing does, it acts as its declaration
+-- the body of a unit completes what waits there, whatever its types are; if nothing does, it acts as its declaration
 abbrev pub unit_completing : List Completion → DefiningName → Specification → Completing
 unit_completing [] n s = Alone None
 unit_completing (c ∷ cs) n s = view_completed zero n.place s c.view

@@ -8,9 +8,11 @@ use al_base::NoMemory;
 use al_decl_judged::{Completing, Heading, Uncompleted};
 use std::alloc::Global;
 
-/// What a body or a stub is to the declarations that wait: it completes the first of them that has its name and its types, and E303 stands at its name
-/// where it doesn't conform. One that completes none has E301 there where its region has a homograph, else it declares its subprogram where it
-/// may (ARM 6.3(4)), and has E303 where it may not, as in the body of a protected object.
+/// What a body or a stub is to the declarations that wait: it completes the first of them that has its name and its types, with E303 at its
+/// name if it doesn't conform. One that completes none has E301 there if its region has a homograph; else it declares its subprogram if it
+/// may (ARM 6.3(4)), and has E303 if it may not, as in the body of a protected object.
+/// # Errors
+/// `NoMemory` if the allocator refuses memory.
 pub fn completing_of(
     alloc: Global,
     uncompleted: &Uncompleted,

@@ -21,7 +21,7 @@ fn conformance(place: Place, specification: &Specification, profile: &Profile) -
     conformance_fault(place, specification, profile)
 }
 
-/// What waits first is this subprogram.
+/// The body completes what waits first, which is this subprogram.
 fn subprogram_completed(
     alloc: Global,
     place: Place,
@@ -41,7 +41,7 @@ fn subprogram_completed(
     })
 }
 
-/// What waits first has this view: what is no subprogram has no such body.
+/// The body completes what waits first, which has this view. What is no subprogram has no such body.
 fn view_completed(
     alloc: Global,
     place: Place,
@@ -61,8 +61,10 @@ fn view_completed(
     }
 }
 
-/// What the body of a unit is to what waits for it there, its declaration or its stub: it completes what waits first, whatever the types are, and E303
-/// stands at its name where it doesn't conform. Where nothing waits it acts as its declaration (ARM 10.1.4(4)).
+/// What the body of a unit is to what waits for it, its declaration or its stub: it completes what waits first, whatever the types are,
+/// with E303 at its name if it doesn't conform. If nothing waits, it acts as its declaration (ARM 10.1.4(4)).
+/// # Errors
+/// `NoMemory` if the allocator refuses memory.
 pub fn unit_completing(
     alloc: Global,
     uncompleted: &Uncompleted,

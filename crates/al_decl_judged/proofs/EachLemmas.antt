@@ -5,7 +5,7 @@ use Rattle.std.proofs.lemmas.List.{get_or_default}
 use Rattle.al_decl_judged.specs.Conformance.{EachWith}
 
 module _ {X Y : Type 0} (R : X → Y → Type 0) (xs : List X) (ys : List Y) (i : ℕ) (x : X) (y : Y) where
-  -- what is read at a place has R where the elements there have it, at any default
+  -- what is read at a place has R if the elements there have it, at any default
   read : i < length xs → i < length ys → x ≡ get_or xs i x → y ≡ get_or ys i y → R x y → (d : X) (e : Y) → R (get_or xs i d) (get_or ys i e)
   read lx ly ex ey r d e =
       let P : X → Type 0 = λ v. R v y in

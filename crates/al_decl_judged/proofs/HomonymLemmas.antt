@@ -46,7 +46,7 @@ module _ {Y : Type 0} where
       at true h rest = absurd (cc)
       at false h rest = ap (λ (l : List (List ℕ × ℕ)). (e.0.items, e.1) ∷ l) (rest h)
 
-  -- the same, told by equations
+  -- the same, by equations
   pub counts_of-declared : (es changed : List (Vec ℕ Y × ℕ)) (key : Vec ℕ Y) (name : List ℕ) → key.items ≡ name → lookup (is_key name) es ≡ None → changed ≡ insert_entry (λ (x y : Vec ℕ Y). bytes_eq x.items y.items) es key 1 → counts_of changed ≡ with_name (counts_of es) name
   counts_of-declared es changed key name is absent made =
       let missing = subst (λ (n : List ℕ). lookup (is_key n) es ≡ None) (sym is) absent in

@@ -14,12 +14,12 @@ seen_second see (Some h) (Ok a) (Err g) = refl
 seen_second see (Some h) (Err f) (Ok b) = refl
 seen_second see (Some h) (Err f) (Err g) = refl
 
--- nothing in front
+-- nothing before it
 pub seen_same : {X : Type 0} (checked : Result (List X) Fault) → map_ok (λ xs. [] ++ xs) checked ≡ checked
 seen_same (Ok xs) = refl
 seen_same (Err f) = refl
 
--- one more in front
+-- one more before it
 pub seen_after : {X : Type 0} (front : List X) (x : X) (checked : Result (List X) Fault) → map_ok (λ xs. front ++ xs) (map_ok (λ xs. x ∷ xs) checked) ≡ map_ok (λ xs. (front ++ x ∷ []) ++ xs) checked
 seen_after front x (Ok xs) = ap Ok (sym (append_assoc front (x ∷ []) xs))
 seen_after front x (Err f) = refl

@@ -20,7 +20,7 @@ offsets_from-at place (w ∷ ws) (suc i) h =
     let e : place + w + sum (take i ws) ≡ place + sum (w ∷ take i ws) = omega (arith, sum_by-cons (λ (x : ℕ). x) w (take i ws)) in
     offsets_from-at (place + w) ws i inside ∙ e
 
--- the sum of a longer front
+-- the sum of a longer prefix
 sum-front : (ws : List ℕ) (i j : ℕ) → i < j → j < length ws → sum (take i ws) + get_or ws i 0 ≤ sum (take j ws)
 sum-front [] i j h k = absurd (omega arith)
 sum-front (w ∷ ws) i zero h k = absurd (omega arith)

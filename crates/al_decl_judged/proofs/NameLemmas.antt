@@ -9,7 +9,7 @@ use Rattle.al_base_fault.specs.declared.fault.Fault.{Fault}
 use Rattle.al_decl_judged.specs.declared.names.DefiningName.{DefiningName}
 use Rattle.al_decl_judged.specs.DefiningNames.{duplicate_at, names_of, repeated}
 
--- the next item stands in front of the rest
+-- the next item is before the rest
 pub rest_more : {X : Type 0} (xs : List X) (i : ℕ) (x : X) → i < length xs → x ≡ get_or xs i x → drop i xs ≡ x ∷ drop (i + 1) xs
 rest_more xs i x inside is = rw add-one (drop-cons xs i x inside ∙ ap (λ y. y ∷ drop (suc i) xs) (sym is))
 
@@ -17,7 +17,7 @@ rest_more xs i x inside is = rw add-one (drop-cons xs i x inside ∙ ap (λ y. y
 pub front_more : {X : Type 0} (xs : List X) (i : ℕ) (x : X) → i < length xs → x ≡ get_or xs i x → take (i + 1) xs ≡ take i xs ++ x ∷ []
 front_more xs i x inside is = take_more xs i x inside ∙ ap (λ y. take i xs ++ y ∷ []) (sym is)
 
--- a name that stands before it
+-- a name that comes before it
 pub repeated_here : (names : List DefiningName) (i : ℕ) (n : DefiningName) → i < length names → n ≡ get_or names i n → list_any (λ (m : DefiningName). bytes_eq m.name n.name) (take i names) ≡ true → repeated (take i names) (drop i names) ≡ Some (duplicate_at n)
 repeated_here names i n inside is twice =
     ap (repeated (take i names)) (rest_more names i n inside is)

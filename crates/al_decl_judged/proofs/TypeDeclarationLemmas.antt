@@ -27,7 +27,7 @@ found_or p (t ∷ ts) o = at (p t) (found_or p ts o)
     at true rest = refl
     at false rest = rest
 
--- a symbol is known where one of these types has it, or one of Standard's
+-- a symbol is known if one of these types has it, or one of Standard's
 pub known_is : (types : List TypeView) (s : Symbol) → is_known types s ≡ (has types s || is_some (type_in standard_types s))
 known_is types s = found_or (λ t. same_symbol t.symbol s) types (type_in standard_types s)
 
@@ -134,7 +134,7 @@ not_false : (a : Bool) → not a ≡ true → a ≡ false
 not_false true h = absurd (cc)
 not_false false h = refl
 
--- one more type that has no symbol of these stands once
+-- one more type that has no symbol of these is there once
 each_once-push : (types : List TypeView) (t : TypeView) → each_once types ≡ true → has types t.symbol ≡ false → each_once (types ++ t ∷ []) ≡ true
 each_once-push [] t h k = refl
 each_once-push (u ∷ us) t h k =
@@ -202,7 +202,7 @@ pub are_there : TypesAreThere
 are_there types others h k =
     (closed-joined [] types others (known-none types) k h, known-joined types others, known-others types others)
 
--- where no type is one of Standard's, nothing is left out
+-- if no type is one of Standard's, nothing is left out
 pub none_left_out : (types : List TypeView) → list_any (λ t. is_known [] t.symbol) types ≡ false → other_types types ≡ types
 none_left_out [] h = refl
 none_left_out (t ∷ ts) h =

@@ -25,11 +25,11 @@ abbrev pub IsWaiting : List Completion → Completing → Type 0
 IsWaiting uncompleted (Declared at symbol flag fault) = at < length uncompleted
 IsWaiting uncompleted (Alone fault) = Unit {0}
 
--- what a body declares and does where it stands, and its symbol
+-- what a body declares and does at its place, and its symbol
 abbrev pub new_body_model : NewBody → DeclaredTree × Symbol
 new_body_model b = (declared_model b.declared, b.symbol)
 
--- what is wrong with a body as a completion: it doesn't conform to what it completes, or may not stand alone
+-- what is wrong with a body as a completion: it doesn't conform to what it completes, or may not be alone
 abbrev pub completing_fault : Completing → Option Fault
 completing_fault (Declared at symbol flag fault) = fault
 completing_fault (Alone fault) = fault
@@ -58,7 +58,7 @@ abbrev pub body_effect : ℕ → Completing → Option DeclarationTree
 body_effect line (Declared at symbol flag fault) = option_map (λ (f : ObjectPlace). record { line = line; form = Elaborated f }) flag
 body_effect line (Alone fault) = None
 
--- a body that is right: what it declares and does where it stands, and its symbol
+-- a body that is right: what it declares and does at its place, and its symbol
 abbrev pub right_body : Progress → List Completion → ℕ → Heading → Completing → (Progress × List Completion) × (DeclaredTree × Symbol)
 right_body p uncompleted line h completing = (
   (after_body p h completing, left_waiting uncompleted completing),
@@ -68,7 +68,7 @@ right_body p uncompleted line h completing = (
   ),
 )
 
--- a body or stub whose first token stands on that line, and what else may be wrong with it: that a stub may not stand there
+-- a body or stub whose first token is on that line, and what else may be wrong with it: that a stub isn't allowed there
 abbrev pub body_declared : Progress → List Completion → ℕ → Option Fault → Heading → Completing → Result ((Progress × List Completion) × (DeclaredTree × Symbol)) Fault
 body_declared p uncompleted line stub h completing =
     unless (earlier stub (earlier (heading_fault h) (completing_fault completing))) (Ok (right_body p uncompleted line h completing))

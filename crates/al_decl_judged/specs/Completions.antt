@@ -21,7 +21,7 @@ use Rattle.al_decl_judged.specs.declared.names.DefiningName.{DefiningName}
 use Rattle.al_decl_judged.specs.declared.body.Completing.{Completing}
 use Rattle.al_decl_judged.specs.declared.body.Completing.TheVariants.{Declared, Alone}
 
--- a specification conforms to a profile, or E303 stands at its name
+-- a specification conforms to a profile, or E303 is at its name
 abbrev pub IsConformance : Place → Specification → Profile → Option Fault → Type 0
 IsConformance place s profile fault = MatchOption fault (Conforms s profile) (λ f. (Conforms s profile → ⊥) × (f ≡ fault_at place NotConformant))
 
@@ -45,7 +45,7 @@ abbrev pub IsOfSubprogram : ViewKind → Type 0
 IsOfSubprogram (OfSubprogram v) = Unit {0}
 IsOfSubprogram _ = ⊥
 
--- a body completes the first declaration that waits for it, by name and types; else it stands alone, where it may declare its subprogram
+-- a body completes the first declaration that waits for it, by name and types; else it is alone, if it may declare its subprogram
 abbrev pub IsCompleting : List Completion → DefiningName → Specification → Bool → Bool → Completing → Type 0
 IsCompleting uncompleted n s may_declare has_homograph (Declared at symbol flag fault) =
     IsFirst (Completes n.name (head.Subprogram s)) uncompleted at

@@ -6,12 +6,12 @@ use Rattle.al_decl_judged.specs.declared.declaration.Declaration.{Declaration}
 use Rattle.al_decl_judged.specs.declared.declared.Declared.{Declared}
 use Rattle.al_decl_judged.specs.declared.progress.Progress.{Progress}
 
--- the names with their views in text order, and what is done where it stands
+-- the names with their views in source order, and what is done at its place
 pub record DeclaredTree : Type 0 where
   pub declarations : List Declaration
   pub effect : Option DeclarationTree
 
--- where nothing is done
+-- if nothing is done
 abbrev pub declares : List Declaration → DeclaredTree
 declares declarations = record { declarations = declarations; effect = None }
 

@@ -1,4 +1,4 @@
--- Names that a declaration declares, and those that stand twice in it (ARM 8.3(26)).
+-- Names that a declaration declares, and names that it declares twice (ARM 8.3(26)).
 use Rattle.std.specs.Prelude.{ℕ, List, [], ◌∷◌, ◌++◌, map, Option, Some, None, option_map, if◌then◌else◌}
 use Rattle.std.specs.List.{find, list_any}
 use Rattle.std.specs.Str.{bytes_eq}
@@ -10,7 +10,7 @@ use Rattle.al_decl_judged.specs.declared.names.DefiningName.{DefiningName}
 abbrev pub duplicate_at : DefiningName → Fault
 duplicate_at n = fault_at n.place Duplicate
 
--- the first of these names that stands before it, among those before or among these
+-- the first of these names that comes before it, among those before or among these
 abbrev pub repeated : List DefiningName → List DefiningName → Option Fault
 repeated before [] = None
 repeated before (n ∷ ns) = if list_any (λ (m : DefiningName). bytes_eq m.name n.name) before then Some (duplicate_at n) else repeated (before ++ n ∷ []) ns

@@ -15,11 +15,11 @@ abbrev pub index_of_mark : Place → Result SubtypeView Fault → Option (Result
 index_of_mark place mark constraint =
     next mark (λ m. next (both (scalar_bounds place (subtype_bounds m.types m.subtype)) (optional constraint)) (λ r. subtype_of m place r.1))
 
--- of a mark that must be scalar where it is constrained
+-- of a mark that must be scalar if it is constrained
 abbrev pub indication : Place → Result SubtypeView Fault → Option (Result StaticRange Fault) → Result SubtypeView Fault
 indication place mark None = next mark (λ m. subtype_of m place None)
 indication place mark (Some range) = index_of_mark place mark (Some range)
 
--- a range of a type alone, which is held against no bounds (ARM 3.6.1)
+-- a range of a type alone, which is compared with no bounds (ARM 3.6.1)
 abbrev pub index_of_bounds : Symbol → List TypeView → Result StaticRange Fault → Result SubtypeView Fault
 index_of_bounds of types range = map_ok (λ (r : StaticRange). record { subtype = record { base = of; bounds = Some r.bounds }; types = types; literals = [] }) range

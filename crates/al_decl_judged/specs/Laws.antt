@@ -1,4 +1,4 @@
--- What is told of declarations, in the words of the Manual.
+-- Laws of declarations, in the words of the Manual.
 use Rattle.std.specs.Prelude.{◌≡◌, ◌↔◌, ℕ, ℤ, ◌+◌, ◌<◌, ◌≤◌, ◌-ℤ◌, unsigned_abs, count_by, sum, Bool, true, not, ◌&&◌, List, [], ◌∷◌, ◌++◌, length, slice_index, is_ok}
 use Rattle.std.specs.List.{list_all, list_any}
 use Rattle.std.specs.Str.{bytes_eq}
@@ -14,11 +14,11 @@ use Rattle.al_decl_judged.specs.TypeSubtypes.{fitted, is_within}
 use Rattle.al_decl_judged.specs.TypeDeclarations.{with_names}
 use Rattle.al_decl_judged.specs.TypeLists.{is_known, joined}
 
--- a declaration's number is how many declarations of its name stand before it
+-- a declaration's number is how many declarations of its name come before it
 abbrev pub NumbersCountHomonyms : Type 0
 NumbersCountHomonyms = (before : List (List ℕ)) (name : List ℕ) → count_of (with_names [] before) name ≡ count_by (bytes_eq name) before
 
--- a constraint is right exactly where each value of its range lies in the mark's (ARM 3.5(6))
+-- a constraint is right if, and only if, each value of its range lies in the mark's (ARM 3.5(6))
 abbrev pub ConstraintsNarrow : Type 0
 ConstraintsNarrow = (range : StaticRange) (within : Bounds) → (is_ok (fitted range within) ≡ true) ↔ ((value : ℤ) → is_within value range.bounds ≡ true → is_within value within ≡ true)
 
@@ -33,12 +33,12 @@ ComponentsAreApart =
     (slice_index (offsets_from 0 words) i + slice_index words i ≤ slice_index (offsets_from 0 words) j)
     × (slice_index (offsets_from 0 words) j + slice_index words j ≤ sum words)
 
--- no type stands twice
+-- no type is there twice
 abbrev pub each_once : List TypeView → Bool
 each_once [] = true
 each_once (t ∷ ts) = not (list_any (λ u. same_symbol u.symbol t.symbol) ts) && each_once ts
 
--- where types that are joined stand once each, they do so in all
+-- if each type is there once in lists that are joined, it is there once in the result
 abbrev pub TypesStandOnce : Type 0
 TypesStandOnce = (types others : List TypeView) → each_once types ≡ true → each_once (joined types others) ≡ true
 
@@ -46,12 +46,12 @@ TypesStandOnce = (types others : List TypeView) → each_once types ≡ true →
 abbrev pub has_components : List TypeView → TypeView → Bool
 has_components types of = list_all (is_known types) (definition_symbols of.definition)
 
--- each type stands after all types that it is of, where those are known
+-- each type comes after all types that it is of, if those are known
 abbrev pub closed_after : List TypeView → List TypeView → Bool
 closed_after before [] = true
 closed_after before (t ∷ ts) = has_components before t && closed_after (before ++ t ∷ []) ts
 
--- where the components of all types of two lists stand before them, they do so in both together, and no type is missing
+-- if the components of all types of two lists come before them, they do so in both together, and no type is missing
 abbrev pub TypesAreThere : Type 0
 TypesAreThere =
     (types others : List TypeView) → closed_after [] types ≡ true → closed_after [] others ≡ true →

@@ -22,6 +22,6 @@ offsets_from place (w ∷ ws) = place ∷ offsets_from (place + w) ws
 abbrev pub record_layout : List ℕ → Layout
 record_layout words = Record (offsets_from 0 words) (sum words)
 
--- so many words, where a value may have so many
+-- so many words, if a value may have so many
 abbrev pub limited : ℕ → Option ℕ
 limited words = if nat_le words 4096 then Some words else None

@@ -1,4 +1,4 @@
--- What a body or a stub may be where it stands.
+-- What a body or a stub may be at its place.
 use Rattle.std.specs.Prelude.{ℕ, Bool, true, false, not, ◌&&◌, List, Option, Some, None, if◌then◌else◌}
 use Rattle.std.specs.List.{list_any}
 use Rattle.std.specs.Str.{bytes_eq}
@@ -9,15 +9,15 @@ use Rattle.al_base_fault.specs.declared.fault.Fault.{Fault}
 use Rattle.al_view.specs.declared.view.Mode.{Mode}
 use Rattle.al_view.specs.declared.view.Mode.TheVariants.{In}
 
--- a body that completes no declaration, at its defining name: where the region has a homograph, as a second body of one
--- declaration has, it is a duplicate (ARM 8.3(26)); else it is right where it declares what it is a body of, as that of a
+-- a body that completes no declaration, at its defining name: if the region has a homograph, as a second body of one
+-- declaration has, it is a duplicate (ARM 8.3(26)); else it is right if it declares what it is a body of, as that of a
 -- subprogram does outside of protected bodies (ARM 6.3(4))
 abbrev pub lone_body_fault : Place → Bool → Bool → Option Fault
 lone_body_fault place has_homograph may_declare =
     if has_homograph then Some (fault_at place Duplicate)
     else (if may_declare then None else Some (fault_at place NotConformant))
 
--- a stub, at its defining name: it stands immediately in the body of a library unit or of a subunit (ARM 10.1.3(13)), and is
+-- a stub, at its defining name: it is immediately in the body of a library unit or of a subunit (ARM 10.1.3(13)), and is
 -- the only one of its name there (ARM 10.1.3(16))
 abbrev pub stub_fault : Place → Bool → List (List ℕ) → List ℕ → Option Fault
 stub_fault place may_stand stubs name =

@@ -65,7 +65,7 @@ objects_of p constant value (o ∷ os) =
 
 -- ---- the declaration
 
--- what is wrong with the names: a homograph, a name that stands twice, a constant without a value
+-- what is wrong with the names: a homograph, a name that is there twice, a constant without a value
 abbrev pub objects_fault : Bool → Bool → Option Fault → List DefiningName → Option Fault
 objects_fault constant has_value duplicate names =
     earlier (earlier duplicate (repeated [] names)) (option_and_then (λ (n : DefiningName). missing_value constant has_value n.place) (slice_get names 0))
@@ -94,7 +94,7 @@ placed_objects p line constant objects value = (
   },
 )
 
--- names : [constant] type [:= value], whose first token stands on that line
+-- names : [constant] type [:= value], whose first token is on that line
 abbrev pub objects_declared : Progress → ℕ → Bool → Option Fault → List DefiningName → Result (List NewObject) Fault → Option (Result TypedTree Fault) → Result (Progress × DeclaredTree) Fault
 objects_declared p line constant duplicate names objects value =
     map_ok (λ (o : List NewObject × Option TypedTree). placed_objects p line constant o.0 o.1) (unless (objects_fault constant (is_some value) duplicate names) (both objects (optional value)))

@@ -17,7 +17,7 @@ use Rattle.al_decl_judged.specs.declared.heading.Heading.{Heading}
 use Rattle.al_decl_judged.specs.declared.heading.ReturnedPart.{ReturnedPart}
 use Rattle.al_decl_judged.specs.declared.heading.ReturnedPart.TheVariants.{NoValue, Value}
 
--- the subtype of a mark; none where it has a fault
+-- the subtype of a mark; none if it has a fault
 abbrev pub subtype_in : Result SubtypeView Fault → Option Subtype
 subtype_in (Ok of) = Some of.subtype
 subtype_in (Err f) = None

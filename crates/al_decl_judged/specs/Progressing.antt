@@ -11,7 +11,7 @@ use Rattle.al_decl_judged.specs.WordCounts.{after_data, after_frame}
 use Rattle.al_decl_judged.specs.declared.names.TypeName.{TypeName}
 use Rattle.al_decl_judged.specs.declared.progress.Progress.{Progress}
 
--- depth 0 is library level, where there is no frame
+-- depth 0 is library level, which has no frame
 abbrev pub is_library_level : Progress → Bool
 is_library_level p = p.depth == 0
 
@@ -31,7 +31,7 @@ symbol_of p name = next_symbol p.unit p.homonyms name
 abbrev pub type_symbol : Progress → TypeName → Symbol
 type_symbol p n = unwrap_or n.partial (symbol_of p n.defining.name)
 
--- where it completes one, its name is counted already
+-- if it completes one, its name is counted already
 abbrev pub type_counted : Progress → TypeName → Progress
 type_counted p n = if is_some n.partial then p else with_counted p n.defining.name
 

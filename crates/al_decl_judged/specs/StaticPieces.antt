@@ -9,7 +9,7 @@ use Rattle.al_view.specs.declared.types.StaticValue.{StaticValue}
 use Rattle.al_view_typed.specs.ExpressionTrees.{TypedTree, Labelled}
 use Rattle.al_decl_judged.specs.declared.subtype_views.StaticRange.{StaticRange}
 
--- the value of an expression, where it is static
+-- the value of an expression, if it is static
 abbrev pub value_label : TypedTree → Option StaticValue
 value_label (Labelled labels form) = labels.value
 

@@ -24,7 +24,7 @@ abbrev pub joined_waiting : {A : Type 0} → Progress → List Completion → Re
 joined_waiting p uncompleted (Ok a) = Ok ((p, uncompleted), a)
 joined_waiting p uncompleted (Err f) = Err f
 
--- a subprogram that is declared at this depth of nesting; it has a flag where it has a declaration of its own
+-- a subprogram that is declared at this depth of nesting; it has a flag if it has a declaration of its own
 abbrev pub subprogram_view : Symbol → ℕ → Option ObjectPlace → Heading → ViewKind
 subprogram_view symbol depth flag h = OfSubprogram (record {
   symbol = symbol;
@@ -55,6 +55,6 @@ right_subprogram p uncompleted line h = (
   },
 )
 
--- a specification alone, whose first token stands on that line
+-- a specification alone, whose first token is on that line
 abbrev pub subprogram_declared : Progress → List Completion → ℕ → Option Fault → Heading → Result ((Progress × List Completion) × DeclaredTree) Fault
 subprogram_declared p uncompleted line duplicate h = unless (earlier duplicate (heading_fault h)) (Ok (right_subprogram p uncompleted line h))

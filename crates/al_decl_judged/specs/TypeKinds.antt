@@ -21,7 +21,7 @@ use Rattle.al_decl_judged.specs.declared.names.DefiningName.{DefiningName}
 use Rattle.al_decl_judged.specs.declared.names.TypeName.{TypeName}
 use Rattle.al_decl_judged.specs.declared.progress.Progress.{Progress}
 
--- a type stands last after the types that it is of
+-- a type comes last, after the types that it is of
 abbrev pub own_type : List TypeView → Option TypeView
 own_type types = slice_get types (length types - 1)
 
@@ -51,7 +51,7 @@ type_declared p n names literals define = map_ok (with_type (type_counted p n) n
 abbrev pub integer_declared : Progress → TypeName → Option Fault → Result StaticRange Fault → Result (Progress × DeclaredTree) Fault
 integer_declared p n duplicate range = type_declared p n duplicate [] (λ symbol. next range (λ r. Ok (integer_type symbol r.bounds)))
 
--- what is wrong with the names of literals: one stands twice, or is the type's
+-- what is wrong with the names of literals: one is there twice, or is the type's
 abbrev pub literals_fault : DefiningName → List DefiningName → Option Fault
 literals_fault n literals = earlier (named_so n.name literals) (repeated [] literals)
 

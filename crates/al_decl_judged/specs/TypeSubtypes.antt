@@ -22,7 +22,7 @@ is_null range = int_lt range.high range.low
 abbrev pub is_within : ℤ → Bounds → Bool
 is_within value bounds = int_le bounds.low value && int_le value bounds.high
 
--- the bounds of a subtype: its own, or those of its type; none where that is not scalar
+-- the bounds of a subtype: its own, or those of its type; none if that is not scalar
 abbrev pub subtype_bounds : List TypeView → Subtype → Option Bounds
 subtype_bounds types subtype = option_or subtype.bounds (option_and_then (λ of. definition_bounds of.definition) (type_of types subtype.base))
 

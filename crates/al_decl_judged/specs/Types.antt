@@ -26,7 +26,7 @@ words_of of = unwrap_or (option_map (λ t. layout_words t.layout) (type_of of.ty
 abbrev pub values_of : SubtypeView → ℕ
 values_of of = unwrap_or (option_map values_in (subtype_bounds of.types of.subtype)) 0
 
--- a type after those that it is of, where a value has at most 4,096 words; else its defining name is where this is out of limits
+-- a type after those that it is of, if a value has at most 4,096 words; else the error is out of limits at its defining name
 abbrev pub within_limits : Place → List TypeView → TypeView → Result (List TypeView) Fault
 within_limits name types of = if nat_le (layout_words of.layout) 4096 then Ok (types ++ of ∷ []) else Err (fault_at name OutOfLimits)
 

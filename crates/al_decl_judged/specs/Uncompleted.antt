@@ -16,11 +16,11 @@ wants_body (OfTask t) = true
 wants_body (OfProtected p) = true
 wants_body _ = false
 
--- one more declaration, which goes last where it wants a body
+-- one more declaration, which goes last if it wants a body
 abbrev pub with_declared : List Completion → List ℕ → ViewKind → List Completion
 with_declared uncompleted name view = if wants_body view then uncompleted ++ record { name = name; view = view } ∷ [] else uncompleted
 
--- the fault at the word `begin` or `end` after a part, where a declaration still waits
+-- the fault at the word `begin` or `end` after a part, if a declaration still waits
 abbrev pub missing_fault : Place → List Completion → Option Fault
 missing_fault place [] = None
 missing_fault place (c ∷ cs) = Some (fault_at place MissingCompletion)

@@ -2,7 +2,7 @@
 use Rattle.std.specs.Prelude.{ℕ, ◌+◌, min}
 use Rattle.al_decl_judged.specs.declared.words.Words.{Words}
 
--- the place after so many words; after the last place that there is stands none
+-- the place after so many words; after the last place that there is there is none
 abbrev pub place_after : ℕ → ℕ → ℕ
 place_after place words = min (place + words) 4294967295
 

@@ -14,7 +14,7 @@ use std::alloc::Global;
 /// The most words that a value of a type may have.
 pub const MOST_WORDS: u32 = 4096;
 
-/// How many words a component for each value of a range takes, each of so many words, where a value may have so many.
+/// How many words an array takes that has a component for each value of a range, each of this many words, if a value may have so many.
 fn range_words(range: Bounds, component: u32) -> Option<u32>
     ensures { result ≡ limited (values_in range * component) }
 {
@@ -33,7 +33,7 @@ fn range_words(range: Bounds, component: u32) -> Option<u32>
     }
 }
 
-/// The same of the range of an index; one that has none takes no words.
+/// How many words an array over the range of an index takes. An index without a range takes no words.
 fn array_words(index: Option<Bounds>, component: u32) -> Option<u32>
     ensures { result ≡ limited (unwrap_or (option_map values_in index) 0 * component) }
 {
@@ -62,8 +62,10 @@ fn array_view(
     })
 }
 
-/// An array type after the types that it is of (ARM 3.6), each once and those of Standard left out: of an index subtype
-/// and a component subtype. E305 at its defining name where a value would have more than 4,096 words.
+/// An array type after the types that it is made of (ARM 3.6): those of its index subtype and its component subtype, each once and those of
+/// Standard left out.
+/// # Errors
+/// `NoMemory` if the allocator refuses memory. The inner error is E305 at its defining name if a value would have more than 4,096 words.
 pub fn array_type(
     alloc: Global,
     standard: &StandardTypes,

@@ -20,14 +20,14 @@ use std::alloc::Global;
 
 /// What a body or a stub is to the declarations before it.
 pub enum Completing {
-    /// It completes the declaration that waits at this number, with its symbol and its flag: E303 where it doesn't conform.
+    /// It completes the declaration that waits at this index, with its symbol and its flag. The fault is E303 if it doesn't conform.
     Declared {
         at: usize,
         symbol: Symbol,
         flag: Option<ObjectPlace>,
         fault: Option<Fault>,
     },
-    /// It completes none: E301 or E303 where it may not stand alone, else it declares its subprogram.
+    /// It completes none. The fault is E301 or E303 if it may not be alone; else it declares its subprogram.
     Alone(Option<Fault>),
 }
 
@@ -45,10 +45,12 @@ impl Drop for Completing {
     }
 }
 
-/// A body or stub that is right: what it declares and does where it stands, and what its code is known by.
+/// A body or stub that is right: what it declares and does at its place, and the symbol of its code.
 #[derive(Drop)]
 pub struct NewBody {
+    /// What it declares and does.
     pub declared: Declared,
+    /// The symbol of its code.
     pub symbol: Symbol,
 }
 
@@ -61,7 +63,7 @@ fn completing_fault(completing: &Completing) -> Option<Fault>
     }
 }
 
-/// From here on what has this flag is elaborated.
+/// The effect that what has this flag is elaborated from here on.
 fn elaborated(
     alloc: Global,
     line: usize,
@@ -147,8 +149,10 @@ fn right_body(
     }
 }
 
-/// A body or a stub whose first token stands on that line. `stub` is what is wrong with a stub that may not stand there; `completing` is what it is to the
-/// declarations that wait.
+/// A body or a stub whose first token is on that line. `stub` is the fault of a stub that isn't allowed there; `completing` is what it is
+/// to the declarations that wait.
+/// # Errors
+/// `NoMemory` if the allocator refuses memory. The inner error is the first of `stub`, the faults of its heading and that of `completing`.
 pub fn declare_body(
     alloc: Global,
     standard: &StandardTypes,

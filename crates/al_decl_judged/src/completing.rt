@@ -43,7 +43,9 @@ fn subprogram_in(view: &ViewKind) -> &SubprogramView
     }
 }
 
-/// The same flag once more.
+/// A copy of the flag.
+/// # Errors
+/// `NoMemory` if the allocator refuses memory.
 pub fn copied_flag(
     alloc: Global,
     flag: &Option<ObjectPlace>,
@@ -59,7 +61,7 @@ pub fn copied_flag(
     }
 }
 
-/// A body with that specification completes this subprogram, which waits at this number: E303 at its name where it doesn't conform.
+/// A body with that specification completes this subprogram, which waits at this index: E303 at its name if it doesn't conform.
 fn completed_subprogram(
     alloc: Global,
     place: Place,
@@ -80,9 +82,11 @@ fn completed_subprogram(
     })
 }
 
-/// What a body or a stub is to the declarations that wait: it completes the first of them that has its name and its types, and E303 stands at its name
-/// where it doesn't conform. One that completes none has E301 there where its region has a homograph, else it declares its subprogram where it may (ARM
-/// 6.3(4)), and has E303 where it may not, as in the body of a protected object.
+/// What a body or a stub is to the declarations that wait: it completes the first of them that has its name and its types, with E303 at its
+/// name if it doesn't conform. One that completes none has E301 there if its region has a homograph; else it declares its subprogram if it
+/// may (ARM 6.3(4)), and has E303 if it may not, as in the body of a protected object.
+/// # Errors
+/// `NoMemory` if the allocator refuses memory.
 pub fn completing_of(
     alloc: Global,
     uncompleted: &Uncompleted,

@@ -38,14 +38,14 @@ fn is_body_of(head: &BodyHead, view: &ViewKind) -> bool
     }
 }
 
-/// Whether a body with that name completes a declaration: it has its name and kind, and of a subprogram its types.
+/// Whether a body with that name completes a declaration: the declaration has its name and kind, and if it is a subprogram its types.
 pub fn completes(name: &[u8], head: &BodyHead, declared: &Completion) -> bool
     ensures { IsTrue result ↔ Completes name.now head.now declared.now }
 {
     declared.name.as_slice() == name && is_body_of(head, declared.view.kind())
 }
 
-/// The first of some declarations that a body with that name completes, by its number; none where it completes none.
+/// The index of the first of some declarations that a body with that name completes; `None` if it completes none.
 pub(crate) fn completed_of(declared: &[Completion], name: &[u8], head: &BodyHead) -> Option<usize>
     ensures { MatchOption result (All (λ c. Completes name.now head.now c → ⊥) declared.now) (IsFirst (Completes name.now head.now) declared.now) }
 {

@@ -62,7 +62,7 @@ pub fn conforms(specification: &Specification, profile: &Profile) -> bool
     ) && returned_conforms(&specification.returned, &profile.result)
 }
 
-/// What is wrong with a completion of a declaration with that profile, at its defining name.
+/// E303 at the defining name of a completion that doesn't conform to a declaration with that profile.
 pub fn conformance_fault(
     place: Place,
     specification: &Specification,

@@ -15,7 +15,9 @@ use std::alloc::Global;
 
 /// A declaration: its name in lower case, or the sign of an operator, and its view.
 pub struct Declaration {
+    /// The name in lower case, or the sign.
     pub name: Name,
+    /// What is declared.
     pub view: View,
 }
 
@@ -26,6 +28,8 @@ impl Drop for Declaration {
 }
 
 /// The symbol of the next declaration of a name in a unit.
+/// # Errors
+/// `NoMemory` if the allocator refuses memory.
 pub fn next_symbol(
     alloc: Global,
     unit: &UnitKey,
@@ -41,7 +45,7 @@ pub fn next_symbol(
     Ok(Symbol { unit, name, number })
 }
 
-/// The last of these types, which is the one that is declared where the others are of its components.
+/// The last of these types: it is the declared one, as the others are of its components.
 pub fn own_type(types: &Types) -> Option<&TypeView>
     ensures { option_copied result ≡ slice_get types.now (length types.now - 1) }
 {
@@ -92,7 +96,7 @@ fn declare_literals(
     Ok(())
 }
 
-/// One more operator of the type, with its number among the declarations of its sign.
+/// Declares an operator of the type, with its number among the declarations of its sign.
 fn declare_sign(
     alloc: Global,
     homonyms: &mut Homonyms,
@@ -128,7 +132,7 @@ fn declare_signs(
     Ok(())
 }
 
-/// The type itself, with its literals.
+/// Declares the type itself, with its literals.
 fn declare_type(
     alloc: Global,
     declared: &mut Seq<Declaration>,
@@ -170,8 +174,10 @@ fn declared_with(
     Ok(declared)
 }
 
-/// What the declaration of a type declares, in order: the type with all types that it is of, itself last, its literals and
-/// its operators. The type's own name was counted where its symbol was made; its literals and operators are counted here.
+/// What the declaration of a type declares, in order: the type with all types that it is made of, itself last, its literals and its
+/// operators. The type's own name was counted when its symbol was made; its literals and operators are counted here.
+/// # Errors
+/// `NoMemory` if the allocator refuses memory.
 pub fn declared_by(
     alloc: Global,
     homonyms: &mut Homonyms,
@@ -186,7 +192,10 @@ pub fn declared_by(
     declared_with(alloc, homonyms, types, of, literals, signs)
 }
 
-/// What the full declaration of a private type declares: the same but for `=` and `/=`, which its partial view declared (ARM 7.3.1(3)).
+/// What the full declaration of a private type declares: all that the declaration of a type does, except `=` and `/=`, which its partial
+/// view declared (ARM 7.3.1(3)).
+/// # Errors
+/// `NoMemory` if the allocator refuses memory.
 pub fn full_declared_by(
     alloc: Global,
     homonyms: &mut Homonyms,

@@ -17,20 +17,25 @@ use std::alloc::Global;
 /// A formal parameter that is right: its name in lower case, its mode and its subtype.
 #[derive(Drop)]
 pub struct NewFormal {
+    /// The name in lower case.
     pub name: Name,
+    /// The mode.
     pub mode: Mode,
+    /// The subtype.
     pub of: SubtypeView,
 }
 
 /// Formal parameters in their body: what they declare there, and their words.
 #[derive(Drop)]
 pub struct Formals {
+    /// What they declare in their body.
     pub declarations: Seq<Declaration>,
+    /// Their words in the frame.
     pub words: Seq<FormalWords>,
 }
 
-/// A body is entered: it is nested once more, and has a frame of its own, whose words begin at 3. What is given back is the outer depth and the next
-/// word of the outer frame, for `leave_body`.
+/// Enters a body: the depth grows by one, and the body has a frame of its own, whose words begin at 3. The result is the outer depth and
+/// the next word of the outer frame, for `leave_body`.
 pub fn enter_body(progress: &mut Progress) -> (u32, u32)
     ensures entered { progress.new ≡ entered progress.old }
     ensures outer { result ≡ (progress.old.depth, progress.old.words.frame) }
@@ -41,7 +46,7 @@ pub fn enter_body(progress: &mut Progress) -> (u32, u32)
     outer
 }
 
-/// A body is left: the outer frame goes on, and the unit's words and names do.
+/// Leaves a body: the outer frame is continued; the unit's words and names are kept.
 pub fn leave_body(progress: &mut Progress, outer: (u32, u32))
     ensures { progress.new ≡ left_body outer.0 outer.1 progress.old }
 {
@@ -66,7 +71,7 @@ fn new_formal(alloc: Global, formal: &FormalPart) -> Result<Option<NewFormal>, N
     }
 }
 
-/// A formal whose mark is right, after others.
+/// Adds a formal whose mark is right.
 fn add_formal(alloc: Global, made: &mut Seq<NewFormal>, formal: &FormalPart) -> Result<(), NoMemory>
     ensures { OnOk result (made.new ≡ made.old ++ filter_map new_formal (formal.now ∷ [])) }
 {
@@ -80,6 +85,8 @@ fn add_formal(alloc: Global, made: &mut Seq<NewFormal>, formal: &FormalPart) -> 
 }
 
 /// The formals whose marks are right.
+/// # Errors
+/// `NoMemory` if the allocator refuses memory.
 pub fn new_formals(alloc: Global, formals: &[FormalPart]) -> Result<Seq<NewFormal>, NoMemory>
     ensures { IfOk result (λ made. made ≡ filter_map new_formal formals.now) }
 {
@@ -106,7 +113,7 @@ fn formal_declaration(
     Ok(Declaration { name, view })
 }
 
-/// One more formal takes its words.
+/// A formal takes its words.
 fn declare_formal(
     alloc: Global,
     standard: &StandardTypes,
@@ -131,7 +138,9 @@ fn declare_formal(
     Ok(())
 }
 
-/// The formals of a body that is just entered, in order: each is declared in it, and has its words in its frame.
+/// Declares the formals of a body that was just entered, in order: each gets its words in the body's frame.
+/// # Errors
+/// `NoMemory` if the allocator refuses memory.
 pub fn declare_formals(
     alloc: Global,
     standard: &StandardTypes,

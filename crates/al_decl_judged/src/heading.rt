@@ -12,8 +12,11 @@ use std::alloc::Global;
 /// A formal parameter with its judged mark. Each identifier of a list has one of its own.
 #[derive(Drop)]
 pub struct FormalPart {
+    /// The defining name.
     pub name: DefiningName,
+    /// The mode.
     pub mode: Mode,
+    /// The subtype of its mark, or the mark's fault.
     pub of: CheckResult<SubtypeView>,
 }
 
@@ -26,17 +29,20 @@ pub enum ReturnedPart {
     Value(CheckResult<SubtypeView>),
 }
 
-/// A specification from its judged parts.
+/// A specification with its parts, each checked by itself.
 #[derive(Drop)]
 pub struct Heading {
+    /// The defining name.
     pub name: DefiningName,
-    /// Whether its name has dots, which only a unit's may have.
+    /// Whether its name has dots, which only a unit's name may have.
     pub is_dotted: bool,
+    /// The formal parameters, in source order.
     pub formals: Seq<FormalPart>,
+    /// What it returns.
     pub returned: ReturnedPart,
 }
 
-/// Whether what returns this is a function.
+/// Whether it is a function, by what it returns.
 pub fn is_function(returned: &ReturnedPart) -> bool
     ensures { result ≡ is_function returned.now }
 {
@@ -97,8 +103,10 @@ fn formal_names(alloc: Global, formals: &[FormalPart]) -> Result<Seq<DefiningNam
     Ok(names)
 }
 
-/// What is wrong with a specification that is no unit's: the first of E306 at a dotted name and at a formal of a function that isn't of mode `in`, E301 at a
-/// formal whose name stands before it, and what is wrong with the marks.
+/// The first fault of a specification that isn't a unit's: E306 at a dotted name and at a formal of a function that isn't of mode `in`,
+/// E301 at a formal that has the name of one before it, and the faults of the marks.
+/// # Errors
+/// `NoMemory` if the allocator refuses memory.
 pub fn heading_fault(alloc: Global, heading: &Heading) -> Result<Option<Fault>, NoMemory>
     ensures { IfOk result (λ fault. fault ≡ heading_fault heading.now) }
 {

@@ -7,7 +7,7 @@ use indexmap::IndexMap;
 use std::alloc::Global;
 use std::marker::Model;
 
-/// How many declarations of each name stand before a place in the whole unit. A name is found without a walk.
+/// How many declarations of each name there are before a place in the whole unit. A name is found without a walk.
 pub struct Homonyms {
     alloc: Global,
     by_name: IndexMap<Vec<u8>, usize>,
@@ -41,7 +41,9 @@ impl Homonyms {
         }
     }
 
-    /// One more declaration of the name: its number, which is how many there are before it.
+    /// Counts one more declaration of the name. The result is its number: how many there are before it.
+    /// # Errors
+    /// `NoMemory` if the allocator refuses memory; nothing is counted then.
     pub fn number(&mut self, name: &[u8]) -> Result<usize, NoMemory>
         ensures number { IfOk result (λ number. number ≡ count_of self.old name.now) }
         ensures ok { OnOk result (self.new ≡ with_name self.old name.now) }

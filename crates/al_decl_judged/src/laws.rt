@@ -1,12 +1,12 @@
-//! What is told of declarations, in the words of the Manual.
+//! Laws of declarations, in the words of the Manual.
 ghost use Rattle.al_decl_judged.specs.Laws.{ComponentsAreApart, ConstraintsNarrow, IndexesLieInside, NumbersCountHomonyms, TypesAreThere, TypesStandOnce};
 
-/// A declaration's number is how many declarations of its name stand before it.
+/// A declaration's number is how many declarations of its name come before it.
 pub fn numbers_count_homonyms()
     ensures { NumbersCountHomonyms }
 {}
 
-/// A constraint is right exactly where each value of its range lies in the mark's (ARM 3.5(6)).
+/// A constraint is right if, and only if, each value of its range lies in the mark's (ARM 3.5(6)).
 pub fn constraints_narrow()
     ensures { ConstraintsNarrow }
 {}
@@ -21,12 +21,12 @@ pub fn components_are_apart()
     ensures { ComponentsAreApart }
 {}
 
-/// Where two lists of types are joined none stands twice.
+/// If two lists of types are joined, no type is in the result twice.
 pub fn types_stand_once()
     ensures { TypesStandOnce }
 {}
 
-/// And each stands after all types that it is of, where that holds of the two lists.
+/// If each type comes after all types that it is made of in two lists, it does so in the joined list.
 pub fn types_are_there()
     ensures { TypesAreThere }
 {}

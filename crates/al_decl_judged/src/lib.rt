@@ -1,5 +1,12 @@
-//! What declarations declare, from their judged parts: views and what is done where they stand, profiles and which body completes
-//! what, or the first rule that is broken.
+//! What declarations declare, from parts that have been checked already: views and what is done at their place, or the first rule that is
+//! broken. Nothing is asked here.
+//!
+//! Terms: a *view* is what others see of a declaration. A declaration's *effect* is what is done where it is. `Progress` (`progress`) is
+//! how far the check of a unit has come: the words (`words`), names (`homonyms`) and objects that the declarations before a place have
+//! taken. `Uncompleted` has the declarations that wait for their bodies.
+//!
+//! A module for each kind of declaration: `object` and `new_object`, `number`, `type_kind` (with `array`, `record`, `signs`), `subtype`,
+//! `subprogram` and `body`. `profile`, `heading`, `conformance` and `completing` compare specifications and find what a body completes.
 #![tactic(auto)]
 
 mod array;

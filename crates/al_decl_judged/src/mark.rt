@@ -10,7 +10,7 @@ use al_view::{Subtype, SubtypeView, Symbol, Types};
 use al_view_predefined::{StandardTypes, no_names};
 use std::alloc::Global;
 
-/// What may stand there, and is judged where it does.
+/// A range that may be left out, checked if it is there.
 fn optional_range(range: Option<CheckResult<StaticRange>>) -> CheckResult<Option<StaticRange>>
     ensures { result ≡ optional range }
 {
@@ -21,8 +21,10 @@ fn optional_range(range: Option<CheckResult<StaticRange>>) -> CheckResult<Option
     }
 }
 
-/// The index subtype of a mark at that place, with a constraint or without: E404 where the mark is not scalar (ARM 3.6(5)), else what is wrong with
-/// the constraint.
+/// The index subtype of a mark at that place, with a constraint or without.
+/// # Errors
+/// `NoMemory` if the allocator refuses memory. The inner error is the fault of the mark; else the earlier of E404 at a mark that isn't
+/// scalar (ARM 3.6(5)) and the fault of the constraint; else E305 at the first bound of the constraint that lies outside the mark's.
 pub fn index_of_mark(
     alloc: Global,
     standard: &StandardTypes,
@@ -45,7 +47,9 @@ pub fn index_of_mark(
     }
 }
 
-/// The subtype of a mark at that place, with a constraint or without (ARM 3.2.2): E404 where it is constrained and not scalar.
+/// The subtype of a mark at that place, with a constraint or without (ARM 3.2.2).
+/// # Errors
+/// `NoMemory` if the allocator refuses memory. The inner error is the fault of the mark; with a constraint, that of `index_of_mark`.
 pub fn indication(
     alloc: Global,
     standard: &StandardTypes,
@@ -62,7 +66,9 @@ pub fn indication(
     }
 }
 
-/// The index subtype of two bounds of a type, which are held against none of its own (ARM 3.6.1).
+/// The index subtype of two bounds of a type, which are checked against no range (ARM 3.6.1).
+/// # Errors
+/// `NoMemory` if the allocator refuses memory. The inner error is the fault of the bounds.
 pub fn index_of_bounds(
     alloc: Global,
     of: Symbol,

@@ -1,4 +1,4 @@
-// Names that a declaration declares, and those that stand twice in it (ARM 8.3(26)).
+// Names that a declaration declares, and names that it declares twice (ARM 8.3(26)).
 ghost use Rattle.std.specs.Prelude.{◌≡◌, [], IfOk, OnOk};
 ghost use Rattle.al_decl_judged.specs.DefiningNames.{duplicate_at, named_so, names_of, repeated};
 ghost use Rattle.al_decl_judged.specs.Progressing.{with_all_counted};
@@ -10,9 +10,11 @@ use al_view::{Seq, Symbol};
 use indexmap::IndexSet;
 use std::alloc::Global;
 
-/// A defining name in lower case, and where it stands.
+/// A defining name in lower case, and its place.
 pub struct DefiningName {
+    /// The name in lower case.
     pub name: Name,
+    /// The place of its first token.
     pub place: Place,
 }
 
@@ -22,9 +24,11 @@ impl Drop for DefiningName {
     }
 }
 
-/// The name of a type that is declared. Where the declaration completes a private type (ARM 7.3(4)), the symbol of that type: it is the same type.
+/// The name of a type that is declared.
 pub struct TypeName {
+    /// The defining name.
     pub defining: DefiningName,
+    /// If the declaration completes a private type (ARM 7.3(4)), the symbol of that type: it is the same type.
     pub partial: Option<Symbol>,
 }
 
@@ -48,7 +52,9 @@ pub fn duplicate_at(name: &DefiningName) -> Fault
     }
 }
 
-/// E301 at the first of these names that stands before it among them.
+/// E301 at the first of these names that is among those before it.
+/// # Errors
+/// `NoMemory` if the allocator refuses memory.
 pub fn repeated(alloc: Global, names: &[DefiningName]) -> Result<Option<Fault>, NoMemory>
     ensures { IfOk result (λ fault. fault ≡ repeated [] names.now) }
 {
@@ -84,7 +90,7 @@ pub(crate) fn names_of(alloc: Global, names: &[DefiningName]) -> Result<Seq<Name
     Ok(row)
 }
 
-/// One more declaration of each name.
+/// Counts one more declaration of each name.
 pub(crate) fn count_all(progress: &mut Progress, names: &[DefiningName]) -> Result<(), NoMemory>
     ensures { OnOk result (progress.new ≡ with_all_counted progress.old (names_of names.now)) }
 {

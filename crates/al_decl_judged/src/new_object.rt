@@ -17,13 +17,15 @@ use al_view::{Seq, Subtype, SubtypeView, Symbol, Types};
 use al_view_predefined::{StandardTypes, no_names};
 use std::alloc::Global;
 
-/// What stands after the colon of an object declaration.
+/// What comes after the colon of an object declaration.
 pub enum ObjectType {
     /// A subtype.
     Marked(SubtypeView),
     /// An array type without a name, by its index subtype and its component subtype (ARM 3.6).
     AnonymousArray {
+        /// The index subtype.
         index: SubtypeView,
+        /// The component subtype.
         component: SubtypeView,
     },
 }
@@ -40,10 +42,13 @@ impl Drop for ObjectType {
     }
 }
 
-/// An object that is to be declared: its name in lower case, its symbol, which is that of an anonymous array type too, and its subtype.
+/// An object that is to be declared.
 pub struct NewObject {
+    /// The name in lower case.
     pub name: Name,
+    /// The symbol, which is that of an anonymous array type too.
     pub symbol: Symbol,
+    /// The subtype.
     pub subtype: SubtypeView,
 }
 
@@ -57,7 +62,9 @@ impl Drop for NewObject {
     }
 }
 
-/// The same subtype once more.
+/// A copy of the subtype.
+/// # Errors
+/// `NoMemory` if the allocator refuses memory.
 pub fn copied_subtype(alloc: Global, of: &SubtypeView) -> Result<SubtypeView, NoMemory>
     ensures { IfOk result (λ copy. copy ≡ of.now) }
 {
@@ -147,8 +154,10 @@ fn new_object(
     }
 }
 
-/// An object for each name, in order, with its symbol and its subtype: each of an anonymous array type has a type of its own (ARM 3.3.1(7)).
-/// E305 at the first name where such a type is too large.
+/// An object for each name, in order, with its symbol and its subtype. Each object of an anonymous array type has a type of its own (ARM
+/// 3.3.1(7)).
+/// # Errors
+/// `NoMemory` if the allocator refuses memory. The inner error is E305 at the first name if such a type is too large.
 pub fn new_objects(
     alloc: Global,
     standard: &StandardTypes,

@@ -42,6 +42,9 @@ fn number_declarations(
 }
 
 /// Names for a static value of an integer type. `duplicate` is E301 at the first of them whose region has a homograph.
+/// # Errors
+/// `NoMemory` if the allocator refuses memory. The inner error is the first of `duplicate`, E301 at a name that is there twice, and the
+/// fault of the value.
 pub fn declare_numbers(
     alloc: Global,
     progress: &mut Progress,

@@ -83,7 +83,7 @@ fn object_declaration(
     Ok(Declaration { name, view })
 }
 
-/// One more object takes its words.
+/// An object takes its words.
 fn place_object(
     alloc: Global,
     standard: &StandardTypes,
@@ -134,7 +134,7 @@ fn place_objects(
     Ok(placed)
 }
 
-/// The static value of a value that may stand there.
+/// The static value of an initial value that may be left out.
 fn known_value(value: &Option<Typed>) -> Option<StaticValue>
     ensures { result ≡ option_and_then value_label (option_map typed_model value.now) }
 {
@@ -144,7 +144,7 @@ fn known_value(value: &Option<Typed>) -> Option<StaticValue>
     }
 }
 
-/// What may stand there, and is judged where it does.
+/// An initial value that may be left out, checked if it is there.
 fn optional_value(value: Option<CheckResult<Typed>>) -> CheckResult<Option<Typed>>
     ensures { map_ok (option_map typed_model) result ≡ optional (option_map (map_ok typed_model) value) }
 {
@@ -165,7 +165,7 @@ fn checked_value(range: Option<Bounds>, value: Option<Typed>) -> Option<CheckedV
     }
 }
 
-/// What is done where the objects stand: their words are filled with the value or with zeros.
+/// What is done at the objects' place: their words are filled with the value or with zeros.
 fn filled(
     line: usize,
     words: u32,
@@ -187,7 +187,7 @@ fn filled(
     }
 }
 
-/// A value is let go.
+/// Drops a value.
 fn let_go(_value: Option<Typed>) {}
 
 /// Objects with a value that is right.
@@ -215,9 +215,11 @@ fn placed_objects(
     }
 }
 
-/// `names : [constant] type [:= value]`, whose first token stands on that line. `duplicate` is E301 at the first name whose region has a homograph;
-/// E301 too at a name that stands twice, E309 at the first name of a constant without a value (ARM 3.3.1(6)). Where the type has a fault
-/// the value isn't asked: that fault stands for it. The words of temporaries in the value are numbered afterwards.
+/// `names : [constant] type [:= value]`, whose first token is on that line. `duplicate` is E301 at the first name whose region has a
+/// homograph. If the type has a fault, the value isn't checked. The words of temporaries in the value are numbered afterwards.
+/// # Errors
+/// `NoMemory` if the allocator refuses memory. The inner error is the first of `duplicate`, E301 at a name that is there twice, E309 at the
+/// first name of a constant without a value (ARM 3.3.1(6)), and the faults of the type and the value.
 pub fn declare_objects(
     alloc: Global,
     standard: &StandardTypes,

@@ -8,7 +8,7 @@ use al_base_fault::{CheckRule, Fault};
 use al_view::{Bounds, Mode, ObjectPlace, ObjectView, StaticValue, SubtypeView, View, ViewKind};
 use std::alloc::Global;
 
-/// A constant without a value is E309 at its name (ARM 3.3.1(6)).
+/// E309 at the name of a constant without a value (ARM 3.3.1(6)).
 pub fn missing_value(is_constant: bool, has_value: bool, name: Place) -> Option<Fault>
     ensures { result ≡ missing_value is_constant has_value name }
 {
@@ -43,6 +43,8 @@ fn constant_value(
 }
 
 /// An object of a subtype, with its static initial value, if it has one.
+/// # Errors
+/// `NoMemory` if the allocator refuses memory.
 pub fn object_view(
     alloc: Global,
     of: &SubtypeView,
@@ -74,7 +76,9 @@ fn is_input(mode: Mode) -> bool
     }
 }
 
-/// A formal parameter inside its body: a constant where its mode is `in` (ARM 3.3(17)).
+/// A formal parameter inside its body: a constant if its mode is `in` (ARM 3.3(17)).
+/// # Errors
+/// `NoMemory` if the allocator refuses memory.
 pub fn formal_view(
     alloc: Global,
     of: &SubtypeView,
@@ -87,6 +91,8 @@ pub fn formal_view(
 }
 
 /// A named number (ARM 3.3.2).
+/// # Errors
+/// `NoMemory` if the allocator refuses memory.
 pub fn number_view(alloc: Global, value: StaticValue) -> Result<View, NoMemory>
     ensures { IfOk result (λ view. view ≡ number_view value) }
 {
@@ -95,6 +101,8 @@ pub fn number_view(alloc: Global, value: StaticValue) -> Result<View, NoMemory>
 }
 
 /// A subtype that is declared (ARM 3.2.2).
+/// # Errors
+/// `NoMemory` if the allocator refuses memory.
 pub fn subtype_view(alloc: Global, subtype: SubtypeView) -> Result<View, NoMemory>
     ensures { IfOk result (λ view. view ≡ subtype_view subtype) }
 {

@@ -58,7 +58,9 @@ fn returned_of(alloc: Global, returned: &ReturnedPart) -> Result<Returned, NoMem
     }
 }
 
-/// A specification as it is compared with others: marks that have faults have no subtype.
+/// A specification in the form in which it is compared with others: marks that have faults have no subtype.
+/// # Errors
+/// `NoMemory` if the allocator refuses memory.
 pub fn specification_of(alloc: Global, heading: &Heading) -> Result<Specification, NoMemory>
     ensures { IfOk result (λ specification. specification ≡ specification_of heading.now) }
 {
@@ -83,7 +85,7 @@ fn parameter_of(alloc: Global, formal: &FormalPart) -> Result<Option<Parameter>,
     }
 }
 
-/// The parameter of a formal whose mark is right, after others.
+/// Adds the parameter of a formal whose mark is right.
 fn add_parameter(
     alloc: Global,
     made: &mut Seq<Parameter>,
@@ -120,6 +122,8 @@ fn result_of(alloc: Global, returned: &ReturnedPart) -> Result<Option<Subtype>, 
 }
 
 /// The profile of a specification whose marks are right.
+/// # Errors
+/// `NoMemory` if the allocator refuses memory.
 pub fn profile_of(alloc: Global, heading: &Heading) -> Result<Profile, NoMemory>
     ensures { IfOk result (λ profile. profile ≡ profile_of heading.now) }
 {
@@ -131,7 +135,7 @@ pub fn profile_of(alloc: Global, heading: &Heading) -> Result<Profile, NoMemory>
     })
 }
 
-/// The types of a mark after others.
+/// Adds the types of a mark.
 fn add_types_in(
     alloc: Global,
     standard: &StandardTypes,
@@ -160,7 +164,9 @@ fn formal_types(
     Ok(types)
 }
 
-/// The types of the parameters and of the result, each once, and Standard's left out.
+/// The types of the parameters and of the result, each once, and those of Standard left out.
+/// # Errors
+/// `NoMemory` if the allocator refuses memory.
 pub fn profile_types(
     alloc: Global,
     standard: &StandardTypes,

@@ -9,10 +9,11 @@ use al_view::{ObjectPlace, Priority, Seq, Symbol};
 use al_view_typed::{DataPlace, ProtectedWords};
 use std::alloc::Global;
 
-/// How far the check of a unit's text has come: what the declarations before a place have taken.
+/// How far the check of a unit's source has come: what the declarations before a place have taken.
 pub struct Progress {
+    /// The unit.
     pub unit: UnitKey,
-    /// In how many bodies the place stands; 0 is library level, where there is no frame.
+    /// In how many bodies the place is; 0 is library level, which has no frame.
     pub depth: u32,
     /// The next words of the innermost frame and of the unit.
     pub words: Words,
@@ -72,7 +73,9 @@ impl Progress {
         self.depth == 0
     }
 
-    /// One more declaration of a name: its symbol.
+    /// Counts one more declaration of a name. The result is its symbol.
+    /// # Errors
+    /// `NoMemory` if the allocator refuses memory.
     pub fn next_symbol(&mut self, alloc: Global, name: &[u8]) -> Result<Symbol, NoMemory>
         ensures symbol { IfOk result (λ symbol. symbol ≡ symbol_of self.old name.now) }
         ensures counted { OnOk result (self.new ≡ with_counted self.old name.now) }
@@ -80,7 +83,9 @@ impl Progress {
         next_symbol(alloc, &self.unit, &mut self.homonyms, name)
     }
 
-    /// The symbol of a type that is declared: that of the private type that it completes, or else that of one more declaration of its name.
+    /// The symbol of a type that is declared: that of the private type that it completes, or else that of a new declaration of its name.
+    /// # Errors
+    /// `NoMemory` if the allocator refuses memory.
     pub fn type_symbol(&mut self, alloc: Global, name: &TypeName) -> Result<Symbol, NoMemory>
         ensures symbol { IfOk result (λ symbol. symbol ≡ type_symbol self.old name.now) }
         ensures counted { OnOk result (self.new ≡ type_counted self.old name.now) }
@@ -91,7 +96,9 @@ impl Progress {
         }
     }
 
-    /// One more declaration of a name that has no symbol.
+    /// Counts one more declaration of a name that has no symbol.
+    /// # Errors
+    /// `NoMemory` if the allocator refuses memory.
     pub fn count(&mut self, name: &[u8]) -> Result<(), NoMemory>
         ensures { OnOk result (self.new ≡ with_counted self.old name.now) }
     {
@@ -99,7 +106,9 @@ impl Progress {
         Ok(())
     }
 
-    /// Where the next object or flag lies: in the unit's words, or in the innermost frame.
+    /// The place of the next object or flag: in the unit's words, or in the innermost frame.
+    /// # Errors
+    /// `NoMemory` if the allocator refuses memory.
     pub fn next_place(&self, alloc: Global, symbol: &Symbol) -> Result<ObjectPlace, NoMemory>
         ensures { IfOk result (λ place. place ≡ next_place self.now symbol.now) }
     {
@@ -113,7 +122,9 @@ impl Progress {
         })
     }
 
-    /// An object of so many words lies there.
+    /// Takes this many words for an object at the next place.
+    /// # Errors
+    /// `NoMemory` if the allocator refuses memory.
     pub fn take_object(
         &mut self,
         alloc: Global,
@@ -132,7 +143,9 @@ impl Progress {
         Ok(())
     }
 
-    /// A flag of one word lies there.
+    /// Takes one word for a flag at the next place.
+    /// # Errors
+    /// `NoMemory` if the allocator refuses memory.
     pub fn take_flag(&mut self, alloc: Global, symbol: &Symbol) -> Result<(), NoMemory>
         ensures { OnOk result (self.new ≡ after_flag self.old symbol.now) }
     {
@@ -146,7 +159,10 @@ impl Progress {
         Ok(())
     }
 
-    /// A protected object lies there: the word of its flag, and after it so many words of its components (ARM 9.4).
+    /// Takes the words of a protected object at the next place: the word of its flag, and after it this many words for its components (ARM
+    /// 9.4).
+    /// # Errors
+    /// `NoMemory` if the allocator refuses memory.
     pub fn take_protected(
         &mut self,
         alloc: Global,

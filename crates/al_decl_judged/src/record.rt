@@ -11,10 +11,12 @@ use al_view::{Component, Layout, Seq, SubtypeView, Symbol, TypeDefinition, TypeV
 use al_view_predefined::StandardTypes;
 use std::alloc::Global;
 
-/// A component of a record type where it is declared: its name in lower case, and its subtype.
+/// A component of a record type where it is declared.
 #[derive(Drop)]
 pub struct Part {
+    /// The name in lower case.
     pub name: Name,
+    /// The subtype.
     pub of: SubtypeView,
 }
 
@@ -32,7 +34,7 @@ fn words_of_parts(
     Ok(words)
 }
 
-/// The sum of these, where a value may have so many words.
+/// The sum of these, if a value may have so many words.
 fn total(words: &[u32]) -> Option<u32>
     ensures { result ≡ limited (sum words.now) }
 {
@@ -47,7 +49,7 @@ fn total(words: &[u32]) -> Option<u32>
     }
 }
 
-/// Where components of so many words begin: each where the one before it ends.
+/// The first words of components of these lengths: each begins where the one before it ends.
 fn offsets(alloc: Global, words: &[u32]) -> Result<Seq<u32>, NoMemory>
     requires { sum words.now ≤ 4096 }
     ensures { IfOk result (λ offsets. offsets ≡ offsets_from 0 words.now) }
@@ -111,7 +113,7 @@ fn record_view(
     })
 }
 
-/// What a record type of these components is of and, last, the type itself.
+/// The types that a record type of these components is made of and, last, the type itself.
 fn record_types(
     alloc: Global,
     standard: &StandardTypes,
@@ -127,8 +129,9 @@ fn record_types(
     Ok(types)
 }
 
-/// A record type after the types that it is of (ARM 3.8), each once and those of Standard left out: of these
-/// components, none of a null record. E305 at its defining name where a value would have more than 4,096 words.
+/// A record type after the types that it is made of (ARM 3.8), each once and those of Standard left out. A null record has no components.
+/// # Errors
+/// `NoMemory` if the allocator refuses memory. The inner error is E305 at its defining name if a value would have more than 4,096 words.
 pub fn record_type(
     alloc: Global,
     standard: &StandardTypes,

@@ -56,7 +56,7 @@ pub(crate) fn signs_of(definition: &TypeDefinition) -> &'static [Sign]
     }
 }
 
-/// Those that the full declaration of a private type declares, beside `=` and `/=`, which come first.
+/// The operators that the full declaration of a private type declares: all except `=` and `/=`, which come first.
 pub(crate) fn later_signs(definition: &TypeDefinition) -> &'static [Sign]
     ensures { result.now ≡ later_signs definition.now }
 {

@@ -1,11 +1,14 @@
-// What stands in front of a body's `is`.
+// What comes before a body's `is`.
 use al_base::Name;
 use al_view::{Mode, Seq, Subtype};
 
-/// A formal parameter as it stands in a text (ARM 6.1(15)). It has no subtype where its mark has a fault of its own.
+/// A formal parameter as it is written (ARM 6.1(15)).
 pub struct Formal {
+    /// The name in lower case.
     pub name: Name,
+    /// The mode.
     pub mode: Mode,
+    /// The subtype, if its mark has no fault of its own.
     pub subtype: Option<Subtype>,
 }
 
@@ -23,7 +26,7 @@ impl Drop for Formal {
 pub enum Returned {
     /// Nothing: it is a procedure.
     NoValue,
-    /// A value of this subtype, which is missing where its mark has a fault of its own: it is a function.
+    /// A value of this subtype: it is a function. The subtype is missing if its mark has a fault of its own.
     Value(Option<Subtype>),
 }
 
@@ -38,7 +41,9 @@ impl Drop for Returned {
 
 /// A specification, without its name (ARM 6.1(4)).
 pub struct Specification {
+    /// The formal parameters, in source order.
     pub formals: Seq<Formal>,
+    /// What it returns.
     pub returned: Returned,
 }
 
@@ -53,13 +58,13 @@ impl Drop for Specification {
 
 /// What kind of body it is, without its name.
 pub enum BodyHead {
-    /// Of a subprogram, or its stub (ARM 6.3, 10.1.3).
+    /// The body of a subprogram, or its stub (ARM 6.3, 10.1.3).
     Subprogram(Specification),
-    /// Of an entry (ARM 9.5.2(5)).
+    /// The body of an entry (ARM 9.5.2(5)).
     Entry,
-    /// Of a task (ARM 9.1(6)).
+    /// The body of a task (ARM 9.1(6)).
     Task,
-    /// Of a protected object (ARM 9.4(7)).
+    /// The body of a protected object (ARM 9.4(7)).
     Protected,
 }
 

@@ -1,4 +1,4 @@
-// What a body, a stub or a name may be where it stands.
+// What a body, a stub or a name may be at its place.
 ghost use Rattle.std.specs.Prelude.{◌≡◌, Some};
 ghost use Rattle.std.specs.List.{list_any};
 ghost use Rattle.std.specs.Str.{bytes_eq};
@@ -15,7 +15,7 @@ fn fault_of(place: Place, rule: CheckRule) -> Option<Fault>
     Some(Fault { place, rule })
 }
 
-/// What is wrong with a body that completes no declaration, at its defining name.
+/// The fault of a body that completes no declaration, at its defining name.
 pub fn lone_body_fault(place: Place, has_homograph: bool, may_declare: bool) -> Option<Fault>
     ensures { result ≡ lone_body_fault place has_homograph may_declare }
 {
@@ -34,7 +34,7 @@ fn is_among(names: &[Name], name: &[u8]) -> bool
     names.iter().any(|other| other.as_slice() == name)
 }
 
-/// What is wrong with a stub, at its defining name, where these stubs stand before it in its body.
+/// The fault of a stub, at its defining name, after these stubs in its body.
 pub fn stub_fault(place: Place, may_stand: bool, stubs: &[Name], name: &[u8]) -> Option<Fault>
     ensures { result ≡ stub_fault place may_stand stubs.now name.now }
 {
@@ -47,8 +47,8 @@ pub fn stub_fault(place: Place, may_stand: bool, stubs: &[Name], name: &[u8]) ->
     None
 }
 
-/// What is wrong with a defining name that has dots or none, at its first identifier, where a library unit or a subunit is
-/// declared or something within one.
+/// The fault of a defining name that has dots or none, at its first identifier, where a library unit or a subunit is declared or something
+/// within one.
 pub fn dotted_name_fault(place: Place, is_dotted: bool, is_unit: bool) -> Option<Fault>
     ensures { result ≡ dotted_name_fault place is_dotted is_unit }
 {
@@ -64,7 +64,7 @@ fn is_in(mode: Mode) -> bool
     matches!(mode, Mode::In)
 }
 
-/// What is wrong with the mode of formals, at the first of their identifiers.
+/// The fault of the mode of formals, at the first of their identifiers.
 pub fn mode_fault(place: Place, of_function: bool, mode: Mode) -> Option<Fault>
     ensures { result ≡ mode_fault place of_function mode }
 {

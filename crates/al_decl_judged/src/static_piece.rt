@@ -9,7 +9,7 @@ use al_base_fault::{CheckResult, CheckRule, Fault, both};
 use al_view::{Bounds, StaticValue};
 use al_view_typed::Typed;
 
-/// The value of an expression, where it is static.
+/// The value of an expression, if it is static.
 #[tactic(auto, using(crate::proofs::Layers::value_layer))]
 pub(crate) fn value_label(expression: &Typed) -> Option<StaticValue>
     ensures { result ≡ value_label (typed_model expression.now) }
@@ -17,7 +17,7 @@ pub(crate) fn value_label(expression: &Typed) -> Option<StaticValue>
     expression.labels.value
 }
 
-/// Where it begins.
+/// The place where an expression begins.
 #[tactic(auto, using(crate::proofs::Layers::place_layer))]
 pub fn place_label(expression: &Typed) -> Place
     ensures { result ≡ place_label (typed_model expression.now) }
@@ -37,14 +37,18 @@ fn wanted_at(place: Place, value: Option<StaticValue>) -> CheckResult<StaticValu
     }
 }
 
-/// The value of an expression that must be static; E304 at its first token where it isn't.
+/// The value of an expression that must be static.
+/// # Errors
+/// E304 at its first token if it isn't static.
 pub fn static_of(expression: &Typed) -> CheckResult<StaticValue>
     ensures { result ≡ static_of (typed_model expression.now) }
 {
     wanted_at(place_label(expression), value_label(expression))
 }
 
-/// A range whose bounds must be static; E304 at the first bound that isn't.
+/// A range whose bounds must be static.
+/// # Errors
+/// E304 at the first bound that isn't static.
 pub fn static_range(low: &Typed, high: &Typed) -> CheckResult<StaticRange>
     ensures { result ≡ static_range (typed_model low.now) (typed_model high.now) }
 {

@@ -16,7 +16,9 @@ use al_view_predefined::StandardTypes;
 use al_view_typed::{DeclarationForm, TypedDeclaration};
 use std::alloc::Global;
 
-/// A subprogram that is declared at this depth of nesting, with its flag where it has a declaration of its own. Its marks are right.
+/// A subprogram that is declared at this depth of nesting, with its flag if it has a declaration of its own. Its marks are right.
+/// # Errors
+/// `NoMemory` if the allocator refuses memory.
 pub fn subprogram_view(
     alloc: Global,
     standard: &StandardTypes,
@@ -43,7 +45,7 @@ pub fn subprogram_view(
     Ok(view)
 }
 
-/// One declaration.
+/// A list of one declaration.
 pub(crate) fn one_declaration(
     alloc: Global,
     name: &[u8],
@@ -57,7 +59,7 @@ pub(crate) fn one_declaration(
     Ok(declarations)
 }
 
-/// What stands in front of a subprogram's declaration: its view and its flag, with its name counted and its flag's word taken.
+/// The first step of a subprogram's declaration: its view and its flag, with its name counted and its flag's word taken.
 fn flagged(
     alloc: Global,
     standard: &StandardTypes,
@@ -100,8 +102,10 @@ fn right_subprogram(
     })
 }
 
-/// A specification alone, whose first token stands on that line: a subprogram whose body comes later. `duplicate` is E301 at the name where its region has
-/// a homograph; of a specification with a faulty mark that is one that may not be overloaded.
+/// A specification alone, whose first token is on that line: a subprogram whose body comes later. `duplicate` is E301 at the name if its
+/// region has a homograph; for a specification with a faulty mark a homograph is what may not be overloaded.
+/// # Errors
+/// `NoMemory` if the allocator refuses memory. The inner error is the first of `duplicate` and the faults of the heading.
 pub fn declare_subprogram(
     alloc: Global,
     standard: &StandardTypes,

@@ -14,7 +14,7 @@ use al_base_fault::{CheckResult, Fault, unless};
 use al_view::{Seq, SubtypeView, View};
 use std::alloc::Global;
 
-/// One declaration, which does nothing where it stands.
+/// One declaration, which does nothing at its place.
 pub(crate) fn declares_one(alloc: Global, name: &[u8], view: View) -> Result<Declared, NoMemory>
     ensures { IfOk result (λ declared. declared_model declared ≡ declares (declared_as name.now view ∷ [])) }
 {
@@ -27,7 +27,9 @@ pub(crate) fn declares_one(alloc: Global, name: &[u8], view: View) -> Result<Dec
     })
 }
 
-/// A name for a subtype. `duplicate` is E301 at the name where its region has a homograph.
+/// A name for a subtype. `duplicate` is E301 at the name if its region has a homograph.
+/// # Errors
+/// `NoMemory` if the allocator refuses memory. The inner error is the first of `duplicate` and the fault of the subtype.
 pub fn declare_subtype(
     alloc: Global,
     progress: &mut Progress,

@@ -9,11 +9,14 @@ use al_view::{Bounds, Subtype, SubtypeView};
 use al_view_predefined::StandardTypes;
 use std::alloc::Global;
 
-/// A range with static bounds, and where its bounds stand.
+/// A range with static bounds.
 #[derive(Clone, Copy)]
 pub struct StaticRange {
+    /// The bounds.
     pub bounds: Bounds,
+    /// The place of the low bound.
     pub low: Place,
+    /// The place of the high bound.
     pub high: Place,
 }
 
@@ -30,7 +33,7 @@ pub(crate) fn is_within(value: i64, bounds: Bounds) -> bool
     bounds.low <= value && value <= bounds.high
 }
 
-/// The bounds of a subtype, its own or those of its type; none where that is not scalar.
+/// The bounds of a subtype, its own or those of its type; none if it isn't scalar.
 pub(crate) fn bounds_of(standard: &StandardTypes, of: &SubtypeView) -> Option<Bounds>
     ensures { result ≡ subtype_bounds of.now.types of.now.subtype }
 {
@@ -40,7 +43,9 @@ pub(crate) fn bounds_of(standard: &StandardTypes, of: &SubtypeView) -> Option<Bo
     }
 }
 
-/// The bounds of the mark at that place, which is constrained; E404 where it is not scalar (ARM 3.2.2(11)).
+/// The bounds of the mark at that place, which is constrained (ARM 3.2.2(11)).
+/// # Errors
+/// E404 at the mark if it isn't scalar.
 pub fn scalar_bounds(
     standard: &StandardTypes,
     mark: &SubtypeView,
@@ -98,8 +103,10 @@ fn with_bounds(
     })
 }
 
-/// The subtype that the mark at that place denotes, with a constraint or without (ARM 3.2.2): E404 at a mark that is
-/// constrained and not scalar, E305 at the first bound of a range with values that lies outside the mark's.
+/// The subtype that the mark at that place denotes, with a constraint or without (ARM 3.2.2).
+/// # Errors
+/// `NoMemory` if the allocator refuses memory. The inner error is E404 at a mark that is constrained and not scalar; else E305 at the first
+/// bound that lies outside the mark's, if the range has values.
 pub fn subtype_of(
     alloc: Global,
     standard: &StandardTypes,

@@ -21,7 +21,7 @@ use al_view::{Names, Seq, SubtypeView, Symbol, TypeView, Types};
 use al_view_predefined::{StandardTypes, no_names, private_type};
 use std::alloc::Global;
 
-/// What the declaration of a type of these types declares: the full one of a private type all but what its partial view declared.
+/// What the declaration of a type of these types declares: if it is the full one of a private type, all but what its partial view declared.
 fn declared_of(
     alloc: Global,
     homonyms: &mut Homonyms,
@@ -101,7 +101,9 @@ fn checked_integer(
     }
 }
 
-/// `type N is range L .. H` (ARM 3.5.4). `duplicate` is E301 at the name where its region has a homograph, here and below.
+/// `type N is range L .. H` (ARM 3.5.4). `duplicate` is E301 at the name if its region has a homograph.
+/// # Errors
+/// `NoMemory` if the allocator refuses memory. The inner error is the first of `duplicate` and the fault of the range.
 pub fn declare_integer(
     alloc: Global,
     progress: &mut Progress,
@@ -129,6 +131,9 @@ fn literals_fault(
 }
 
 /// `type N is (L, L, ..)` (ARM 3.5.1). `duplicate` is E301 at the first of the name and the literals whose region has a homograph.
+/// # Errors
+/// `NoMemory` if the allocator refuses memory. The inner error is the first of `duplicate` and E301 at a literal that is there twice or has
+/// the type's name.
 pub fn declare_enumeration(
     alloc: Global,
     progress: &mut Progress,
@@ -162,7 +167,10 @@ fn checked_array(
     }
 }
 
-/// `type N is array (I) of C` (ARM 3.6).
+/// `type N is array (I) of C` (ARM 3.6). `duplicate` is E301 at the name if its region has a homograph.
+/// # Errors
+/// `NoMemory` if the allocator refuses memory. The inner error is the first of `duplicate` and the faults of the index and the component;
+/// if these have none, that of `array_type`.
 pub fn declare_array(
     alloc: Global,
     standard: &StandardTypes,
@@ -195,8 +203,11 @@ fn checked_record(
     }
 }
 
-/// `type N is record P; P; .. end record`, and a null record of no parts (ARM 3.8). What is wrong with the parts is the first of their faults, E301 of
-/// their names among them.
+/// `type N is record P; P; .. end record`, or a null record without parts (ARM 3.8). `duplicate` is E301 at the name if its region has a
+/// homograph.
+/// # Errors
+/// `NoMemory` if the allocator refuses memory. The inner error is the first of `duplicate` and the first fault of the parts, E301 of their
+/// names included; if these have none, that of `record_type`.
 pub fn declare_record(
     alloc: Global,
     standard: &StandardTypes,
@@ -213,7 +224,9 @@ pub fn declare_record(
     with_type(alloc, progress, name, duplicate, &literals, types)
 }
 
-/// `type N is private`, whose values take so many words (ARM 7.3).
+/// `type N is private`, whose values take this many words (ARM 7.3). `duplicate` is E301 at the name if its region has a homograph.
+/// # Errors
+/// `NoMemory` if the allocator refuses memory. The inner error is `duplicate`.
 pub fn declare_private(
     alloc: Global,
     progress: &mut Progress,

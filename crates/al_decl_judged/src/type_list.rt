@@ -1,4 +1,4 @@
-// Lists of types that views hold: each type once, those of Standard left out.
+// Lists of types in views: each type once, those of Standard left out.
 ghost use Rattle.std.specs.Prelude.{◌≡◌, [], ◌∷◌, ◌++◌, IfOk, OnOk, length};
 ghost use Rattle.std.specs.List.{list_any};
 ghost use Rattle.al_decl_judged.specs.TypeLists.{AreSymbolsOf, is_known, joined, other_types, with_type};
@@ -11,13 +11,17 @@ use al_view_predefined::{StandardTypes, copied_type, scalar};
 use std::alloc::Global;
 
 /// An integer type with these bounds (ARM 3.5.4).
+/// # Errors
+/// `NoMemory` if the allocator refuses memory.
 pub fn integer_type(alloc: Global, symbol: &Symbol, bounds: Bounds) -> Result<Types, NoMemory>
     ensures { IfOk result (λ types. types ≡ integer_type symbol.now bounds) }
 {
     scalar(alloc, symbol, TypeDefinition::Integer(bounds))
 }
 
-/// An enumeration type with these literals (ARM 3.5.1). More than 2 ** 32 - 1 of them find no memory.
+/// An enumeration type with these literals (ARM 3.5.1). For more than 2 ** 32 - 1 of them it is out of memory.
+/// # Errors
+/// `NoMemory` if the allocator refuses memory.
 pub fn enumeration_type(alloc: Global, symbol: &Symbol, literals: &Names) -> Result<Types, NoMemory>
     ensures { IfOk result (λ types. types ≡ enumeration_type symbol.now (length literals.now)) }
 {
@@ -34,7 +38,7 @@ pub fn words_of(standard: &StandardTypes, of: &SubtypeView) -> u32
     standard.words_of(&of.types, &of.subtype.base).unwrap_or(0)
 }
 
-/// Whether a type is one of Standard's. None are told of besides.
+/// Whether a type is one of Standard's, which no list holds.
 fn is_standard(standard: &StandardTypes, none: &Types, symbol: &Symbol) -> bool
     requires { none.now ≡ [] }
     ensures { result ≡ is_known [] symbol.now }
@@ -53,7 +57,7 @@ fn symbols_of(alloc: Global, types: &[TypeView]) -> Result<SymbolSet, NoMemory>
     Ok(symbols)
 }
 
-/// Whether a type is known where these are, which have these symbols: it is one of them, or one of Standard's.
+/// Whether a type is known if these are, which have these symbols: it is one of them, or one of Standard's.
 fn is_known(
     standard: &StandardTypes,
     none: &Types,
@@ -114,7 +118,7 @@ fn copied_others(
     Ok(others)
 }
 
-/// One more type.
+/// Appends a copy of a type.
 fn push_copy(alloc: Global, types: &mut Seq<TypeView>, of: &TypeView) -> Result<(), NoMemory>
     ensures { OnOk result (types.new ≡ types.old ++ of.now ∷ []) }
 {
@@ -123,7 +127,7 @@ fn push_copy(alloc: Global, types: &mut Seq<TypeView>, of: &TypeView) -> Result<
     Ok(())
 }
 
-/// One more type, and its symbol.
+/// Appends a type, and its symbol.
 fn push_type(
     alloc: Global,
     types: &mut Seq<TypeView>,
@@ -139,7 +143,7 @@ fn push_type(
     Ok(())
 }
 
-/// One more type, unless it is known there.
+/// Adds a type, unless it is known there.
 fn add_type(
     alloc: Global,
     standard: &StandardTypes,
@@ -160,8 +164,10 @@ fn add_type(
     Ok(())
 }
 
-/// The other types after these, those apart that are known there: among these, or Standard's, which every unit has. A type among these is
+/// Adds those of the other types that aren't known yet: neither among these, nor Standard's, which every unit has. A type among these is
 /// found without a walk.
+/// # Errors
+/// `NoMemory` if the allocator refuses memory.
 pub fn add_types(
     alloc: Global,
     standard: &StandardTypes,

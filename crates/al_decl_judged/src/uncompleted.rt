@@ -13,7 +13,7 @@ use al_view::{Seq, View, ViewKind};
 use std::alloc::Global;
 use std::marker::Model;
 
-/// The declarations of a part, and of the package's declaration that it completes, that have no body yet, in text order.
+/// The declarations of a part, and of the package's declaration that it completes, that have no body yet, in source order.
 pub struct Uncompleted {
     alloc: Global,
     declared: Vec<Completion>,
@@ -68,6 +68,8 @@ impl Uncompleted {
     }
 
     /// What a package's declaration leaves to its body.
+    /// # Errors
+    /// `NoMemory` if the allocator refuses memory.
     pub fn of(alloc: Global, completions: &[Completion]) -> Result<Self, NoMemory>
         ensures { IfOk result (λ uncompleted. uncompleted ≡ completions.now) }
     {
@@ -79,7 +81,9 @@ impl Uncompleted {
         Ok(Uncompleted { alloc, declared })
     }
 
-    /// Something is declared under a name: it waits where it wants a body.
+    /// Records that something is declared under a name: it waits if it needs a body.
+    /// # Errors
+    /// `NoMemory` if the allocator refuses memory; the list is unchanged then.
     pub fn declare(&mut self, name: &[u8], view: &View) -> Result<(), NoMemory>
         ensures ok { OnOk result (self.new ≡ with_declared self.old name.now view.now) }
         ensures err { OnErr result (self.new ≡ self.old) }
@@ -91,14 +95,14 @@ impl Uncompleted {
         Ok(())
     }
 
-    /// The declaration that a body with that name completes, by its number here; none where it completes none.
+    /// The index of the declaration that a body with that name completes; `None` if it completes none.
     pub fn completed_by(&self, name: &[u8], head: &BodyHead) -> Option<usize>
         ensures { MatchOption result (All (λ c. Completes name.now head.now c → ⊥) self.now) (IsFirst (Completes name.now head.now) self.now) }
     {
         completed_of(self.declared.as_slice(), name, head)
     }
 
-    /// A declaration, by its number here.
+    /// The declaration at this index.
     pub fn at(&self, i: usize) -> &Completion
         requires { i < length self.now }
         ensures { slice_get self.now i ≡ Some result.now }
@@ -106,7 +110,7 @@ impl Uncompleted {
         &self.declared[i]
     }
 
-    /// A declaration has its body, and waits no more.
+    /// Removes the declaration at this index, which has its body now.
     pub fn complete(&mut self, i: usize)
         requires { i < length self.old }
         ensures { self.new ≡ remove self.old i }
@@ -114,7 +118,7 @@ impl Uncompleted {
         let _ = self.declared.remove(i);
     }
 
-    /// What is wrong at the end of the part, at the place of its `begin` or `end`.
+    /// E302 at the end of the part, which is the place of its `begin` or `end`, if a declaration still waits.
     pub fn missing_fault(&self, place: Place) -> Option<Fault>
         ensures { result ≡ missing_fault place self.now }
     {
@@ -125,7 +129,7 @@ impl Uncompleted {
         Some(Fault { place, rule })
     }
 
-    /// What the body of a package's declaration must complete, which the unit answers others.
+    /// What the body of a package's declaration must complete, in the form in which the unit answers other units.
     pub fn into_completions(self) -> Seq<Completion>
         ensures { result ≡ self }
     {

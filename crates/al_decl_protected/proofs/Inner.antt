@@ -1,4 +1,4 @@
--- What round a region stands stays.
+-- What is round a region is unchanged.
 use Rattle.std.proofs.Common.{◌≡◌, List, [], ◌∷◌, ◌++◌, refl, ap, ◌∙◌, subst, sym}
 use Rattle.al_decl_judged.specs.declared.names.DefiningName.{DefiningName}
 use Rattle.al_decl.proofs.Innermost.{begun-inner, visible-inner}
@@ -11,7 +11,7 @@ use Rattle.al_decl_protected.specs.Checks.{IsInner, StaysInner}
 pub stays_there : (place : Place) → StaysInner place place
 stays_there place outer start h = h
 
--- where the place is the same
+-- if the place is the same
 pub stays_same : (before after : Place) → after ≡ before → StaysInner before after
 stays_same before after same outer start h = subst (λ (p : Place). IsInner outer start p) (sym same) h
 

@@ -1,4 +1,4 @@
--- What stands inside a protected object, in steps.
+-- What is inside a protected object, in steps.
 use Rattle.std.proofs.Common.{◌≡◌, List, Result, Ok, Err, refl, ap, ◌∙◌}
 use Rattle.al_base_fault.specs.Judging.{map_ok, next}
 use Rattle.al_base_fault.specs.declared.fault.Fault.{Fault}

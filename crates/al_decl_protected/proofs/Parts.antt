@@ -10,7 +10,7 @@ both_second {A} {B} {D} g (Ok a) (Err e) = refl
 both_second {A} {B} {D} g (Err e) (Ok b) = refl
 both_second {A} {B} {D} g (Err e) (Err x) = refl
 
--- what may be wrong besides stands before what is made of something
+-- what may be wrong besides comes before what is made of something
 pub unless_model : {A B : Type 0} (d : Option Fault) (f : A → B) (r : Result A Fault) → unless d (map_ok f r) ≡ map_ok f (unless d r)
 unless_model {A} {B} None f r = refl
 unless_model {A} {B} (Some d) f (Ok a) = refl

@@ -48,13 +48,13 @@ has_body _ _ = false
 abbrev pub completes_named : List ℕ → BodyHead → Completion → Bool
 completes_named name head c = bytes_eq c.name name && has_body head c.view
 
--- the number of the first that has that name and such a body, where so many stand before the list
+-- the number of the first that has that name and such a body, if this many come before the list
 abbrev pub first_named : ℕ → List ℕ → BodyHead → List Completion → Option (ℕ × ViewKind)
 first_named number name head [] = None
 first_named number name head (c ∷ cs) =
     if completes_named name head c then Some (number, c.view) else first_named (suc number) name head cs
 
--- it stands at that number, with its view
+-- it is at that number, with its view
 abbrev pub IsNamedFirst : List ℕ → BodyHead → List Completion → ℕ → Type 0
 IsNamedFirst name head cs at = (c : Completion) × (slice_get cs at ≡ Some c) × (first_named 0 name head cs ≡ Some (at, c.view))
 

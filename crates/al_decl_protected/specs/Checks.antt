@@ -1,4 +1,4 @@
--- What is left after operations or components that are right; after a fault nothing follows. What stands round a region stays meanwhile.
+-- What is left after operations or components that are right; after a fault nothing follows. What is round a region is unchanged meanwhile.
 use Rattle.std.specs.Prelude.{◌≡◌, List, [], ◌∷◌, ◌++◌, Result, Ok, Err}
 use Rattle.al_base_fault.specs.declared.fault.Fault.{Fault}
 use Rattle.al_decl.specs.declared.env.Environment.{Environment}

@@ -1,4 +1,4 @@
--- Priorities of tasks and ceilings of protected objects (ARM D.1, D.3), and where tasks and protected objects may stand.
+-- Priorities of tasks and ceilings of protected objects (ARM D.1, D.3), and where tasks and protected objects are allowed.
 use Rattle.std.specs.Prelude.{ℕ, Bool, pos, codes, Option, Some, None, Result, Ok, Err, int_lt, nat_le, unsigned_abs, if◌then◌else◌}
 use Rattle.std.specs.Str.{bytes_eq}
 use Rattle.al_base.specs.declared.place.Place.{Place as TextPlace}
@@ -53,7 +53,7 @@ level_read R place usual (Some a) = aspect_level R place a
 
 -- ---- names
 
--- below library level none may stand
+-- below library level none is allowed
 abbrev pub library_fault : Progress → TextPlace → Option Fault
 library_fault p place = if is_library_level p then None else Some (fault_at place NotLibraryLevel)
 

@@ -26,7 +26,7 @@ use Rattle.al_decl_protected.specs.Levels.{level_named}
 use Rattle.al_decl_protected.specs.Operations.{Declared, operations_checked}
 use Rattle.al_decl_protected.specs.Placing.{placed}
 
--- what stands inside: the operations, the components
+-- what is inside: the operations, the components
 pub record InsideTree : Type 0 where
   pub operations : List Operation
   pub private_part : PrivateTree
@@ -45,11 +45,11 @@ inside_of d c = (d.0.progress, record { operations = d.1; private_part = c })
 abbrev pub components_inside : PartReading → Table → PrivateTree → ProtectedTree → Declared → Result Inside Fault
 components_inside R t before o d = map_ok (inside_of d) (components_checked R t d.0.scope before (private_list o.private_part))
 
--- after what stands inside before
+-- after what is inside so far
 abbrev pub inside_after : PartReading → Table → Environment → Symbol → InsideTree → ProtectedTree → Result Inside Fault
 inside_after R t h symbol before o = next (operations_checked R t h symbol before.operations o.operations) (components_inside R t before.private_part o)
 
--- operations and components stand in a region of the object (ARM 8.1)
+-- operations and components are in a region of the object (ARM 8.1)
 abbrev pub inside_checked : PartReading → Table → Environment → Symbol → ProtectedTree → Result Inside Fault
 inside_checked R t h symbol o = inside_after R t (with_scope h (in_region h.scope)) symbol nothing_inside o
 
@@ -64,7 +64,7 @@ object_view symbol ceiling i = OfProtected (record {
   ceiling = ceiling;
 })
 
--- its components begin with their values where it stands
+-- its components begin with their values at its place
 abbrev pub object_effect : ℕ → Symbol → InsideTree → DeclarationTree
 object_effect line symbol i = record { line = line; form = SingleProtected symbol i.private_part.values }
 

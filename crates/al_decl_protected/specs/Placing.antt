@@ -9,7 +9,7 @@ use Rattle.al_decl_judged.specs.TypeDeclarations.{declared_as}
 use Rattle.al_view.specs.declared.view.ViewKind.{ViewKind}
 use Rattle.al_view_typed.specs.DeclarationTrees.{DeclarationTree}
 
--- one name, with what is done where it stands
+-- one name, with what is done at its place
 abbrev pub declares_one : List ℕ → ViewKind → DeclarationTree → DeclaredTree
 declares_one name view effect = record { declarations = declared_as name view ∷ []; effect = Some effect }
 

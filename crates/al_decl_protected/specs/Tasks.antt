@@ -20,7 +20,7 @@ use Rattle.al_decl_protected.specs.Placing.{placed}
 abbrev pub task_view : Symbol → ℕ → ViewKind
 task_view symbol level = OfTask (record { symbol = symbol; priority = level })
 
--- it is created where it stands
+-- it is created at its place
 abbrev pub task_effect : ℕ → Symbol → ℕ → DeclarationTree
 task_effect line symbol level = record { line = line; form = SingleTask symbol level }
 

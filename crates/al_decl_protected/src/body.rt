@@ -1,4 +1,4 @@
-// Bodies of what is named alone: tasks, protected objects, entries (ARM 9.1(8), 9.4(8), 9.5.2(8)).
+// Bodies that are found by their names alone: of tasks, protected objects, entries (ARM 9.1(8), 9.4(8), 9.5.2(8)).
 ghost use Rattle.std.specs.Prelude.{◌≡◌, ◌<◌, length, option_map, slice_get, IfOk, MatchOption, None, OnOk, Some};
 ghost use Rattle.std.specs.List.{remove};
 ghost use Rattle.al_base_fault.specs.Judging.{map_ok};
@@ -22,14 +22,17 @@ use al_view_predefined::StandardTypes;
 use al_view_typed::{DeclarationForm, TypedDeclaration};
 use std::alloc::Global;
 
-/// A body that completes what has this view, and what it does where it stands.
+/// A body that completes what has this view, and what it does at its place.
 #[derive(Drop)]
 pub struct NamedBody {
+    /// What it does at its place, if anything.
     pub effect: Option<TypedDeclaration>,
+    /// The view of what it completes.
     pub view: View,
 }
 
-/// The number of the first declaration that waits under that name for such a body; none of a subprogram's, which isn't named alone.
+/// The index of the first declaration that waits under that name for such a body; `None` for a subprogram's body, which isn't found by its
+/// name alone.
 fn first_named(uncompleted: &Uncompleted, name: &[u8], head: &BodyHead) -> Option<usize>
     ensures { MatchOption result (first_named 0 name.now head.now uncompleted.now ≡ None) (IsNamedFirst name.now head.now uncompleted.now) }
 {
@@ -85,7 +88,7 @@ fn entry_duplicate<A: Answers>(
     head_duplicate(alloc, standard, env, &heading, recorder)
 }
 
-/// E301 at the name of such a body, where its region has a homograph.
+/// E301 at the name of such a body, if its region has a homograph.
 fn named_duplicate<A: Answers>(
     alloc: Global,
     standard: &StandardTypes,
@@ -117,7 +120,7 @@ fn lone_fault(place: Place, has_homograph: bool) -> Fault
     Fault { place, rule }
 }
 
-/// The declaration at that number has its body and waits no more.
+/// Removes the declaration at that index, which has its body now.
 fn complete(
     alloc: Global,
     env: &mut Environment,
@@ -135,8 +138,11 @@ fn complete(
     Ok(NamedBody { effect, view })
 }
 
-/// The body of a task, of a protected object or of an entry, whose first token stands on that line: what waits first under its name for such a body waits
-/// no more. One that completes nothing has E301 at the name where its region has a homograph, else E303.
+/// The body of a task, of a protected object or of an entry, whose first token is on that line: what waits first under its name for such a
+/// body waits no more.
+/// # Errors
+/// `NoMemory` if the allocator refuses memory. The inner error is that of a body that completes nothing: E301 at the name if its region has
+/// a homograph, else E303 there.
 pub fn check_named_body<A: Answers>(
     alloc: Global,
     standard: &StandardTypes,
@@ -163,7 +169,7 @@ pub fn check_named_body<A: Answers>(
     }
 }
 
-/// An operation waits for its body, after others.
+/// Adds an operation, which waits for its body.
 fn add_operation(
     alloc: Global,
     uncompleted: &mut Uncompleted,
@@ -186,7 +192,9 @@ fn all_waiting(alloc: Global, operations: &[Operation]) -> Result<Uncompleted, N
     Ok(uncompleted)
 }
 
-/// The operations of a protected object, which wait for their bodies in its own; of all else none.
+/// The operations of a protected object, which wait for their bodies in its own body; of anything else none.
+/// # Errors
+/// `NoMemory` if the allocator refuses memory.
 pub fn operations_waiting(alloc: Global, view: &ViewKind) -> Result<Uncompleted, NoMemory>
     ensures { IfOk result (λ uncompleted. uncompleted ≡ operations_waiting view.now) }
 {

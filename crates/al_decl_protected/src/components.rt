@@ -1,4 +1,4 @@
-// Components of a protected object where they are declared (ARM 9.4).
+// Components of a protected object, at their declarations (ARM 9.4).
 ghost use Rattle.std.specs.Prelude.{◌≡◌, ◌<◌, ◌++◌, length, map, option_map, IfOk, OnOk, Some};
 ghost use Rattle.al_base_fault.specs.Judging.{both, map_ok, unless};
 ghost use Rattle.al_decl.specs.Declaring.{begun};
@@ -27,8 +27,9 @@ use std::alloc::Global;
 /// The components of a protected object so far, in order.
 #[derive(Drop)]
 pub struct PrivateComponents {
+    /// The components, in order.
     pub components: Seq<Component>,
-    /// The types that they are of.
+    /// The types that they are made of.
     pub types: Seq<TypeView>,
     /// How many words they take.
     pub words: u32,
@@ -44,7 +45,7 @@ fn component(alloc: Global, of: &SubtypeView, name: &DefiningName) -> Result<Com
     Ok(Component { name, subtype })
 }
 
-/// A component for each of these names, after others.
+/// Adds a component for each of these names.
 fn add_named(
     alloc: Global,
     components: &mut Seq<Component>,
@@ -59,7 +60,7 @@ fn add_named(
     Ok(())
 }
 
-/// Where components of these names begin, of so many words each, from there on.
+/// The first words of components of these names, each of this many words, from there on.
 fn places_from(
     alloc: Global,
     words: u32,
@@ -77,7 +78,7 @@ fn places_from(
     Ok(places)
 }
 
-/// The word after them.
+/// The word after components of these names.
 fn word_after(words: u32, word: u32, names: &[DefiningName]) -> u32
     ensures { result ≡ word_after words word names.now }
 {
@@ -100,7 +101,7 @@ fn value_at(words: u32, of: &SubtypeView, places: Seq<u32>, value: Typed) -> Com
     }
 }
 
-/// The value of components at these places, if they have one, after others.
+/// Adds the value of components at these places, if they have one.
 fn add_value(
     values: &mut Vec<ComponentValue>,
     words: u32,
@@ -121,7 +122,7 @@ fn add_value(
 }
 
 impl PrivateComponents {
-    /// Nothing so far.
+    /// No components yet.
     pub(crate) fn new(alloc: Global) -> PrivateComponents
         ensures { private_model result ≡ no_components }
     {
@@ -133,7 +134,7 @@ impl PrivateComponents {
         }
     }
 
-    /// Their words, and their value if they have one.
+    /// Adds the words of components, and their value if they have one.
     fn add_words(
         &mut self,
         alloc: Global,
@@ -153,7 +154,7 @@ impl PrivateComponents {
         add_value(&mut self.values, words, of, places, value)
     }
 
-    /// Components of these names of a subtype, with the value that they have if any.
+    /// Adds components of these names of a subtype, with their value if they have one.
     fn add(
         &mut self,
         alloc: Global,
@@ -170,7 +171,7 @@ impl PrivateComponents {
     }
 }
 
-/// The value of components of a subtype that was judged.
+/// The value of components of a subtype that was checked.
 fn initial_read<R: PartAnalyzer, A: Answers>(
     alloc: Global,
     analyzer: &R,
@@ -235,7 +236,7 @@ fn parts_read<R: PartAnalyzer, A: Answers>(
     }
 }
 
-/// Components of these names, with what may be wrong with the names.
+/// Adds components of these names, with what may be wrong with the names.
 fn add_parts(
     alloc: Global,
     standard: &StandardTypes,
@@ -255,7 +256,7 @@ fn add_parts(
     }
 }
 
-/// The components of these names: the names are begun, and then visible.
+/// Adds the components of these names: the names are begun, and then visible.
 fn component_named<R: PartAnalyzer, A: Answers>(
     alloc: Global,
     standard: &StandardTypes,
@@ -278,7 +279,7 @@ fn component_named<R: PartAnalyzer, A: Answers>(
     visible_after(alloc, standard, scope, components, names, fault, parts)
 }
 
-/// Components that were read, whose names are visible from there on.
+/// Makes the names of components that were read visible from there on.
 fn visible_after(
     alloc: Global,
     standard: &StandardTypes,
@@ -320,7 +321,7 @@ fn check_component<R: PartAnalyzer, A: Answers>(
     )
 }
 
-/// The components in the order of the text, after others; a faulty one ends the list.
+/// Adds the components in source order; a faulty one ends the list.
 pub(crate) fn check_components<R: PartAnalyzer, A: Answers>(
     alloc: Global,
     standard: &StandardTypes,

@@ -25,7 +25,7 @@ fn out_of_limits(place: Place) -> Fault
     Fault { place, rule }
 }
 
-/// The priority of this value, of which the expression stands there; E305 outside of 0 to 30.
+/// The priority of this value, whose expression is at that place; E305 outside of 0 to 30.
 fn level_at(place: Place, value: StaticValue) -> CheckResult<Priority>
     ensures { result ≡ level_at place value }
 {
@@ -38,7 +38,7 @@ fn level_at(place: Place, value: StaticValue) -> CheckResult<Priority>
     }
 }
 
-/// The priority that an expression is; E304 where it isn't static.
+/// The priority that an expression is; E304 if it isn't static.
 fn level_of(value: &Typed) -> CheckResult<Priority>
     ensures { result ≡ level_of (typed_model value.now) }
 {
@@ -133,8 +133,8 @@ fn name_fault<A: Answers>(
     Ok(earlier(duplicate, library_fault(&env.progress, name.place)))
 }
 
-/// The name of a task or protected object is begun, and its aspect is read there: its level, which without an aspect is the usual one, or the first rule
-/// that either breaks.
+/// The level of a task or protected object, whose name is begun and whose aspect is read there. Without an aspect it is the usual one. It
+/// has the first fault of name and aspect.
 pub(crate) fn level_named<R: PartAnalyzer, A: Answers>(
     alloc: Global,
     analyzer: &R,

@@ -29,10 +29,12 @@ use al_view_predefined::StandardTypes;
 use al_view_typed::{ComponentValue, DeclarationForm, TypedDeclaration};
 use std::alloc::Global;
 
-/// What stands inside a protected object: its operations and its components.
+/// What is inside a protected object: its operations and its components.
 #[derive(Drop)]
 pub struct ObjectParts {
+    /// The operations, in source order.
     pub operations: Seq<Operation>,
+    /// The components.
     pub components: PrivateComponents,
 }
 
@@ -48,7 +50,7 @@ impl ObjectParts {
     }
 }
 
-/// The components of the private part, if there is one, after others.
+/// Adds the components of the private part, if there is one.
 fn check_private<R: PartAnalyzer, A: Answers>(
     alloc: Global,
     standard: &StandardTypes,
@@ -77,7 +79,7 @@ fn check_private<R: PartAnalyzer, A: Answers>(
     }
 }
 
-/// The operations, and then the components, after others in a region that is entered.
+/// Adds the operations, and then the components, in a region that is entered.
 fn check_parts<R: PartAnalyzer, A: Answers>(
     alloc: Global,
     standard: &StandardTypes,
@@ -109,7 +111,7 @@ fn check_parts<R: PartAnalyzer, A: Answers>(
     }
 }
 
-/// The same in a region of their own, which is left again.
+/// Adds the operations and the components in a region of their own, which is left again.
 fn check_inside<R: PartAnalyzer, A: Answers>(
     alloc: Global,
     standard: &StandardTypes,
@@ -132,7 +134,7 @@ fn check_inside<R: PartAnalyzer, A: Answers>(
     Ok(checked)
 }
 
-/// What stands inside a protected object, or the first rule that is broken there.
+/// What is inside a protected object, or the first rule that is broken there.
 fn parts_at<R: PartAnalyzer, A: Answers>(
     alloc: Global,
     standard: &StandardTypes,
@@ -187,7 +189,7 @@ fn object_effect(line: usize, symbol: Symbol, values: Vec<ComponentValue>) -> Ty
     TypedDeclaration::new(line, DeclarationForm::Protected { symbol, values })
 }
 
-/// A protected object with what stands inside it.
+/// A protected object with what is inside it.
 fn place_object(
     alloc: Global,
     env: &mut Environment,
@@ -261,7 +263,7 @@ fn object_ended(
     }
 }
 
-/// A protected object that has this symbol and ceiling, with what stands inside it.
+/// A protected object that has this symbol and ceiling, with what is inside it.
 fn object_defined<R: PartAnalyzer, A: Answers>(
     alloc: Global,
     standard: &StandardTypes,
@@ -335,7 +337,10 @@ fn object_named<R: PartAnalyzer, A: Answers>(
     )
 }
 
-/// What stands after `protected` in a declaration, which stands on that line.
+/// What comes after `protected` in a declaration, which is on that line.
+/// # Errors
+/// `NoMemory` if the allocator refuses memory. The inner error is the first of E301 and E601 at the name and the faults of the ceiling;
+/// else the first fault of an operation, or else of a component; else E308 at the name at its end.
 pub fn check_protected<R: PartAnalyzer, A: Answers>(
     alloc: Global,
     standard: &StandardTypes,

@@ -1,4 +1,4 @@
-// Operations of a protected object where they are declared (ARM 9.4, 9.5.2).
+// Operations of a protected object, at their declarations (ARM 9.4, 9.5.2).
 ghost use Rattle.std.specs.Prelude.{◌≡◌, ◌<◌, ◌++◌, ◌∷◌, [], length, map, IfOk, OnOk, Some};
 ghost use Rattle.std.specs.List.{list_any};
 ghost use Rattle.al_decl.specs.Checking.{with_progress, with_scope};
@@ -47,7 +47,7 @@ fn entry_head(alloc: Global, name: &Identifier) -> Result<Heading, NoMemory>
     Ok(bare_head(alloc, name))
 }
 
-/// The head of an operation. The place is the same after it.
+/// The head of an operation. The place is unchanged afterwards.
 fn operation_head<R: PartAnalyzer, A: Answers>(
     alloc: Global,
     analyzer: &R,
@@ -158,7 +158,7 @@ fn second_entry(is_entry: bool, place: Place, operations: &[Operation]) -> Optio
     None
 }
 
-/// What is wrong with an operation, where these stand before it.
+/// The fault of an operation after these others.
 fn operation_fault<A: Answers>(
     alloc: Global,
     standard: &StandardTypes,
@@ -178,7 +178,7 @@ fn operation_fault<A: Answers>(
     Ok(earlier(earlier(duplicate, second), of_head))
 }
 
-/// An operation with that symbol is visible from there on.
+/// Makes an operation with that symbol visible from there on.
 fn make_visible(
     alloc: Global,
     standard: &StandardTypes,
@@ -197,7 +197,7 @@ fn make_visible(
     env.scope.add(heading.name.name.as_slice(), view)
 }
 
-/// An operation that is right stands after the others.
+/// Adds an operation that is right.
 fn add_operation(
     alloc: Global,
     standard: &StandardTypes,
@@ -272,7 +272,7 @@ fn check_operation<R: PartAnalyzer, A: Answers>(
     )
 }
 
-/// The operations of that object in the order of the text, after others; a faulty one ends the list.
+/// Adds the operations of that object in source order; a faulty one ends the list.
 pub(crate) fn check_operations<R: PartAnalyzer, A: Answers>(
     alloc: Global,
     standard: &StandardTypes,

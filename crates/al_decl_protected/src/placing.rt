@@ -28,7 +28,7 @@ fn declares_one(
     })
 }
 
-/// What is declared waits for its body and is visible from there on. What is done has the words of its temporaries.
+/// Makes what is declared visible from there on; it waits for its body. What is done has the words of its temporaries.
 pub(crate) fn place(
     alloc: Global,
     env: &mut Environment,

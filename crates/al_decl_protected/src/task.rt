@@ -33,7 +33,7 @@ fn task_effect(line: usize, symbol: Symbol, priority: Priority) -> TypedDeclarat
     TypedDeclaration::new(line, DeclarationForm::Task { symbol, priority })
 }
 
-/// A task of that priority, whose first token stands on that line.
+/// A task of that priority, whose first token is on that line.
 fn place_task(
     alloc: Global,
     env: &mut Environment,
@@ -92,7 +92,10 @@ fn task_named<R: PartAnalyzer, A: Answers>(
     leveled(alloc, env, line, name, level)
 }
 
-/// `task name [with Priority => value];`
+/// `task name [with Priority => value];`.
+/// # Errors
+/// `NoMemory` if the allocator refuses memory. The inner error is the first of E301 at the name, E601 there below library level, and the
+/// faults of the priority.
 pub fn check_task<R: PartAnalyzer, A: Answers>(
     alloc: Global,
     analyzer: &R,

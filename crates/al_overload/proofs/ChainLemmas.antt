@@ -78,7 +78,7 @@ pub none_left : (each : List Labelled) (expected : List Expected) (whole : List 
 none_left each [] whole one known = sym known
 none_left each (t ∷ ts) whole one known = absurd (omega (arith, one))
 
--- operands by the first one, where what is expected of the others is a slice of what is expected of all
+-- operands by the first one, if what is expected of the others is a slice of what is expected of all
 pub sliced : (a : Tree) (more : Trees) (expected : List Expected) (first : Expected) → 1 ≤ length expected → first ≡ get_or expected 0 first
     → preferred_all (MoreTrees a more) expected ≡ pairs (preferred a first) (preferred_all more (take (length expected - 1) (drop 1 expected)))
 sliced a more [] first some is = absurd (omega (arith, some))

@@ -56,7 +56,7 @@ pub length-pairs : (xs : List Label) (ys : List Labels) → length (pairs xs ys)
 length-pairs [] ys = omega arith
 length-pairs (x ∷ xs) ys = simp (length-append, length-map, length-pairs xs ys) (omega arith)
 
--- The root type's operators alone, where one of them fits; else the other declarations.
+-- The root type's operators alone, if one of them fits; else the other declarations.
 root-is : (b : Bool) (xs : List Label) → is_some_of (if same_bool b true then xs else []) ≡ (b && is_some_of xs)
 root-is true xs = refl
 root-is false xs = refl

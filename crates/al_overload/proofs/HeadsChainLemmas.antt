@@ -1,4 +1,4 @@
--- A chain with one more operator at its front.
+-- A chain with one more operator at its beginning.
 use Rattle.std.proofs.Common.{◌≡◌, Bool, ◌&&◌, List, [], ◌∷◌, ◌++◌, Option, refl, ap, ◌∙◌}
 use Rattle.al_overload.specs.Counts.{plain_all}
 use Rattle.al_overload.specs.Labelling.{Tree, MoreTrees}

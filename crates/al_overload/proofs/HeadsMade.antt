@@ -17,7 +17,7 @@ use Rattle.al_overload.specs.declared.built.Built.{Built}
 use Rattle.al_overload.specs.declared.everywhere.Predefined.{Predefined}
 use Rattle.al_overload.specs.declared.part.Nominal.{Nominal}
 
--- what a term is seen as, where it is made so
+-- what a term is seen as, if it is made so
 pub head_made : (p : Predefined) (allowed : Option Nominal) (term made : Term) (tree : TermTree) (head : Tree)
     → term ≡ made → term_model made ≡ tree → head ≡ head_of p allowed tree → head ≡ head_of p allowed (term_model term)
 head_made p allowed term made tree head is seen e = e ∙ sym (ap (λ (x : Term). head_of p allowed (term_model x)) is ∙ ap (head_of p allowed) seen)

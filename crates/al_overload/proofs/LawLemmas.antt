@@ -1,4 +1,4 @@
--- What is told of heads.
+-- Laws of heads.
 use Rattle.std.proofs.Common.{◌≡◌, ℕ, suc, Bool, true, false, ◌&&◌, ◌||◌, List, [], ◌∷◌, ◌++◌, map, Option, Some, None, if◌then◌else◌, refl, sym, ap, ◌∙◌}
 use Rattle.std.specs.List.{flat_map, list_any}
 use Rattle.std.specs.Option.{option_and_then}
@@ -56,7 +56,7 @@ numbers_need_no_sign p allowed place operator visible others operand e =
 pub aggregates_stand_where_allowed : AggregatesStandWhereAllowed
 aggregates_stand_where_allowed p place components component expected = (refl, refl)
 
--- what stands under candidates, from one number on
+-- what is under candidates, from one number on
 abbrev under_all : ℕ → List Candidate → Trees → Expected → List Label
 under_all n cs operands expected = flat_map (λ (d : ℕ × Candidate). if suits d.1 expected then map (NodeAs d.0 d.1.is_root) (fillings operands d.1.operands) else []) (numbered n cs)
 

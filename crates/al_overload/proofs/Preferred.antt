@@ -25,7 +25,7 @@ eq-is m n h = grind (arith, nat_tests)
 
 -- Numbers
 
--- each stands from the first number on
+-- each is from the first number on
 from-first : (n : ℕ) (cs : List Candidate) (d : ℕ × Candidate) → In d (numbered n cs) → n ≤ d.0
 from-first n [] d h = absurd h
 from-first n (c ∷ cs) d (inl e) = let f : d.0 ≡ n = ap (λ (x : ℕ × Candidate). x.0) e in omega arith
@@ -319,7 +319,7 @@ kept-if : {A : Type 0} (b s : Bool) (xs : List A) → b ≡ true → is_some_of 
 kept-if true s xs e k = k
 kept-if false s xs e k = cc
 
--- the declarations that are left give a labelling where any gives one
+-- the declarations that are left give a labelling if any gives one
 some-chosen-at : (g : List Expected → List Labels) (t : Expected) (ds : List (ℕ × Candidate)) (b : Bool) → some_root g t ds ≡ b →
     is_some_of (flat_map (heads g t) ds) ≡ is_some_of (flat_map (chosen g t ds) ds)
 some-chosen-at g t ds true e =

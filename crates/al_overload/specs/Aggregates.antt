@@ -29,11 +29,11 @@ value_given types subtype = g.Value (value_type types subtype.base)
 abbrev pub operation : List Expected → Given → Candidate
 operation operands given = record { operands = operands; given = given; is_root = false }
 
--- the values of an index; where it has no bounds of its own, those of its type
+-- the values of an index; if it has no bounds of its own, those of its type
 abbrev pub bounds_of : List TypeView → Subtype → Option Bounds
 bounds_of types index = option_or index.bounds (option_and_then definition_bounds (definition_of types index))
 
--- So many values stand from the low bound to the high one. (A positional aggregate has two values at least.)
+-- So many values are from the low bound to the high one. (A positional aggregate has two values at least.)
 abbrev pub has_count : ℕ → Bounds → Bool
 has_count n bounds = int_le bounds.low bounds.high && (unsigned_abs (bounds.high -ℤ bounds.low) == n - 1)
 

@@ -1,4 +1,4 @@
--- What a declaration may be where its name stands in an expression (ARM 8.6).
+-- What a declaration may be if its name is used in an expression (ARM 8.6).
 use Rattle.std.specs.Prelude.{Bool, true, false, List, [], ◌∷◌, map, fold, codes, Option, Some, None, if◌then◌else◌}
 use Rattle.std.specs.Option.{option_map_or}
 use Rattle.al_overload.specs.Labelling.{Tree, with_candidate}
@@ -32,7 +32,7 @@ giving given = record { operands = []; given = given; is_root = false }
 abbrev pub string : Symbol
 string = standard_symbol (codes "string")
 
--- what a formal parameter wants: text, where it is of that type
+-- what a formal parameter wants: text, if it is of that type
 abbrev pub wanted_of : List TypeView → Parameter → Expected
 wanted_of types p = if same_symbol string p.subtype.base then w.Text else w.Value (value_type types p.subtype.base)
 
@@ -67,7 +67,7 @@ component_in types definitions.Private = []
 abbrev pub component_of : List TypeView → TypeView → List Candidate
 component_of types t = component_in types t.definition
 
--- an object, and where it is an array one of its components
+-- an object, and if it is an array one of its components
 abbrev pub object_candidates : ObjectView → List Candidate
 object_candidates o = giving (g.Value (value_type o.types o.subtype.base)) ∷ option_map_or (component_of o.types) (type_of o.types o.subtype.base) []
 

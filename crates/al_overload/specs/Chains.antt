@@ -27,7 +27,7 @@ abbrev pub stepped : Step → List Label
 stepped (steps.Down link choices operands expected) = map (linked link) (preferred (Node (candidates choices.now) (plain_all operands.now)) expected.now)
 stepped (steps.Last labelled) = label_of labelled ∷ []
 
--- what stands in a head is less deep; it is counted too, and has one labelling
+-- what is in a head is less deep; it is counted too, and has one labelling
 abbrev pub IsBelow : Terms → Step → Type 0
 IsBelow whole (steps.Down link choices operands expected) =
     IsHead choices.now operands.now

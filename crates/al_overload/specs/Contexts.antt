@@ -8,7 +8,7 @@ use Rattle.al_overload.specs.declared.context.Context.{Context}
 use Rattle.al_overload.specs.declared.context.Context.TheVariants as contexts
 use Rattle.al_overload.specs.declared.context.PredefinedTypes.{PredefinedTypes}
 
--- the operand of a conversion: where the target is an integer type, of any one
+-- the operand of a conversion: if the target is an integer type, of any one
 abbrev pub converted_to : ValueType → Expected
 converted_to target = if is_integer target.class then w.AnyInteger else w.Value target
 

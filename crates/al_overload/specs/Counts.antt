@@ -59,7 +59,7 @@ abbrev mutual
   AreCounted NoTerms = ⊤
   AreCounted (MoreTerms' p a q more) = IsCounted a × AreCounted more
 
--- the ways that one candidate adds, where it is of this kind and gives what is expected
+-- the ways that one candidate adds, if it is of this kind and gives what is expected
 abbrev pub share : Bool → Expected → Choice → ℕ
 share root t c = if same_bool c.candidate.is_root root then (if fits c.candidate.given t then size c.ways else 0) else 0
 

@@ -1,4 +1,4 @@
--- Chains of operators, indexes and the like: each has what stands at its left for its left operand.
+-- Chains of operators, indexes and the like: each has what is at its left for its left operand.
 use Rattle.std.specs.Prelude.{◌≡◌, ◌<◌, Bool, true, false, ◌&&◌, List, [], ◌∷◌, Option, None, Some}
 use Rattle.std.specs.Option.{option_and_then}
 use Rattle.al_overload.specs.Counts.{plain, plain_all}
@@ -29,7 +29,7 @@ leans (t.MemberTerm value is_negated mark) = true
 leans (t.RangeMemberTerm value is_negated low high) = true
 leans _ = false
 
--- the head of a link with its operands: what nominal subtype the first one has, where it is an object or a part of one, and whether all are of
+-- the head of a link with its operands: what nominal subtype the first one has, if it is an object or a part of one, and whether all are of
 -- numbers alone
 abbrev pub joint_head : Predefined → Sign → Option Nominal → Trees → Bool → Tree
 joint_head p (signs.Operator operator visible) part operands of_numbers = infixed p operator visible.now of_numbers operands
@@ -56,7 +56,7 @@ joint_universal (signs.Selector name) of_numbers = false
 joint_universal signs.Indexes of_numbers = false
 joint_universal (signs.Mark candidate) of_numbers = false
 
--- the same of a chain, from its first operand on; the last link of the text comes first
+-- whether a chain is of numbers alone, from its first operand on; the last link in source order comes first
 abbrev pub chained_universal : List Joint → Bool → Bool
 chained_universal [] universal = universal
 chained_universal (joint ∷ joints) universal = joint_universal joint.sign (chained_universal joints universal && joint.right.are_universal)
@@ -70,7 +70,7 @@ chained_head p [] head universal part = head
 chained_head p (joint ∷ joints) head universal part =
     joint_head p joint.sign (chained_part joints part) (MoreTrees (chained_head p joints head universal part) (plain_all joint.right.operands)) (chained_universal joints universal && joint.right.are_universal)
 
--- what a step down makes of a term, with what stands at the left
+-- what a step down makes of a term, with what is at the left
 abbrev pub stepped_head : Predefined → Step → Tree
 stepped_head p (steps.Down sign right left) =
     joint_head p sign (part_of (term_model left.now)) (MoreTrees (head_of p None (term_model left.now)) (plain_all right.operands)) (is_universal (term_model left.now) && right.are_universal)
@@ -90,7 +90,7 @@ abbrev pub IsAt : Term → Step → Type 0
 IsAt term (steps.Down sign right left) = left.now ≡ term
 IsAt term (steps.Last built) = Unit
 
--- what stands at the left is less deep than the whole
+-- what is at the left is less deep than the whole
 abbrev pub IsBelow : Term → Step → Type 0
 IsBelow term (steps.Down sign right left) = size-Term left.now < size-Term term
 IsBelow term (steps.Last built) = Unit

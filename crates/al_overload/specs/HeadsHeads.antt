@@ -1,4 +1,4 @@
--- What each name, call, operator, literal and other construct of an expression may mean where it stands (ARM 8.6): its term as a tree
+-- What each name, call, operator, literal and other construct of an expression may mean at its place (ARM 8.6): its term as a tree
 -- whose heads have their candidates.
 use Rattle.std.specs.Prelude.{ℕ, Bool, ◌&&◌, List, [], ◌∷◌, Option, Some, None, option_map, if◌then◌else◌}
 use Rattle.std.specs.Option.{option_and_then}
@@ -59,7 +59,7 @@ mark_wanted mark = value_wanted mark.types mark.subtype
 abbrev pub mark_given : SubtypeView → Given
 mark_given mark = value_given mark.types mark.subtype
 
--- an operator with its operands: where they are numbers alone it needs not be visible; else it is one that is visible, or one
+-- an operator with its operands: if they are numbers alone it needs not be visible; else it is one that is visible, or one
 -- of the root type
 abbrev pub prefixed : Predefined → UnaryOperator → List ViewKind → Bool → Trees → Tree
 prefixed p operator visible of_numbers operands =
@@ -104,12 +104,12 @@ indexing_in whole _ = None
 abbrev pub indexing : Nominal → Option Candidate
 indexing whole = option_and_then (indexing_in whole) (definition_of whole.types whole.subtype)
 
--- after a name stand indexes or arguments; after a part of an object an index, where the part is the first operand
+-- after a name come indexes or arguments; after a part of an object an index, if the part is the first operand
 abbrev pub applied : Predefined → Option (List ViewKind) → Option Nominal → Tree → Trees → Tree
 applied p (Some visible) whole prefix operands = all_candidates p.root visible operands
 applied p None whole prefix operands = possible (option_and_then indexing whole) (MoreTrees prefix operands)
 
--- `allowed` is the nominal subtype that an aggregate has here, where one may stand.
+-- `allowed` is the nominal subtype that an aggregate has here, where one is allowed.
 abbrev mutual
   pub head_of : Predefined → Option Nominal → TermTree → Tree
   head_of p allowed (t.NumberTerm place value) = sole (operation [] g.Universal) NoTree
@@ -143,6 +143,6 @@ abbrev mutual
 abbrev pub plain_head : Predefined → TermTree → Tree
 plain_head p x = head_of p None x
 
--- a pair of bounds, which have one type: this one, where both are numbers alone
+-- a pair of bounds, which have one type: this one, if both are numbers alone
 abbrev pub bounds_head : Predefined → ValueType → TermTree → TermTree → Tree
 bounds_head p numbers low high = alike p.root numbers None (two (head_of p None low) (head_of p None high))

@@ -13,7 +13,7 @@ use Rattle.al_overload.specs.HeadsHeads.{bounds_head, head_of}
 use Rattle.al_overload.specs.declared.everywhere.Predefined.{Predefined}
 use Rattle.al_overload.specs.declared.part.Nominal.{Nominal}
 
--- its one acceptable interpretation; E402 or E403 at its first token, where there is none or are several
+-- its one acceptable interpretation; E402 or E403 at its first token, if there is none or are several
 abbrev pub interpreted : Predefined → Context → Option Nominal → TermTree → Result Label Fault
 interpreted p context allowed term = resolved (first_place term) None (head_of p allowed term) (wanted_in p.types context)
 
@@ -23,7 +23,7 @@ numbers_in p (contexts.BoundOf of) = of
 numbers_in p (contexts.ChoiceOf of) = of
 numbers_in p _ = p.types.integer
 
--- the same of a pair of bounds
+-- what a pair of bounds means in its complete context
 abbrev pub bounds_interpreted : Predefined → Context → TermTree → TermTree → Result Label Fault
 bounds_interpreted p context low high =
     resolved (first_place low) None (bounds_head p (numbers_in p context) low high) (wanted_in p.types context)

@@ -55,7 +55,7 @@ abbrev mutual
   fillings (MoreTrees a more) (t ∷ ts) = pairs (labellings a t) (fillings more ts)
 
 -- The first labelling is the second one, but that at some heads it may have the root type's operator, where the second
--- one has another. (What stands below such an operator isn't compared.)
+-- one has another. (What is below such an operator isn't compared.)
 abbrev mutual
   pub covers : Label → Label → Bool
   covers (NodeAs n r xs) (NodeAs m q ys) = if n == m then covers_all xs ys else (r && not q)
@@ -86,7 +86,7 @@ abbrev pub same_bool : Bool → Bool → Bool
 same_bool true b = b
 same_bool false b = not b
 
--- The same by recursion, as two passes compute it: at each head the root type's operators alone, where one of them fits;
+-- The preferred labelling by recursion, as two passes compute it: at each head the root type's operators alone, if one of them fits;
 -- below it each choice of what is preferred there.
 abbrev mutual
   pub preferred : Tree → Expected → List Label
@@ -100,7 +100,7 @@ abbrev mutual
   preferred_all (MoreTrees a more) [] = []
   preferred_all (MoreTrees a more) (t ∷ ts) = pairs (preferred a t) (preferred_all more ts)
 
--- what is preferred under one candidate, where this is one of the root type's operators, or isn't
+-- what is preferred under one candidate, if this is one of the root type's operators, or isn't
 abbrev pub of_kind : Trees → Expected → Bool → ℕ × Candidate → List Label
 of_kind args t root d = if same_bool d.1.is_root root then heads (preferred_all args) t d else []
 

@@ -1,4 +1,4 @@
--- What is told of heads, in words of their own.
+-- Laws of heads, in words of their own.
 use Rattle.std.specs.Prelude.{◌≡◌, Bool, true, false, List, [], ◌∷◌, map, Option, None}
 use Rattle.std.specs.List.{list_any}
 use Rattle.al_base.specs.declared.place.Place.{Place}
@@ -38,7 +38,7 @@ abbrev pub NumbersAreUniversal : Type 0
 NumbersAreUniversal =
     (p : Predefined) (allowed : Option Nominal) (x : TermTree) → is_universal x ≡ true → given_at (head_of p allowed x) ≡ g.Universal ∷ []
 
--- an aggregate fits nothing but where one is allowed
+-- an aggregate fits nothing unless one is allowed
 abbrev pub AggregatesStandWhereAllowed : Type 0
 AggregatesStandWhereAllowed =
     (p : Predefined) (place : Place) (components : TermsTree) (component : TermTree) (expected : Expected)

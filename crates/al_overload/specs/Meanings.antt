@@ -7,7 +7,7 @@ use Rattle.al_overload.specs.declared.types.Expected.{Expected}
 use Rattle.al_base_fault.specs.Faults.{fault_at}
 use Rattle.al_base_fault.specs.declared.fault.Fault.{Fault}
 
--- where nothing fits, and where several interpretations are acceptable, at the context's first token
+-- if nothing fits, and if several interpretations are acceptable, at the context's first token
 abbrev pub nothing_fits : Place → Fault
 nothing_fits place = fault_at place NoInterpretation
 
@@ -20,19 +20,19 @@ meaning place [] = Err (nothing_fits place)
 meaning place (l ∷ []) = Ok l
 meaning place (l ∷ (m ∷ more)) = Err (several_fit place)
 
--- Where a name of the context's text denotes nothing, or no thing of the right kind, that is what is wrong. Else the
+-- If a name of the context's text denotes nothing, or no thing of the right kind, that is what is wrong. Else the
 -- expression means its only acceptable interpretation.
 abbrev pub resolved : Place → Option Fault → Tree → Expected → Result Label Fault
 resolved place (Some fault) tree expected = Err fault
 resolved place None tree expected = meaning place (acceptable (labellings tree expected))
 
--- an expression has a meaning exactly where one interpretation is acceptable, and this is it
+-- an expression has a meaning if, and only if, one interpretation is acceptable, and this is it
 abbrev pub OneIsAcceptable : Type 0
 OneIsAcceptable =
     (place : Place) (tree : Tree) (expected : Expected) (l : Label)
     → (resolved place None tree expected ≡ Ok l) ↔ (acceptable (labellings tree expected) ≡ l ∷ [])
 
--- the fault tells which it is: none is acceptable, or at least two are
+-- the fault says which it is: none is acceptable, or at least two are
 abbrev pub FaultsTellWhy : Type 0
 FaultsTellWhy =
     (place : Place) (tree : Tree) (expected : Expected)

@@ -5,13 +5,13 @@ use Rattle.al_overload.specs.Parts.{component_of, element_of}
 use Rattle.al_overload.specs.declared.part.Nominal.{Nominal}
 use Rattle.al_overload.specs.Terms.{TermTree, TermTree as t}
 
--- what stands before the last selector of a term, with the selector, or before the last indexes
+-- what comes before the last selector of a term, with the selector, or before the last indexes
 abbrev pub link_of : TermTree → Option (TermTree × Option (List ℕ))
 link_of (t.SelectedTerm prefix name) = Some (prefix, Some name)
 link_of (t.AppliedTerm prefix arguments) = Some (prefix, None)
 link_of _ = None
 
--- what stands before so many selectors and indexes at the end of a term, or before all, where there are fewer
+-- what comes before so many selectors and indexes at the end of a term, or before all, if there are fewer
 abbrev pub before : ℕ → TermTree → TermTree
 before zero tree = tree
 before (suc n) tree = option_map_or (λ l. before n l.0) (link_of tree) tree

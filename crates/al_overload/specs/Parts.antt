@@ -13,7 +13,7 @@ use Rattle.al_view.specs.declared.view.ViewKind.{ViewKind}
 use Rattle.al_view.specs.declared.view.ViewKind.TheVariants as views
 use Rattle.al_overload.specs.declared.part.Nominal.{Nominal}
 
--- what the type of a nominal subtype is defined as, where that is known
+-- what the type of a nominal subtype is defined as, if that is known
 abbrev pub definition_of : List TypeView → Subtype → Option TypeDefinition
 definition_of types subtype = option_map (λ (of : TypeView). of.definition) (type_of types subtype.base)
 

@@ -1,4 +1,4 @@
--- Types, words and ranges as labels tell them.
+-- Types, words and ranges as labels show them.
 use Rattle.std.specs.Prelude.{ℕ, ℤ, pos, ◌+ℤ◌, ◌-ℤ◌, int_lt, min, unsigned_abs, Bool, true, false, List, zip, find, Option, Some, None, option_map, unwrap_or, if◌then◌else◌}
 use Rattle.std.specs.Int.{saturate_signed, w64}
 use Rattle.std.specs.Option.{option_and_then, option_map_or, option_or}

@@ -34,7 +34,7 @@ abbrev pub with_types : List ValueType → Trees → List ValueType
 with_types types NoTree = types
 with_types types (MoreTrees (Node cs args) more) = with_types (fold added_given types cs) more
 
--- where no operand tells one, all are numbers alone: this one
+-- if no operand has one, all are numbers alone: this one
 abbrev pub types_or : ValueType → List ValueType → List ValueType
 types_or otherwise [] = otherwise ∷ []
 types_or otherwise (t ∷ ts) = t ∷ ts

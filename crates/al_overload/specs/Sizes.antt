@@ -1,4 +1,4 @@
--- What stands in another thing is less deep.
+-- What is inside another thing is less deep.
 use Rattle.std.specs.Prelude.{◌<◌}
 use Rattle.al_overload.specs.declared.term.Labelled.{Labelled, size-Labelled}
 use Rattle.al_overload.specs.declared.term.LabelledTerms.{LabelledTerms, size-LabelledTerms}

@@ -1,4 +1,4 @@
--- An expression whose names have been looked up (ARM 4.1 to 4.7): what stands at each name is all that is visible under it. No name is left in it
+-- An expression whose names have been looked up (ARM 4.1 to 4.7): with each name is all that is visible under it. No name is left in it
 -- that would have to be looked for: what follows asks nothing.
 use Rattle.std.specs.Prelude.{ℕ, Bool, List}
 use Rattle.al_base.specs.declared.place.Place.{Place}
@@ -19,7 +19,7 @@ mutual
     TextTerm : Place → List ℕ → TermTree
     -- a name (an identifier, an expanded name, an operation of a protected object): all declarations that are visible under it, one at least, each of which may be a value or a call
     NamedTerm : Place → List ViewKind → TermTree
-    -- a component of that name (in lower case) of what stands before the dot, which is no package and no construct round the place
+    -- a component of that name (in lower case) of what comes before the dot, which is no package and no construct round the place
     SelectedTerm : TermTree → List ℕ → TermTree
     -- after a name: indexes of an array, or arguments of a call
     AppliedTerm : TermTree → TermsTree → TermTree
@@ -35,7 +35,7 @@ mutual
     AttributeTerm : Place → Conversion → SubtypeView → TermTree → TermTree
     -- S'Image (X): the argument is a context of its own
     ImageTerm : Place → SubtypeView → TermTree → TermTree
-    -- an operator in front of its operand, with what is visible under its sign
+    -- an operator before its operand, with what is visible under its sign
     PrefixedTerm : Place → UnaryOperator → List ViewKind → TermTree → TermTree
     -- an operator between its operands, with what is visible under its sign (never SameWords, OtherWords: the labels have these)
     InfixTerm : BinaryOperator → List ViewKind → TermTree → TermTree → TermTree

@@ -10,7 +10,7 @@ use Rattle.al_view_typed.specs.declared.label.UnaryOperator.TheVariants as unary
 use Rattle.al_view.specs.declared.view.ViewKind.{ViewKind}
 use Rattle.al_view.specs.declared.view.ViewKind.TheVariants as views
 
--- an operator in front of a number that gives a number
+-- an operator before a number that gives a number
 abbrev pub computes_one : UnaryOperator → Bool
 computes_one unary.Plus = true
 computes_one unary.Minus = true

@@ -40,7 +40,7 @@ fn has_components(standard: &StandardTypes, types: &Types, count: usize, index: 
     }
 }
 
-/// So many values of an array's components.
+/// What an array's aggregate of this many values wants of them.
 #[tactic(auto, using(std::proofs::lemmas::List::replicate_more))]
 fn wanted_alike(
     alloc: Global,
@@ -58,7 +58,7 @@ fn wanted_alike(
     Ok(expected)
 }
 
-/// The values of a record's components.
+/// What a record's aggregate wants of its values.
 fn wanted_each(
     alloc: Global,
     standard: &StandardTypes,
@@ -131,7 +131,7 @@ fn others_in(
     }
 }
 
-/// The aggregate of so many values, where one may stand.
+/// The candidate for an aggregate of this many values, if an aggregate is allowed.
 pub(crate) fn positional(
     alloc: Global,
     standard: &StandardTypes,
@@ -149,7 +149,7 @@ pub(crate) fn positional(
     }
 }
 
-/// The aggregate with `others`, where one may stand.
+/// The candidate for an aggregate with `others`, if an aggregate is allowed.
 pub(crate) fn others(
     alloc: Global,
     standard: &StandardTypes,

@@ -1,4 +1,4 @@
-// The heads of constructs, where their operands are built.
+// The heads of constructs whose operands are built already.
 ghost use Rattle.std.specs.Prelude.{◌≡◌, ◌&&◌, [], true, false, IfOk};
 ghost use Rattle.std.specs.Option.{option_and_then};
 ghost use Rattle.al_overload.specs.Counts.{plain, plain_all};
@@ -49,7 +49,7 @@ pub(crate) fn other(expression: Expression) -> Built
     }
 }
 
-/// A number.
+/// The head of a number.
 pub(crate) fn number(alloc: Global) -> Result<Built, NoMemory>
     ensures head { IfOk result (λ b. plain b.expression ≡ sole (operation [] g.Universal) NoTree) }
     ensures universal { IfOk result (λ b. b.is_universal ≡ true) }
@@ -61,7 +61,7 @@ pub(crate) fn number(alloc: Global) -> Result<Built, NoMemory>
     })
 }
 
-/// Text that is put out.
+/// The head of text that is put out.
 pub(crate) fn text(alloc: Global) -> Result<Built, NoMemory>
     ensures head { IfOk result (λ b. plain b.expression ≡ sole (operation [] g.Text) NoTree) }
     ensures universal { IfOk result (λ b. b.is_universal ≡ false) }
@@ -70,7 +70,7 @@ pub(crate) fn text(alloc: Global) -> Result<Built, NoMemory>
     Ok(other(expression))
 }
 
-/// A value of the mark's type.
+/// The head of a value of the mark's type.
 pub(crate) fn value(
     alloc: Global,
     predefined: &Predefined,
@@ -84,7 +84,7 @@ pub(crate) fn value(
     Ok(other(expression))
 }
 
-/// A name with nothing after it.
+/// The head of a name with nothing after it.
 pub(crate) fn named(
     alloc: Global,
     predefined: &Predefined,
@@ -169,7 +169,7 @@ pub(crate) fn infixed(
     Ok(other(expression))
 }
 
-/// `left & right`
+/// The head of `left & right`.
 pub(crate) fn concatenated(alloc: Global, operands: Operands) -> Result<Built, NoMemory>
     ensures head { IfOk result (λ b. plain b.expression ≡ sole concatenation (plain_all operands)) }
     ensures universal { IfOk result (λ b. b.is_universal ≡ false) }
@@ -178,7 +178,7 @@ pub(crate) fn concatenated(alloc: Global, operands: Operands) -> Result<Built, N
     Ok(other(expression))
 }
 
-/// `left and then right` and `left or else right`
+/// The head of `left and then right` or `left or else right`.
 pub(crate) fn short_circuited(
     alloc: Global,
     predefined: &Predefined,
@@ -191,7 +191,7 @@ pub(crate) fn short_circuited(
     Ok(other(expression))
 }
 
-/// `value [not] in low .. high`
+/// The head of `value [not] in low .. high`.
 pub(crate) fn range_member(
     alloc: Global,
     predefined: &Predefined,
@@ -206,7 +206,7 @@ pub(crate) fn range_member(
     Ok(other(expression))
 }
 
-/// A positional aggregate of so many values.
+/// The head of a positional aggregate of this many values.
 pub(crate) fn aggregate(
     alloc: Global,
     predefined: &Predefined,
@@ -222,7 +222,7 @@ pub(crate) fn aggregate(
     Ok(other(expression))
 }
 
-/// An aggregate with `others`.
+/// The head of an aggregate with `others`.
 pub(crate) fn with_others(
     alloc: Global,
     predefined: &Predefined,
@@ -237,7 +237,7 @@ pub(crate) fn with_others(
     Ok(other(expression))
 }
 
-/// What fits nothing.
+/// A head that nothing fits.
 pub(crate) fn nothing(alloc: Global) -> Built
     ensures head { plain result.expression ≡ Node [] NoTree }
     ensures universal { result.is_universal ≡ false }

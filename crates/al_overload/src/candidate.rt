@@ -1,4 +1,4 @@
-// What a declaration may be where its name stands in an expression (ARM 8.6).
+// What a declaration may be if its name is used in an expression (ARM 8.6).
 ghost use Rattle.std.specs.Prelude.{◌≡◌, [], map, IfOk, OnOk};
 ghost use Rattle.al_overload.specs.Counts.{plain};
 ghost use Rattle.al_overload.specs.Candidates.{called, candidates_of, component_in, given_by, giving, indexed, is_no_value, is_root, object_candidates, string, wanted_of};
@@ -18,7 +18,7 @@ use al_view::{
 use al_view_predefined::StandardTypes;
 use std::alloc::Global;
 
-/// What gives this of no operands.
+/// A candidate without operands that gives this.
 pub(crate) fn giving(alloc: Global, given: Given) -> Candidate
     ensures { result ≡ giving given }
 {
@@ -71,7 +71,7 @@ fn wanted_all(
     Ok(expected)
 }
 
-/// A value of the result's type; of a procedure or an entry nothing.
+/// What a subprogram gives: a value of the result's type; for a procedure or an entry nothing.
 fn given_by(
     alloc: Global,
     standard: &StandardTypes,
@@ -121,7 +121,7 @@ fn called(
     })
 }
 
-/// A value of a type, without operands.
+/// Adds the candidate for a value of a type, without operands.
 fn add_value(
     alloc: Global,
     standard: &StandardTypes,
@@ -135,7 +135,7 @@ fn add_value(
     head.add(giving(alloc, Given::Value(of)))
 }
 
-/// A component of an array, by its index (ARM 4.1.1).
+/// Adds the candidate for a component of an array, by its index (ARM 4.1.1).
 fn add_component(
     alloc: Global,
     standard: &StandardTypes,
@@ -194,7 +194,7 @@ fn add_object(
     }
 }
 
-/// All that a declaration may be.
+/// Adds all that a declaration may be.
 pub(crate) fn add_candidates(
     alloc: Global,
     standard: &StandardTypes,
@@ -223,7 +223,7 @@ pub(crate) fn add_candidates(
     }
 }
 
-/// Whether it is no value and no call.
+/// Whether the declaration is no value and no call.
 pub(crate) fn is_no_value(view: &View) -> bool
     ensures { result ≡ is_no_value view.now }
 {

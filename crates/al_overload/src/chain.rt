@@ -9,8 +9,8 @@ use crate::types::Expected;
 use al_base::NoMemory;
 use std::alloc::Global;
 
-/// A head that is chosen but for its first operand: the number of its candidate, whether that is an operator of the root type, and its
-/// other operands.
+/// A head that is chosen except for its first operand: the number of its candidate, whether that is an operator of the root type, and the
+/// choices of its other operands.
 #[derive(Drop)]
 pub(crate) struct Link {
     pub(crate) number: usize,
@@ -30,7 +30,7 @@ pub(crate) enum Step<'a> {
     Last(Labelled),
 }
 
-/// One more operand before these.
+/// Puts one operand before these.
 fn before(alloc: Global, first: Labelled, others: LabelledTerms) -> Result<LabelledTerms, NoMemory>
     ensures { IfOk result (λ all. labels_of all ≡ MoreLabels (label_of first) (labels_of others)) }
 {
@@ -47,7 +47,7 @@ fn linked(alloc: Global, link: Link, first: Labelled) -> Result<Labelled, NoMemo
     Ok(Labelled::HeadAs(link.number, link.is_root, operands))
 }
 
-/// A chain of links, from its first operand on. The innermost link comes last.
+/// What a chain of links is, from its first operand on. The innermost link comes last.
 #[tactic(auto, using(crate::proofs::ChainLemmas::first_linked))]
 pub(crate) fn all_linked(
     alloc: Global,
@@ -64,7 +64,7 @@ pub(crate) fn all_linked(
     Ok(labelled)
 }
 
-/// Operands in the order of the text.
+/// Operands in source order.
 #[tactic(auto, using(crate::proofs::ChainLemmas::first_listed))]
 pub(crate) fn gathered(alloc: Global, each: Vec<Labelled>) -> Result<LabelledTerms, NoMemory>
     ensures { IfOk result (λ all. labels_of all ≡ listed each.items NoLabel) }

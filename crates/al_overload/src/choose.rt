@@ -17,9 +17,9 @@ use std::alloc::Global;
 pub enum Interpretation {
     /// No choice of declarations fits.
     Nothing,
-    /// Exactly one that is acceptable.
+    /// Exactly one choice is acceptable.
     One(Labelled),
-    /// At least two that are.
+    /// At least two choices are acceptable.
     Several,
 }
 
@@ -31,7 +31,7 @@ fn prefers_root(choices: &[Choice], _operands: &Terms, expected: &Expected) -> b
     ways_in(choices, true, expected).is_any()
 }
 
-/// The one candidate that can stand at this head, with its number.
+/// The one candidate that can be at this head, with its number.
 fn pick<'a>(
     choices: &'a [Choice],
     _operands: &Terms,
@@ -56,7 +56,7 @@ fn pick<'a>(
     unreachable!()
 }
 
-/// Operands of which there is one choice have one labelling each.
+/// The labellings of operands, each of which has exactly one choice.
 #[tactic(auto, using(crate::proofs::Counting::first_one, crate::proofs::Counting::others_one))]
 fn one_each(operand: &Term, more: &Terms, first: &Expected, others: &[Expected])
     requires { length (pairs (preferred (plain operand.now) first.now) (preferred_all (plain_all more.now) others.now)) ≡ 1 }
@@ -64,8 +64,8 @@ fn one_each(operand: &Term, more: &Terms, first: &Expected, others: &[Expected])
     ensures others { length (preferred_all (plain_all more.now) others.now) ≡ 1 }
 {}
 
-/// The one labelling of a head with its operands that is what is expected. First operands are gone down by a loop, so that a chain of
-/// operators takes nothing of the stack for each.
+/// The one labelling of a head with its operands that is what is expected. First operands are processed by a loop, so that a chain of
+/// operators takes no stack for each.
 #[cycle(choose)]
 #[tactic(auto, using(crate::proofs::ChainLemmas::first_mapped, crate::proofs::ChainLemmas::same_labels, crate::proofs::ChainLemmas::only_one))]
 fn choose<'a>(
@@ -139,7 +139,7 @@ fn step<'a>(
     }
 }
 
-/// What is chosen of operands, one after the other.
+/// What is chosen of operands, one after another.
 #[cycle(choose)]
 #[tactic(auto, using(crate::proofs::ChainLemmas::more_listed, crate::proofs::ChainLemmas::same_lists, crate::proofs::ChainLemmas::none_left))]
 fn choose_each(
@@ -180,7 +180,9 @@ fn choose_all(
     gathered(alloc, each)
 }
 
-/// What an expression means where it is expected to be this.
+/// What an expression means if it is expected to be this.
+/// # Errors
+/// `NoMemory` if the allocator refuses memory.
 pub fn interpret(
     alloc: Global,
     expression: &Expression,

@@ -21,7 +21,9 @@ fn class_of(definition: &TypeDefinition) -> Class
     }
 }
 
-/// The type with this symbol, which is one of these or one that every unit has; where it is none of both, nothing is known of it.
+/// The type with this symbol, if it is one of these or one that every unit has; if it is neither, nothing is known of it.
+/// # Errors
+/// `NoMemory` if the allocator refuses memory.
 pub fn value_type(
     alloc: Global,
     standard: &StandardTypes,

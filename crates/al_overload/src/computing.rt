@@ -46,7 +46,7 @@ fn binary_sign(operator: BinaryOperator) -> OperatorSymbol
     }
 }
 
-/// The operators of the root type in front of an operand.
+/// The operators of the root type before an operand.
 pub(crate) fn unary_roots(predefined: &Predefined, operator: UnaryOperator) -> &[View]
     ensures { result.now ≡ views_of predefined.now.operators (spelling (unary_sign operator)) }
 {
@@ -60,7 +60,7 @@ pub(crate) fn binary_roots(predefined: &Predefined, operator: BinaryOperator) ->
     predefined.operators.views(binary_sign(operator).spelling())
 }
 
-/// Whether an operator in front of a number gives a number.
+/// Whether an operator before a number gives a number.
 pub fn computes_one(operator: UnaryOperator) -> bool
     ensures { result ≡ computes_one operator }
 {
@@ -126,7 +126,7 @@ pub fn is_sole_number(visible: &[View]) -> bool
     }
 }
 
-/// Whether this gives a position, as `S'Pos (X)` does.
+/// Whether the attribute gives a position, as `S'Pos (X)` does.
 pub fn is_position(conversion: Conversion) -> bool
     ensures { result ≡ is_position conversion }
 {

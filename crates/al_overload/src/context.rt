@@ -9,8 +9,11 @@ use std::alloc::Global;
 
 /// The predefined types that contexts want (ARM A.1, D.8).
 pub struct PredefinedTypes {
+    /// Standard.Boolean.
     pub boolean: ValueType,
+    /// Standard.Integer.
     pub integer: ValueType,
+    /// Ada.Real_Time.Time.
     pub time: ValueType,
 }
 
@@ -24,7 +27,7 @@ impl Drop for PredefinedTypes {
     }
 }
 
-/// A complete context, with the type that it has from what stands around it (ARM 8.6(4 to 9)).
+/// A complete context, with the type that it has from what is round it (ARM 8.6(4 to 9)).
 #[derive(Drop)]
 pub enum Context {
     /// The initial value of an object or component of this type (ARM 3.3.1(4)).
@@ -37,7 +40,7 @@ pub enum Context {
     IntegerBound,
     /// Both bounds after a mark of this type, as one head (ARM 3.5(5)).
     BoundOf(ValueType),
-    /// ARM 5.3(4), 5.5(5), 5.7(4)
+    /// A condition (ARM 5.3(4), 5.5(5), 5.7(4)).
     Condition,
     /// The selector of a case statement (ARM 5.4(4)).
     Selector,
@@ -72,7 +75,9 @@ fn value(alloc: Global, of: &ValueType) -> Result<Expected, NoMemory>
     Ok(Expected::Value(of))
 }
 
-/// The operand of a conversion: where the target is an integer type, of any one.
+/// The context of the operand of a conversion: if the target is an integer type, it may be of any integer type.
+/// # Errors
+/// `NoMemory` if the allocator refuses memory.
 pub fn converted_to(alloc: Global, target: &ValueType) -> Result<Expected, NoMemory>
     ensures { IfOk result (λ expected. expected ≡ converted_to target.now) }
 {
@@ -83,6 +88,8 @@ pub fn converted_to(alloc: Global, target: &ValueType) -> Result<Expected, NoMem
 }
 
 /// What a context wants of its expression.
+/// # Errors
+/// `NoMemory` if the allocator refuses memory.
 pub fn wanted_in(
     alloc: Global,
     types: &PredefinedTypes,

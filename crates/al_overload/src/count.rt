@@ -1,4 +1,4 @@
-// In how many ways an expression can be what is expected: none, one or more.
+// In how many ways an expression can be what is expected: in none, in one or in more.
 ghost use Rattle.std.specs.Prelude.{◌≡◌, ◌+◌, ◌*◌, nat_lt};
 ghost use Rattle.al_overload.specs.Counts.{AreCounted, counted, held_all, held_in, plain_all, share, size, tally, ways_of};
 
@@ -8,13 +8,16 @@ use crate::types::Expected;
 /// In how many ways something can be.
 #[derive(Clone, Copy)]
 pub enum Count {
+    /// In no way.
     None,
+    /// In one way.
     One,
+    /// In two ways or more.
     Several,
 }
 
 impl Count {
-    /// Whether there is one.
+    /// Whether there is at least one way.
     pub fn is_any(self) -> bool
         ensures { result ≡ nat_lt 0 (size self) }
     {
@@ -25,7 +28,7 @@ impl Count {
         }
     }
 
-    /// In this way or in that one.
+    /// The ways of this or of that.
     fn or(self, other: Count) -> Count
         ensures { result ≡ ways_of (size self + size other) }
     {
@@ -36,7 +39,7 @@ impl Count {
         }
     }
 
-    /// This way of one with that way of another.
+    /// The ways of this combined with those of that.
     fn with(self, other: Count) -> Count
         ensures { result ≡ ways_of (size self * size other) }
     {
@@ -49,7 +52,7 @@ impl Count {
     }
 }
 
-/// In how many ways this candidate can be what is expected, where it is of this kind.
+/// In how many ways this candidate can be what is expected, if it is of this kind.
 fn ways_with(choice: &Choice, is_root: bool, expected: &Expected) -> Count
     ensures { result ≡ ways_of (share is_root expected.now choice.now) }
 {
@@ -71,7 +74,7 @@ pub fn ways_in(choices: &[Choice], is_root: bool, expected: &Expected) -> Count
     ways
 }
 
-/// In how many ways a head can be what is expected, with the root type's operators where they serve.
+/// In how many ways a head can be what is expected; the root type's operators are preferred.
 pub fn ways_at(choices: &[Choice], expected: &Expected) -> Count
     ensures { result ≡ held_in choices.now expected.now }
 {
@@ -105,7 +108,7 @@ pub fn ways_of_operands(operands: &Terms, expected: &[Expected]) -> Count
 }
 
 impl Choice {
-    /// A candidate for the head of these operands.
+    /// A candidate for the head of these operands, with the ways that its operands have.
     #[tactic(auto, using(crate::proofs::Counting::held_all_counts))]
     pub fn new(candidate: Candidate, operands: &Terms) -> Choice
         requires { AreCounted operands.now }

@@ -16,11 +16,13 @@ use std::alloc::Global;
 /// (ARM 3.4.1(8), 8.6(29), A.1).
 #[derive(Drop)]
 pub struct Predefined {
+    /// The types of package Standard.
     pub standard: StandardTypes,
-    /// The root type.
+    /// The root type of all integer types.
     pub root: Symbol,
-    /// Its operators, by their signs.
+    /// The operators of the root type, by their signs.
     pub operators: Interface,
+    /// The predefined types that contexts want.
     pub types: PredefinedTypes,
 }
 
@@ -70,7 +72,9 @@ fn predefined_types(alloc: Global) -> Result<PredefinedTypes, NoMemory>
 }
 
 impl Predefined {
-    /// Made anew. It takes memory, and is to be kept.
+    /// Makes it anew. It takes memory, so callers keep it.
+    /// # Errors
+    /// `NoMemory` if the allocator refuses memory.
     pub fn new(alloc: Global) -> Result<Predefined, NoMemory>
         ensures root { IfOk result (λ p. p.root ≡ root_integer) }
         ensures operators { IfOk result (λ p. p.operators ≡ root_operators) }

@@ -15,7 +15,7 @@ use al_view::{Symbol, View};
 use al_view_predefined::StandardTypes;
 use std::alloc::Global;
 
-/// All that these declarations may be, in their order.
+/// Adds all that these declarations may be, in their order.
 #[tactic(auto, using(std::proofs::lemmas::List::Sums::fold_more))]
 fn add_all(
     alloc: Global,
@@ -32,7 +32,7 @@ fn add_all(
     Ok(())
 }
 
-/// Whether one of these is no value and no call.
+/// Whether one of these declarations is no value and no call.
 pub fn is_any_no_value(views: &[View]) -> bool
     ensures { result ≡ list_any is_no_value views.now }
 {
@@ -40,6 +40,8 @@ pub fn is_any_no_value(views: &[View]) -> bool
 }
 
 /// A head with all that these declarations may be.
+/// # Errors
+/// `NoMemory` if the allocator refuses memory.
 #[tactic(auto, using(crate::proofs::Added::all_added))]
 pub fn all_of(
     alloc: Global,
@@ -55,8 +57,10 @@ pub fn all_of(
     Ok(head)
 }
 
-/// A name where a value or a call is wanted, with the actual parameters or the index after it: by what is visible under it.
-/// E401 where nothing is; E404 where that is no value and no call.
+/// A name that must be a value or a call, with the actual parameters or the index after it, by what is visible under it.
+/// # Errors
+/// `NoMemory` if the allocator refuses memory. The inner error is E401 if nothing is visible, and E404 if something that is visible is no
+/// value and no call.
 pub fn name(
     alloc: Global,
     standard: &StandardTypes,
@@ -79,7 +83,9 @@ pub fn name(
     Ok(Ok(head))
 }
 
-/// An operator with its operands: those that are visible, and those of the root type.
+/// An operator with its operands. Its candidates are the operators that are visible, and those of the root type.
+/// # Errors
+/// `NoMemory` if the allocator refuses memory.
 #[tactic(auto, using(crate::proofs::Added::both_added))]
 pub fn operator(
     alloc: Global,
@@ -97,7 +103,9 @@ pub fn operator(
     Ok(head)
 }
 
-/// What may be one thing alone: a number, text, an attribute, a conversion, a qualified expression, a universal expression.
+/// A head that may be one thing alone: a number, text, an attribute, a conversion, a qualified expression, a universal expression.
+/// # Errors
+/// `NoMemory` if the allocator refuses memory.
 pub fn sole(alloc: Global, candidate: Candidate, operands: Operands) -> Result<Expression, NoMemory>
     ensures { IfOk result (λ head. plain head ≡ Node (candidate ∷ []) (plain_all operands)) }
 {

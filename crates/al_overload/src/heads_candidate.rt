@@ -15,7 +15,7 @@ use al_view_predefined::StandardTypes;
 use al_view_typed::Conversion;
 use std::alloc::Global;
 
-/// A value of this subtype's type, where that is wanted.
+/// What wants a value of this subtype's type.
 pub(crate) fn value_wanted(
     alloc: Global,
     standard: &StandardTypes,
@@ -28,7 +28,7 @@ pub(crate) fn value_wanted(
     Ok(Expected::Value(of))
 }
 
-/// A value of this subtype's type, where that is given.
+/// What gives a value of this subtype's type.
 pub(crate) fn value_given(
     alloc: Global,
     standard: &StandardTypes,
@@ -41,7 +41,7 @@ pub(crate) fn value_given(
     Ok(Given::Value(of))
 }
 
-/// What wants these operands and gives this.
+/// A candidate that wants these operands and gives this.
 pub(crate) fn operation(operands: Seq<Expected>, given: Given) -> Candidate
     ensures { result ≡ operation operands given }
 {
@@ -52,14 +52,14 @@ pub(crate) fn operation(operands: Seq<Expected>, given: Given) -> Candidate
     }
 }
 
-/// What gives this of no operands.
+/// A candidate that gives this of no operands.
 pub(crate) fn giving(alloc: Global, given: Given) -> Candidate
     ensures { result ≡ operation [] given }
 {
     operation(Seq::empty(alloc), given)
 }
 
-/// What gives this of one operand.
+/// A candidate that gives this of one operand.
 pub(crate) fn of_one(alloc: Global, operand: Expected, given: Given) -> Result<Candidate, NoMemory>
     ensures { IfOk result (λ candidate. candidate ≡ operation (operand ∷ []) given) }
 {
@@ -68,7 +68,7 @@ pub(crate) fn of_one(alloc: Global, operand: Expected, given: Given) -> Result<C
     Ok(operation(operands, given))
 }
 
-/// What gives this of two operands.
+/// A candidate that gives this of two operands.
 pub(crate) fn of_two(
     alloc: Global,
     left: Expected,
@@ -83,7 +83,7 @@ pub(crate) fn of_two(
     Ok(operation(operands, given))
 }
 
-/// A head that may be this, or nothing.
+/// A head with this candidate, or with none.
 pub(crate) fn possible(
     alloc: Global,
     candidate: Option<Candidate>,
@@ -101,7 +101,7 @@ pub(crate) fn possible(
     }
 }
 
-/// A value of the mark's type, where that is wanted.
+/// What wants a value of the mark's type.
 pub(crate) fn mark_wanted(
     alloc: Global,
     predefined: &Predefined,
@@ -112,7 +112,7 @@ pub(crate) fn mark_wanted(
     value_wanted(alloc, &predefined.standard, &mark.types, &mark.subtype)
 }
 
-/// A value of the mark's type, where that is given.
+/// What gives a value of the mark's type.
 pub(crate) fn mark_given(
     alloc: Global,
     predefined: &Predefined,
@@ -123,7 +123,7 @@ pub(crate) fn mark_given(
     value_given(alloc, &predefined.standard, &mark.types, &mark.subtype)
 }
 
-/// `S'Succ (X)` and `S'Pred (X)`: a value of S's type of another one.
+/// The candidate for `S'Succ (X)` and `S'Pred (X)`: a value of S's type of another one.
 fn neighbour(
     alloc: Global,
     predefined: &Predefined,
@@ -137,7 +137,7 @@ fn neighbour(
     Ok(Some(candidate))
 }
 
-/// An attribute of a scalar subtype with an argument (ARM 3.5(22, 25), 3.5.5).
+/// The candidate for an attribute of a scalar subtype with an argument (ARM 3.5(22, 25), 3.5.5).
 pub(crate) fn attribute(
     alloc: Global,
     predefined: &Predefined,
@@ -165,7 +165,7 @@ pub(crate) fn attribute(
     }
 }
 
-/// A membership in a subtype, where that is of a discrete type (ARM 4.5.2(3)).
+/// The candidate for a membership in a subtype of a discrete type (ARM 4.5.2(3)).
 pub(crate) fn membership(
     alloc: Global,
     predefined: &Predefined,
@@ -182,7 +182,7 @@ pub(crate) fn membership(
     Ok(Some(candidate))
 }
 
-/// A short circuit (ARM 4.5.1(1)).
+/// The candidate for a short circuit (ARM 4.5.1(1)).
 pub(crate) fn short_circuit(alloc: Global, predefined: &Predefined) -> Result<Candidate, NoMemory>
     ensures { IfOk result (λ candidate. candidate ≡ short_circuit predefined.now) }
 {
@@ -197,14 +197,14 @@ pub(crate) fn short_circuit(alloc: Global, predefined: &Predefined) -> Result<Ca
     )
 }
 
-/// `&` of what is put out.
+/// The candidate for `&` of what is put out.
 pub(crate) fn concatenation(alloc: Global) -> Result<Candidate, NoMemory>
     ensures { IfOk result (λ candidate. candidate ≡ concatenation) }
 {
     of_two(alloc, Expected::Text, Expected::Text, Given::Text)
 }
 
-/// The component of that name of what has this nominal subtype (ARM 4.1.3).
+/// The candidate for the component of that name of what has this nominal subtype (ARM 4.1.3).
 fn selection_of(
     alloc: Global,
     standard: &StandardTypes,
@@ -225,7 +225,7 @@ fn selection_of(
     }
 }
 
-/// A selected component of a part of an object, where what stands before the dot is one.
+/// The head of a selected component, if what comes before the dot is an object or a part of one.
 pub(crate) fn selection(
     alloc: Global,
     standard: &StandardTypes,
@@ -265,7 +265,7 @@ fn indexing_in(
     }
 }
 
-/// An indexed component of a part of an object, where what stands before the index is one (ARM 4.1.1).
+/// The head of an indexed component, if what comes before the index is an object or a part of one (ARM 4.1.1).
 pub(crate) fn indexing(
     alloc: Global,
     standard: &StandardTypes,

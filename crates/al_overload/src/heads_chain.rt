@@ -1,4 +1,4 @@
-// What begins with an operand leans to the left: `A - B + C` has `A - B` at the left of its `+`, and `A (1).C` has `A (1)` before its dot.
+// Chains, which lean to the left: `A - B + C` has `A - B` at the left of its `+`, and `A (1).C` has `A (1)` before its dot.
 ghost use Rattle.std.specs.Prelude.{◌≡◌, ◌&&◌, ◌∷◌, [], ◌++◌, false, IfOk, OnOk, None, option_map};
 ghost use Rattle.std.specs.Option.{option_and_then};
 ghost use Rattle.al_overload.specs.Counts.{plain, plain_all};
@@ -22,49 +22,49 @@ use al_view::{Subtype, SubtypeView, Types, View};
 use al_view_typed::BinaryOperator;
 use std::alloc::Global;
 
-/// What stands after the first operand of a chain.
+/// What comes after the first operand of a chain.
 #[derive(Drop)]
 pub(crate) enum Sign<'a> {
     /// An operator, with all that is visible under its sign.
     Operator(BinaryOperator, &'a [View]),
-    /// `&`
+    /// `&`.
     Concatenation,
-    /// `and then` or `or else`
+    /// `and then` or `or else`.
     ShortCircuit,
-    /// `[not] in low .. high`
+    /// `[not] in low .. high`.
     Range,
     /// A selector.
     Selector(&'a [u8]),
-    /// What stands in parentheses after a part of an object.
+    /// What is in parentheses after a part of an object.
     Indexes,
-    /// `[not] in mark`, with what may be meant.
+    /// `[not] in mark`, with what the mark may be.
     Mark(Option<Candidate>),
 }
 
 /// A step down a chain.
 #[derive(Drop)]
 pub(crate) enum Step<'a> {
-    /// What stands after an operand, with the operands after that one, and the operand.
+    /// What comes after an operand, with the operands after that one; and the operand.
     Down(Sign<'a>, BuiltOperands, &'a Term),
     /// The head of what doesn't begin with an operand.
     Last(Built),
 }
 
-/// What stands after an operand of a chain, with the operands after that one.
+/// What comes after an operand of a chain, with the operands after that one.
 #[derive(Drop)]
 pub(crate) struct Joint<'a> {
     pub(crate) sign: Sign<'a>,
     pub(crate) right: BuiltOperands,
 }
 
-/// The head of what stands at the left, with its nominal subtype and the types that this is of, where it is an object or a part of one.
+/// The head of what is at the left, with its nominal subtype and the types that this is of, if it is an object or a part of one.
 #[derive(Drop)]
 pub(crate) struct Placed<'a> {
     pub(crate) built: Built,
     pub(crate) part: Option<(&'a Subtype, &'a Types)>,
 }
 
-/// What is no part of an object.
+/// A head that is no part of an object.
 fn apart<'a>(built: Built) -> Placed<'a>
     ensures built { result.built ≡ built }
     ensures part { result.part ≡ None }
@@ -72,7 +72,7 @@ fn apart<'a>(built: Built) -> Placed<'a>
     Placed { built, part: None }
 }
 
-/// One more link of a chain, which stands before the others in the text.
+/// Puts one link before the others of a chain.
 pub(crate) fn add<'a>(
     joints: &mut Vec<Joint<'a>>,
     sign: Sign<'a>,
@@ -84,7 +84,7 @@ pub(crate) fn add<'a>(
     Ok(())
 }
 
-/// A part of an object by its selector.
+/// The head of a part of an object by its selector.
 fn selected_of<'a>(
     alloc: Global,
     predefined: &'a Predefined,
@@ -103,7 +103,7 @@ fn selected_of<'a>(
     Ok(Placed { built, part })
 }
 
-/// A part of an object by its indexes.
+/// The head of a part of an object by its indexes.
 fn indexed_of<'a>(
     alloc: Global,
     predefined: &'a Predefined,
@@ -121,7 +121,7 @@ fn indexed_of<'a>(
     Ok(Placed { built, part })
 }
 
-/// What is made of the operands of a link, where the first one has this nominal subtype.
+/// The head of the operands of a link, the first of which has this nominal subtype.
 fn signed<'a>(
     alloc: Global,
     predefined: &'a Predefined,
@@ -150,7 +150,7 @@ fn signed<'a>(
     }
 }
 
-/// A link with what stands at its left.
+/// The head of a link with what is at its left.
 fn joined<'a>(
     alloc: Global,
     predefined: &'a Predefined,
@@ -171,7 +171,7 @@ fn joined<'a>(
     signed(alloc, predefined, joint.sign, part, operands)
 }
 
-/// The head of a chain, from its first operand on. The last link of the text comes first.
+/// The head of a chain, from its first operand on. The last link in source order comes first.
 #[tactic(auto, using(crate::proofs::HeadsChainLemmas::first_joined_head, crate::proofs::HeadsChainLemmas::first_joined_universal))]
 pub(crate) fn chained<'a>(
     alloc: Global,
@@ -190,7 +190,7 @@ pub(crate) fn chained<'a>(
     Ok(placed.built)
 }
 
-/// A step to an operand, with the other operands that stand after it, which aren't of numbers alone.
+/// A step to an operand, with the other operands after it, which aren't of numbers alone.
 fn after<'a>(sign: Sign<'a>, operands: Operands, left: &'a Term) -> Step<'a>
     ensures head { (p : Predefined) → stepped_head p result ≡ joint_head p sign.entry (part_of (term_model left.now)) (MoreTrees (head_of p None (term_model left.now)) (plain_all operands)) (is_universal (term_model left.now) && false) }
     ensures universal { stepped_universal result ≡ joint_universal sign.entry (is_universal (term_model left.now) && false) }
@@ -204,7 +204,7 @@ fn after<'a>(sign: Sign<'a>, operands: Operands, left: &'a Term) -> Step<'a>
     Step::Down(sign, right, left)
 }
 
-/// The step to what stands before a selector.
+/// The step to what comes before a selector.
 pub(crate) fn selected<'a>(prefix: &'a Term, name: &'a [u8]) -> Step<'a>
     ensures head { (p : Predefined) → stepped_head p result ≡ possible (option_and_then (selection name.now) (part_of (term_model prefix.now))) (one (head_of p None (term_model prefix.now))) }
     ensures universal { stepped_universal result ≡ false }
@@ -214,7 +214,7 @@ pub(crate) fn selected<'a>(prefix: &'a Term, name: &'a [u8]) -> Step<'a>
     after(Sign::Selector(name), Operands::none(), prefix)
 }
 
-/// The step to what stands before `[not] in mark`.
+/// The step to what comes before `[not] in mark`.
 pub(crate) fn tested<'a>(
     alloc: Global,
     predefined: &Predefined,
@@ -230,7 +230,7 @@ pub(crate) fn tested<'a>(
     Ok(after(Sign::Mark(candidate), Operands::none(), value))
 }
 
-/// The step to what stands before indexes.
+/// The step to what comes before indexes.
 fn indexed<'a>(prefix: &'a Term, indexes: Operands) -> Step<'a>
     ensures head { (p : Predefined) → stepped_head p result ≡ applied p None (part_of (term_model prefix.now)) (head_of p None (term_model prefix.now)) (plain_all indexes) }
     ensures universal { stepped_universal result ≡ false }
@@ -240,7 +240,7 @@ fn indexed<'a>(prefix: &'a Term, indexes: Operands) -> Step<'a>
     after(Sign::Indexes, indexes, prefix)
 }
 
-/// A name with arguments, or the step to what stands before indexes.
+/// A name with arguments, or the step to what comes before indexes.
 pub(crate) fn applied<'a>(
     alloc: Global,
     predefined: &Predefined,

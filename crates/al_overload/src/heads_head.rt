@@ -1,4 +1,4 @@
-// The heads of terms, from their operands up.
+// The heads of terms, built from their operands up.
 ghost use Rattle.std.specs.Prelude.{◌≡◌, ◌&&◌, false, map, IfOk, None};
 ghost use Rattle.al_overload.specs.Counts.{plain, plain_all};
 ghost use Rattle.al_overload.specs.Labelling.{MoreTrees};
@@ -20,8 +20,8 @@ use crate::{Expression, Operands, Term, ValueType};
 use al_base::NoMemory;
 use std::alloc::Global;
 
-/// The head of a chain whose last links are these, and whether it is of numbers alone. What begins with an operand of its own (a chain of
-/// operators, of indexes or of selectors) is gone down by a loop, so that it takes no more of the stack than one link does.
+/// The head of a chain whose last links are these, and whether it is of numbers alone. A term that begins with an operand of its own (a
+/// chain of operators, indexes or selectors) is processed by a loop, so that it takes no more of the stack than one link does.
 #[cycle(heads)]
 #[tactic(auto, using(crate::proofs::HeadsChainLemmas::first_joined_head, crate::proofs::HeadsChainLemmas::first_joined_universal))]
 fn linked<'a>(
@@ -58,7 +58,7 @@ fn operand<'a>(alloc: Global, predefined: &'a Predefined, term: &'a Term) -> Res
     linked(alloc, predefined, Vec::new(alloc), term)
 }
 
-/// A step down: what a term begins with and what stands after that, or the head of what doesn't begin with an operand.
+/// A step down: what a term begins with and what comes after that, or the head of what doesn't begin with an operand.
 #[cycle(heads)]
 #[tactic(auto, using(crate::proofs::TermsSeen::terms_made))]
 fn step<'a>(
@@ -111,7 +111,7 @@ fn step<'a>(
     }
 }
 
-/// One operand.
+/// A list of one operand.
 #[cycle(heads)]
 fn one(alloc: Global, predefined: &Predefined, term: &Term) -> Result<BuiltOperands, NoMemory>
     ensures operands { IfOk result (λ built. plain_all built.operands ≡ one (head_of predefined.now None (term_model term.now))) }
@@ -125,7 +125,7 @@ fn one(alloc: Global, predefined: &Predefined, term: &Term) -> Result<BuiltOpera
     })
 }
 
-/// One more operand, before these.
+/// Puts one operand before these.
 #[cycle(heads)]
 fn before(
     alloc: Global,
@@ -145,7 +145,7 @@ fn before(
     })
 }
 
-/// The heads of arguments, indexes or values of an aggregate.
+/// The heads of arguments, indexes or values of an aggregate, one after another.
 #[cycle(heads)]
 fn each(alloc: Global, predefined: &Predefined, terms: &[Term]) -> Result<Vec<Expression>, NoMemory>
     ensures { IfOk result (λ heads. map plain heads.items ≡ map (plain_head predefined.now) (map term_model terms.now)) }
@@ -158,7 +158,7 @@ fn each(alloc: Global, predefined: &Predefined, terms: &[Term]) -> Result<Vec<Ex
     Ok(heads)
 }
 
-/// Arguments, indexes or values of an aggregate.
+/// The heads of all arguments, indexes or values of an aggregate.
 #[cycle(heads)]
 #[tactic(auto, using(crate::proofs::Gathered::all_listed))]
 fn all(alloc: Global, predefined: &Predefined, terms: &[Term]) -> Result<Operands, NoMemory>
@@ -240,7 +240,9 @@ fn build<'a>(
     }
 }
 
-/// The tree of a term, whose heads have their candidates. An aggregate may stand where a nominal subtype is given for it.
+/// The tree of a term, whose heads have their candidates. An aggregate is allowed if a nominal subtype is given for it.
+/// # Errors
+/// `NoMemory` if the allocator refuses memory.
 pub fn head_of(
     alloc: Global,
     predefined: &Predefined,
@@ -253,7 +255,9 @@ pub fn head_of(
     Ok(built.expression)
 }
 
-/// A pair of bounds as a head with two operands of one type, which is this one where both are numbers alone.
+/// A pair of bounds as a head with two operands of one type, which is the given one if both are numbers alone.
+/// # Errors
+/// `NoMemory` if the allocator refuses memory.
 pub fn bounds_head(
     alloc: Global,
     predefined: &Predefined,

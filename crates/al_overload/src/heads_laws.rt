@@ -1,4 +1,4 @@
-// What is told of heads, above the code.
+// Laws of heads.
 ghost use Rattle.al_overload.specs.Laws.{AggregatesStandWhereAllowed, IndexesTakeOneValue, NothingFromNothing, NumbersAreUniversal, NumbersNeedNoOperator, NumbersNeedNoSign};
 
 /// An operator of numbers alone means the same whatever is visible under its sign (ARM 4.5).
@@ -14,7 +14,7 @@ pub fn numbers_are_universal()
     ensures { NumbersAreUniversal }
 {}
 
-/// An aggregate fits nothing but where one is allowed.
+/// An aggregate fits nothing unless one is allowed.
 #[tactic(auto, using(crate::proofs::LawLemmas::aggregates_stand_where_allowed))]
 pub fn aggregates_stand_where_allowed()
     ensures { AggregatesStandWhereAllowed }
@@ -26,7 +26,7 @@ pub fn indexes_take_one_value()
     ensures { IndexesTakeOneValue }
 {}
 
-/// What no candidate of a head gives has no interpretation (ARM 8.6).
+/// An expression whose head has no candidate that gives this has no interpretation as it (ARM 8.6).
 #[tactic(auto, using(crate::proofs::LawLemmas::nothing_from_nothing))]
 pub fn nothing_from_nothing()
     ensures { NothingFromNothing }

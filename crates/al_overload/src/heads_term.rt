@@ -7,7 +7,7 @@ use al_base::{Name, Place};
 use al_view::{Bounds, StaticValue, SubtypeView, Views};
 use al_view_typed::{BinaryOperator, Conversion, ShortCircuit, UnaryOperator};
 
-/// An expression whose names have been looked up: with each name stands what is visible under it.
+/// An expression whose names have been looked up: each name has with it what is visible under it.
 pub enum Term {
     /// A numeric literal (ARM 2.4).
     Number {
@@ -19,22 +19,22 @@ pub enum Term {
         place: Place,
         bytes: Vec<u8>,
     },
-    /// A name with all declarations that are visible under it, one at least, each of which may be a value or a call.
+    /// A name with all declarations that are visible under it, at least one, each of which may be a value or a call.
     Named {
         place: Place,
         views: Views,
     },
-    /// A component of what stands before the dot, which is no package and no construct round the place (ARM 4.1.3).
+    /// A component of what comes before the dot, which is no package and no construct round the place (ARM 4.1.3).
     Selected {
         prefix: Box<Term>,
         name: Name,
     },
-    /// Behind a name: indexes of an array, or arguments of a call (ARM 4.1.1, 6.4).
+    /// What is in parentheses after a name: indexes of an array, or arguments of a call (ARM 4.1.1, 6.4).
     Applied {
         name: Box<Term>,
         arguments: Vec<Term>,
     },
-    /// `S'First` or `S'Last`; of an array the subtype is its index subtype (ARM 3.5(12, 13), 3.6.2).
+    /// `S'First` or `S'Last`; for an array the subtype is its index subtype (ARM 3.5(12, 13), 3.6.2).
     Bound {
         place: Place,
         subtype: SubtypeView,
@@ -70,7 +70,7 @@ pub enum Term {
         subtype: SubtypeView,
         argument: Box<Term>,
     },
-    /// An operator in front of its operand, with all that is visible under its sign.
+    /// An operator before its operand, with all that is visible under its sign.
     Prefixed {
         place: Place,
         operator: UnaryOperator,
@@ -94,20 +94,20 @@ pub enum Term {
         left: Box<Term>,
         right: Box<Term>,
     },
-    /// `value [not] in subtype` (ARM 4.5.2); of a Range attribute the subtype is the array's index subtype.
+    /// `value [not] in subtype` (ARM 4.5.2); for a Range attribute the subtype is the array's index subtype.
     Member {
         value: Box<Term>,
         is_negated: bool,
         subtype: SubtypeView,
     },
-    /// `value [not] in low .. high` (ARM 4.5.2)
+    /// `value [not] in low .. high` (ARM 4.5.2).
     RangeMember {
         value: Box<Term>,
         is_negated: bool,
         low: Box<Term>,
         high: Box<Term>,
     },
-    /// In parentheses, with the place of the left one.
+    /// A term in parentheses, with the place of the left one.
     Group {
         place: Place,
         inner: Box<Term>,
@@ -117,19 +117,19 @@ pub enum Term {
         place: Place,
         components: Vec<Term>,
     },
-    /// `(others => component)` (ARM 4.3.3)
+    /// `(others => component)` (ARM 4.3.3).
     Others {
         place: Place,
         component: Box<Term>,
     },
-    /// What fits nothing: an attribute that there isn't, Range as a value, a conversion of several values.
+    /// What fits nothing: an unknown attribute, Range as a value, a conversion of several values.
     Nothing {
         place: Place,
     },
 }
 
-// A chain of operators, selectors or indexes leans to the left: what a term begins with is let go by the loop, and all else of it
-// by a call, so that no chain takes more of the stack than its nesting.
+// A chain of operators, selectors or indexes leans to the left. The loop drops what a term begins with, and a call drops all else, so that
+// no chain takes more stack than its nesting needs.
 impl Drop for Term {
     fn drop(mut self) {
         loop {
@@ -238,7 +238,7 @@ impl Term {
         Term::Named { place, views }
     }
 
-    /// A component of that name of what stands before the dot.
+    /// A component with that name of what comes before the dot.
     #[tactic(auto, using(crate::proofs::TermsMade::selected_made))]
     pub fn selected(prefix: Box<Term>, name: Name) -> Term
         ensures { term_model result ≡ terms.SelectedTerm (term_model prefix.value) name }
@@ -316,7 +316,7 @@ impl Term {
         }
     }
 
-    /// `S'Image (X)`
+    /// `S'Image (X)`.
     #[tactic(auto, using(crate::proofs::TermsMade::image_made))]
     pub fn image(place: Place, subtype: SubtypeView, argument: Box<Term>) -> Term
         ensures { term_model result ≡ terms.ImageTerm place subtype (term_model argument.value) }
@@ -328,7 +328,7 @@ impl Term {
         }
     }
 
-    /// An operator in front of its operand, with the declarations that are visible under its sign.
+    /// An operator before its operand, with the declarations that are visible under its sign.
     #[tactic(auto, using(crate::proofs::TermsMade::prefixed_made))]
     pub fn prefixed(place: Place, operator: UnaryOperator, views: Views, operand: Box<Term>) -> Term
         ensures { term_model result ≡ terms.PrefixedTerm place operator views (term_model operand.value) }
@@ -354,7 +354,7 @@ impl Term {
         }
     }
 
-    /// `left & right`
+    /// `left & right`.
     #[tactic(auto, using(crate::proofs::TermsMade::concatenation_made))]
     pub fn concatenation(left: Box<Term>, right: Box<Term>) -> Term
         ensures { term_model result ≡ terms.ConcatenationTerm (term_model left.value) (term_model right.value) }
@@ -362,7 +362,7 @@ impl Term {
         Term::Concatenation { left, right }
     }
 
-    /// `left and then right` or `left or else right`
+    /// `left and then right` or `left or else right`.
     #[tactic(auto, using(crate::proofs::TermsMade::short_circuit_made))]
     pub fn short_circuit(form: ShortCircuit, left: Box<Term>, right: Box<Term>) -> Term
         ensures { term_model result ≡ terms.ShortCircuitTerm form (term_model left.value) (term_model right.value) }
@@ -370,7 +370,7 @@ impl Term {
         Term::ShortCircuit { form, left, right }
     }
 
-    /// `value [not] in subtype`
+    /// `value [not] in subtype`.
     #[tactic(auto, using(crate::proofs::TermsMade::member_made))]
     pub fn member(value: Box<Term>, is_negated: bool, subtype: SubtypeView) -> Term
         ensures { term_model result ≡ terms.MemberTerm (term_model value.value) is_negated subtype }
@@ -382,7 +382,7 @@ impl Term {
         }
     }
 
-    /// `value [not] in low .. high`
+    /// `value [not] in low .. high`.
     #[tactic(auto, using(crate::proofs::TermsMade::range_member_made))]
     pub fn range_member(value: Box<Term>, is_negated: bool, low: Box<Term>, high: Box<Term>) -> Term
         ensures { term_model result ≡ terms.RangeMemberTerm (term_model value.value) is_negated (term_model low.value) (term_model high.value) }
@@ -411,7 +411,7 @@ impl Term {
         Term::Aggregate { place, components }
     }
 
-    /// `(others => component)`
+    /// `(others => component)`.
     #[tactic(auto, using(crate::proofs::TermsMade::others_made))]
     pub fn others(place: Place, component: Box<Term>) -> Term
         ensures { term_model result ≡ terms.OthersTerm place (term_model component.value) }

@@ -14,8 +14,11 @@ use al_base::NoMemory;
 use al_base_fault::CheckResult;
 use std::alloc::Global;
 
-/// What the term of a complete context means: its one acceptable interpretation, or E402 or E403 at its first token. An aggregate
-/// may stand where a nominal subtype is given for it.
+/// What the term of a complete context means: its one acceptable interpretation. An aggregate is allowed if a nominal subtype is given for
+/// it.
+/// # Errors
+/// `NoMemory` if the allocator refuses memory. The inner error is E402 at the term's first token if it has no acceptable interpretation,
+/// and E403 there if it has several.
 pub fn interpret_term(
     alloc: Global,
     predefined: &Predefined,
@@ -30,7 +33,7 @@ pub fn interpret_term(
     resolve(alloc, first_place(term), None, &head, &expected)
 }
 
-/// A pair of bounds, which are of the type that is wanted of them where both are numbers alone, or else of Integer.
+/// A pair of bounds as a head. If both are numbers alone, they are of the type that is wanted of them, or else of Integer.
 fn bounds_in(
     alloc: Global,
     predefined: &Predefined,
@@ -63,7 +66,10 @@ fn bounds_in(
     }
 }
 
-/// The same of a pair of bounds, which have one type.
+/// What a pair of bounds means in its complete context. Both have one type.
+/// # Errors
+/// `NoMemory` if the allocator refuses memory. The inner error is E402 at the first token of the low bound if the pair has no acceptable
+/// interpretation, and E403 there if it has several.
 pub fn interpret_bounds(
     alloc: Global,
     predefined: &Predefined,

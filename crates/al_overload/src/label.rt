@@ -14,7 +14,7 @@ pub fn number_in(label: &Labelled) -> usize
     }
 }
 
-/// Whether it is an operator of the root type.
+/// Whether the candidate at the head is an operator of the root type.
 pub fn is_root_in(label: &Labelled) -> bool
     ensures { result ≡ is_root_in (label_of label.now) }
 {
@@ -37,7 +37,7 @@ fn nth_label(labels: &LabelledTerms, position: usize) -> Option<&Labelled>
     None
 }
 
-/// The labelling of one of the operands, from 0.
+/// The labelling of one of the operands, counted from 0.
 pub fn operand_label(label: &Labelled, position: usize) -> Option<&Labelled>
     ensures { option_map (λ label. label_of label.now) result ≡ operand_label position (label_of label.now) }
 {

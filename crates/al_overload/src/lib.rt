@@ -1,5 +1,14 @@
-//! What an expression means in its complete context (ARM 8.6): the meanings of its names, operators and aggregates, what each kind of
-//! context wants of it, and its one interpretation or what is wrong with it.
+//! What an expression means in its complete context (ARM 8.6).
+//!
+//! A *term* (`heads_term`) is an expression whose names have been looked up. Its *head* is the name, call or operator that it is an
+//! application of; the head has *candidates* (`candidate`, `heads_candidate`), each of which wants operands of certain types and gives a
+//! value of a type. `heads_head` and `heads_chain` build the tree of heads (`term`) from a term. A *labelling* (`label`) is the tree with
+//! the number of one candidate at each head. `context` says what each kind of complete context wants, `count` in how many ways a tree can
+//! be what is wanted, and `choose` and `meaning` give the one acceptable interpretation, or E402 if there is none and E403 if there are
+//! several.
+//!
+//! `part` and `picked_types` have nominal subtypes, words and ranges, `everywhere` what every unit has, and `laws`, `law`, `heads_laws` and
+//! `picking` the laws that the result obeys.
 #![tactic(auto)]
 
 mod aggregate;

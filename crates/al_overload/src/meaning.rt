@@ -9,7 +9,7 @@ use al_base::{NoMemory, Place};
 use al_base_fault::{CheckResult, CheckRule, Fault};
 use std::alloc::Global;
 
-/// E402 there.
+/// E402 at this place.
 pub fn nothing_fits(place: Place) -> Fault
     ensures { result ≡ nothing_fits place }
 {
@@ -28,9 +28,11 @@ fn several_fit(place: Place) -> Fault
     }
 }
 
-/// What the expression of a complete context means, whose first token stands here, where this is wanted. It has E401 or E404
-/// where a name of its text denotes nothing, or no thing of the right kind, which is told as `missing`; E402 where no
-/// interpretation is acceptable; E403 where several are.
+/// What the expression of a complete context means, if this is wanted of it. Its first token is at `place`. `missing` is the fault of a
+/// name in its source that denotes nothing, or nothing of the right kind.
+/// # Errors
+/// `NoMemory` if the allocator refuses memory. The inner error is `missing`, if there is one; else E402 at `place` if no interpretation is
+/// acceptable, and E403 there if several are.
 #[tactic(auto, using(crate::proofs::MeaningLemmas::meaning_none, crate::proofs::MeaningLemmas::meaning_one, crate::proofs::MeaningLemmas::meaning_several))]
 pub fn resolve(
     alloc: Global,

@@ -1,4 +1,4 @@
-// Operands in a row.
+// Lists of operands.
 ghost use Rattle.std.specs.Prelude.{◌≡◌, map, IfOk};
 ghost use Rattle.al_overload.specs.Counts.{plain, plain_all};
 ghost use Rattle.al_overload.specs.HeadsHeads.{trees_of};

@@ -13,11 +13,13 @@ use al_view_predefined::StandardTypes;
 /// A nominal subtype, with the types that it is of.
 #[derive(Drop)]
 pub struct Nominal {
+    /// The nominal subtype.
     pub subtype: Subtype,
+    /// The types that it is of, itself among them.
     pub types: Types,
 }
 
-/// What the type of a nominal subtype is defined as, where that is known.
+/// The definition of the type of a nominal subtype, if it is known.
 pub(crate) fn definition_of<'a>(
     standard: &'a StandardTypes,
     types: &'a Types,
@@ -48,7 +50,7 @@ fn object_in(view: &View) -> Option<(&Subtype, &Types)>
     }
 }
 
-/// The object that is all that is visible.
+/// The object that is all that is visible, if it is one.
 fn sole_object(visible: &[View]) -> Option<(&Subtype, &Types)>
     ensures { option_map (λ part. nominal part.1.now part.0.now) result ≡ sole_object visible.now }
 {
@@ -59,7 +61,7 @@ fn sole_object(visible: &[View]) -> Option<(&Subtype, &Types)>
     }
 }
 
-/// The component of that name, of a record's components.
+/// The component of that name among a record's components.
 fn component_named<'a>(name: &[u8], components: &'a [Component]) -> Option<&'a Subtype>
     ensures { option_copied result ≡ component_named name.now components.now }
 {
@@ -116,7 +118,7 @@ pub(crate) fn component_of<'a>(
     }
 }
 
-/// The subtype of the components of what has this nominal subtype, where that is an array (ARM 4.1.1).
+/// The subtype of the components of what has this nominal subtype, if that is an array (ARM 4.1.1).
 fn element_of<'a>(
     standard: &'a StandardTypes,
     types: &'a Types,
@@ -130,7 +132,7 @@ fn element_of<'a>(
     }
 }
 
-/// The part of that name of what has this nominal subtype.
+/// The part with that name of what has this nominal subtype.
 pub(crate) fn selected_part<'a>(
     standard: &'a StandardTypes,
     name: &[u8],
@@ -163,7 +165,7 @@ pub(crate) fn indexed_part<'a>(
     }
 }
 
-/// What stands before the last selector of a term, with the selector, or before the last indexes.
+/// What comes before the last selector of a term, with the selector, or before the last indexes.
 #[tactic(auto, using(crate::proofs::TermsSeen::terms_made))]
 fn link_of(term: &Term) -> Option<(&Term, Option<&[u8]>)>
     ensures link { option_map (λ l. (term_model l.0.now, option_map (λ name. name.now) l.1)) result ≡ link_of (term_model term.now) }
@@ -194,7 +196,7 @@ fn link_of(term: &Term) -> Option<(&Term, Option<&[u8]>)>
     }
 }
 
-/// What stands before so many selectors and indexes at the end of a term, or before all, where there are fewer; and how many these are.
+/// What comes before the last `count` selectors and indexes of a term, or before all if there are fewer; and how many these are.
 fn before(term: &Term, most: usize) -> (&Term, usize)
     ensures most { term_model result.0.now ≡ before most (term_model term.now) }
     ensures count { term_model result.0.now ≡ before result.1 (term_model term.now) }
@@ -210,7 +212,7 @@ fn before(term: &Term, most: usize) -> (&Term, usize)
     (rest, most)
 }
 
-/// The part that a selector, or else indexes, make of what has this nominal subtype.
+/// The part that a selector or indexes make of what has this nominal subtype.
 fn linked_part<'a>(
     standard: &'a StandardTypes,
     name: Option<&[u8]>,
@@ -224,8 +226,8 @@ fn linked_part<'a>(
     }
 }
 
-/// The part that the last so many selectors and indexes of a term make of what has this nominal subtype. It goes halfway down and joins both
-/// halves, so that it takes no memory, and of the stack as much as the number of links has digits.
+/// The part that the last selectors and indexes of a term, this many, make of what has this nominal subtype. It halves the number and joins
+/// both halves, so that it takes no memory, and as many frames of the stack as the number of links has digits.
 fn built_up<'a>(
     standard: &'a StandardTypes,
     term: &'a Term,
@@ -260,7 +262,7 @@ fn last_part<'a>(
     }
 }
 
-/// The same of what stands before a selector or indexes, which may be a part of parts.
+/// The nominal subtype of what comes before a selector or indexes, which may itself be a part of a part.
 #[cycle(parts)]
 fn inner_part<'a>(standard: &'a StandardTypes, term: &'a Term) -> Option<(&'a Subtype, &'a Types)>
     ensures { option_map (λ part. nominal part.1.now part.0.now) result ≡ part_of (term_model term.now) }
@@ -270,8 +272,8 @@ fn inner_part<'a>(standard: &'a StandardTypes, term: &'a Term) -> Option<(&'a Su
     built_up(standard, term, count, part)
 }
 
-/// The nominal subtype of a term that is an object or a part of one, without regard to indexes. What is selected or indexed in a
-/// call's result, in a conversion or in a qualified expression is none.
+/// The nominal subtype of a term that is an object or a part of one, without regard to indexes. What is selected or indexed in a call's
+/// result, in a conversion or in a qualified expression has none.
 #[cycle(parts)]
 pub fn part_of<'a>(standard: &'a StandardTypes, term: &'a Term) -> Option<(&'a Subtype, &'a Types)>
     ensures { option_map (λ part. nominal part.1.now part.0.now) result ≡ part_of (term_model term.now) }

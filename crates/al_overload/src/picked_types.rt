@@ -1,4 +1,4 @@
-// Types, words and ranges as labels tell them.
+// Types, words and ranges as labels show them.
 ghost use Rattle.std.specs.Prelude.{◌≡◌, option_map};
 ghost use Rattle.std.specs.Option.{option_copied};
 ghost use Rattle.al_overload.specs.PickedTypes.{array_in, array_of, component_at, count_of, indexing, indexing_of, is_scalar_definition, is_scalar_type, length_of, placed, placed_by, placed_in, positions_in, positions_of, range_in, type_range, words_in};
@@ -6,7 +6,7 @@ ghost use Rattle.al_overload.specs.PickedTypes.{array_in, array_of, component_at
 use al_view::{Bounds, Component, Layout, Subtype, Symbol, TypeDefinition, TypeView, Types};
 use al_view_predefined::StandardTypes;
 
-/// The words of a value; of a type that isn't known none.
+/// How many words a value of a type has; none if the type isn't known.
 pub fn words_in(standard: &StandardTypes, types: &Types, of: &Symbol) -> u32
     ensures { result ≡ words_in types.now of.now }
 {
@@ -79,7 +79,7 @@ pub fn length_of(bounds: Bounds) -> i64
     bounds.high.saturating_sub(bounds.low).saturating_add(1)
 }
 
-/// The same as a number of components.
+/// How many values a range has, as a number of components.
 pub fn count_of(bounds: Bounds) -> u32
     ensures { result ≡ count_of bounds }
 {
@@ -114,11 +114,14 @@ fn array_of<'a>(
     }
 }
 
-/// What the type of an index is, what range it has, and what it leads to.
+/// The type of an index, the index's range, and the component that it leads to.
 #[derive(Drop)]
 pub struct Indexing<'a> {
+    /// The type of the index.
     pub index: &'a Symbol,
+    /// The range of the index.
     pub bounds: Bounds,
+    /// The component's subtype.
     pub component: &'a Subtype,
 }
 
@@ -187,7 +190,7 @@ fn placed_in<'a>(name: &[u8], of: &'a TypeView) -> Option<(&'a Subtype, u32)>
     }
 }
 
-/// The component of that name, with the word of the record from which it lies.
+/// The component of that name, with its first word within the record.
 pub fn component_at<'a>(
     standard: &'a StandardTypes,
     name: &[u8],

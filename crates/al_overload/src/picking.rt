@@ -1,4 +1,4 @@
-// Which declaration the number of a candidate means.
+// Which declaration a candidate's number means.
 ghost use Rattle.std.specs.Prelude.{◌≡◌, option_map};
 ghost use Rattle.al_overload.specs.Picks.{NumbersMeanCandidates, candidate_count, object_count, pick};
 
@@ -18,7 +18,7 @@ fn count_of_definition(definition: &TypeDefinition) -> usize
     }
 }
 
-/// An object of an array type may be itself or one of its components.
+/// How many candidates an object gives: an object of an array type may be itself or one of its components.
 fn object_count(standard: &StandardTypes, object: &ObjectView) -> usize
     ensures { result ≡ candidate_count (ViewKind.OfObject object.now) }
 {
@@ -65,7 +65,7 @@ pub fn pick<'a>(
     None
 }
 
-/// The candidate that has a number, among all that some declarations may be, is that one of the declaration that is picked by it.
+/// The candidate with a number, among all that some declarations may be, is the one that `pick` finds for that number.
 pub fn numbers_mean_candidates()
     ensures { NumbersMeanCandidates }
 {}

@@ -1,4 +1,4 @@
-// Where a term begins.
+// The places where terms begin.
 ghost use Rattle.std.specs.Prelude.{◌≡◌};
 ghost use Rattle.al_overload.specs.Places.{first_place};
 ghost use Rattle.al_overload.specs.TermViews.{term_model};

@@ -1,4 +1,4 @@
-// A pair of bounds, and a membership: one type of all operands.
+// Pairs of bounds and memberships: all operands have one type.
 ghost use Rattle.std.specs.Prelude.{◌≡◌, [], ◌++◌, fold, map, IfOk, OnOk};
 ghost use Rattle.al_overload.specs.Counts.{AreCounted, candidates, counted_all, plain, plain_all};
 ghost use Rattle.al_overload.specs.Ranges.{added, added_given, alike, all_of, has_type, one_type, types_or, with_types};
@@ -10,7 +10,9 @@ use al_view::{Seq, Symbol};
 use std::alloc::Global;
 
 impl ValueType {
-    /// The same type once more.
+    /// A copy of the type.
+    /// # Errors
+    /// `NoMemory` if the allocator refuses memory.
     pub fn copy(&self, alloc: Global) -> Result<ValueType, NoMemory>
         ensures { IfOk result (λ copy. copy ≡ self.now) }
     {
@@ -33,7 +35,7 @@ fn has_type(types: &[ValueType], expected: &ValueType) -> bool
     false
 }
 
-/// One more type, unless it is there.
+/// Adds a type, unless it is there.
 fn add_type(alloc: Global, types: &mut Seq<ValueType>, given: &ValueType) -> Result<(), NoMemory>
     ensures { OnOk result (types.new ≡ added types.old given.now) }
 {
@@ -44,7 +46,7 @@ fn add_type(alloc: Global, types: &mut Seq<ValueType>, given: &ValueType) -> Res
     Ok(())
 }
 
-/// The discrete type that a candidate gives, unless it is there.
+/// Adds the discrete type that a candidate gives, unless it is there.
 fn add_given(
     alloc: Global,
     types: &mut Seq<ValueType>,
@@ -66,7 +68,7 @@ fn add_given(
     }
 }
 
-/// The discrete types that these candidates give, beside those that are there.
+/// Adds the discrete types that these candidates give, unless they are there.
 fn add_all_given(
     alloc: Global,
     types: &mut Seq<ValueType>,
@@ -80,7 +82,7 @@ fn add_all_given(
     Ok(())
 }
 
-/// The discrete types of which the heads of these operands may be, beside those that are there.
+/// Adds the discrete types that the heads of these operands may have, unless they are there.
 fn add_types(alloc: Global, types: &mut Seq<ValueType>, operands: &Terms) -> Result<(), NoMemory>
     ensures { OnOk result (types.new ≡ with_types types.old (plain_all operands.now)) }
 {
@@ -93,7 +95,7 @@ fn add_types(alloc: Global, types: &mut Seq<ValueType>, operands: &Terms) -> Res
     Ok(())
 }
 
-/// As many operands of this type.
+/// Operands of this type, as many as are given.
 #[tactic(auto, using(std::proofs::Common::append_assoc))]
 fn want_all(
     alloc: Global,
@@ -111,7 +113,8 @@ fn want_all(
     Ok(())
 }
 
-/// The candidate of a head whose operands are all of this type. It gives a value of that type, where it doesn't always give one of another.
+/// The candidate of a head whose operands are all of this type. It gives a value of that type, unless a head of its kind always gives
+/// another type.
 fn one_type(
     alloc: Global,
     of: &ValueType,
@@ -134,7 +137,7 @@ fn one_type(
     })
 }
 
-/// A candidate for each of these types.
+/// Adds a candidate for each of these types.
 fn add_each(
     alloc: Global,
     choices: &mut Choices,
@@ -154,7 +157,7 @@ fn add_each(
     Ok(())
 }
 
-/// The types that the operands of a head may all be of; where all are numbers alone, this one.
+/// The types that the operands of a head may all have; if all are numbers alone, the given one.
 fn common_types(
     alloc: Global,
     numbers: &ValueType,
@@ -198,8 +201,10 @@ fn choices_of(
 }
 
 impl Expression {
-    /// A head whose operands are all of one type: a pair of bounds, which is of that type, or a membership, which is always
-    /// Boolean. Where all operands are numbers alone, they are of the type that is given for that.
+    /// A head whose operands are all of one type: a pair of bounds, which is of that type, or a membership, which is always Boolean. If all
+    /// operands are numbers alone, they are of the type that is given for that.
+    /// # Errors
+    /// `NoMemory` if the allocator refuses memory.
     pub fn alike(
         alloc: Global,
         operands: Operands,

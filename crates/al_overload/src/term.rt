@@ -13,19 +13,22 @@ use std::alloc::Global;
 use std::default::MadeWith;
 use std::marker::Model;
 
-/// A declaration that the name, call or operator at the head of an expression may mean.
+/// A candidate: a declaration that the name, call or operator at the head of an expression may mean.
 #[derive(Drop)]
 pub struct Candidate {
     /// What its operands are expected to be.
     pub operands: Seq<Expected>,
+    /// What it gives.
     pub given: Given,
     /// Whether it is an operator of the root type of all integer types (ARM 3.4.1(8)), which is preferred (ARM 8.6(29)).
     pub is_root: bool,
 }
 
-/// A candidate, and in how many ways its operands can be what it wants.
+/// A candidate, with the number of ways in which its operands can be what it wants.
 pub struct Choice {
+    /// The candidate.
     pub candidate: Candidate,
+    /// In how many ways its operands can be what it wants.
     pub ways: Count,
 }
 
@@ -38,7 +41,7 @@ impl Drop for Choice {
     }
 }
 
-// What stands in an inline place that no choice has taken yet.
+// The value of an inline slot that no choice has taken yet.
 impl MadeWith<Global> for Choice {
     fn made_with(alloc: Global) -> Choice {
         let candidate = Candidate {
@@ -76,11 +79,12 @@ impl Model for Choices {
 /// An expression inside another one: the candidates of the name, call or operator at its head, and its operands.
 #[cycle(term)]
 pub enum Term {
+    /// The candidates of the head, and the operands.
     Head(Choices, Terms),
 }
 
-// A chain of operators leans to the left: the first operand is let go by the loop, and the others by a call, so that no chain takes more of
-// the stack than its nesting; nor does a list of arguments.
+// A chain of operators leans to the left. The loop drops the first operand and a call each of the others, so that no chain takes more stack
+// than its nesting needs; nor does a list of arguments.
 impl Drop for Term {
     #[cycle(drop_term)]
     fn drop(mut self) {
@@ -95,6 +99,7 @@ impl Drop for Term {
     }
 }
 
+/// Terms in source order.
 #[cycle(term)]
 pub enum Terms {
     NoTerms,
@@ -102,7 +107,7 @@ pub enum Terms {
 }
 
 impl Terms {
-    /// The first; the others are let go.
+    /// The first term; the others are dropped.
     #[cycle(drop_term)]
     fn into_first(self) -> Option<Term>
         ensures { IfSome result (λ first. IsWithin first self) }
@@ -126,7 +131,7 @@ impl Drop for Terms {
     }
 }
 
-/// Operands, in the order of the text.
+/// Operands, in source order.
 pub struct Operands {
     pub(crate) terms: Terms,
 }
@@ -189,7 +194,7 @@ pub enum Labelled {
     HeadAs(usize, bool, LabelledTerms),
 }
 
-// Let go as candidates are.
+// A labelling is dropped as a `Term` is.
 impl Drop for Labelled {
     #[cycle(drop_labelled)]
     fn drop(mut self) {
@@ -204,6 +209,7 @@ impl Drop for Labelled {
     }
 }
 
+/// Labellings in source order.
 #[cycle(labelled)]
 pub enum LabelledTerms {
     NoLabelled,
@@ -211,7 +217,7 @@ pub enum LabelledTerms {
 }
 
 impl LabelledTerms {
-    /// The first; the others are let go.
+    /// The first labelling; the others are dropped.
     #[cycle(drop_labelled)]
     fn into_first(self) -> Option<Labelled>
         ensures { IfSome result (λ first. IsLabelledWithin first self) }
@@ -236,6 +242,7 @@ impl Drop for LabelledTerms {
 }
 
 impl Choices {
+    /// No candidates. It takes no memory.
     pub fn new(alloc: Global) -> Choices
         ensures { result ≡ [] }
     {
@@ -244,13 +251,16 @@ impl Choices {
         }
     }
 
+    /// The candidates, in the order in which they were added.
     pub fn as_slice(&self) -> &[Choice]
         ensures { result.now ≡ self.now }
     {
         self.items.as_slice()
     }
 
-    /// One more candidate for the head of these operands.
+    /// Adds a candidate for the head of these operands.
+    /// # Errors
+    /// `NoMemory` if the allocator refuses memory; no candidate is added then.
     #[tactic(auto, using(crate::proofs::Counting::counted_more))]
     pub fn add(&mut self, candidate: Candidate, operands: &Terms) -> Result<(), NoMemory>
         requires counted { self.old ≡ counted_all (plain_all operands.now) (candidates self.old) }
@@ -282,7 +292,9 @@ impl Operands {
         }
     }
 
-    /// One operand before these.
+    /// Puts one operand before these.
+    /// # Errors
+    /// `NoMemory` if the allocator refuses memory.
     pub fn before(alloc: Global, operand: Expression, more: Operands) -> Result<Operands, NoMemory>
         ensures { IfOk result (λ all. plain_all all ≡ trees.MoreTrees (plain operand) (plain_all more)) }
     {
@@ -305,7 +317,7 @@ impl Expression {
         }
     }
 
-    // The same inside another one.
+    // The expression as a `Term` inside another expression.
     fn into_term(self) -> Term
         ensures term { result ≡ self }
         ensures counted { IsCounted result }
@@ -314,7 +326,9 @@ impl Expression {
         Term::Head(choices, operands)
     }
 
-    /// One more candidate of its head.
+    /// Adds a candidate of the head.
+    /// # Errors
+    /// `NoMemory` if the allocator refuses memory; no candidate is added then.
     pub fn add(&mut self, candidate: Candidate) -> Result<(), NoMemory>
         ensures { plain self.new ≡ (if is_ok result then with_candidate (plain self.old) candidate else plain self.old) }
     {

@@ -8,17 +8,19 @@ use al_view::Symbol;
 /// What the values of a type are.
 #[derive(Clone, Copy)]
 pub enum Class {
-    /// Of an integer type (ARM 3.5.4).
+    /// Values of an integer type (ARM 3.5.4).
     Integer,
-    /// Of an enumeration type (ARM 3.5.1).
+    /// Values of an enumeration type (ARM 3.5.1).
     Enumeration,
-    /// Composite, or of a private type.
+    /// Values of a composite or private type.
     Other,
 }
 
 /// A type, by its symbol, with what its values are.
 pub struct ValueType {
+    /// The type's symbol.
     pub symbol: Symbol,
+    /// What its values are.
     pub class: Class,
 }
 
@@ -31,7 +33,7 @@ impl Drop for ValueType {
     }
 }
 
-/// What a declaration gives where it stands in an expression.
+/// What a declaration gives if it is used in an expression.
 pub enum Given {
     /// No value: a procedure or an entry.
     Nothing,
@@ -58,11 +60,11 @@ impl Drop for Given {
 pub enum Expected {
     /// A call without a value.
     Nothing,
-    /// Of this type.
+    /// A value of this type.
     Value(ValueType),
-    /// Of any integer type.
+    /// A value of any integer type.
     AnyInteger,
-    /// Of any integer or enumeration type.
+    /// A value of any integer or enumeration type.
     AnyDiscrete,
     /// A value of any type.
     AnyValue,
@@ -84,7 +86,7 @@ impl Drop for Expected {
 }
 
 impl Class {
-    /// Whether these are whole numbers.
+    /// Whether the values are whole numbers.
     pub fn is_integer(self) -> bool
         ensures { result ≡ is_integer self }
     {
@@ -95,7 +97,7 @@ impl Class {
         }
     }
 
-    /// Whether each has one before it and one after it.
+    /// Whether the values are discrete: each has one before it and one after it, except at the ends.
     pub fn is_discrete(self) -> bool
         ensures { result ≡ is_discrete self }
     {

@@ -1,4 +1,4 @@
--- Which units are asked where a name is selected.
+-- Which units are asked if a name is selected.
 use Rattle.std.proofs.Common.{◌≡◌, List, [], ◌∷◌, Bool, true, false, cond, ◌||◌, Option, Some, None, refl, sym, ap, ◌∙◌, subst}
 use Rattle.std.specs.Option.{option_map_or}
 use Rattle.al_base.specs.declared.unit_key.UnitKey.{UnitKey}

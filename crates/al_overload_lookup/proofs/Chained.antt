@@ -1,4 +1,4 @@
--- What begins with an operand or a name, with one more link at its front and without it.
+-- What begins with an operand or a name, with one more link at its beginning and without it.
 use Rattle.std.proofs.Common.{◌≡◌, ℕ, ◌≤◌, true, false, List, [], ◌∷◌, ◌++◌, Option, Some, None, refl, sym, ap, subst, ◌∙◌, append_assoc, append-nil, arith}
 use Rattle.std.specs.Option.{option_to_list}
 use Rattle.std.specs.Prelude.{option_map}

@@ -1,4 +1,4 @@
--- A name of identifiers: where nothing is visible under a front of it, nothing is selected after that front.
+-- A name of identifiers: if nothing is visible under a prefix of it, nothing is selected after that prefix.
 use Rattle.std.proofs.Common.{◌≡◌, ℕ, suc, ◌+◌, ◌<◌, List, [], ◌∷◌, ◌++◌, Bool, true, false, cond, if◌then◌else◌, length, drop, drop-cons, add-one, get_or, map, Option, Some, None, refl, sym, ap, ◌∙◌, subst, arith}
 use Rattle.std.proofs.lemmas.List.{length-append}
 use Rattle.std.proofs.lemmas.Slice.Eq.{bytes_eq-Decides}
@@ -26,7 +26,7 @@ same-front : (b : Bool) (here : List ViewKind) (one two : Option (List ViewKind)
 same-front true here one two h = refl
 same-front false here one two h = h
 
--- the next item stands in front of the rest
+-- the next item is before the rest
 left : {X : Type 0} (xs : List X) (i : ℕ) (x : X) → i < length xs → x ≡ get_or xs i x → drop i xs ≡ x ∷ drop (i + 1) xs
 left xs i x inside is = rw add-one (drop-cons xs i x inside ∙ ap (λ y. y ∷ drop (suc i) xs) (sym is))
 
@@ -68,7 +68,7 @@ each-other t place packages key name other names (v ∷ vs) h =
 longer : (key name : List ℕ) → length key < length (dotted key name)
 longer key name = omega (arith, length-append key (46 ∷ name))
 
--- nothing is visible under a name that is longer than this front
+-- nothing is visible under a name that is longer than this prefix
 abbrev pub IsFront : Names → List ℕ → Type 0
 IsFront names key = (q : List ℕ) → length key < length q → views_of names.visible q ≡ []
 
@@ -87,7 +87,7 @@ next_front t place packages names key name front q h = at (is_new names (Selecte
     at true = each-other t place packages (dotted key name) name q names (views_of names.visible key) (apart q (dotted key name) h) ∙ front q more
     at false = front q more
 
--- a selector after a front under which nothing is visible
+-- a selector after a prefix under which nothing is visible
 pub stays : (t : Table) (place : Place) (packages : List UnitKey) (names : Names) (key name : List ℕ) → views_of names.visible key ≡ [] → looked_up t place packages names (Selected key name) ≡ names
 unfolding looked_up
 stays t place packages names key name none = at (is_new names (Selected key name))
@@ -139,6 +139,6 @@ started t place packages names first key xs is key_is = (
   subst (λ (k : List ℕ). IsFront names k) (sym key_is) (subst (λ (n : Names). IsFront n first.text) (sym is) (first_front t place packages first.text)),
 )
 
--- where nothing is visible under a front
+-- if nothing is visible under a prefix
 pub rest_stays : (t : Table) (place : Place) (packages : List UnitKey) (names : Names) (key : List ℕ) (xs : List Identifier) → is_none (views_of names.visible key) ≡ true → IsFront names key → with_rest t place packages names key xs ≡ names
 rest_stays t place packages names key xs none front = all_stay t place packages names key (map identifier_label xs) (none_there (views_of names.visible key) none) front

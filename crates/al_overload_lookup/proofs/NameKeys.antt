@@ -34,7 +34,7 @@ pub member_key : (m : Member) → key_of (member_model m) ≡ None
 member_key m = ap key_of (member_fields m)
     ∙ no_key (expression_model (out-Member m).left) (option_map place_label (out-Member m).not) (expression_model (out-Member m).low) (option_map expression_model (out-Member m).high)
 
--- ---- a name with one more selector at its front
+-- ---- a name with one more selector at its beginning
 
 pub first_selected : (selectors : List Identifier) (selector : Identifier) (key : Option (List ℕ)) → all_selected (selectors ++ selector ∷ []) key ≡ all_selected selectors (option_map (λ k. dotted k (identifier_label selector).text) key)
 first_selected [] selector key = refl
@@ -44,7 +44,7 @@ pub none_selected : (selectors : List Identifier) → all_selected selectors Non
 none_selected [] = refl
 none_selected (s ∷ selectors) = ap (option_map (λ k. dotted k (identifier_label s).text)) (none_selected selectors)
 
--- ---- the entries of a list, each of which tells a selector
+-- ---- the entries of a list, each of which is a selector
 
 -- a step down: one more selector
 pub pushed_selected : {R : Type 0} (now : R → Identifier) (old new : List R) (s : R) (before rest whole : Option (List ℕ)) → new ≡ old ++ s ∷ [] → option_map (λ k. dotted k (identifier_label (now s)).text) before ≡ rest

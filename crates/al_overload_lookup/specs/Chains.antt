@@ -1,4 +1,4 @@
--- What begins with an operand or a name: what stands after that.
+-- What begins with an operand or a name: what comes after that.
 use Rattle.std.specs.Prelude.{ℕ, ◌<◌, ◌≤◌, Bool, true, false, List, [], ◌∷◌, ◌++◌, Option, Some, None, option_map, ⊤}
 use Rattle.al_overload_lookup.specs.Keys.{key_with}
 use Rattle.al_overload_lookup.specs.TextNames.{names_in, operator_sign, part_names, sign_names}
@@ -39,7 +39,7 @@ tested_names low (Some high) = names_in low ++ names_in high
 abbrev pub test_names : Member → List TextName
 test_names member = tested_names (expression_model (out-Member member).low) (option_map expression_model (out-Member member).high)
 
--- after a name, if what stands before is one
+-- after a name, if what comes before is one
 abbrev pub link_names : Option (List ℕ) → Link → List TextName
 link_names key (links.Part longer) = last_part_names key longer.now
 link_names key (links.Operator operation) = operation_names operation.now
@@ -74,6 +74,6 @@ abbrev pub AreBelow : Expression → List Link → Type 0
 AreBelow whole [] = ⊤
 AreBelow whole (link ∷ links) = IsBelow whole link × AreBelow whole links
 
--- what stands first is no deeper than the whole
+-- what is first is no deeper than the whole
 abbrev pub AreWithin : Expression → Expression → List Link → Type 0
 AreWithin whole first links = (size-Expression first ≤ size-Expression whole) × AreBelow whole links

@@ -20,7 +20,7 @@ abbrev pub all_selected : List Identifier → Option (List ℕ) → Option (List
 all_selected [] key = key
 all_selected (selector ∷ selectors) key = option_map (λ k. dotted k (identifier_label selector).text) (all_selected selectors key)
 
--- what stands before the selector is less deep
+-- what comes before the selector is less deep
 abbrev pub IsBelow : Expression → Ending → Type 0
 IsBelow expression (endings.Selector prefix selector) = size-Expression prefix.now < size-Expression expression
 IsBelow expression (endings.Identifier identifier) = ⊤

@@ -10,7 +10,7 @@ use Rattle.al_view.specs.declared.view.ViewKind.{ViewKind}
 use Rattle.al_overload_lookup.specs.declared.denoted.Names.{Names}
 use Rattle.al_overload_lookup.specs.Places.{place_of}
 
--- what names denote at a place: the declarations that are visible under a name; and where it was selected, those in which it was looked for
+-- what names denote at a place: the declarations that are visible under a name; and if it was selected, those in which it was looked for
 pub record Denotations : Type 0 where
   pub visible : List ℕ → List ViewKind
   pub prefixes : List ℕ → List ViewKind
@@ -30,7 +30,7 @@ key_with key (part.Attribute l) = None
 key_with key part.RangeAttribute = None
 key_with key (part.Operand g) = None
 
--- the name that an expression is, where it is one
+-- the name that an expression is, if it is one
 abbrev pub key_of : ExpressionTree → Option (List ℕ)
 key_of (e.Name l) = Some l.text
 key_of (e.Longer prefix p) = key_with (key_of prefix) p

@@ -1,4 +1,4 @@
--- Names and signs of a text by their parts, of which each is told once.
+-- Names and signs of a text by their parts, each of which is there once.
 use Rattle.std.specs.Prelude.{◌≡◌, ◌<◌, ℕ, Bool, false, nat_lt, length, List, [], ◌∷◌, fold, Option, Some, None, if◌then◌else◌}
 use Rattle.al_overload_lookup.specs.Keys.{dotted}
 use Rattle.al_overload_lookup.specs.declared.denoted.Names.{Names}
@@ -30,7 +30,7 @@ names_of ps = names_from [] ps
 unfoldable pub last_key : List Piece → List ℕ
 last_key ps = fold piece_key [] ps
 
--- that name, if what stands before is one
+-- that name, if what comes before is one
 abbrev pub front : Bool → List Piece → Option (List ℕ)
 front named ps = if named then Some (last_key ps) else None
 

@@ -1,4 +1,4 @@
--- The names and signs that stand in a text, in its order (ARM 4.1, 4.5).
+-- The names and signs in an expression, in source order (ARM 4.1, 4.5).
 use Rattle.std.specs.Prelude.{ℕ, List, [], ◌∷◌, ◌++◌, codes, Option, Some, None}
 use Rattle.al_tree_grammar.specs.Grammar.{Label}
 use Rattle.al_overload_lookup.specs.Keys.{dotted, key_of}
@@ -85,11 +85,11 @@ unfoldable mutual
   all_names es.NoExpression = []
   all_names (es.MoreExpressions x xs) = names_in x ++ all_names xs
 
--- those of the selectors of a name of identifiers, each in what stands before it
+-- the names of the selectors of a name of identifiers, each in what comes before it
 abbrev pub selector_names : List ℕ → List Label → List TextName
 selector_names key [] = []
 selector_names key (l ∷ ls) = Selected key l.text ∷ selector_names (dotted key l.text) ls
 
--- those of a name of identifiers
+-- the names in a name of identifiers
 abbrev pub identifier_names : Label → List Label → List TextName
 identifier_names first selectors = Simple first.text ∷ selector_names first.text selectors

@@ -1,4 +1,5 @@
-// What begins with an operand or a name: `A - B + C` has `A - B` at the left of its `+`, and `A (1).C` has `A (1)` before its dot.
+// Expressions that begin with an operand or a name: `A - B + C` has `A - B` at the left of its `+`, and `A (1).C` has `A (1)` before its
+// dot.
 ghost use Rattle.std.specs.Prelude.{◌≡◌, ◌++◌, IfOk, IfSome, MatchOption, false};
 ghost use Rattle.al_overload_lookup.specs.Keys.{key_of};
 ghost use Rattle.al_overload_lookup.specs.Chains.{AreWithin, IsBelow, IsLeft, chained_names, leans, link_key, link_names};
@@ -9,7 +10,7 @@ use al_base::NoMemory;
 use al_tree::{Expression, Infix, Longer, Member};
 use std::alloc::Global;
 
-/// What stands after the left operand or the prefix of a text.
+/// What comes after the left operand or the prefix of an expression.
 #[derive(Drop)]
 pub(crate) enum Link<'a> {
     /// The last part of a name.
@@ -20,14 +21,14 @@ pub(crate) enum Link<'a> {
     Test(&'a Member),
 }
 
-/// A text: what it begins with, and what stands after that. The last link of the text comes first.
+/// An expression: what it begins with, and what comes after that. The last link in source order comes first.
 #[derive(Drop)]
 pub(crate) struct Chain<'a> {
     pub(crate) first: &'a Expression,
     pub(crate) links: Vec<Link<'a>>,
 }
 
-/// The last link of a text, and what stands before it.
+/// The last link of an expression, and what comes before it.
 #[tactic(auto, using(crate::proofs::Chained::longer_split, crate::proofs::NameKeys::longer_key, crate::proofs::NameKeys::infix_key, crate::proofs::NameKeys::member_key, crate::proofs::Chained::infix_split, crate::proofs::Chained::member_split, crate::proofs::Chained::prefixed_leans, al_tree::proofs::ExpressionsMade::expression_numeric_model, al_tree::proofs::ExpressionsMade::expression_text_model, al_tree::proofs::ExpressionsMade::expression_name_model, al_tree::proofs::ExpressionsMade::expression_longer_model, al_tree::proofs::ExpressionsMade::expression_prefixed_model, al_tree::proofs::ExpressionsMade::expression_infix_model, al_tree::proofs::ExpressionsMade::expression_member_model, al_tree::proofs::ExpressionsMade::expression_group_model))]
 fn last_link(expression: &Expression) -> Option<(Link<'_>, &Expression)>
     ensures names { MatchOption result (leans (expression_model expression.now) ≡ false) (λ l. names_in (expression_model expression.now) ≡ names_in (expression_model l.1.now) ++ link_names (key_of (expression_model l.1.now)) l.0) }
@@ -46,7 +47,7 @@ fn last_link(expression: &Expression) -> Option<(Link<'_>, &Expression)>
     }
 }
 
-/// The links of a text.
+/// The links of an expression.
 pub(crate) fn chain_of(alloc: Global, expression: &Expression) -> Result<Chain<'_>, NoMemory>
     ensures names { IfOk result (λ c. names_in (expression_model c.first.now) ++ chained_names (key_of (expression_model c.first.now)) c.links.items ≡ names_in (expression_model expression.now)) }
     ensures within { IfOk result (λ c. AreWithin expression.now c.first.now c.links.items) }

@@ -1,4 +1,4 @@
-// Names of a text (ARM 4.1.3).
+// Names in expressions (ARM 4.1.3).
 ghost use Rattle.std.specs.Prelude.{◌≡◌, IfOk, OnOk, Some, map, option_map};
 ghost use Rattle.al_overload_lookup.specs.Endings.{IsBelow, IsBelowName, all_selected, ended_key};
 ghost use Rattle.al_overload_lookup.specs.Keys.{dotted, is_none, key_of, not_visible};
@@ -11,7 +11,7 @@ use al_tree::{Expression, Identifier, Longer, NamePart};
 use al_view::View;
 use std::alloc::Global;
 
-/// Selects a name in the one that the key is.
+/// Appends a dot and a name to the key.
 fn select(key: &mut Vec<u8>, name: &[u8]) -> Result<(), NoMemory>
     ensures { OnOk result (key.new.items ≡ dotted key.old.items name.now) }
 {
@@ -20,7 +20,9 @@ fn select(key: &mut Vec<u8>, name: &[u8]) -> Result<(), NoMemory>
     Ok(())
 }
 
-/// A name that is selected in another one.
+/// A name that is selected in another one, as a key.
+/// # Errors
+/// `NoMemory` if the allocator refuses memory.
 pub fn dotted(alloc: Global, prefix: &[u8], name: &[u8]) -> Result<Vec<u8>, NoMemory>
     ensures { IfOk result (λ key. key.items ≡ dotted prefix.now name.now) }
 {
@@ -32,14 +34,14 @@ pub fn dotted(alloc: Global, prefix: &[u8], name: &[u8]) -> Result<Vec<u8>, NoMe
 /// How an expression ends.
 #[derive(Drop)]
 pub(crate) enum Ending<'a> {
-    /// A selector, and what stands before it.
+    /// A selector, and what comes before it.
     Selector(&'a Expression, &'a Identifier),
     Identifier(&'a Identifier),
-    /// It is no name.
+    /// The expression is no name.
     Other,
 }
 
-/// A name by its last part.
+/// A name, longer by its last part.
 #[tactic(auto, using(crate::proofs::NameKeys::longer_key, al_tree::proofs::ExpressionsMade::part_selector_model, al_tree::proofs::ExpressionsMade::part_arguments_model, al_tree::proofs::ExpressionsMade::part_attribute_model, al_tree::proofs::ExpressionsMade::part_range_attribute_model, al_tree::proofs::ExpressionsMade::part_operand_model))]
 fn longer_ending(longer: &Longer) -> Ending<'_>
     ensures key { ended_key result ≡ key_of (longer_model longer.now) }
@@ -71,7 +73,7 @@ fn ending_of(expression: &Expression) -> Ending<'_>
     }
 }
 
-/// An identifier with these selectors, of which the first one of the text comes last.
+/// An identifier with these selectors, in reverse order.
 fn selected_in(
     alloc: Global,
     identifier: &Identifier,
@@ -87,7 +89,9 @@ fn selected_in(
     Ok(key)
 }
 
-/// The name that an expression is, where it is one. Its selectors are gone down by a loop, so that they take nothing of the stack.
+/// The name that an expression is, if it is one. Its selectors are processed by a loop, so that they take no stack.
+/// # Errors
+/// `NoMemory` if the allocator refuses memory.
 #[tactic(auto, using(crate::proofs::NameKeys::none_selected))]
 pub fn key_of(alloc: Global, expression: &Expression) -> Result<Option<Vec<u8>>, NoMemory>
     ensures { IfOk result (λ key. option_map (λ k. k.items) key ≡ key_of (expression_model expression.now)) }

@@ -1,4 +1,4 @@
-// The names of an expression's text, looked up at its place.
+// The names in an expression, looked up at its place.
 ghost use Rattle.std.specs.Prelude.{◌≡◌, IfOk, OnOk};
 ghost use Rattle.al_overload_lookup.specs.Lookups.{asked_units, found, is_new, looked_up, names_at, with_prefixed, with_visible};
 ghost use Rattle.al_query.specs.Asked.{AsksOf, by_some_name};
@@ -118,7 +118,9 @@ pub(crate) fn look_up<A: Answers>(
     Ok(())
 }
 
-/// What the names of an expression's text denote at its place, where these packages are mentioned.
+/// What the names in an expression denote at its place, if these packages are mentioned.
+/// # Errors
+/// `NoMemory` if the allocator refuses memory.
 pub fn names<A: Answers>(
     alloc: Global,
     scope: &Scope,

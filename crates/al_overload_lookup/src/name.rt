@@ -1,7 +1,7 @@
-// Names and signs of a text.
+// Names and signs in an expression.
 use al_base::Name;
 
-/// A name or a sign that stands in a text, in lower case.
+/// A name or a sign in an expression, in lower case.
 pub enum TextName {
     /// An identifier alone, or the sign of an operator.
     Simple(Name),

@@ -1,7 +1,7 @@
 // Parts of names.
 use al_base::Name;
 
-/// A part of a name of a text, in lower case, with no copy of what stands before it.
+/// A part of a name in an expression, in lower case, with no copy of what comes before it.
 pub(crate) enum Piece {
     /// An identifier alone, or the sign of an operator.
     Alone(Name),

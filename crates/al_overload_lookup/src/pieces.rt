@@ -1,4 +1,4 @@
-// Names of a text, part after part, looked up at its place as far as something is visible (ARM 4.1.3).
+// The names in an expression, part after part, looked up at its place as far as something is visible (ARM 4.1.3).
 ghost use Rattle.std.specs.Prelude.{◌≡◌, ◌≤◌, false, length, IfOk, OnOk};
 ghost use Rattle.al_overload_lookup.specs.Keys.{is_none};
 ghost use Rattle.al_overload_lookup.specs.Lookups.{asked_units, looked_up, looked_up_all};
@@ -52,7 +52,7 @@ fn add_to_key(key: &mut Vec<u8>, piece: &Piece) -> Result<(), NoMemory>
     }
 }
 
-/// Whether a part is a selector after a name of more than so many bytes.
+/// Whether a part is a selector after a name of more than this many bytes.
 fn is_past(key: &[u8], longest: usize, piece: &Piece) -> bool
     ensures { result ≡ is_past key.now longest piece.now }
 {
@@ -62,7 +62,7 @@ fn is_past(key: &[u8], longest: usize, piece: &Piece) -> bool
     }
 }
 
-/// How many bytes a name has at most under which something is visible, where this one was looked up last.
+/// The most bytes that a name has under which something is visible, after this one was looked up last.
 fn longest_with(names: &Names, key: &[u8], longest: usize) -> usize
     ensures before { longest ≤ result }
     ensures found { is_none (views_of names.now.visible key.now) ≡ false → length key.now ≤ result }
@@ -92,8 +92,8 @@ fn look_up_one<A: Answers>(
     Ok(())
 }
 
-/// Looks up the name that a part is, and makes the key that name. Where nothing is visible under a name of more than `longest` bytes,
-/// nothing is selected after such a one; gives how many bytes these names have at most then.
+/// Looks up the name that a part is, and makes the key that name. If nothing is visible under a name of more than `longest` bytes, nothing
+/// is selected after it. The result is the new limit.
 fn look_up_piece<A: Answers>(
     alloc: Global,
     scope: &Scope,

@@ -1,4 +1,4 @@
-// Where an expression begins.
+// The places where expressions begin.
 ghost use Rattle.std.specs.Prelude.{◌≡◌};
 ghost use Rattle.al_overload_lookup.specs.Places.{first_place, group_place, place_of, prefix_place};
 ghost use Rattle.al_tree.specs.ExpressionViews.{expression_model, group_model, prefix_model};
@@ -6,7 +6,7 @@ ghost use Rattle.al_tree.specs.ExpressionViews.{expression_model, group_model, p
 use al_base::Place;
 use al_tree::{Expression, Group, PrefixOperator, Sign};
 
-/// The operator itself.
+/// The place of a prefix operator.
 pub fn prefix_place(operator: &PrefixOperator) -> Place
     ensures { result ≡ prefix_place (prefix_model operator.now) }
 {
@@ -20,6 +20,7 @@ pub fn prefix_place(operator: &PrefixOperator) -> Place
     }
 }
 
+/// The place of the left parenthesis.
 #[tactic(auto, using(al_tree::proofs::ExpressionsMade::group_positional_model, al_tree::proofs::ExpressionsMade::group_others_aggregate_model))]
 pub fn group_place(group: &Group) -> Place
     ensures { result ≡ group_place (group_model group.now) }

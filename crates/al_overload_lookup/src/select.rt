@@ -15,7 +15,7 @@ use al_scope::{Scope, all_seen_at};
 use al_view::{Interface, Symbol, View, ViewKind, Views, is_unit};
 use std::alloc::Global;
 
-/// More views of a name.
+/// Appends views of a name.
 #[tactic(auto, using(std::proofs::lemmas::List::Sums::fold_more))]
 pub(crate) fn add_views(views: &mut Interface, name: &[u8], found: &[View]) -> Result<(), NoMemory>
     ensures { OnOk result (views.new ≡ with_views views.old name.now found.now) }
@@ -33,7 +33,7 @@ fn has_unit(units: &[UnitKey], unit: &UnitKey) -> bool
     units.iter().any(|one| is_unit(unit, one))
 }
 
-/// A package of the library that is mentioned.
+/// The package of the library, if it is mentioned.
 fn package_in<'a>(packages: &[UnitKey], view: &'a View) -> Option<&'a Symbol>
     ensures { option_copied result ≡ package_in packages.now view.now }
 {
@@ -96,7 +96,7 @@ fn seen_if_any<A: Answers>(
     }
 }
 
-/// What is selected after a declaration's name, where it is looked for there.
+/// What is selected after a declaration's name, if it is looked for there.
 fn selected_in<A: Answers>(
     alloc: Global,
     scope: &Scope,
@@ -125,7 +125,7 @@ fn selected_in<A: Answers>(
     }
 }
 
-/// What was selected after one declaration's name, under the whole name.
+/// Adds what was selected after one declaration's name, under the whole name.
 fn put_selected(
     names: &mut Names,
     key: &[u8],
@@ -145,7 +145,7 @@ fn put_selected(
     }
 }
 
-/// What is selected after one declaration's name, under the whole name.
+/// Looks up what is selected after one declaration's name, and adds it under the whole name.
 fn add_selected<A: Answers>(
     alloc: Global,
     scope: &Scope,

@@ -18,7 +18,7 @@ use al_tree::Identifier;
 use al_view::Interface;
 use std::alloc::Global;
 
-/// Nothing is found yet.
+/// The state before anything is found.
 pub(crate) fn nothing_found(alloc: Global) -> Names
     ensures { result ≡ nothing_found }
 {
@@ -96,8 +96,10 @@ fn look_up_selector<A: Answers>(
     Ok(())
 }
 
-/// What the names in a name of these identifiers denote at a place. Where nothing is visible under a front of it, nothing is selected
-/// after that front, so nothing more is looked up: each longer front would be a copy of all before it.
+/// What the names in a name of these identifiers denote at a place. If nothing is visible under a prefix of it, nothing is selected after
+/// that prefix, so that no longer prefix is looked up: each would be a copy of all before it.
+/// # Errors
+/// `NoMemory` if the allocator refuses memory.
 pub fn look_up_selected<A: Answers>(
     alloc: Global,
     scope: &Scope,

@@ -68,7 +68,7 @@ fn multiplying_sign(operator: MultiplyingOperator) -> &'static [u8]
     }
 }
 
-/// The sign under which an operator is declared; short-circuit forms and `&` are declared nowhere.
+/// The sign under which an operator is declared. Short-circuit forms and `&` are declared nowhere.
 pub(crate) fn operator_sign(operator: &InfixOperator) -> Option<&'static [u8]>
     ensures { option_copied result ≡ operator_sign (operator_model operator.now) }
 {

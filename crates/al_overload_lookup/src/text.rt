@@ -1,4 +1,4 @@
-// The names and signs of an expression's text, in its order.
+// The names and signs in an expression, in source order.
 ghost use Rattle.std.specs.Prelude.{◌≡◌, ◌++◌, IfOk, OnOk, Some, false, map, option_map};
 ghost use Rattle.std.specs.Option.{option_copied};
 ghost use Rattle.al_overload_lookup.specs.Keys.{dotted, key_of};
@@ -33,7 +33,7 @@ fn add_sign(alloc: Global, found: &mut Vec<Piece>, sign: Option<&[u8]>) -> Resul
     }
 }
 
-/// A selector after what is a name.
+/// Adds a selector after a name.
 #[tactic(auto, using(crate::proofs::Pieced::after_names, crate::proofs::Pieced::after_key))]
 fn add_after(alloc: Global, found: &mut Vec<Piece>, name: &[u8]) -> Result<(), NoMemory>
     ensures names { OnOk result (names_of found.new.items ≡ names_of found.old.items ++ selected_names (Some (last_key found.old.items)) name.now) }
@@ -44,7 +44,7 @@ fn add_after(alloc: Global, found: &mut Vec<Piece>, name: &[u8]) -> Result<(), N
     Ok(())
 }
 
-/// A selector, after what may be a name.
+/// Adds a selector after what may be a name.
 fn add_selected(
     alloc: Global,
     found: &mut Vec<Piece>,
@@ -60,7 +60,8 @@ fn add_selected(
     Ok(())
 }
 
-/// Those of an expression, after those found. Left operands and prefixes are gone down by a loop, so that they take nothing of the stack.
+/// Adds the names and signs of an expression to those found. Left operands and prefixes are processed by a loop, so that they take no
+/// stack.
 #[cycle(text)]
 #[tactic(auto, using(std::proofs::Common::append_assoc))]
 fn add_names(alloc: Global, found: &mut Vec<Piece>, expression: &Expression) -> Result<(), NoMemory>
@@ -88,7 +89,7 @@ fn add_names(alloc: Global, found: &mut Vec<Piece>, expression: &Expression) -> 
     Ok(())
 }
 
-/// Those of what begins with no operand or name, and whether it is one.
+/// Adds the names and signs of what begins with no operand or name. The result is whether it is a name.
 #[cycle(text)]
 #[tactic(auto, using(std::proofs::Common::append_assoc, crate::proofs::NameKeys::prefixed_key, crate::proofs::Found::numeric_adds, crate::proofs::Found::literal_adds, crate::proofs::Found::number_names, crate::proofs::Found::text_names, crate::proofs::Found::name_names, crate::proofs::Found::group_in, crate::proofs::Chained::longer_leans, crate::proofs::Chained::infix_leans, crate::proofs::Chained::member_leans, al_tree::proofs::ExpressionsMade::expression_numeric_model, al_tree::proofs::ExpressionsMade::expression_text_model, al_tree::proofs::ExpressionsMade::expression_name_model, al_tree::proofs::ExpressionsMade::expression_longer_model, al_tree::proofs::ExpressionsMade::expression_prefixed_model, al_tree::proofs::ExpressionsMade::expression_infix_model, al_tree::proofs::ExpressionsMade::expression_member_model, al_tree::proofs::ExpressionsMade::expression_group_model))]
 fn add_first(
@@ -129,7 +130,7 @@ fn add_prefixed(alloc: Global, found: &mut Vec<Piece>, prefixed: &Prefixed) -> R
     add_names(alloc, found, &prefixed.operand)
 }
 
-/// Those of an operator and its right operand.
+/// Adds the names and signs of an operator and its right operand.
 #[cycle(text)]
 #[tactic(auto, using(std::proofs::Common::append_assoc))]
 fn add_operation(alloc: Global, found: &mut Vec<Piece>, operation: &Infix) -> Result<(), NoMemory>
@@ -139,7 +140,7 @@ fn add_operation(alloc: Global, found: &mut Vec<Piece>, operation: &Infix) -> Re
     add_names(alloc, found, &operation.right)
 }
 
-/// Those of what a value is tested against.
+/// Adds the names and signs of what a value is tested against.
 #[cycle(text)]
 #[tactic(auto, using(std::proofs::Common::append_assoc))]
 fn add_test(alloc: Global, found: &mut Vec<Piece>, member: &Member) -> Result<(), NoMemory>
@@ -155,7 +156,7 @@ fn add_test(alloc: Global, found: &mut Vec<Piece>, member: &Member) -> Result<()
     }
 }
 
-/// Those of what stands after what may be a name, and whether it is one with that.
+/// Adds the names and signs of what comes after what may be a name. The result is whether it is a name with that.
 #[cycle(text)]
 #[tactic(auto, using(std::proofs::Common::append_assoc, crate::proofs::Found::attribute_adds, crate::proofs::Found::range_adds, crate::proofs::Found::selector_names, crate::proofs::Found::argument_names, crate::proofs::Found::attribute_names, crate::proofs::Found::range_names, crate::proofs::Found::operand_names, al_tree::proofs::ExpressionsMade::part_selector_model, al_tree::proofs::ExpressionsMade::part_arguments_model, al_tree::proofs::ExpressionsMade::part_attribute_model, al_tree::proofs::ExpressionsMade::part_range_attribute_model, al_tree::proofs::ExpressionsMade::part_operand_model))]
 fn add_part(
@@ -214,7 +215,7 @@ fn add_all(
     Ok(())
 }
 
-/// The names and signs of an expression's text, in its order, by their parts.
+/// The names and signs in an expression, in source order, by their parts.
 #[tactic(auto, using(crate::proofs::Pieced::no_names))]
 pub(crate) fn pieces_in(alloc: Global, expression: &Expression) -> Result<Vec<Piece>, NoMemory>
     ensures { IfOk result (λ pieces. names_of pieces.items ≡ names_in (expression_model expression.now)) }

@@ -1,4 +1,4 @@
--- A fault in the actual parameters is what is told of a call.
+-- A fault in the actual parameters is reported for the call.
 use Rattle.std.proofs.Common.{◌≡◌, ℕ, Bool, false, cond, codes, List, Option, Some, None, Result, Ok, Err, refl, sym, ◌∙◌, ap}
 use Rattle.std.specs.Option.{option_map_or}
 use Rattle.std.specs.Str.{bytes_eq}

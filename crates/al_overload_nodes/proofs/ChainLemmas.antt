@@ -1,4 +1,4 @@
--- A chain with one more operator at its front, and what stands at the left of one.
+-- A chain with one more operator at its beginning, and what is at the left of one.
 use Rattle.std.proofs.Common.{◌≡◌, arith, ℕ, Vec, Box, Global, List, [], ◌∷◌, ◌++◌, IfOk, Option, Result, Ok, Err, refl, sym, ap, subst, ◌∙◌}
 use Rattle.al_base.specs.declared.place.Place.{Place}
 use Rattle.al_overload.specs.declared.everywhere.Predefined.{Predefined}
@@ -40,7 +40,7 @@ longer p place joints new joint rest left whole is step known =
     ap (λ (js : List Joint). chained_node p place js left) is ∙ first_joined p place joints joint left
     ∙ ap (λ (r : ReadingTree). chained_node p place joints r) step ∙ known
 
--- ---- what stands at the left of an operator begins where the whole does, and is below it
+-- ---- what is at the left of an operator begins where the whole does, and is below it
 
 pub infix_begins : (term left : Term) (operator : BinaryOperator) (views : List ViewKind) (l r : Box Term Global) (place : Place)
     → term ≡ Infix operator views l r → left ≡ l.value → place ≡ first_place (term_model term) → place ≡ first_place (term_model left)

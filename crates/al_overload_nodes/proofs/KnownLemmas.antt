@@ -15,7 +15,7 @@ left_too true true false h = refl
 left_too true false right h = absurd (true≢false (sym h))
 left_too false left right h = absurd (true≢false (sym h))
 
--- where the operator and its right operand aren't what keeps all from being so
+-- if the operator and its right operand aren't what keeps all from being so
 pub left_not : (computes left right : Bool) → (computes && (left && right)) ≡ false → (computes && (right && right)) ≡ true → false ≡ left
 left_not true true true h r = absurd (true≢false h)
 left_not true false right h r = refl

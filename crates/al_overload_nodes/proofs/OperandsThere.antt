@@ -1,4 +1,4 @@
--- What an operator or a group gives is a number just where its first operand is, once the rest was looked at.
+-- What an operator or a group gives is a number if, and only if, its first operand is, once the rest was looked at.
 use Rattle.std.proofs.Common.{◌≡◌, Bool, true, ◌&&◌, Box, Global, List, sym, ap, ◌∙◌}
 use Rattle.al_base.specs.declared.place.Place.{Place}
 use Rattle.al_overload.specs.Universal.{computes_one, computes_two, is_universal}

@@ -25,7 +25,7 @@ use Rattle.al_overload_nodes.specs.Pairs.{together}
 use Rattle.al_overload_nodes.specs.Readings.{actuals_read, applied_read, index_read, operand_read, range_member_read, reading}
 use Rattle.al_overload_nodes.proofs.TermKinds.{read_by}
 
--- two that each want memory, where both were made
+-- two that each need memory, if both were made
 pub two_made : {A B : Type 0} (P : A → Type 0) (Q : B → Type 0) (one : Result A NoMemory) (two : Result B NoMemory) (r : Result (A × B) NoMemory) (x : A) (y : B)
     → r ≡ together one two → r ≡ Ok (x, y) → IfOk one P → IfOk two Q → P x × Q y
 two_made {A} {B} P Q (Ok u) (Ok v) r x y made is p q = let f : Ok (u, v) ≡ Ok (x, y) = sym made ∙ is in let e : (u, v) ≡ (x, y) = cc in subst (λ (k : A × B). P k.0 × Q k.1) e (p, q)

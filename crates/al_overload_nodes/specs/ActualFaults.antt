@@ -1,4 +1,4 @@
--- What is told of a call whose actual parameters have a fault.
+-- The law of a call whose actual parameters have a fault.
 use Rattle.std.specs.Prelude.{◌≡◌, ℕ, codes, Option, Some}
 use Rattle.al_base.specs.declared.place.Place.{Place}
 use Rattle.al_base_fault.specs.declared.fault.Fault.{Fault}
@@ -9,7 +9,7 @@ use Rattle.al_view_typed.specs.ExpressionTrees.{ActualTree}
 use Rattle.al_overload_nodes.specs.Calls.{function_form}
 use Rattle.al_overload_nodes.specs.Gathering.{Parts}
 
--- of a call of Milliseconds is told what is told of a call of any function of the text with these actual parameters: the fault in them, at its place
+-- a call of Milliseconds has the fault of a call of any function with these actual parameters: the fault in them, at its place
 abbrev pub MillisecondsAreLikeOthers : Type 0
 MillisecondsAreLikeOthers =
     (own : Option Symbol) (place : Place) (milliseconds other : SubprogramView) (depth : ℕ) (actuals : Parts ActualTree) (fault : Fault)

@@ -72,7 +72,7 @@ is_of_object object (calls.Operator of_type) flag = false
 abbrev pub is_own_of : SubprogramView → Symbol → Bool
 is_own_of s object = is_of_object object s.call s.flag
 
--- an operation of the protected object in whose bodies the text stands
+-- an operation of the protected object in whose bodies the text is
 abbrev pub own_fault : Option Symbol → Place → SubprogramView → Option Fault
 own_fault own place s = if option_map_or (is_own_of s) own false then Some (fault_at place OwnOperation) else None
 

@@ -1,4 +1,4 @@
--- Chains: each link has what stands at its left for its left operand or its prefix.
+-- Chains: each link has what is at its left for its left operand or its prefix.
 use Rattle.std.specs.Prelude.{◌≡◌, ◌<◌, List, [], ◌∷◌, Option, option_map, Result, Ok, ⊤}
 use Rattle.al_base.specs.declared.place.Place.{Place}
 use Rattle.al_overload.specs.Counts.{label_of}
@@ -23,7 +23,7 @@ use Rattle.al_overload.specs.TermViews.{term_model}
 use Rattle.al_overload.specs.declared.heads_term.Term.{Term, size-Term}
 use Rattle.al_view.specs.declared.symbol.Symbol.{Symbol}
 
--- a link with what stands at its left
+-- a link with what is at its left
 abbrev pub joint_node : Predefined → Place → Joint → ReadingTree → ReadingTree
 joint_node p place (joints.Operator operator of second) first =
     binary_node p.root place operator (signature of.left.now of.right.now of.result_type.now of.types.now) first (reading_model second.value)
@@ -39,7 +39,7 @@ abbrev pub chained_node : Predefined → Place → List Joint → ReadingTree �
 chained_node p place [] first = first
 chained_node p place (joint ∷ joints) first = joint_node p place joint (chained_node p place joints first)
 
--- what a step down makes of a term, with what stands at the left
+-- what a step down makes of a term, with what is at the left
 abbrev pub stepped : Predefined → Option Symbol → Place → Step → ReadingTree
 stepped p own place (steps.Down joint left known label types at) =
     joint_node p place joint (reading p own (term_model left.now) (label_of label.now) types.now at.now)
@@ -50,7 +50,7 @@ abbrev pub IsAt : Term → Step → Type 0
 IsAt term (steps.Down joint left known label types at) = (left.now ≡ term) × IsKnown known (is_universal (term_model left.now))
 IsAt term (steps.Last r) = ⊤
 
--- what stands at the left is less deep than the whole, begins where that does, and is what is known of it
+-- what is at the left is less deep than the whole, begins where that does, and is what is known of it
 abbrev pub IsBelow : Term → Step → Type 0
 IsBelow term (steps.Down joint left known label types at) =
     (size-Term left.now < size-Term term) × (first_place (term_model left.now) ≡ first_place (term_model term)) × IsKnown known (is_universal (term_model left.now))

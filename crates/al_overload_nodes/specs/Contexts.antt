@@ -26,7 +26,7 @@ use Rattle.al_overload_nodes.specs.Operators.{picked_subprogram}
 use Rattle.al_overload_nodes.specs.Readings.{actuals_read, reading}
 use Rattle.al_overload_nodes.specs.Leaves.{inner}
 
--- The type at which numbers alone stand in a context: that which it wants, or else the root type.
+-- The type that numbers alone have in a context: the one that it wants, or else the root type.
 abbrev pub stands_at : Predefined → Context → Symbol
 stands_at p (contexts.InitialValue of) = of.symbol
 stands_at p contexts.NumberValue = p.root
@@ -47,7 +47,7 @@ stands_at p (contexts.ImageArgument of) = of.symbol
 stands_at p (contexts.ConversionOperand target) = p.root
 stands_at p (contexts.QualifiedOperand of) = of.symbol
 
--- A context's term, where its types are among these: E402 or E403 at its first token where it has no interpretation, or
+-- A context's term, whose types are among these: E402 or E403 at its first token if it has no interpretation, or
 -- several; the faults of contexts inside it; E405, E406 and E604 of the whole.
 abbrev pub term_read : Predefined → Option Symbol → Context → Option Nominal → List TypeView → TermTree → ReadingTree
 term_read p own context allowed types term =
@@ -56,7 +56,7 @@ term_read p own context allowed types term =
 abbrev pub term_checked : Predefined → Option Symbol → Context → Option Nominal → List TypeView → TermTree → Result TypedTree Fault
 term_checked p own context allowed types term = checked (term_read p own context allowed types term)
 
--- the target of an assignment: E406 where it is no name of a variable
+-- the target of an assignment: E406 if it is no name of a variable
 abbrev pub target_labelled : TermTree → ReadingTree → Result Label Fault → Result TypedTree Fault
 target_labelled term r (Ok label) = unless (unless_variable (variable_as term label) (first_place term)) (checked r)
 target_labelled term r (Err fault) = Err fault

@@ -1,4 +1,4 @@
--- The type that an expression tells by itself: it is of no type of its own where it is of numbers alone, an aggregate or text.
+-- The type that an expression has by itself: none if it is of numbers alone, an aggregate or text.
 use Rattle.std.specs.Prelude.{ℕ, Bool, ◌&&◌, List, Option, Some, None, option_map, unwrap_or, if◌then◌else◌}
 use Rattle.std.specs.Option.{option_and_then, option_or}
 use Rattle.al_overload.specs.Labelling.{Label}
@@ -21,7 +21,7 @@ use Rattle.al_overload.specs.Labels.{is_root_in, number_in, operand_label}
 use Rattle.al_overload_nodes.specs.Operators.{picked_subprogram, root_result}
 use Rattle.al_overload.specs.Picks.{pick}
 
--- a type, and the types among which it is; none where it is one that every unit has
+-- a type, and the types among which it is; none if it is one that every unit has
 pub record DeterminedType : Type 0 where
   pub of : Symbol
   pub types : Option (List TypeView)
@@ -69,7 +69,7 @@ attribute_type conversions.ToType mark = Some (mark_told mark)
 attribute_type conversions.Qualification mark = Some (mark_told mark)
 attribute_type conversions.Milliseconds mark = Some (mark_told mark)
 
--- of an operator, where the root type's gives this
+-- of an operator, if the root type's gives this
 abbrev pub operator_type : Symbol → List ViewKind → Bool → Label → Option DeterminedType
 operator_type root_result visible of_numbers label =
     if of_numbers then None
@@ -101,21 +101,21 @@ type_told p (t.AggregateTerm place components) label = None
 type_told p (t.OthersTerm place component) label = None
 type_told p (t.NothingTerm place) label = None
 
--- the type that an operand tells
+-- the type that an operand has by itself
 abbrev pub operand_type : Predefined → TermTree → Option Label → Option DeterminedType
 operand_type p operand label = option_and_then (type_told p operand) label
 
--- the types among which it is; those that are known there, where every unit has it
+-- the types among which it is; those that are known there, if every unit has it
 abbrev pub types_in : List TypeView → DeterminedType → List TypeView
 types_in known t = unwrap_or t.types known
 
--- the type of the operands of a membership test: that of the first of them that tells one; Integer where all are of numbers alone
+-- the type of the operands of a membership test: that of the first of them that has one by itself; Integer if all are of numbers alone
 abbrev pub test_type : Predefined → TermTree → TermTree → TermTree → Label → DeterminedType
 test_type p value low high label =
     unwrap_or (option_or (operand_type p value (operand_label 0 label))
     (option_or (operand_type p low (operand_label 1 label)) (operand_type p high (operand_label 2 label)))) (everywhere p.types.integer.symbol)
 
--- the same of a pair of bounds, which have this type where both are of numbers alone
+-- the type of a pair of bounds, which have this type if both are of numbers alone
 abbrev pub pair_type : Predefined → DeterminedType → TermTree → TermTree → Label → DeterminedType
 pair_type p otherwise low high label =
     unwrap_or (option_or (operand_type p low (operand_label 0 label)) (operand_type p high (operand_label 1 label))) otherwise

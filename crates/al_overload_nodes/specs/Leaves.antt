@@ -61,7 +61,7 @@ length_known place b = if int_lt (b.high -ℤ b.low) (pos 9223372036854775807) t
 abbrev pub length_node : Symbol → Place → List TypeView → Symbol → Bounds → ReadingTree
 length_node root place types at b = node root place types at None (length_known place b) (Ok (LiteralForm (record { word = length_of b })))
 
--- a declaration that is named alone, where this candidate of it is meant
+-- a declaration that is named alone, if this candidate of it is meant
 abbrev pub view_node : Symbol → Option Symbol → Place → List TypeView → Symbol → ViewKind → ReadingTree
 view_node root own place types at (views.OfObject o) = object_node root place o
 view_node root own place types at (views.OfNumber value) = literal root place types at value
@@ -82,7 +82,7 @@ named_node root own place visible label types at = option_map_or (candidate_node
 
 -- ---- what has expressions in it
 
--- what stands after a name: arguments of a call, an index of an object, or an index of a part of one
+-- what comes after a name: arguments of a call, an index of an object, or an index of a part of one
 pub data Application : Type 0 where
   CallOf : SubprogramView → Application
   ElementOf : ObjectView → Application
@@ -105,7 +105,7 @@ abbrev pub application : Option (List ViewKind) → Option Nominal → Label →
 application (Some visible) part label = option_map_or applied_view (pick (number_in label) visible) Misapplied
 application None part label = option_map_or ElementOfPart part Misapplied
 
--- a component of an array, where an index is read at its type
+-- a component of an array, if an index is read at its type
 abbrev pub indexed_node : Symbol → Place → List TypeView → Symbol → ReadingTree → (Symbol → ReadingTree) → ReadingTree
 indexed_node root place types of whole index =
     option_map_or (λ (by : Indexing). element_node root place types by whole (index by.index)) (indexing types of) (misfit place)
@@ -119,7 +119,7 @@ component_in k (definitions.Enumeration literals) = None
 component_in k definitions.Time = None
 component_in k definitions.Private = None
 
--- where an attribute's argument stands, and what its value is checked against
+-- the type that an attribute's argument has, and what its value is checked against
 abbrev pub argument_type : Symbol → Conversion → SubtypeView → Symbol
 argument_type root conversions.Val mark = root
 argument_type root conversions.Pos mark = mark.subtype.base
@@ -138,7 +138,7 @@ argument_check conversions.ToType mark = range_in mark.types mark.subtype
 argument_check conversions.Qualification mark = range_in mark.types mark.subtype
 argument_check conversions.Milliseconds mark = range_in mark.types mark.subtype
 
--- `S'Pos (X)` is a number, which has the type at which it stands; the others are of S's type
+-- `S'Pos (X)` is a number, which has the type that is wanted of it; the others are of S's type
 abbrev pub attribute_node : Symbol → Place → Conversion → SubtypeView → List TypeView → Symbol → ReadingTree → ReadingTree
 attribute_node root place conversion mark types at argument =
     if is_position conversion then conversion_node root place types at None conversions.Pos None argument
@@ -187,7 +187,7 @@ in_mark_node p place is_negated mark value = option_map_or (in_bounds_node p pla
 abbrev pub mark_type : SubtypeView → ValueType
 mark_type mark = value_type mark.types mark.subtype.base
 
--- what a context inside is, where it has an interpretation
+-- what a context inside is, if it has an interpretation
 abbrev pub inner : (Label → ReadingTree) → Result Label Fault → ReadingTree
 inner read (Ok label) = read label
 inner read (Err fault) = faulty fault

@@ -73,7 +73,7 @@ membership_node root place types boolean is_negated value low high =
     node root place types boolean None (membership place is_negated value.known low.known high.known)
     (map_ok (membership_form is_negated) (both value.tree (both low.tree high.tree)))
 
--- what stands in parentheses begins with the left one, and is no name of an object
+-- what is in parentheses begins with the left one, and is no name of an object
 abbrev pub regrouped : Place → Known → Known
 regrouped place (Value v) = Value v
 regrouped place (Fails inner) = Fails place
@@ -88,6 +88,6 @@ grouped_tree place (Labelled labels form) = Labelled (grouped_labels place label
 abbrev pub grouped : Place → ReadingTree → ReadingTree
 grouped place inner = record { known = regrouped place inner.known; tree = map_ok (grouped_tree place) inner.tree }
 
--- an expression that stands by itself: its labelled tree, or what is wrong with it
+-- an expression by itself: its labelled tree, or what is wrong with it
 abbrev pub checked : ReadingTree → Result TypedTree Fault
 checked r = unless (failure_in r.known) r.tree

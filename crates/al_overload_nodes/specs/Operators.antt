@@ -93,7 +93,7 @@ unary_profile s = profile_of_one s.types s.profile.parameters s.profile.result
 abbrev pub binary_profile : SubprogramView → Option Signature
 binary_profile s = profile_of_two s.types s.profile.parameters s.profile.result
 
--- Of numbers alone an operator has the type at which it stands; else it is one of the root type, or one that is visible.
+-- An operator of numbers alone has the type that is wanted of it; else it is one of the root type, or one that is visible.
 abbrev pub unary_signature : Predefined → List ViewKind → Bool → Label → List TypeView → Symbol → Option Signature
 unary_signature p visible of_numbers label types at =
     if of_numbers then Some (signature at at at types)

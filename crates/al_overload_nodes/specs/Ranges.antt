@@ -1,4 +1,4 @@
--- What pairs of bounds and selectors are, with the types that they tell (ARM 3.5, 3.6(18), 5.4(4), 5.5).
+-- What pairs of bounds and selectors are, with the types that they have by themselves (ARM 3.5, 3.6(18), 5.4(4), 5.5).
 use Rattle.std.specs.Prelude.{ℕ, List, [], Option, None, unwrap_or, Result}
 use Rattle.al_overload.specs.Labelling.{Label}
 use Rattle.al_base_fault.specs.Judging.{both, next, map_ok}
@@ -21,7 +21,7 @@ use Rattle.al_overload_nodes.specs.declared.staticness.Staticness.TheVariants.{A
 use Rattle.al_overload_nodes.specs.FromAnswers.{DeterminedType, among, everywhere, pair_type, range_type, type_told, types_in}
 use Rattle.al_overload_nodes.specs.declared.range.FoundType.{FoundType}
 
--- a type with the types among which it is: nothing where every unit has it
+-- a type with the types among which it is: nothing if every unit has it
 abbrev pub found_type : DeterminedType → FoundType
 found_type t = record { of = t.of; types = types_in [] t }
 
@@ -47,7 +47,7 @@ pair_at p own expected types low high label t =
 abbrev pub pair_read : Predefined → Option Symbol → Staticness → List TypeView → Symbol → TermTree → TermTree → Label → Result PairTree Fault
 pair_read p own expected types at low high label = pair_at p own expected types low high label (pair_type p (among types at) low high label)
 
--- A pair of bounds: E402 or E403 at the first token of the low one, where the two have no interpretation, or several; else the
+-- A pair of bounds: E402 or E403 at the first token of the low one, if the two have no interpretation, or several; else the
 -- first fault in them.
 abbrev pub bounds_checked_as : Predefined → Option Symbol → Staticness → Context → List TypeView → TermTree → TermTree → Result PairTree Fault
 bounds_checked_as p own expected context types low high =
@@ -56,11 +56,11 @@ bounds_checked_as p own expected context types low high =
 abbrev pub bounds_checked : Predefined → Option Symbol → Context → List TypeView → TermTree → TermTree → Result PairTree Fault
 bounds_checked p own context types low high = bounds_checked_as p own Any context types low high
 
--- the same of bounds that must be static, where this was found in the prefixes of their attributes: E304 at each that isn't
+-- a pair of bounds that must be static, given what was found in the prefixes of their attributes: E304 at each that isn't
 abbrev pub static_bounds_checked : Predefined → Option Symbol → Context → List TypeView → Option Fault → TermTree → TermTree → Result PairTree Fault
 static_bounds_checked p own context types found low high = bounds_checked_as p own (expected_after (first_place low) found) context types low high
 
--- an expression, with the type that it tells
+-- an expression, with the type that it has by itself
 pub record FoundTree : Type 0 where
   pub value : TypedTree
   pub found : FoundType
@@ -74,6 +74,6 @@ selector_at p own term label t = map_ok (found_of (found_type t)) (checked (read
 abbrev pub selector_read : Predefined → Option Symbol → TermTree → Label → Result FoundTree Fault
 selector_read p own term label = selector_at p own term label (unwrap_or (type_told p term label) (everywhere p.root))
 
--- The selector of a case statement, which is of the root type where it is of numbers alone.
+-- The selector of a case statement, which is of the root type if it is of numbers alone.
 abbrev pub selector_checked : Predefined → Option Symbol → TermTree → Result FoundTree Fault
 selector_checked p own term = next (interpreted p contexts.Selector None term) (selector_read p own term)

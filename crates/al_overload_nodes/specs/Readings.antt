@@ -26,7 +26,7 @@ use Rattle.al_overload_nodes.specs.Operators.{binary_node, binary_signature, sho
 use Rattle.al_overload_nodes.specs.FromAnswers.{DeterminedType, test_type, types_in}
 use Rattle.al_overload_nodes.specs.Leaves.{bound_node, length_node, named_node, application, argument_type, attribute_node, mark_node, aggregate_node, others_node, in_range_node, in_mark_node, mark_type, inner, labelled, signed, applied_node, actual_read, component_read}
 
--- What a term is with its labelling, where it stands at this type among these.
+-- What a term is with its labelling, if it has this type, which is among these.
 abbrev mutual
   pub reading : Predefined → Option Symbol → TermTree → Label → List TypeView → Symbol → ReadingTree
   reading p own (t.NumberTerm place value) label types at = literal p.root place types at value
@@ -106,13 +106,13 @@ abbrev mutual
 abbrev pub operand_read : Predefined → Option Symbol → Place → ℕ → TermTree → Label → List TypeView → Symbol → ReadingTree
 operand_read p own place k operand label types at = labelled place (λ l. reading p own operand l types at) (operand_label k label)
 
--- a name with what stands in parentheses after it
+-- a name with what is in parentheses after it
 abbrev pub applied_read : Predefined → Option Symbol → Place → TermTree → TermsTree → Label → List TypeView → Symbol → ReadingTree
 applied_read p own place prefix arguments label types at =
     applied_node p.root own place (λ s. actuals_read p own s label 0 no_parts arguments) (operand_read p own place 0 prefix label types at)
     (λ k among of. index_read p own place k label among of arguments) (application (declared_under prefix) (part_of prefix) label)
 
--- ---- terms that are the same wherever they stand
+-- ---- terms that are the same wherever they are
 
 abbrev pub conversion_read : Predefined → Option Symbol → Place → SubtypeView → TermTree → ReadingTree
 conversion_read p own place mark operand =

@@ -45,7 +45,7 @@ abbrev pub static_checked : TermTree → Option Fault → ReadingTree → Result
 static_checked term found r (Ok label) = checked_as (expected_after (first_place term) found) (first_place term) r
 static_checked term found r (Err fault) = Err fault
 
--- a context's term that must be static, where this was found in the prefixes of its attributes: E402 or E403 where it has no interpretation, or several;
+-- a context's term that must be static, given what was found in the prefixes of its attributes: E402 or E403 if it has no interpretation, or several;
 -- else the first of E304 of the whole and the faults in it
 abbrev pub static_term_checked : Predefined → Option Symbol → Context → List TypeView → Option Fault → TermTree → Result TypedTree Fault
 static_term_checked p own context types found term = static_checked term found (term_read p own context None types term) (interpreted p context None term)

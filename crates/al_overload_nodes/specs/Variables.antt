@@ -1,4 +1,4 @@
--- Names of objects by their labelling: a name may be of several objects, where subprograms of one name enclose the place; what fits decides which is
+-- Names of objects by their labelling: a name may be of several objects, if subprograms of one name enclose the place; what fits decides which is
 -- meant (ARM 4.1.3(13), 8.6).
 use Rattle.std.specs.Prelude.{ℕ, Bool, false, not, List, Option, Some, None, option_map, Result, Ok, Err}
 use Rattle.std.specs.Option.{option_and_then, option_map_or}

@@ -90,7 +90,7 @@ fn is_of_object(object: &Symbol, call: &CallKind, flag: &Option<ObjectPlace>) ->
     }
 }
 
-/// An operation of the protected object in whose bodies the text stands.
+/// The fault of calling an operation of the protected object in whose bodies the call is.
 fn own_fault(own: &Option<Symbol>, place: Place, subprogram: &SubprogramView) -> Option<Fault>
     ensures { result ≡ own_fault own.now place subprogram.now }
 {
@@ -131,7 +131,7 @@ fn sole(actuals: Vec<Actual>) -> Option<Actual>
     None
 }
 
-/// A span of time of so many thousandths of a second.
+/// A span of time of this many thousandths of a second.
 #[tactic(auto, using(crate::proofs::Seen::actuals_made))]
 fn span_of(alloc: Global, place: Place, actual: Actual) -> Result<CheckResult<Form>, NoMemory>
     ensures { IfOk result (λ form. map_ok form_model form ≡ span_of place (actual_model actual)) }
@@ -159,7 +159,7 @@ fn span_form(
     }
 }
 
-/// The same, where the actual has no fault; else that fault, at its own place.
+/// A span of time, if the actual parameter has no fault; else that fault, at its own place.
 fn span_unless(
     alloc: Global,
     fault: Option<Fault>,
@@ -174,7 +174,7 @@ fn span_unless(
     }
 }
 
-/// Clock and Milliseconds of Ada.Real_Time.
+/// The forms of Clock and Milliseconds of Ada.Real_Time.
 fn predefined_form(
     alloc: Global,
     place: Place,
@@ -227,7 +227,7 @@ fn variable_actual(mode: Mode, range: Option<Bounds>, typed: Typed) -> CheckResu
     variable_of(mode, range, labels, form)
 }
 
-/// E406 here, unless it is a variable.
+/// E406 at this place, unless it is a variable.
 pub fn unless_variable(is_variable: bool, place: Place) -> Option<Fault>
     ensures { result ≡ unless_variable is_variable place }
 {
@@ -254,7 +254,7 @@ fn out_actual(
     }
 }
 
-/// An actual parameter that begins here, for a formal of this mode and range; whether it names a variable.
+/// An actual parameter that begins here, for a formal of this mode and range. The flag says whether it names a variable.
 fn actual_for(
     mode: Mode,
     range: Option<Bounds>,
@@ -272,7 +272,10 @@ fn actual_for(
 }
 
 impl Labeller {
-    /// A call, whose name begins here.
+    /// A call, whose name begins at `place`.
+    /// # Errors
+    /// `NoMemory` if the allocator refuses memory. The inner error is the first of: E604 at `place` for an operation of the protected
+    /// object in whose bodies the call is; the first fault of the actual parameters; E402 at `place` for what can't be called.
     pub fn call_made(
         &self,
         place: Place,
@@ -317,7 +320,9 @@ impl Labeller {
         }
     }
 
-    /// A call of a function; what has no result is no value.
+    /// A call of a function. What has no result is no value.
+    /// # Errors
+    /// `NoMemory` if the allocator refuses memory.
     pub fn call(
         &self,
         place: Place,
@@ -337,7 +342,9 @@ impl Labeller {
     }
 }
 
-/// One more actual parameter.
+/// Adds an actual parameter.
+/// # Errors
+/// `NoMemory` if the allocator refuses memory.
 pub fn add_actual(
     actuals: &mut Actuals,
     mode: Mode,

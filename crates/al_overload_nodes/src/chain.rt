@@ -18,7 +18,7 @@ use al_overload::{Indexing, Labelled, Term, operand_label, part_of};
 use al_view::{Subtype, Symbol, Types};
 use al_view_typed::{BinaryOperator, ShortCircuit};
 
-/// A link of a chain: what stands after its first operand, or after its prefix, as that was read.
+/// A link of a chain: what comes after its first operand, or after its prefix, as it was read.
 #[derive(Drop)]
 pub(crate) enum Joint<'a> {
     /// An operator with its signature and its right operand.
@@ -34,7 +34,8 @@ pub(crate) enum Joint<'a> {
 /// A step down a chain.
 #[derive(Drop)]
 pub(crate) enum Step<'a> {
-    /// A link; what stands at its left, with whether that is of numbers alone, where it is known; its labelling, and at which type among which it stands.
+    /// A link; what is at its left, with whether that is of numbers alone, if it is known; its labelling, and its type with the types among
+    /// which that is.
     Down {
         joint: Joint<'a>,
         left: &'a Term,
@@ -43,7 +44,7 @@ pub(crate) enum Step<'a> {
         types: &'a Types,
         at: &'a Symbol,
     },
-    /// What stands there, as it was read: no link, or one that its labelling doesn't fit.
+    /// What is there, as it was read: no link, or one that its labelling doesn't fit.
     Last(Box<Reading>),
 }
 
@@ -68,7 +69,7 @@ pub(crate) fn joined(
     }
 }
 
-/// What a chain is, from its first operand on. The last link of the text comes first.
+/// What a chain is, from its first operand on. The last link in source order comes first.
 #[tactic(auto, using(crate::proofs::ChainLemmas::first_joined))]
 pub(crate) fn chained(
     labeller: &Labeller,
@@ -86,7 +87,7 @@ pub(crate) fn chained(
     Ok(reading)
 }
 
-/// The step to what stands at the left of a link; where that has no labelling, the whole is read already.
+/// The step to what is at the left of a link. If that has no labelling, the whole is read already.
 pub(crate) fn down<'a>(
     labeller: &Labeller,
     place: Place,

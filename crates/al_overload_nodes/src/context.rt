@@ -23,7 +23,7 @@ use al_overload::{
 use al_view::{SubprogramView, Symbol, Types, View};
 use al_view_typed::{Typed, TypedCall};
 
-/// The type at which numbers alone stand in a context: that which it wants, or else the root type.
+/// The type that numbers alone have in a context: the one that it wants, or else the root type.
 pub(crate) fn stands_at<'a>(predefined: &'a Predefined, context: &'a Context) -> &'a Symbol
     ensures { result.now ≡ stands_at predefined.now context.now }
 {
@@ -49,9 +49,12 @@ pub(crate) fn stands_at<'a>(predefined: &'a Predefined, context: &'a Context) ->
     }
 }
 
-/// A context's term with what is known of its value: its labelled tree, or the first of what is wrong with it that isn't a static failure. That is E402
-/// or E403 at its first token where it has no interpretation, or several; the first fault of contexts inside it, and E604 of the whole. An aggregate may
-/// stand where a nominal subtype is given for it. The type that the context wants is among `types` or one that every unit has.
+/// A context's term with what is known of its value: its labelled tree, or the first fault in it that isn't a static failure. That is E402
+/// or E403 at its first token if it has no interpretation, or several; else the first fault of contexts inside it, and E604 of the whole.
+/// An aggregate is allowed if a nominal subtype is given for it. The type that the context wants is among `types` or one that every unit
+/// has.
+/// # Errors
+/// `NoMemory` if the allocator refuses memory.
 pub fn read_term(
     labeller: &Labeller,
     context: &Context,
@@ -66,7 +69,10 @@ pub fn read_term(
     read_inner(labeller, term, meaning, types, at)
 }
 
-/// The labelled tree of a context's term, which is evaluated, or what is wrong with it: as `read_term`, and E405.
+/// The labelled tree of a context's term, which is evaluated.
+/// # Errors
+/// `NoMemory` if the allocator refuses memory. The inner error is the first of the fault of `read_term` and E405 at the first token of a
+/// static expression that has no value.
 pub fn check_term(
     labeller: &Labeller,
     context: &Context,
@@ -80,8 +86,10 @@ pub fn check_term(
     Ok(checked(reading))
 }
 
-/// The labelled tree of a context's term that must be static, or what is wrong with it: as `check_term`, and E304 at its first token, where what was
-/// found in the prefixes of its attributes doesn't stand there.
+/// The labelled tree of a context's term that must be static. `found` is the first fault in the prefixes of its attributes.
+/// # Errors
+/// `NoMemory` if the allocator refuses memory. The inner error is the first of that of `check_term` and E304 at the term's first token if
+/// the term isn't static; E304 isn't reported if `found` is at that token.
 pub fn check_static_term(
     labeller: &Labeller,
     context: &Context,
@@ -109,7 +117,10 @@ pub fn check_static_term(
     }
 }
 
-/// The target of an assignment: E406 at its first token where it is no name of a variable.
+/// The target of an assignment.
+/// # Errors
+/// `NoMemory` if the allocator refuses memory. The inner error is the first of that of `check_term` and E406 at the first token of what is
+/// no name of a variable.
 pub fn check_target(
     labeller: &Labeller,
     types: &Types,
@@ -182,6 +193,9 @@ fn read_named_call(
 }
 
 /// The call of a procedure or an entry with its labelling.
+/// # Errors
+/// `NoMemory` if the allocator refuses memory. The inner error is E402 at the first token if the labelling doesn't fit a call; else the
+/// first of the static failures (E405) in the actual parameters and the error of `call_made`.
 #[tactic(auto, using(crate::proofs::TermsSeen::terms_made))]
 pub fn read_call(
     labeller: &Labeller,
@@ -219,7 +233,10 @@ pub fn read_call(
     }
 }
 
-/// The call of a procedure or an entry as a statement, or what is wrong with it.
+/// The call of a procedure or an entry as a statement.
+/// # Errors
+/// `NoMemory` if the allocator refuses memory. The inner error is E402 or E403 at its first token if it has no interpretation, or several;
+/// else that of `read_call`.
 pub fn check_call(labeller: &Labeller, term: &Term) -> Result<CheckResult<TypedCall>, NoMemory>
     ensures { IfOk result (λ call. map_ok call_model call ≡ statement_checked labeller.now.predefined labeller.now.own (term_model term.now)) }
 {

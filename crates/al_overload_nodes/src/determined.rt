@@ -1,4 +1,4 @@
-// The type that an expression tells by itself.
+// The type that an expression has by itself.
 ghost use Rattle.std.specs.Prelude.{◌≡◌, ◌&&◌, option_map};
 ghost use Rattle.std.specs.Option.{option_and_then, option_or};
 ghost use Rattle.al_overload.specs.Counts.{label_of};
@@ -18,8 +18,8 @@ use al_view::{SubprogramView, Subtype, SubtypeView, Symbol, Types, View, ViewKin
 use al_view_predefined::StandardTypes;
 use al_view_typed::{BinaryOperator, Conversion, UnaryOperator};
 
-/// Whether a term is of numbers alone (ARM 3.4.1(7)). Right operands are looked at first, and left ones by a loop: chains of operators lean to
-/// the left.
+/// Whether a term is of numbers alone (ARM 3.4.1(7)). Right operands are examined first, and left ones by a loop: chains of operators lean
+/// to the left.
 #[tactic(auto, using(crate::proofs::TermsSeen::terms_made, crate::proofs::Booleans::and_false, crate::proofs::Booleans::and_true))]
 fn is_universal(term: &Term) -> bool
     ensures { result ≡ is_universal (term_model term.now) }
@@ -68,13 +68,16 @@ fn is_universal(term: &Term) -> bool
     }
 }
 
-/// A type that an expression tells, and the types among which it is; none where it is one that every unit has.
+/// The type that an expression has by itself, and the types among which it is; none if it is one that every unit has.
 #[derive(Drop)]
 pub struct DeterminedType<'a> {
+    /// The type.
     pub of: &'a Symbol,
+    /// The types among which it is, or none if every unit has it.
     pub types: Option<&'a Types>,
 }
 
+/// A type that is among these.
 pub fn among<'a>(types: &'a Types, of: &'a Symbol) -> DeterminedType<'a>
     ensures { told_model result ≡ among types.now of.now }
 {
@@ -84,6 +87,7 @@ pub fn among<'a>(types: &'a Types, of: &'a Symbol) -> DeterminedType<'a>
     }
 }
 
+/// A type that every unit has.
 pub fn everywhere(of: &Symbol) -> DeterminedType<'_>
     ensures { told_model result ≡ everywhere of.now }
 {
@@ -157,7 +161,7 @@ fn attribute_type(conversion: Conversion, mark: &SubtypeView) -> Option<Determin
     }
 }
 
-/// The type of what an operator gives, where the root type's gives this.
+/// The type of what an operator gives, if the root type's operator gives this.
 fn operator_type<'a>(
     standard: &StandardTypes,
     root_result: &'a Symbol,
@@ -179,7 +183,7 @@ fn operator_type<'a>(
     }
 }
 
-/// The type of an operator in front of this operand.
+/// The type of an operator before this operand.
 fn prefixed_type<'a>(
     labeller: &'a Labeller,
     operator: UnaryOperator,
@@ -211,7 +215,7 @@ fn infix_type<'a>(
     operator_type(standard, root, visible, of_numbers, label)
 }
 
-/// The type of what stands after a name.
+/// The type of what comes after a name.
 fn applied_type<'a>(
     standard: &'a StandardTypes,
     whole: &'a Term,
@@ -229,7 +233,7 @@ fn applied_type<'a>(
     }
 }
 
-/// The type that an expression tells by itself: none where it is of numbers alone, an aggregate or text.
+/// The type that an expression has by itself: none if it is of numbers alone, an aggregate or text.
 #[tactic(auto, using(crate::proofs::TermsSeen::terms_made))]
 pub fn type_told<'a>(
     labeller: &'a Labeller,
@@ -279,7 +283,7 @@ pub fn type_told<'a>(
     }
 }
 
-/// Whether an operator in front and its operand are numbers alone.
+/// Whether a prefix operator and its operand are numbers alone.
 pub fn is_computed(operator: UnaryOperator, operand: &Term) -> bool
     ensures { result ≡ (computes_one operator && is_universal (term_model operand.now)) }
 {
@@ -307,7 +311,7 @@ fn operand_type<'a>(
     }
 }
 
-/// The types among which it is; those that are known here, where every unit has it.
+/// The types among which it is. If every unit has it, those that are known here.
 pub fn types_in<'a>(known: &'a Types, determined: &DeterminedType<'a>) -> &'a Types
     ensures { result.now ≡ types_in known.now (told_model determined.now) }
 {
@@ -317,7 +321,7 @@ pub fn types_in<'a>(known: &'a Types, determined: &DeterminedType<'a>) -> &'a Ty
     }
 }
 
-/// The type of the operands of a membership test: that of the first of them that tells one; Integer where all are of numbers alone.
+/// The type of the operands of a membership test: that of the first operand that has one by itself; Integer if all are of numbers alone.
 pub fn test_type<'a>(
     labeller: &'a Labeller,
     value: &'a Term,
@@ -339,7 +343,7 @@ pub fn test_type<'a>(
     everywhere(&labeller.predefined.types.integer.symbol)
 }
 
-/// The same of a pair of bounds, which have this type where both are of numbers alone.
+/// The type of a pair of bounds: that of the first bound that has one by itself, or the given one if both are of numbers alone.
 pub fn pair_type<'a>(
     labeller: &'a Labeller,
     otherwise: DeterminedType<'a>,
@@ -358,7 +362,7 @@ pub fn pair_type<'a>(
     otherwise
 }
 
-/// A range of the root type is of Integer (ARM 3.6(18)).
+/// The type of a range: Integer for a range of the root type (ARM 3.6(18)).
 pub fn range_type<'a>(labeller: &'a Labeller, determined: DeterminedType<'a>) -> DeterminedType<'a>
     ensures { told_model result ≡ range_type labeller.now.predefined (told_model determined.entry) }
 {

@@ -1,4 +1,4 @@
-// Parts of an expression that are put into a list.
+// Parts of an expression that are collected into a list.
 ghost use Rattle.std.specs.Prelude.{◌≡◌, OnOk, option_map};
 ghost use Rattle.al_base_fault.specs.Judging.{map_ok};
 ghost use Rattle.al_view_typed.specs.ExpressionViews.{actual_model, value_model};
@@ -13,20 +13,27 @@ use std::alloc::Global;
 /// Actual parameters: what fails in them, what is wrong, and those that are right.
 #[derive(Drop)]
 pub struct Actuals {
+    /// The first static failure in them.
     pub failure: Option<Fault>,
+    /// The first fault in them.
     pub fault: Option<Fault>,
+    /// The actual parameters that are right, in order.
     pub items: Vec<Actual>,
 }
 
-/// The same of values.
+/// Values: what fails in them, what is wrong, and those that are right.
 #[derive(Drop)]
 pub struct Values {
+    /// The first static failure in them.
     pub failure: Option<Fault>,
+    /// The first fault in them.
     pub fault: Option<Fault>,
+    /// The values that are right, in order.
     pub items: Vec<CheckedValue>,
 }
 
 impl Actuals {
+    /// No actual parameters. It takes no memory.
     pub fn none(alloc: Global) -> Actuals
         ensures { actuals_model result ≡ no_parts }
     {
@@ -37,7 +44,9 @@ impl Actuals {
         }
     }
 
-    /// One more, with what fails in it.
+    /// Adds an actual parameter, with what fails in it.
+    /// # Errors
+    /// `NoMemory` if the allocator refuses memory.
     pub fn add(
         &mut self,
         failure: Option<Fault>,
@@ -55,6 +64,7 @@ impl Actuals {
 }
 
 impl Values {
+    /// No values. It takes no memory.
     pub fn none(alloc: Global) -> Values
         ensures { values_model result ≡ no_parts }
     {
@@ -65,7 +75,9 @@ impl Values {
         }
     }
 
-    /// One more, with what fails in it.
+    /// Adds a value, with what fails in it.
+    /// # Errors
+    /// `NoMemory` if the allocator refuses memory.
     pub fn add(
         &mut self,
         failure: Option<Fault>,

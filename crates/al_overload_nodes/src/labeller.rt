@@ -3,10 +3,13 @@ use al_overload::Predefined;
 use al_view::Symbol;
 use std::alloc::Global;
 
-/// What labels terms: what every unit has, and the protected object in whose bodies the text stands, if any.
+/// What labels terms: what every unit has, and the protected object in whose bodies the terms are, if any.
 pub struct Labeller {
+    /// The allocator that trees are made with.
     pub alloc: Global,
+    /// What every unit has.
     pub predefined: Predefined,
+    /// The symbol of the protected object in whose bodies the terms are, if any.
     pub own: Option<Symbol>,
 }
 

@@ -27,11 +27,15 @@ use al_view_predefined::StandardTypes;
 use al_view_typed::{CheckedValue, Conversion, Form, Typed};
 use std::alloc::Global;
 
-/// What stands after a name: arguments of a call, an index of an object, or an index of a part of one.
+/// What comes after a name: arguments of a call, an index of an object, or an index of a part of one.
 pub enum Application<'a> {
+    /// The arguments of a call of this subprogram.
     CallOf(&'a SubprogramView),
+    /// The index of this object of an array type.
     ElementOf(&'a ObjectView),
+    /// The index of a part of this nominal subtype, which is of these types.
     ElementOfPart(&'a Subtype, &'a Types),
+    /// What fits nothing.
     Misapplied,
 }
 
@@ -62,7 +66,7 @@ fn applied_view(view: &ViewKind, _candidate: usize) -> Application<'_>
     }
 }
 
-/// What stands after a name, by what that denotes.
+/// What comes after a name, by what that denotes.
 pub fn how_applied<'a>(
     standard: &'a StandardTypes,
     prefix: &'a Term,
@@ -82,7 +86,7 @@ pub fn how_applied<'a>(
     }
 }
 
-/// The component of that number of an aggregate of this type.
+/// The component with that index of an aggregate of this type.
 fn component_in(position: usize, definition: &TypeDefinition) -> Option<&Subtype>
     ensures { option_copied result ≡ component_in position definition.now }
 {
@@ -102,6 +106,7 @@ fn component_in(position: usize, definition: &TypeDefinition) -> Option<&Subtype
     }
 }
 
+/// The subtype of the component at that position in an aggregate of this type.
 pub fn component_of_type<'a>(
     standard: &'a StandardTypes,
     types: &'a Types,
@@ -116,7 +121,7 @@ pub fn component_of_type<'a>(
     }
 }
 
-/// Where an attribute's argument stands.
+/// The type that an attribute's argument has.
 pub fn argument_type<'a>(
     root: &'a Symbol,
     conversion: Conversion,
@@ -135,7 +140,7 @@ pub fn argument_type<'a>(
     }
 }
 
-/// What the value of an attribute is checked against.
+/// The range that the value of an attribute is checked against.
 fn argument_check(
     standard: &StandardTypes,
     conversion: Conversion,
@@ -154,7 +159,7 @@ fn argument_check(
     }
 }
 
-/// A value with the range against which it is checked.
+/// A value with the range that it is checked against.
 fn checked(range: Option<Bounds>, value: CheckResult<Typed>) -> CheckResult<CheckedValue>
     ensures { map_ok value_model result ≡ map_ok (checked range) (map_ok typed_model value) }
 {
@@ -164,7 +169,9 @@ fn checked(range: Option<Bounds>, value: CheckResult<Typed>) -> CheckResult<Chec
     }
 }
 
-/// One more component of an aggregate.
+/// Adds a component of an aggregate.
+/// # Errors
+/// `NoMemory` if the allocator refuses memory.
 pub fn add_value(values: &mut Values, range: Option<Bounds>, value: Reading) -> Result<(), NoMemory>
     ensures { OnOk result (values_model values.new ≡ with_value (values_model values.old) range (reading_model value)) }
 {
@@ -190,6 +197,8 @@ fn others_form(
 }
 
 /// The first or the last value of a subtype.
+/// # Errors
+/// `NoMemory` if the allocator refuses memory.
 pub fn bound_reading(
     labeller: &Labeller,
     place: Place,
@@ -209,7 +218,7 @@ pub fn bound_reading(
     }
 }
 
-/// The length of an index range is static; one of more values than the largest word fails (ARM 3.6.2, 4.9).
+/// The length of an index range is static. If there are more values than the largest word, it fails (ARM 3.6.2, 4.9).
 fn length_known(place: Place, bounds: Bounds) -> Known
     ensures { result ≡ length_known place bounds }
 {
@@ -222,6 +231,8 @@ fn length_known(place: Place, bounds: Bounds) -> Known
 }
 
 /// `A'Length` of an array whose index has these bounds.
+/// # Errors
+/// `NoMemory` if the allocator refuses memory.
 pub fn length_reading(
     labeller: &Labeller,
     place: Place,
@@ -266,6 +277,8 @@ fn view_reading(
 }
 
 /// A name alone.
+/// # Errors
+/// `NoMemory` if the allocator refuses memory.
 pub fn named_reading(
     labeller: &Labeller,
     place: Place,
@@ -287,6 +300,8 @@ pub fn named_reading(
 }
 
 /// `S'Pos (X)`, `S'Val (X)`, `S'Succ (X)` or `S'Pred (X)`.
+/// # Errors
+/// `NoMemory` if the allocator refuses memory.
 pub fn attribute_reading(
     labeller: &Labeller,
     place: Place,
@@ -307,6 +322,8 @@ pub fn attribute_reading(
 }
 
 /// A conversion to this subtype, or a qualified expression of it.
+/// # Errors
+/// `NoMemory` if the allocator refuses memory.
 pub fn marked_reading(
     labeller: &Labeller,
     place: Place,
@@ -321,6 +338,9 @@ pub fn marked_reading(
     labeller.conversion(place, &mark.types, base, range, conversion, range, operand)
 }
 
+/// The context of the operand of a conversion to this subtype.
+/// # Errors
+/// `NoMemory` if the allocator refuses memory.
 pub fn conversion_context(labeller: &Labeller, mark: &SubtypeView) -> Result<Context, NoMemory>
     ensures { IfOk result (λ context. context ≡ contexts.ConversionOperand (mark_type mark.now)) }
 {
@@ -329,6 +349,9 @@ pub fn conversion_context(labeller: &Labeller, mark: &SubtypeView) -> Result<Con
     Ok(Context::ConversionOperand(of))
 }
 
+/// The context of the operand of a qualified expression of this subtype.
+/// # Errors
+/// `NoMemory` if the allocator refuses memory.
 pub fn qualified_context(labeller: &Labeller, mark: &SubtypeView) -> Result<Context, NoMemory>
     ensures { IfOk result (λ context. context ≡ contexts.QualifiedOperand (mark_type mark.now)) }
 {
@@ -337,7 +360,9 @@ pub fn qualified_context(labeller: &Labeller, mark: &SubtypeView) -> Result<Cont
     Ok(Context::QualifiedOperand(of))
 }
 
-/// What an aggregate may be of after a mark.
+/// The nominal subtype that an aggregate after a mark may have.
+/// # Errors
+/// `NoMemory` if the allocator refuses memory.
 pub fn nominal_of(labeller: &Labeller, mark: &SubtypeView) -> Result<Option<Nominal>, NoMemory>
     ensures { IfOk result (λ allowed. allowed ≡ Some (nominal mark.now.types mark.now.subtype)) }
 {
@@ -346,7 +371,9 @@ pub fn nominal_of(labeller: &Labeller, mark: &SubtypeView) -> Result<Option<Nomi
     Ok(Some(Nominal { subtype, types }))
 }
 
-/// `value [not] in mark`
+/// `value [not] in mark`.
+/// # Errors
+/// `NoMemory` if the allocator refuses memory.
 pub fn in_mark_reading(
     labeller: &Labeller,
     place: Place,
@@ -366,6 +393,8 @@ pub fn in_mark_reading(
 }
 
 /// A positional aggregate.
+/// # Errors
+/// `NoMemory` if the allocator refuses memory.
 pub fn aggregate_reading(
     labeller: &Labeller,
     place: Place,
@@ -380,7 +409,9 @@ pub fn aggregate_reading(
     labeller.node(place, types, at, None, known, form)
 }
 
-/// `(others => value)`
+/// `(others => value)`.
+/// # Errors
+/// `NoMemory` if the allocator refuses memory.
 pub fn others_reading(
     labeller: &Labeller,
     place: Place,

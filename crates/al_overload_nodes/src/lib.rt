@@ -1,5 +1,12 @@
-//! What the labelled trees of terms are put together from (ARM 4, 8.6): nodes with their labels and what is known of their values, and
-//! the trees of whole expressions.
+//! Labelled trees of terms, and what they are put together from (ARM 4, 8.6).
+//!
+//! A *labelled tree* is a term whose labelling has been chosen: each node has labels (its place, type, nominal range and static value) and
+//! a form (what is evaluated). A `Reading` (`node`) is what a term is with its labelling: what is known of its value, and its labelled
+//! tree, or the first fault in it that isn't a static failure. `reading` recurses over the term; `leaf`, `made`, `operator`, `call` and
+//! `name` make the nodes; `chain` processes chains by loops.
+//!
+//! `context`, `range` and `variable` check whole contexts, pairs of bounds and targets; `staticness` those that must be static.
+//! `determined` finds the type that an expression has by itself.
 #![tactic(auto)]
 
 mod call;

@@ -1,4 +1,4 @@
-// Terms whose operands were read, and those that have none. Each stands by itself, so that what recurses needs little of the stack.
+// Terms whose operands were read, and terms that have none. Each is a function of its own, so that what recurses needs little of the stack.
 ghost use Rattle.std.specs.Prelude.{◌≡◌, IfOk, Ok, option_map};
 ghost use Rattle.al_overload.specs.Parts.{nominal};
 ghost use Rattle.al_overload_nodes.specs.Names.{element_node, selected_node};
@@ -81,7 +81,7 @@ pub(crate) fn read_length(
     length_reading(labeller, place, types, at, bounds)
 }
 
-/// `first operator second`
+/// `first operator second`.
 #[inline(never)]
 fn binary_of(
     labeller: &Labeller,
@@ -97,7 +97,7 @@ fn binary_of(
     labeller.binary(place, operator, of, first, second)
 }
 
-/// The same on the heap.
+/// `first operator second`, on the heap.
 #[inline(never)]
 pub(crate) fn kept_binary(
     labeller: &Labeller,
@@ -113,7 +113,7 @@ pub(crate) fn kept_binary(
     kept(labeller.alloc, reading)
 }
 
-/// `first and then second` or `first or else second`
+/// `first and then second` or `first or else second`.
 #[inline(never)]
 fn short_circuit_of(
     labeller: &Labeller,
@@ -129,7 +129,7 @@ fn short_circuit_of(
     labeller.short_circuit(place, types, form, first, second)
 }
 
-/// The same on the heap.
+/// `first and then second` or `first or else second`, on the heap.
 #[inline(never)]
 pub(crate) fn kept_short_circuit(
     labeller: &Labeller,
@@ -145,7 +145,7 @@ pub(crate) fn kept_short_circuit(
     kept(labeller.alloc, reading)
 }
 
-/// `whole.name`
+/// `whole.name`.
 #[inline(never)]
 fn selected_of(
     labeller: &Labeller,
@@ -160,7 +160,7 @@ fn selected_of(
     labeller.selected(place, name, part, whole)
 }
 
-/// The same on the heap.
+/// `whole.name`, on the heap.
 #[inline(never)]
 pub(crate) fn kept_selected(
     labeller: &Labeller,
@@ -175,7 +175,7 @@ pub(crate) fn kept_selected(
     kept(labeller.alloc, reading)
 }
 
-/// `whole (index)`
+/// `whole (index)`.
 #[inline(never)]
 fn element_of(
     labeller: &Labeller,
@@ -191,7 +191,7 @@ fn element_of(
     labeller.element(place, types, by, whole, index)
 }
 
-/// The same on the heap.
+/// `whole (index)`, on the heap.
 #[inline(never)]
 pub(crate) fn kept_element(
     labeller: &Labeller,
@@ -207,7 +207,7 @@ pub(crate) fn kept_element(
     kept(labeller.alloc, reading)
 }
 
-/// `value [not] in low .. high`
+/// `value [not] in low .. high`.
 #[inline(never)]
 pub(crate) fn membership_of(
     labeller: &Labeller,

@@ -15,7 +15,7 @@ use al_base_fault::CheckResult;
 use al_overload::{Context, Labelled, Nominal, Term, interpret_term};
 use al_view::{SubtypeView, Symbol, Types};
 
-/// What a term means in this context, where no aggregate may stand.
+/// What a term means in this context, where no aggregate is allowed.
 pub(crate) fn interpret(
     labeller: &Labeller,
     context: Context,
@@ -41,7 +41,7 @@ pub(crate) fn interpret_conversion(
     interpret(labeller, context, operand)
 }
 
-/// The same of an operand of a qualified expression, where an aggregate of this nominal subtype may stand.
+/// What the operand of a qualified expression means in its context. An aggregate of this nominal subtype is allowed.
 fn interpret_allowed(
     labeller: &Labeller,
     mark: &SubtypeView,
@@ -57,7 +57,7 @@ fn interpret_allowed(
     meaning
 }
 
-/// What the operand of a qualified expression of this subtype means. An aggregate may stand there.
+/// What the operand of a qualified expression of this subtype means. An aggregate is allowed.
 pub(crate) fn interpret_qualified(
     labeller: &Labeller,
     mark: &SubtypeView,

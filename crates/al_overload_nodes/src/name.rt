@@ -137,7 +137,7 @@ pub fn is_variable(term: &Term) -> bool
     }
 }
 
-/// What is no variable.
+/// E406 at this place: it is no variable.
 pub fn no_variable(place: Place) -> Fault
     ensures { result ≡ no_variable place }
 {
@@ -149,6 +149,8 @@ pub fn no_variable(place: Place) -> Fault
 
 impl Labeller {
     /// An object that is named alone.
+    /// # Errors
+    /// `NoMemory` if the allocator refuses memory.
     pub fn object(&self, place: Place, object: &ObjectView) -> Result<Reading, NoMemory>
         ensures { IfOk result (λ r. reading_model r ≡ object_node self.now.predefined.root place object.now) }
     {
@@ -177,7 +179,9 @@ impl Labeller {
         self.node(place, types, &component.base, range, known, form)
     }
 
-    /// The component of that name of what has this nominal subtype.
+    /// The component with that name of what has this nominal subtype.
+    /// # Errors
+    /// `NoMemory` if the allocator refuses memory.
     pub fn selected(
         &self,
         place: Place,
@@ -197,6 +201,8 @@ impl Labeller {
     }
 
     /// A component of an array, by an index.
+    /// # Errors
+    /// `NoMemory` if the allocator refuses memory.
     pub fn element(
         &self,
         place: Place,

@@ -1,4 +1,4 @@
-// A labelled tree with what is known of its value, and how it is put together.
+// Labelled trees with what is known of their values, and how they are put together.
 ghost use Rattle.std.specs.Prelude.{◌≡◌, IfOk};
 ghost use Rattle.al_base_fault.specs.Judging.{map_ok};
 ghost use Rattle.al_view_typed.specs.ExpressionTrees.{TypedTree as typed_trees};
@@ -27,11 +27,12 @@ fn expression_type(alloc: Global, root: &Symbol, of: &Symbol) -> Result<Expressi
     Ok(ExpressionType::Declared(symbol))
 }
 
-/// What a term is with its labelling: what is known of its value, and its labelled tree, or the first fault in it that isn't a
-/// static failure.
+/// What a term is with its labelling.
 #[derive(Drop)]
 pub struct Reading {
+    /// What is known of its value.
     pub known: Known,
+    /// Its labelled tree, or the first fault in it that isn't a static failure.
     pub typed: CheckResult<Typed>,
 }
 
@@ -45,7 +46,7 @@ fn value_in(known: Known) -> Option<StaticValue>
     }
 }
 
-/// What is wrong in a context inside.
+/// A reading of what has a fault in a context inside it.
 pub fn faulty(fault: Fault) -> Reading
     ensures { reading_model result ≡ faulty fault }
 {
@@ -55,7 +56,7 @@ pub fn faulty(fault: Fault) -> Reading
     }
 }
 
-/// What a labelling doesn't fit.
+/// A reading of what its labelling doesn't fit.
 pub fn misfit(place: Place) -> Reading
     ensures { reading_model result ≡ misfit place }
 {
@@ -115,7 +116,7 @@ fn regrouped(place: Place, known: Known) -> Known
     }
 }
 
-/// The same expression in parentheses.
+/// The expression in parentheses.
 fn grouped_tree(place: Place, typed: Typed) -> Typed
     ensures { typed_model result ≡ grouped_tree place (typed_model typed) }
 {
@@ -139,7 +140,7 @@ fn grouped_typed(place: Place, typed: CheckResult<Typed>) -> CheckResult<Typed>
     }
 }
 
-/// What stands in parentheses begins with the left one, and is no name of an object.
+/// What is in parentheses begins with the left one, and is no name of an object.
 pub fn grouped(place: Place, inner: Reading) -> Reading
     ensures { reading_model result ≡ grouped place (reading_model inner) }
 {
@@ -149,7 +150,9 @@ pub fn grouped(place: Place, inner: Reading) -> Reading
     }
 }
 
-/// An expression that stands by itself: its labelled tree, or what is wrong with it.
+/// The labelled tree of an expression that is evaluated by itself.
+/// # Errors
+/// The fault of the reading, or E405 at the first token of a static expression that has no value, whichever is first.
 pub fn checked(reading: Reading) -> CheckResult<Typed>
     ensures { map_ok typed_model result ≡ checked (reading_model reading) }
 {
@@ -157,7 +160,7 @@ pub fn checked(reading: Reading) -> CheckResult<Typed>
 }
 
 impl Labeller {
-    /// The labels of an expression that begins here, of this type among these.
+    /// The labels of an expression that begins here, of this type, which is among these.
     fn labels_for(
         &self,
         place: Place,
@@ -179,7 +182,9 @@ impl Labeller {
         })
     }
 
-    /// An expression that begins here, of this type among these, with its nominal range, its value and its form.
+    /// An expression that begins here, of this type, which is among these, with its nominal range, its value and its form.
+    /// # Errors
+    /// `NoMemory` if the allocator refuses memory.
     #[tactic(auto, unfolding(crate::specs::Nodes::node))]
     pub fn node(
         &self,
@@ -199,6 +204,9 @@ impl Labeller {
         })
     }
 
+    /// A static value that begins here, of this type, which is among these.
+    /// # Errors
+    /// `NoMemory` if the allocator refuses memory.
     pub fn literal(
         &self,
         place: Place,
@@ -213,6 +221,8 @@ impl Labeller {
     }
 
     /// A conversion, a qualified expression or an attribute that is like one, whose value is checked against this range.
+    /// # Errors
+    /// `NoMemory` if the allocator refuses memory.
     pub fn conversion(
         &self,
         place: Place,
@@ -231,6 +241,8 @@ impl Labeller {
     }
 
     /// A membership test.
+    /// # Errors
+    /// `NoMemory` if the allocator refuses memory.
     pub fn membership(
         &self,
         place: Place,

@@ -5,7 +5,7 @@ ghost use Rattle.al_overload_nodes.specs.OperandLabels.{labels_after, next_label
 
 use al_overload::{Labelled, LabelledTerms};
 
-/// Those of all operands.
+/// The labellings of all operands.
 pub(crate) fn operand_labels(label: &Labelled) -> &LabelledTerms
     ensures { labels_of result.now ≡ operand_labels (label_of label.now) }
 {
@@ -14,7 +14,7 @@ pub(crate) fn operand_labels(label: &Labelled) -> &LabelledTerms
     }
 }
 
-/// That of the operand that comes next, if there is one.
+/// The labelling of the operand that comes next, if there is one.
 pub(crate) fn next_label(labels: &LabelledTerms) -> Option<&Labelled>
     ensures { option_map (λ label. label_of label.now) result ≡ next_label (labels_of labels.now) }
 {
@@ -24,7 +24,7 @@ pub(crate) fn next_label(labels: &LabelledTerms) -> Option<&Labelled>
     }
 }
 
-/// Those of the operands after it.
+/// The labellings of the operands after the next one.
 pub(crate) fn labels_after(labels: &LabelledTerms) -> &LabelledTerms
     ensures { labels_of result.now ≡ labels_after (labels_of labels.now) }
 {

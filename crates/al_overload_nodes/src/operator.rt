@@ -19,12 +19,17 @@ use al_view_predefined::StandardTypes;
 use al_view_typed::{BinaryOperator, Form, ShortCircuit, Typed, UnaryOperator};
 use std::alloc::Global;
 
-/// The types of an operator's operands and of its result, among these types. Of one operand both are that one's.
+/// The types of an operator's operands and of its result, which are among these types. An operator with one operand has the same type for
+/// both.
 #[derive(Drop)]
 pub struct Signature<'a> {
+    /// The type of the left operand.
     pub left: &'a Symbol,
+    /// The type of the right operand.
     pub right: &'a Symbol,
+    /// The type of the result.
     pub result_type: &'a Symbol,
+    /// The types among which these are.
     pub types: &'a Types,
 }
 
@@ -64,6 +69,7 @@ fn root_right(predefined: &Predefined, operator: BinaryOperator) -> &Symbol
     }
 }
 
+/// The result type of an operator of the root type: Boolean for a relation, else the root type.
 pub fn root_result(predefined: &Predefined, operator: BinaryOperator) -> &Symbol
     ensures { result.now ≡ root_result predefined.now operator }
 {
@@ -137,7 +143,7 @@ fn binary_profile(subprogram: &SubprogramView) -> Option<Signature<'_>>
     }
 }
 
-/// Equality of what isn't seen to be scalar compares all words.
+/// The operator on values of a type: equality of what isn't seen to be scalar compares all words.
 fn operator_on(is_scalar: bool, operator: BinaryOperator) -> BinaryOperator
     ensures { result ≡ operator_on is_scalar operator }
 {
@@ -200,7 +206,8 @@ fn short_circuit_form(
 }
 
 impl Labeller {
-    /// Of a number alone an operator has the type at which it stands; else it is one of the root type, or one that is visible.
+    /// The types of a prefix operator. If the operand is a number alone, it has the type that is wanted of it; else it is one of the root
+    /// type, or one that is visible.
     pub fn unary_signature<'a>(
         &'a self,
         visible: &'a [View],
@@ -234,7 +241,8 @@ impl Labeller {
         }
     }
 
-    /// The same of two operands.
+    /// The types of an operator with two operands. If both are numbers alone, it has the type that is wanted of it; else it is one of the
+    /// root type, or one that is visible.
     pub fn binary_signature<'a>(
         &'a self,
         operator: BinaryOperator,
@@ -268,7 +276,9 @@ impl Labeller {
         }
     }
 
-    /// `operator operand`
+    /// `operator operand`.
+    /// # Errors
+    /// `NoMemory` if the allocator refuses memory.
     pub fn unary(
         &self,
         place: Place,
@@ -283,7 +293,9 @@ impl Labeller {
         self.node(place, of.types, of.result_type, None, known, form)
     }
 
-    /// `left operator right`
+    /// `left operator right`.
+    /// # Errors
+    /// `NoMemory` if the allocator refuses memory.
     pub fn binary(
         &self,
         place: Place,
@@ -301,7 +313,9 @@ impl Labeller {
         self.node(place, of.types, of.result_type, None, known, form)
     }
 
-    /// `left and then right` or `left or else right`
+    /// `left and then right` or `left or else right`.
+    /// # Errors
+    /// `NoMemory` if the allocator refuses memory.
     pub fn short_circuit(
         &self,
         place: Place,

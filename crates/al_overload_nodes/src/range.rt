@@ -1,4 +1,4 @@
-// Pairs of bounds and selectors, with the types that they tell (ARM 3.5, 3.6(18), 5.4(4), 5.5).
+// Pairs of bounds and selectors, with the types that they have by themselves (ARM 3.5, 3.6(18), 5.4(4), 5.5).
 ghost use Rattle.std.specs.Prelude.{◌≡◌, IfOk, [], unwrap_or};
 ghost use Rattle.std.specs.Option.{option_copied};
 ghost use Rattle.al_overload.specs.Counts.{label_of};
@@ -29,9 +29,11 @@ use al_view::{Seq, Symbol, Types};
 use al_view_typed::Typed;
 use std::alloc::Global;
 
-/// A type with the types among which it is: nothing where every unit has it.
+/// A type with the types among which it is: none if every unit has it.
 pub struct FoundType {
+    /// The type.
     pub of: Symbol,
+    /// The types among which it is.
     pub types: Types,
 }
 
@@ -53,8 +55,11 @@ impl FoundType {
 
 /// Two bounds, with the type of their range.
 pub struct Pair {
+    /// The low bound.
     pub low: Typed,
+    /// The high bound.
     pub high: Typed,
+    /// The type of their range.
     pub range: FoundType,
 }
 
@@ -90,9 +95,11 @@ impl Pair {
     }
 }
 
-/// An expression, with the type that it tells.
+/// An expression, with the type that it has by itself.
 pub struct DeterminedValue {
+    /// The expression.
     pub value: Typed,
+    /// Its type.
     pub found: FoundType,
 }
 
@@ -119,7 +126,7 @@ fn no_types(alloc: Global) -> Result<Types, NoMemory>
     Ok(types)
 }
 
-/// The same types once more; nothing where there are none.
+/// A copy of the types; no types if there are none.
 fn shared(alloc: Global, types: Option<&Types>) -> Result<Types, NoMemory>
     ensures { IfOk result (λ copy. copy ≡ unwrap_or (option_copied types.entry) []) }
 {
@@ -148,7 +155,7 @@ fn pair_of(range: FoundType, bounds: CheckResult<(Typed, Typed)>) -> CheckResult
     }
 }
 
-/// A bound at the type of the pair.
+/// A bound with the type of the pair.
 fn bound_at(
     labeller: &Labeller,
     expected: Staticness,
@@ -208,8 +215,10 @@ fn check_bounds_as(
     }
 }
 
-/// A pair of bounds, with the type of their range: E402 or E403 at the first token of the low one, where the two have no interpretation,
-/// or several; else the first fault in them. A type that the context wants is among `types` or one that every unit has.
+/// A pair of bounds, with the type of their range. A type that the context wants is among `types` or one that every unit has.
+/// # Errors
+/// `NoMemory` if the allocator refuses memory. The inner error is E402 or E403 at the first token of the low bound if the two have no
+/// interpretation, or several; else the first fault in them.
 pub fn check_bounds(
     labeller: &Labeller,
     context: &Context,
@@ -222,7 +231,10 @@ pub fn check_bounds(
     check_bounds_as(labeller, Staticness::Any, context, types, low, high)
 }
 
-/// The same of bounds that must be static, where this was found in the prefixes of their attributes: E304 at the first token of each that isn't.
+/// A pair of bounds that must be static, with the type of their range. `found` is the first fault in the prefixes of their attributes.
+/// # Errors
+/// `NoMemory` if the allocator refuses memory. The inner error is the first of that of `check_bounds` and E304 at the first token of each
+/// bound that isn't static.
 pub fn check_static_bounds(
     labeller: &Labeller,
     context: &Context,
@@ -278,7 +290,10 @@ fn read_selector(
     }
 }
 
-/// The selector of a case statement with its type, which is the root type where it is of numbers alone.
+/// The selector of a case statement with its type, which is the root type if it is of numbers alone.
+/// # Errors
+/// `NoMemory` if the allocator refuses memory. The inner error is E402 or E403 at its first token if it has no interpretation, or several;
+/// else the first fault in it.
 pub fn check_selector(
     labeller: &Labeller,
     term: &Term,

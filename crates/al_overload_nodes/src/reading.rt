@@ -1,4 +1,4 @@
-// The labelled tree of a term with its labelling: what recurses.
+// The labelled tree of a term with its labelling: the functions that recurse.
 ghost use Rattle.std.specs.Prelude.{◌≡◌, ◌&&◌, IfOk, OnOk, false, map, option_map};
 ghost use Rattle.std.specs.Option.{option_map_or};
 ghost use Rattle.al_overload_nodes.specs.Variables.{variable_as};
@@ -38,7 +38,7 @@ use al_overload::{
 use al_view::{ObjectView, SubprogramView, SubtypeView, Symbol, Types, View};
 use al_view_typed::{BinaryOperator, Conversion, ShortCircuit, UnaryOperator};
 
-/// What a term is with its labelling, where it stands at this type among these.
+/// What a term is with its labelling, if it has this type, which is among these.
 #[cycle(reading)]
 #[tactic(auto, using(crate::proofs::TermsSeen::terms_made))]
 pub(crate) fn read(
@@ -163,8 +163,8 @@ pub(crate) fn read(
     }
 }
 
-/// The same on the heap. A chain of operators, selectors and indexes is gone down by a loop, so that it takes no more of the stack than one link
-/// does. All that stands at the left of its links begins where it begins itself.
+/// What a term is with its labelling, on the heap. A chain of operators, selectors and indexes is processed by a loop, so that it takes no
+/// more of the stack than one link does. All that is at the left of its links begins at the place where the chain begins.
 #[cycle(reading)]
 #[inline(never)]
 fn read_boxed(
@@ -199,7 +199,7 @@ fn read_boxed(
     }
 }
 
-/// A step down a chain: its last link, and what stands at the left of that; or what is no chain.
+/// A step down a chain: its last link, and what is at the left of that; or what is no chain.
 #[cycle(reading)]
 #[inline(never)]
 #[tactic(auto, using(crate::proofs::TermsSeen::terms_made))]
@@ -311,7 +311,7 @@ fn step_short_circuit<'a>(
     down(labeller, place, joint, left, None, first_label, types, of)
 }
 
-/// The step at what stands in parentheses after a name.
+/// The step at what is in parentheses after a name.
 #[cycle(reading)]
 #[inline(never)]
 fn step_applied<'a>(
@@ -343,7 +343,7 @@ fn step_applied<'a>(
     }
 }
 
-/// The step at an index after a part of an object, which is of this type among these.
+/// The step at an index after a part of an object, which is of this type, which is among these.
 #[cycle(reading)]
 #[inline(never)]
 fn step_index<'a>(
@@ -387,7 +387,7 @@ fn kept_index(
     kept(labeller.alloc, reading)
 }
 
-/// What a step makes of its term, once what stands at the left is read too.
+/// What a step makes of its term, once what is at the left is read too.
 #[cycle(reading)]
 #[inline(never)]
 fn read_step(
@@ -485,7 +485,7 @@ fn read_object_element(
     read_element(labeller, arguments, place, 0, label, types, of, whole)
 }
 
-/// What stands in parentheses.
+/// What is in parentheses.
 #[cycle(reading)]
 #[inline(never)]
 fn read_group(
@@ -574,7 +574,7 @@ fn read_attribute(
     attribute_reading(labeller, place, conversion, subtype, types, at, argument)
 }
 
-/// `(others => component)`
+/// `(others => component)`.
 #[cycle(reading)]
 #[inline(never)]
 fn read_others(
@@ -596,7 +596,7 @@ fn read_others(
     others_reading(labeller, place, types, at, by.bounds, by.component, value)
 }
 
-/// An operator in front of its operand.
+/// An operator before its operand.
 #[cycle(reading)]
 #[inline(never)]
 fn read_prefixed(
@@ -620,7 +620,7 @@ fn read_prefixed(
     labeller.unary(place, operator, &of, operand)
 }
 
-/// `value [not] in subtype`
+/// `value [not] in subtype`.
 #[cycle(reading)]
 #[inline(never)]
 fn read_member(
@@ -678,7 +678,7 @@ pub(crate) fn read_inner(
     }
 }
 
-/// A component of an array, by what stands in parentheses after it.
+/// A component of an array, by what is in parentheses after it.
 #[cycle(reading)]
 fn read_element(
     labeller: &Labeller,

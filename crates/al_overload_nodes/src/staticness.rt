@@ -11,7 +11,7 @@ use al_base_fault::{CheckResult, CheckRule, Fault, unless};
 use al_static::Known;
 use al_view_typed::Typed;
 
-/// What is expected of an expression beside its type.
+/// What is expected of an expression besides its type.
 #[derive(Clone, Copy)]
 pub(crate) enum Staticness {
     Any,
@@ -19,7 +19,7 @@ pub(crate) enum Staticness {
     Static,
 }
 
-/// E304 at the first token of what isn't static; what is static and has no value is E405.
+/// E304 at the first token of what isn't static; what is static and has no value has E405.
 fn unless_static(place: Place, known: Known) -> Option<Fault>
     ensures { result ≡ unless_static place known }
 {
@@ -33,7 +33,7 @@ fn unless_static(place: Place, known: Known) -> Option<Fault>
     }
 }
 
-/// Whether a fault stands there.
+/// Whether a fault is at that place.
 fn stands_there(place: Place, found: Option<Fault>) -> bool
     ensures { result ≡ stands_there place found }
 {
@@ -43,8 +43,8 @@ fn stands_there(place: Place, found: Option<Fault>) -> bool
     }
 }
 
-/// What is expected of a context that must be static and begins there, where this was found in the prefixes of its attributes: a fault at its
-/// first token says that it has no interpretation.
+/// What is expected of a context that must be static and begins there. `found` is the first fault in the prefixes of its attributes: a
+/// fault at its first token says that it has no interpretation.
 pub(crate) fn expected_after(place: Place, found: Option<Fault>) -> Staticness
     ensures { result ≡ expected_after place found }
 {
@@ -55,7 +55,7 @@ pub(crate) fn expected_after(place: Place, found: Option<Fault>) -> Staticness
 }
 
 /// What has an interpretation and begins there: its labelled tree, or the first of the rules that it breaks, those of contexts inside it
-/// among them.
+/// included.
 pub(crate) fn checked_as(expected: Staticness, place: Place, reading: Reading) -> CheckResult<Typed>
     ensures { map_ok typed_model result ≡ checked_as expected place (reading_model reading) }
 {

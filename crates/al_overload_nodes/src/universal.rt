@@ -1,5 +1,5 @@
-// Whether operands are of numbers alone (ARM 3.4.1(7)). Down a chain of operators what is found out of the whole is known of what stands at the left,
-// so that no link is gone through again for each that stands after it.
+// Whether operands are of numbers alone (ARM 3.4.1(7)). Along a chain of operators, what is found out of the whole is known of what is at
+// the left, so that no link is examined again for each link after it.
 ghost use Rattle.std.specs.Prelude.{◌≡◌, ◌&&◌};
 ghost use Rattle.al_overload.specs.Universal.{computes_two, is_universal};
 ghost use Rattle.al_overload_nodes.specs.Known.{IsKnown};
@@ -9,7 +9,7 @@ use crate::are_universal;
 use al_overload::Term;
 use al_view_typed::BinaryOperator;
 
-/// Whether an operator and its operands are numbers alone, which may be known.
+/// Whether an operator and its operands are numbers alone; that may be known already.
 pub(crate) fn found_universal(
     known: Option<bool>,
     operator: BinaryOperator,
@@ -25,7 +25,7 @@ pub(crate) fn found_universal(
     }
 }
 
-/// Whether the left operand is of numbers alone, where this follows from whether all is, and from the operator and its right operand.
+/// Whether the left operand is of numbers alone, if this follows from whether all is, and from the operator and its right operand.
 #[tactic(auto, using(crate::proofs::KnownLemmas::left_too, crate::proofs::KnownLemmas::left_not))]
 pub(crate) fn left_known(
     operator: BinaryOperator,

@@ -109,7 +109,9 @@ pub(crate) fn variable_at(labeller: &Labeller, argument: &Term, label: Option<&L
     }
 }
 
-/// A nominal subtype of its own.
+/// A copy of a nominal subtype.
+/// # Errors
+/// `NoMemory` if the allocator refuses memory.
 pub fn nominal(labeller: &Labeller, subtype: &Subtype, types: &Types) -> Result<Nominal, NoMemory>
     ensures { IfOk result (λ of. of ≡ nominal types.now subtype.now) }
 {
@@ -216,7 +218,9 @@ fn picked_part(labeller: &Labeller, term: &Term) -> Result<CheckResult<Nominal>,
     }
 }
 
-/// The nominal subtype of the target of an assignment (ARM 5.2); E402 at the first token of what is no object or part of one.
+/// The nominal subtype of the target of an assignment (ARM 5.2).
+/// # Errors
+/// `NoMemory` if the allocator refuses memory. The inner error is E402 at the first token of what is no object or part of one.
 #[tactic(auto, unfolding(crate::specs::Variables::target_part))]
 pub fn target_part(labeller: &Labeller, term: &Term) -> Result<CheckResult<Nominal>, NoMemory>
     ensures { IfOk result (λ checked. checked ≡ target_part labeller.now.predefined (term_model term.now)) }

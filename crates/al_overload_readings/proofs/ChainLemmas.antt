@@ -1,4 +1,4 @@
--- A chain with one more operator at its front.
+-- A chain with one more operator at its beginning.
 use Rattle.std.proofs.Common.{◌≡◌, ◌≤◌, arith, Box, Global, List, [], ◌∷◌, ◌++◌, Result, refl, sym, ap, ◌∙◌}
 use Rattle.al_base_fault.specs.Judging.{next, map_ok}
 use Rattle.al_base_fault.specs.declared.fault.Fault.{Fault}
@@ -43,7 +43,7 @@ infix_joined d i joint rest left seen left_is operator_is right_is =
     ∙ ap (λ (x : ExpressionTree). next (joined_read d (operator_model joint.operator) (next (read d x) valued) (next (read d (expression_model (out-Infix i).right)) valued)) valued) (sym left_is)
     ∙ ap (λ (r : Result TermTree Fault). next (joined_read d (operator_model joint.operator) (next (read d left) valued) r) valued) (sym right_is)
 
--- a name with one part more at its front
+-- a name with one part more at its beginning
 pub first_linked : (d : Denotations) (links : List Link) (link : Link) (first : NotedTree)
     → all_linked d (links ++ link ∷ []) first ≡ all_linked d links (linked d link first)
 first_linked d [] link first = refl

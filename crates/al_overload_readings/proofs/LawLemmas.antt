@@ -1,4 +1,4 @@
--- What is told of faults.
+-- Laws of faults.
 use Rattle.std.proofs.Common.{◌≡◌, Bool, true, false, Option, None, Some, Result, Ok, Err, refl, ap, ◌∙◌}
 use Rattle.std.specs.Prelude.{if◌then◌else◌}
 use Rattle.al_tree_grammar.specs.Grammar.{Label}
@@ -20,7 +20,7 @@ both_fault h (Ok a) (Err g) = refl
 both_fault h (Err f) (Ok b) = refl
 both_fault h (Err f) (Err g) = refl
 
--- a value is told of as it is
+-- a value is read as it is
 valued_fault : {A : Type 0} (h : A → TermTree) (one : Result A Fault) → fault_in (next (map_ok (λ (a : A). reads.TermRead (h a)) one) valued) ≡ fault_in (map_ok h one)
 unfolding valued
 valued_fault h (Ok a) = refl

@@ -117,7 +117,7 @@ unfolding member_parts
 member_in_range d m high is = member_fully d m
     ∙ ap (λ (u : Option Expression). plain (member_parts d (expression_model (out-Member m).left) (is_some (out-Member m).not) (expression_model (out-Member m).low) (option_map expression_model u))) is
 
--- ---- what stands after a name
+-- ---- what comes after a name
 
 pub selector_part : (d : Denotations) (l : Label) (n : NotedTree) → with_part d (part.Selector l) n ≡ with_selector d l n
 unfolding with_part
@@ -145,7 +145,7 @@ pub operand_part : (d : Denotations) (x : GroupTree) (n : NotedTree) → with_pa
 unfolding with_part
 operand_part d x n = refl
 
--- ---- what stands in parentheses
+-- ---- what is in parentheses
 
 pub sole_group : (d : Denotations) (l : Label) (x : ExpressionTree) (xs : List Expression) → length xs < 1 → group_term d (g.Positional l x (expressions_of (map expression_model xs))) ≡ grouped (place_of l) (next (read d x) valued)
 unfolding group_term

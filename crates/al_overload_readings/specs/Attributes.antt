@@ -1,4 +1,4 @@
--- Attributes, and what they stand after (ARM 3.5, 3.5.5, 3.6.2).
+-- Attributes, and what they come after (ARM 3.5, 3.5.5, 3.6.2).
 use Rattle.std.specs.Prelude.{ℕ, Bool, true, false, ◌&&◌, List, [], Option, Some, None, option_map, unwrap_or, codes, if◌then◌else◌}
 use Rattle.std.specs.Str.{bytes_eq}
 use Rattle.al_overload.specs.Parts.{part_of}

@@ -1,4 +1,4 @@
--- Chains of operators, each of which joins what stands at its left with its right operand, and of the parts of a name.
+-- Chains of operators, each of which joins what is at its left with its right operand, and of the parts of a name.
 use Rattle.std.specs.Prelude.{◌<◌, List, [], ◌∷◌, Result, ⊤}
 use Rattle.al_base_fault.specs.Judging.{next, map_ok}
 use Rattle.al_base_fault.specs.declared.fault.Fault.{Fault}
@@ -26,12 +26,12 @@ chained d (joint ∷ joints) first = joint_read d joint (chained d joints first)
 
 -- ---- names, which have one part after another
 
--- what a step down makes of an expression, with what stands before its last part
+-- what a step down makes of an expression, with what comes before its last part
 abbrev pub stepped : Denotations → Step → NotedTree
 stepped d (steps.Down link prefix) = linked d link (noted d (expression_model prefix.now))
 stepped d (steps.Last n) = noted_model n
 
--- what stands before is less deep than the whole
+-- what comes before is less deep than the whole
 abbrev pub IsBelow : Expression → Step → Type 0
 IsBelow expression (steps.Down link prefix) = size-Expression prefix.now < size-Expression expression
 IsBelow expression (steps.Last n) = ⊤

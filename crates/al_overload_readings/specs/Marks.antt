@@ -14,7 +14,7 @@ whole t of = record { subtype = record { base = of.symbol; bounds = definition_b
 unfoldable pub marked_by : DeclaredType → Option SubtypeView
 marked_by t = option_map (whole t) (slice_get t.types (length t.types - 1))
 
--- the subtype that a declaration gives a name, where it is a type or a subtype
+-- the subtype that a declaration gives a name, if it is a type or a subtype
 unfoldable pub mark_of : ViewKind → Option SubtypeView
 mark_of (views.OfType t) = marked_by t
 mark_of (views.OfSubtype s) = Some s

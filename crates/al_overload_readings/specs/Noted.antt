@@ -1,4 +1,4 @@
--- What a name with its parts may be, where what is wrong in its arguments is kept beside: E401 and E404 of each name of a text count, whatever is wrong
+-- What a name with its parts may be; what is wrong in its arguments is kept separately: E401 and E404 of each name of a text count, whatever is wrong
 -- with the others, so the prefix of an attribute is looked at for itself.
 use Rattle.std.specs.Prelude.{List, [], ◌∷◌, Option, None, Result, Ok, Err}
 use Rattle.al_base.specs.declared.place.Place.{Place}

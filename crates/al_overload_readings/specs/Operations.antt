@@ -10,7 +10,7 @@ use Rattle.al_view.specs.declared.view.ProtectedView.{ProtectedView}
 use Rattle.al_view.specs.declared.view.ViewKind.{ViewKind}
 use Rattle.al_view.specs.declared.view.ViewKind.TheVariants as views
 
--- the operation, where it has that name
+-- the operation, if it has that name
 abbrev pub named_so : List ℕ → Operation → List ViewKind
 named_so name o = if bytes_eq name o.name then views.OfSubprogram o.subprogram ∷ [] else []
 
@@ -18,7 +18,7 @@ named_so name o = if bytes_eq name o.name then views.OfSubprogram o.subprogram �
 abbrev pub operations_named : List ℕ → List Operation → List ViewKind
 operations_named name operations = flat_map (named_so name) operations
 
--- one of these; where there are none it fits nothing
+-- one of these; if there are none it fits nothing
 abbrev pub called : Place → List ViewKind → TermTree
 called p vs = if is_none vs then terms.NothingTerm p else terms.NamedTerm p vs
 

@@ -1,4 +1,4 @@
--- Two things that each want memory.
+-- Two things that each need memory.
 use Rattle.std.specs.Prelude.{Result, Ok, Err}
 use Rattle.al_base.specs.declared.refusal.NoMemory.{NoMemory}
 

@@ -33,7 +33,7 @@ between bounds = map_ok (λ (b : TermTree × TermTree). BoundsRange b.0 b.1) bou
 unfoldable pub marked : Result SubtypeView Fault → Result (TermTree × TermTree) Fault → Result RangeTermTree Fault
 marked mark bounds = map_ok (λ (x : SubtypeView × (TermTree × TermTree)). MarkedRange x.0 x.1.0 x.1.1) (both mark bounds)
 
--- the range that stands in a text
+-- the range as it is written
 abbrev pub range_of : Denotations → DiscreteRangeTree → Result RangeTermTree Fault
 range_of d (ranges.SoleMark x) = map_ok WholeRange (one_range x (read d x))
 range_of d (ranges.Bounds r) = between (bounds_of d r)

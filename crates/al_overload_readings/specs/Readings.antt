@@ -1,4 +1,4 @@
--- What an expression may be until what stands round it is known: a name may be of a subtype, and an attribute may want an argument.
+-- What an expression may be until what is round it is known: a name may be of a subtype, and an attribute may want an argument.
 use Rattle.std.specs.Prelude.{ℕ, Bool, true, false, List, [], ◌∷◌, ◌++◌, Option, Some, None, option_map, is_some, Result, Ok, Err, if◌then◌else◌}
 use Rattle.std.specs.List.{list_any}
 use Rattle.al_base.specs.declared.place.Place.{Place}
@@ -49,7 +49,7 @@ read_place (FunctionRead p c s) = p
 read_place (ImageRead p s) = p
 read_place (RangeRead p s) = p
 
--- a name where a value or a call is wanted: E404 where it is no value and no call
+-- a name where a value or a call is wanted: E404 if it is no value and no call
 abbrev pub value_in : Place → List ViewKind → Result TermTree Fault
 value_in p vs = if list_any is_no_value vs then Err (wrong_kind p) else Ok (terms.NamedTerm p vs)
 
@@ -63,11 +63,11 @@ valued (RangeRead p s) = Ok (terms.NothingTerm p)
 
 -- ---- names
 
--- an identifier, or the last one of an expanded name: E401 where nothing is visible
+-- an identifier, or the last one of an expanded name: E401 if nothing is visible
 unfoldable pub named : Place → List ℕ → List ViewKind → Label → Result ReadTree Fault
 named p key vs l = if is_none vs then Err (not_visible l) else Ok (NameRead p key vs)
 
--- what stands after a name that is no package and no construct round the place: of a protected object an operation, of all else a component
+-- what comes after a name that is no package and no construct round the place: of a protected object an operation, of all else a component
 abbrev pub after_of : Place → List ViewKind → List ℕ → Option ProtectedView → Result TermTree Fault
 after_of p vs name (Some o) = Ok (operation_of p o name)
 after_of p vs name None = map_ok (λ (t : TermTree). terms.SelectedTerm t name) (value_in p vs)
@@ -128,7 +128,7 @@ prefix_of (FunctionRead p c s) = prefixes.Other
 prefix_of (ImageRead p s) = prefixes.Other
 prefix_of (RangeRead p s) = prefixes.Other
 
--- the attribute of a scalar subtype: E404 where such have none of the name that others have; an attribute that there isn't fits nothing
+-- the attribute of a scalar subtype: E404 if such have none of the name that others have; an attribute that there isn't fits nothing
 unfoldable pub scalar_attribute : Place → SubtypeView → Attribute → Result ReadTree Fault
 scalar_attribute p s attributes.First = Ok (TermRead (terms.BoundTerm p s false))
 scalar_attribute p s attributes.Last = Ok (TermRead (terms.BoundTerm p s true))

@@ -15,7 +15,7 @@ use Rattle.al_view.specs.declared.view.ViewKind.{ViewKind}
 abbrev pub Signed : Type 0 → Type 0
 Signed A = A × List ℕ
 
--- an operator in front of its operand
+-- an operator before its operand
 unfoldable pub unary_of : Prefix → Signed UnaryOperator
 unary_of (prefix.Signed (sign.PlusSign p)) = (unary.Plus, codes "+")
 unary_of (prefix.Signed (sign.MinusSign p)) = (unary.Minus, codes "-")

@@ -1,4 +1,4 @@
--- The term of an expression's text, by what its names denote (ARM 4.1 to 4.7). What is wrong with any name in the text counts, and the first is told.
+-- The term of an expression's text, by what its names denote (ARM 4.1 to 4.7). What is wrong with any name in the text counts, and the first is reported.
 use Rattle.std.specs.Prelude.{ℕ, Bool, true, false, ◌&&◌, ◌||◌, List, [], ◌∷◌, ◌++◌, Option, Some, None, is_some, Result, Ok, Err, nat_lt, pos, if◌then◌else◌}
 use Rattle.al_base.specs.declared.place.Place.{Place}
 use Rattle.al_tree_grammar.specs.Grammar.{Label}
@@ -96,7 +96,7 @@ unfoldable mutual
   with_part d part.RangeAttribute name = ranged name
   with_part d (part.Operand group) name = qualifying (texts.group_place group) (group_term d group) name
 
-  -- what stands in parentheses
+  -- what is in parentheses
   pub group_term : Denotations → GroupTree → Result TermTree Fault
   group_term d (g.Positional l first es.NoExpression) = grouped (place_of l) (next (settled (noted d first)) valued)
   group_term d (g.Positional l first (es.MoreExpressions second others)) =

@@ -5,15 +5,23 @@ ghost use Rattle.al_overload_readings.specs.Attributes.{attribute_named};
 /// An attribute of scalar subtypes or of arrays (ARM 3.5, 3.5.5, 3.6.2).
 #[derive(Clone, Copy)]
 pub enum Attribute {
+    /// First.
     First,
+    /// Last.
     Last,
+    /// Length.
     Length,
+    /// Pos.
     Pos,
+    /// Val.
     Val,
+    /// Succ.
     Succ,
+    /// Pred.
     Pred,
+    /// Image.
     Image,
-    /// None of these.
+    /// Any other name.
     Unknown,
 }
 

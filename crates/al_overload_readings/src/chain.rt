@@ -20,7 +20,7 @@ pub(crate) struct Joint {
     pub(crate) right: CheckResult<Term>,
 }
 
-/// The term of a chain, from its first operand on. The last operator of the text comes first.
+/// The term of a chain, from its first operand on. The last operator in source order comes first.
 #[tactic(auto, using(crate::proofs::ChainLemmas::first_joined))]
 pub(crate) fn chained(
     alloc: Global,

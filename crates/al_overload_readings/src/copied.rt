@@ -1,4 +1,4 @@
-// Subprograms and subtypes once more.
+// Copies of subprograms and subtypes.
 ghost use Rattle.std.specs.Prelude.{◌≡◌, IfOk};
 
 use al_base::{Name, NoMemory};
@@ -7,7 +7,9 @@ use al_view::{
 };
 use std::alloc::Global;
 
-/// The same subtype once more.
+/// A copy of a subtype.
+/// # Errors
+/// `NoMemory` if the allocator refuses memory.
 pub fn copied_mark(alloc: Global, mark: &SubtypeView) -> Result<SubtypeView, NoMemory>
     ensures { IfOk result (λ copy. copy ≡ mark.now) }
 {
@@ -93,7 +95,7 @@ fn copied_profile(alloc: Global, of: &Profile) -> Result<Profile, NoMemory>
     })
 }
 
-/// How it is called, and its flag.
+/// A copy of how a subprogram is called, and of its flag.
 fn copied_way(
     alloc: Global,
     of: &SubprogramView,
@@ -105,7 +107,9 @@ fn copied_way(
     Ok((call, flag))
 }
 
-/// The same subprogram once more.
+/// A copy of a subprogram.
+/// # Errors
+/// `NoMemory` if the allocator refuses memory.
 pub fn copied_subprogram(
     alloc: Global,
     subprogram: &SubprogramView,

@@ -1,4 +1,10 @@
-//! What an expression may be until what stands round it is known, and the terms of its text; E401 and E404 (ARM 4.1 to 4.7).
+//! What an expression may be until its context is known, and the terms of expressions (ARM 4.1 to 4.7).
+//!
+//! A `Reading` (`reading`) is what a name with its parts may be so far: a name with all that is visible under it, a value or a call, or an
+//! attribute that wants an argument. `steps` joins readings part by part and passes on the first fault; `text` does so for a whole
+//! expression, `name` and `chain` by loops. `mark`, `prefix` and `attribute` say which subtype a name denotes and what an attribute is
+//! applied to, `operation` which operation of a protected object is called, and `range` what a range is. A name has E401 if nothing is
+//! visible under it, and E404 if it denotes something of the wrong kind.
 #![tactic(auto)]
 
 mod attribute;

@@ -7,7 +7,7 @@ use al_base::NoMemory;
 use al_view::{DeclaredType, Subtype, SubtypeView, View, ViewKind};
 use std::alloc::Global;
 
-/// A type, the last of the types that it is of, with all its values.
+/// The subtype of all values of a type, which is the last of the types that it is made of.
 #[tactic(auto, unfolding(crate::specs::Marks::marked_by))]
 fn marked_by(alloc: Global, declared: &DeclaredType) -> Result<Option<SubtypeView>, NoMemory>
     ensures { IfOk result (λ mark. mark ≡ marked_by declared.now) }
@@ -28,7 +28,7 @@ fn marked_by(alloc: Global, declared: &DeclaredType) -> Result<Option<SubtypeVie
     }
 }
 
-/// The subtype that a declaration gives a name, where it is a type or a subtype.
+/// The subtype that a declaration gives a name, if it declares a type or a subtype.
 #[tactic(auto, unfolding(crate::specs::Marks::mark_of))]
 fn mark_of(alloc: Global, view: &View) -> Result<Option<SubtypeView>, NoMemory>
     ensures { IfOk result (λ mark. mark ≡ mark_of view.now) }
@@ -51,6 +51,8 @@ fn mark_of(alloc: Global, view: &View) -> Result<Option<SubtypeView>, NoMemory>
 }
 
 /// The subtype that is all that is visible under a name.
+/// # Errors
+/// `NoMemory` if the allocator refuses memory.
 pub fn mark_in(alloc: Global, views: &[View]) -> Result<Option<SubtypeView>, NoMemory>
     ensures { IfOk result (λ mark. mark ≡ mark_in views.now) }
 {

@@ -23,7 +23,7 @@ use std::alloc::Global;
 /// What a name with its parts may be so far.
 #[derive(Drop)]
 pub(crate) struct Noted {
-    /// With what fits nothing in the place of a faulty argument.
+    /// What the name may be, with what fits nothing in the place of a faulty argument.
     pub(crate) shape: CheckResult<Reading>,
     /// The first fault in its arguments.
     pub(crate) inside: Option<Fault>,
@@ -45,13 +45,13 @@ pub(crate) enum Link<'a> {
 /// A step down a name.
 #[derive(Drop)]
 pub(crate) enum Step<'a> {
-    /// The last part, with what stands before it.
+    /// The last part, with what comes before it.
     Down(Link<'a>, &'a Expression),
-    /// What has no such part.
+    /// An expression that has no such part.
     Last(Noted),
 }
 
-/// What has no arguments.
+/// The name of what has no arguments.
 pub(crate) fn plain(shape: CheckResult<Reading>) -> Noted
     ensures { noted_model result ≡ plain (map_ok reading_model shape) }
 {
@@ -68,7 +68,7 @@ pub(crate) fn settled(noted: Noted) -> CheckResult<Reading>
     unless(noted.inside, noted.shape)
 }
 
-/// An argument, or what fits nothing, with the fault in it.
+/// An argument, or what fits nothing if it has a fault; and the fault.
 fn taken(place: Place, argument: CheckResult<Term>) -> (Term, Option<Fault>)
     ensures term { term_model result.0 ≡ or_nothing place (map_ok term_model argument) }
     ensures fault { result.1 ≡ fault_in (map_ok term_model argument) }
@@ -88,7 +88,7 @@ fn nothing_twice(alloc: Global, place: Place) -> Result<Vec<Term>, NoMemory>
     Ok(nothing)
 }
 
-/// Several arguments, or what fits nothing, with the first fault in them.
+/// Several arguments, or what fits nothing if one has a fault; and the first fault in them.
 fn all_taken(
     alloc: Global,
     place: Place,
@@ -157,7 +157,7 @@ fn qualifying(
     Ok(Noted { shape, inside })
 }
 
-/// A name with a part more.
+/// A name with one more part.
 fn linked(
     alloc: Global,
     standard: &StandardTypes,
@@ -195,7 +195,7 @@ fn linked(
     }
 }
 
-/// A name with all its parts, from the first on. The last part of the text comes first.
+/// A name with all its parts, from the first on. The last part in source order comes first.
 #[tactic(auto, using(crate::proofs::ChainLemmas::first_linked))]
 pub(crate) fn all_linked(
     alloc: Global,

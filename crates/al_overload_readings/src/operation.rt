@@ -40,7 +40,7 @@ pub fn protected_in(views: &[View]) -> Option<&ProtectedView>
     }
 }
 
-/// One more operation, after others, where it has that name.
+/// Adds an operation after others, if it has that name.
 fn add_if_named(
     alloc: Global,
     views: &mut Views,
@@ -91,6 +91,8 @@ fn called(place: Place, views: Views) -> Term
 }
 
 /// The operations of that name of the object.
+/// # Errors
+/// `NoMemory` if the allocator refuses memory.
 #[tactic(auto, unfolding(crate::specs::Operations::operation_of))]
 pub fn operation_of(
     alloc: Global,

@@ -1,4 +1,4 @@
-// Things that each want memory, made one after another: none is held while another is made.
+// Things that each need memory, made one after another: none is held while another is made.
 ghost use Rattle.std.specs.Prelude.{◌≡◌, IfOk};
 ghost use Rattle.al_overload_readings.specs.Pairs.{together};
 
@@ -6,7 +6,9 @@ use al_base::NoMemory;
 use al_overload::Term;
 use std::alloc::Global;
 
-/// Two things that each want memory: both where both were made.
+/// Two things that each need memory: both, if both were made.
+/// # Errors
+/// `NoMemory` if the allocator refuses memory.
 pub fn together<A: Drop, B: Drop>(
     one: Result<A, NoMemory>,
     two: Result<B, NoMemory>,
@@ -21,6 +23,8 @@ pub fn together<A: Drop, B: Drop>(
 }
 
 /// A term in a box.
+/// # Errors
+/// `NoMemory` if the allocator refuses memory.
 pub fn boxed(alloc: Global, term: Term) -> Result<Box<Term>, NoMemory>
     ensures { IfOk result (λ made. made.value ≡ term) }
 {
@@ -29,6 +33,8 @@ pub fn boxed(alloc: Global, term: Term) -> Result<Box<Term>, NoMemory>
 }
 
 /// Two terms in boxes.
+/// # Errors
+/// `NoMemory` if the allocator refuses memory.
 pub fn boxed_pair(
     alloc: Global,
     left: Term,

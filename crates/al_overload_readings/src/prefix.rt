@@ -1,4 +1,4 @@
-// What attributes stand after (ARM 4.1.4).
+// The prefixes of attributes (ARM 4.1.4).
 ghost use Rattle.std.specs.Prelude.{◌≡◌, IfOk, map, option_map};
 ghost use Rattle.al_overload.specs.Parts.{nominal};
 ghost use Rattle.al_overload.specs.TermViews.{term_model, terms_of};
@@ -10,7 +10,7 @@ use al_view::{Bounds, Subtype, SubtypeView, Symbol, Types};
 use al_view_predefined::{StandardTypes, no_names};
 use std::alloc::Global;
 
-/// What an attribute stands after.
+/// What an attribute is applied to.
 #[derive(Drop)]
 pub enum Prefix {
     /// A scalar subtype.
@@ -70,7 +70,7 @@ fn scalar_prefix(standard: &StandardTypes, mark: SubtypeView) -> Prefix
     }
 }
 
-/// A type or a subtype.
+/// What a type or a subtype is as a prefix.
 #[tactic(auto, unfolding(crate::specs::Attributes::mark_prefix))]
 fn mark_prefix(
     alloc: Global,
@@ -83,7 +83,7 @@ fn mark_prefix(
     Ok(array.unwrap_or(scalar_prefix(standard, mark)))
 }
 
-/// An object or a part of one, with its types.
+/// What an object or a part of one is as a prefix, with its types.
 #[tactic(auto, unfolding(crate::specs::Attributes::part_prefix))]
 fn part_prefix(
     alloc: Global,
@@ -149,7 +149,9 @@ fn is_indexed_by_one(term: &Term) -> bool
     }
 }
 
-/// A term: an object or a part of one, or what has no attributes.
+/// What a term is as a prefix: an object or a part of one, or what has no attributes.
+/// # Errors
+/// `NoMemory` if the allocator refuses memory.
 #[tactic(auto, unfolding(crate::specs::Attributes::term_prefix))]
 pub fn term_prefix(alloc: Global, standard: &StandardTypes, term: &Term) -> Result<Prefix, NoMemory>
     ensures { IfOk result (λ prefix. prefix ≡ term_prefix (term_model term.now)) }
@@ -160,7 +162,9 @@ pub fn term_prefix(alloc: Global, standard: &StandardTypes, term: &Term) -> Resu
     part_prefix(alloc, standard, part_of(standard, term))
 }
 
-/// A name by the subtype that it is of, if it is of one.
+/// What a name is as a prefix, by the subtype that it is of, if it is of one.
+/// # Errors
+/// `NoMemory` if the allocator refuses memory.
 #[tactic(auto, unfolding(crate::specs::Attributes::name_prefix))]
 pub fn name_prefix(
     alloc: Global,

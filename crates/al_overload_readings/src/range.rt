@@ -1,4 +1,4 @@
-// Ranges of a text (ARM 3.5, 3.6.1).
+// Ranges (ARM 3.5, 3.6.1).
 ghost use Rattle.std.specs.Prelude.{◌≡◌, IfOk};
 ghost use Rattle.al_base_fault.specs.Judging.{map_ok};
 ghost use Rattle.al_overload_lookup.specs.Keys.{denoted};
@@ -21,9 +21,9 @@ use std::alloc::Global;
 pub enum RangeTerm {
     /// A mark or a Range attribute.
     Whole(SubtypeView),
-    /// `low .. high`
+    /// `low .. high`.
     Bounds(Term, Term),
-    /// `mark range low .. high`
+    /// `mark range low .. high`.
     Marked(SubtypeView, Term, Term),
 }
 
@@ -38,6 +38,8 @@ impl Drop for RangeTerm {
 }
 
 /// The terms of both bounds.
+/// # Errors
+/// `NoMemory` if the allocator refuses memory. The inner error is the earlier fault of the two terms: E401 or E404 of a name in it.
 pub fn bounds_of(
     alloc: Global,
     standard: &StandardTypes,
@@ -75,7 +77,10 @@ fn marked(
     }
 }
 
-/// The range that stands in a text; E401 or E404 at the first of its names that isn't visible or isn't what is wanted.
+/// A discrete range with the terms of its bounds.
+/// # Errors
+/// `NoMemory` if the allocator refuses memory. The inner error is E401 or E404 at the first of its names that isn't visible or isn't of the
+/// right kind.
 pub fn range_of(
     alloc: Global,
     standard: &StandardTypes,

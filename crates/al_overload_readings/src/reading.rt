@@ -1,4 +1,4 @@
-// What an expression may be until what stands round it is known.
+// What an expression may be until its context is known.
 ghost use Rattle.std.specs.Prelude.{◌≡◌, ◌∷◌, [], IfOk, map};
 ghost use Rattle.al_base_fault.specs.Judging.{map_ok};
 ghost use Rattle.al_overload_lookup.specs.Keys.{denoted, not_visible};
@@ -32,12 +32,13 @@ pub enum Reading {
     Value(Term),
     /// `S'Pos`, `S'Val`, `S'Succ` or `S'Pred`.
     Function(Place, Conversion, SubtypeView),
-    /// `S'Image`
+    /// `S'Image`.
     Image(Place, SubtypeView),
-    /// `S'Range`
+    /// `S'Range`.
     Range(Place, SubtypeView),
 }
 
+/// E404 at this place.
 pub fn wrong_kind(place: Place) -> Fault
     ensures { result ≡ wrong_kind place }
 {
@@ -47,7 +48,7 @@ pub fn wrong_kind(place: Place) -> Fault
     }
 }
 
-/// The first token.
+/// The place of the first token.
 #[tactic(auto, unfolding(crate::specs::Readings::read_place))]
 fn read_place(reading: &Reading) -> Place
     ensures { result ≡ read_place (reading_model reading.now) }
@@ -70,7 +71,9 @@ fn value_in(place: Place, views: Views) -> CheckResult<Term>
     Ok(Term::named(place, views))
 }
 
-/// Where a value or a call is wanted.
+/// The term of a reading that must be a value or a call.
+/// # Errors
+/// E404 at the first token of a name that may be no value and no call.
 #[tactic(auto, unfolding(crate::specs::Readings::valued))]
 pub fn valued(reading: Reading) -> CheckResult<Term>
     ensures { map_ok term_model result ≡ valued (reading_model reading) }
@@ -84,7 +87,9 @@ pub fn valued(reading: Reading) -> CheckResult<Term>
     }
 }
 
-/// A name with all that is visible under it; E401 at its last identifier where nothing is.
+/// A name with all that is visible under it.
+/// # Errors
+/// `NoMemory` if the allocator refuses memory. The inner error is E401 at its last identifier if nothing is visible.
 #[tactic(auto, unfolding(crate::specs::Readings::named))]
 pub fn named(
     alloc: Global,
@@ -157,7 +162,9 @@ fn selected_from(
     named(alloc, place, whole, visible, identifier)
 }
 
-/// With a selector.
+/// The reading with a selector after it.
+/// # Errors
+/// `NoMemory` if the allocator refuses memory. The inner error is E401 or E404 of the selector after a name.
 #[tactic(auto, unfolding(crate::specs::Readings::selected))]
 pub fn selected(
     alloc: Global,
@@ -181,7 +188,9 @@ pub fn selected(
     }
 }
 
-/// Where arguments follow: a type, a value or a call.
+/// The reading that arguments follow: it must be a type, a value or a call.
+/// # Errors
+/// `NoMemory` if the allocator refuses memory. The inner error is E404 at the first token of a name that is none of these.
 #[tactic(auto, unfolding(crate::specs::Readings::callable))]
 pub fn callable(alloc: Global, reading: Reading) -> Result<CheckResult<Reading>, NoMemory>
     ensures { IfOk result (λ checked. map_ok reading_model checked ≡ callable (reading_model reading)) }
@@ -205,6 +214,8 @@ pub fn callable(alloc: Global, reading: Reading) -> Result<CheckResult<Reading>,
 }
 
 /// A list of one argument.
+/// # Errors
+/// `NoMemory` if the allocator refuses memory.
 pub fn one_argument(alloc: Global, argument: Term) -> Result<Vec<Term>, NoMemory>
     ensures { IfOk result (λ arguments. arguments.items ≡ argument ∷ []) }
 {
@@ -222,7 +233,7 @@ fn called(alloc: Global, name: Term, argument: Term) -> Result<Term, NoMemory>
     Ok(Term::applied(name, arguments))
 }
 
-/// A conversion, where the name is of a type or a subtype; else a call of one argument or a component by its index.
+/// A conversion, if the name denotes a type or a subtype; else a call of one argument or a component by its index.
 #[tactic(auto, unfolding(crate::specs::Readings::name_applied))]
 fn name_applied(
     alloc: Global,
@@ -242,7 +253,9 @@ fn name_applied(
     }
 }
 
-/// With one argument.
+/// The reading with one argument after it.
+/// # Errors
+/// `NoMemory` if the allocator refuses memory.
 #[tactic(auto, unfolding(crate::specs::Readings::applied))]
 pub fn applied(alloc: Global, reading: Reading, argument: Term) -> Result<Term, NoMemory>
     ensures { IfOk result (λ term. term_model term ≡ applied (reading_model reading) (term_model argument)) }
@@ -274,7 +287,9 @@ fn call(alloc: Global, name: Term, arguments: Vec<Term>) -> Result<Term, NoMemor
     Ok(Term::applied(name, arguments))
 }
 
-/// With several arguments.
+/// The reading with several arguments after it.
+/// # Errors
+/// `NoMemory` if the allocator refuses memory.
 #[tactic(auto, unfolding(crate::specs::Readings::applied_to))]
 pub fn applied_to(alloc: Global, reading: Reading, arguments: Vec<Term>) -> Result<Term, NoMemory>
     ensures { IfOk result (λ term. term_model term ≡ applied_to (reading_model reading) (map term_model arguments.items)) }
@@ -295,7 +310,7 @@ pub fn applied_to(alloc: Global, reading: Reading, arguments: Vec<Term>) -> Resu
     }
 }
 
-/// What it is as the prefix of an attribute.
+/// What the reading is as the prefix of an attribute.
 #[tactic(auto, unfolding(crate::specs::Readings::prefix_of))]
 fn prefix_of(alloc: Global, standard: &StandardTypes, reading: Reading) -> Result<Prefix, NoMemory>
     ensures { IfOk result (λ prefix. prefix ≡ prefix_of (reading_model reading)) }
@@ -333,7 +348,7 @@ fn scalar_attribute(
     }
 }
 
-/// Of an array whose index has this subtype, with these bounds.
+/// An attribute of an array whose index has this subtype, with these bounds.
 #[tactic(auto, unfolding(crate::specs::Readings::array_attribute))]
 fn array_attribute(
     place: Place,
@@ -367,7 +382,10 @@ fn attributed(place: Place, prefix: Prefix, attribute: Attribute) -> CheckResult
     }
 }
 
-/// With an attribute.
+/// The reading with an attribute after it.
+/// # Errors
+/// `NoMemory` if the allocator refuses memory. The inner error is E404 at its first token if it is neither scalar nor an
+/// array, or if the attribute is one of the other of these two.
 pub fn with_attribute(
     alloc: Global,
     standard: &StandardTypes,
@@ -381,7 +399,9 @@ pub fn with_attribute(
     Ok(attributed(place, prefix, attribute))
 }
 
-/// With the Range attribute.
+/// The reading with the Range attribute after it.
+/// # Errors
+/// `NoMemory` if the allocator refuses memory. The inner error is E404 at its first token if it is neither scalar nor an array.
 #[tactic(auto, unfolding(crate::specs::Readings::ranged))]
 pub fn with_range(
     alloc: Global,
@@ -420,7 +440,9 @@ fn mark_read(alloc: Global, reading: Reading) -> Result<Option<SubtypeView>, NoM
     }
 }
 
-/// As a mark, with its place.
+/// The subtype that a reading names as a mark, with its place.
+/// # Errors
+/// `NoMemory` if the allocator refuses memory. The inner error is E404 at its first token if it is no mark.
 #[tactic(auto, unfolding(crate::specs::Readings::marking))]
 pub fn marking(
     alloc: Global,
@@ -446,7 +468,9 @@ fn range_read(alloc: Global, reading: Reading) -> Result<Option<SubtypeView>, No
     }
 }
 
-/// As a range of one part: a mark or a Range attribute.
+/// The subtype of a reading that is a range of one part: a mark or a Range attribute.
+/// # Errors
+/// `NoMemory` if the allocator refuses memory. The inner error is E404 at its first token if it is neither.
 #[tactic(auto, unfolding(crate::specs::Readings::ranging))]
 pub fn ranging(alloc: Global, reading: Reading) -> Result<CheckResult<SubtypeView>, NoMemory>
     ensures { IfOk result (λ checked. checked ≡ ranging (reading_model reading)) }

@@ -18,6 +18,8 @@ use al_view_typed::{BinaryOperator, ShortCircuit, UnaryOperator};
 use std::alloc::Global;
 
 /// All that is visible under a name or a sign.
+/// # Errors
+/// `NoMemory` if the allocator refuses memory.
 pub fn found(alloc: Global, names: &Names, name: &[u8]) -> Result<Views, NoMemory>
     ensures { IfOk result (λ views. views ≡ (denoted names.now).visible name.now) }
 {
@@ -41,7 +43,9 @@ fn unary_of(operator: &PrefixOperator) -> (UnaryOperator, &'static [u8])
     }
 }
 
-/// An operator in front of its operand.
+/// An operator before its operand.
+/// # Errors
+/// `NoMemory` if the allocator refuses memory.
 #[tactic(auto, unfolding(crate::specs::Signs::prefixed))]
 pub fn prefixed(
     alloc: Global,
@@ -148,6 +152,8 @@ fn multiplying_of(operator: MultiplyingOperator) -> (BinaryOperator, &'static [u
 }
 
 /// An operator between its operands.
+/// # Errors
+/// `NoMemory` if the allocator refuses memory.
 #[tactic(auto, unfolding(crate::specs::Signs::joined))]
 pub fn joined(
     alloc: Global,

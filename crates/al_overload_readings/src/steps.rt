@@ -1,4 +1,4 @@
-// What is joined of parts that are judged, each by itself.
+// Steps that join parts, each of which has been checked by itself. A fault of a part is passed on.
 ghost use Rattle.std.specs.Prelude.{◌≡◌, IfOk, map};
 ghost use Rattle.al_base_fault.specs.Judging.{both, next, map_ok};
 ghost use Rattle.al_overload_lookup.specs.Keys.{denoted};
@@ -27,7 +27,9 @@ use al_view::SubtypeView;
 use al_view_predefined::StandardTypes;
 use std::alloc::Global;
 
-/// Where a value or a call is wanted.
+/// The term of what must be a value or a call.
+/// # Errors
+/// The fault of `checked`, or that of `valued`.
 pub fn as_value(checked: CheckResult<Reading>) -> CheckResult<Term>
     ensures { map_ok term_model result ≡ next (map_ok reading_model checked) valued }
 {
@@ -37,7 +39,9 @@ pub fn as_value(checked: CheckResult<Reading>) -> CheckResult<Term>
     }
 }
 
-/// What is a value or a call.
+/// The reading of a value or a call.
+/// # Errors
+/// The fault of `checked`.
 pub fn of_value(checked: CheckResult<Term>) -> CheckResult<Reading>
     ensures { map_ok reading_model result ≡ map_ok reads.TermRead (map_ok term_model checked) }
 {
@@ -47,7 +51,9 @@ pub fn of_value(checked: CheckResult<Term>) -> CheckResult<Reading>
     }
 }
 
-/// With a selector.
+/// A name with a selector after it.
+/// # Errors
+/// `NoMemory` if the allocator refuses memory. The inner error is the fault of the name, or that of `selected`.
 pub fn select(
     alloc: Global,
     names: &Names,
@@ -62,7 +68,9 @@ pub fn select(
     }
 }
 
-/// Where arguments follow.
+/// A name that arguments follow.
+/// # Errors
+/// `NoMemory` if the allocator refuses memory. The inner error is the fault of the name, or that of `callable`.
 pub fn called(alloc: Global, name: CheckResult<Reading>) -> Result<CheckResult<Reading>, NoMemory>
     ensures { IfOk result (λ checked. map_ok reading_model checked ≡ next (map_ok reading_model name) callable) }
 {
@@ -72,7 +80,9 @@ pub fn called(alloc: Global, name: CheckResult<Reading>) -> Result<CheckResult<R
     }
 }
 
-/// With one argument.
+/// A name with one argument after it.
+/// # Errors
+/// `NoMemory` if the allocator refuses memory. The inner error is the earlier fault of the name and the argument.
 #[tactic(auto, unfolding(crate::specs::Steps::applied_read))]
 pub fn apply(
     alloc: Global,
@@ -90,7 +100,9 @@ pub fn apply(
     }
 }
 
-/// With several arguments.
+/// A name with several arguments after it.
+/// # Errors
+/// `NoMemory` if the allocator refuses memory. The inner error is the earlier fault of the name and the arguments.
 #[tactic(auto, unfolding(crate::specs::Steps::applied_to_read))]
 pub fn apply_to(
     alloc: Global,
@@ -108,7 +120,9 @@ pub fn apply_to(
     }
 }
 
-/// With an attribute.
+/// A name with an attribute after it.
+/// # Errors
+/// `NoMemory` if the allocator refuses memory. The inner error is the fault of the name, or that of `with_attribute`.
 #[tactic(auto, unfolding(crate::specs::Steps::with_attribute))]
 pub fn attribute_of(
     alloc: Global,
@@ -127,7 +141,9 @@ pub fn attribute_of(
     }
 }
 
-/// With the Range attribute.
+/// A name with the Range attribute after it.
+/// # Errors
+/// `NoMemory` if the allocator refuses memory. The inner error is the fault of the name, or that of `with_range`.
 #[tactic(auto, unfolding(crate::specs::Steps::with_range))]
 pub fn range_attribute_of(
     alloc: Global,
@@ -142,7 +158,9 @@ pub fn range_attribute_of(
     }
 }
 
-/// As a mark, with its place.
+/// The subtype that a name denotes as a mark, with its place.
+/// # Errors
+/// `NoMemory` if the allocator refuses memory. The inner error is the fault of the name, or that of `marking`.
 pub fn as_mark(
     alloc: Global,
     name: CheckResult<Reading>,
@@ -155,7 +173,9 @@ pub fn as_mark(
     }
 }
 
-/// As a range of one part: a mark or a Range attribute.
+/// The subtype of a range of one part: a mark or a Range attribute.
+/// # Errors
+/// `NoMemory` if the allocator refuses memory. The inner error is the fault of the name, or that of `ranging`.
 pub fn as_single(
     alloc: Global,
     name: CheckResult<Reading>,
@@ -168,7 +188,9 @@ pub fn as_single(
     }
 }
 
-/// With an operand in parentheses after an apostrophe.
+/// A qualified expression: a mark with an operand in parentheses after an apostrophe.
+/// # Errors
+/// `NoMemory` if the allocator refuses memory. The inner error is the earlier fault of the mark and the operand.
 #[tactic(auto, unfolding(crate::specs::Steps::qualified_read))]
 pub fn qualify(
     alloc: Global,
@@ -187,7 +209,9 @@ pub fn qualify(
     }
 }
 
-/// An operator in front of its operand.
+/// An operator before its operand.
+/// # Errors
+/// `NoMemory` if the allocator refuses memory. The inner error is the fault of the operand.
 #[tactic(auto, unfolding(crate::specs::Steps::prefixed_read))]
 pub fn operate(
     alloc: Global,
@@ -207,6 +231,8 @@ pub fn operate(
 }
 
 /// An operator between its operands.
+/// # Errors
+/// `NoMemory` if the allocator refuses memory. The inner error is the earlier fault of the two operands.
 #[tactic(auto, unfolding(crate::specs::Steps::joined_read))]
 pub fn join(
     alloc: Global,
@@ -227,6 +253,8 @@ pub fn join(
 }
 
 /// A membership in a subtype.
+/// # Errors
+/// `NoMemory` if the allocator refuses memory. The inner error is the earlier fault of the value and the subtype.
 #[tactic(auto, unfolding(crate::specs::Steps::member_read))]
 pub fn member(
     alloc: Global,
@@ -247,6 +275,8 @@ pub fn member(
 }
 
 /// A membership between bounds.
+/// # Errors
+/// `NoMemory` if the allocator refuses memory. The inner error is the earlier fault of the value and the bounds.
 #[tactic(auto, unfolding(crate::specs::Steps::range_member_read))]
 pub fn range_member(
     alloc: Global,
@@ -267,7 +297,9 @@ pub fn range_member(
     }
 }
 
-/// The first of several terms.
+/// A list of terms with its first term.
+/// # Errors
+/// `NoMemory` if the allocator refuses memory. The inner error is the fault of the term.
 #[tactic(auto, unfolding(crate::specs::Steps::started))]
 pub fn started(alloc: Global, term: CheckResult<Term>) -> Result<CheckResult<Vec<Term>>, NoMemory>
     ensures { IfOk result (λ checked. map_ok all_model checked ≡ started (map_ok term_model term)) }
@@ -281,7 +313,9 @@ pub fn started(alloc: Global, term: CheckResult<Term>) -> Result<CheckResult<Vec
     }
 }
 
-/// One more of several terms.
+/// A list of terms with one more term.
+/// # Errors
+/// `NoMemory` if the allocator refuses memory. The inner error is the earlier fault of the list and the term.
 #[tactic(auto, unfolding(crate::specs::Steps::added))]
 pub fn added(
     done: CheckResult<Vec<Term>>,
@@ -299,13 +333,17 @@ pub fn added(
 }
 
 /// Both bounds of a range.
+/// # Errors
+/// The earlier fault of the two bounds.
 pub fn bounds(low: CheckResult<Term>, high: CheckResult<Term>) -> CheckResult<(Term, Term)>
     ensures { map_ok pair_model result ≡ both (map_ok term_model low) (map_ok term_model high) }
 {
     both(low, high)
 }
 
-/// In parentheses.
+/// A term in parentheses.
+/// # Errors
+/// `NoMemory` if the allocator refuses memory. The inner error is the fault of the term.
 #[tactic(auto, unfolding(crate::specs::Steps::grouped))]
 pub fn grouped(
     alloc: Global,
@@ -325,6 +363,8 @@ pub fn grouped(
 }
 
 /// A positional aggregate.
+/// # Errors
+/// The fault of its values.
 #[tactic(auto, unfolding(crate::specs::Steps::aggregated))]
 pub fn aggregated(place: Place, components: CheckResult<Vec<Term>>) -> CheckResult<Term>
     ensures { map_ok term_model result ≡ aggregated place (map_ok all_model components) }
@@ -335,7 +375,9 @@ pub fn aggregated(place: Place, components: CheckResult<Vec<Term>>) -> CheckResu
     }
 }
 
-/// `(others => component)`
+/// `(others => component)`.
+/// # Errors
+/// `NoMemory` if the allocator refuses memory. The inner error is the fault of the component.
 #[tactic(auto, unfolding(crate::specs::Steps::repeated))]
 pub fn repeated(
     alloc: Global,

@@ -1,4 +1,4 @@
-// The term of an expression's text.
+// The terms of expressions.
 ghost use Rattle.std.specs.Prelude.{◌≡◌, IfOk, map, option_map};
 ghost use Rattle.al_base_fault.specs.Judging.{next, map_ok};
 ghost use Rattle.al_overload_lookup.specs.Keys.{denoted};
@@ -32,7 +32,7 @@ use al_view::{StaticValue, SubtypeView};
 use al_view_predefined::StandardTypes;
 use std::alloc::Global;
 
-/// The greatest value of a numeric literal that a text has.
+/// The greatest value of a numeric literal.
 const MOST: u64 = 9223372036854775807;
 
 #[tactic(auto, unfolding(crate::specs::Texts::number_value))]
@@ -60,7 +60,9 @@ fn string(alloc: Global, literal: &StringLiteral) -> Result<Term, NoMemory>
     Ok(Term::text(literal.place, bytes))
 }
 
-/// What an identifier alone may be; E401 where nothing is visible under it.
+/// What an identifier alone may be.
+/// # Errors
+/// `NoMemory` if the allocator refuses memory. The inner error is E401 at the identifier if nothing is visible under it.
 pub fn read_identifier(
     alloc: Global,
     names: &Names,
@@ -79,7 +81,7 @@ pub fn read_identifier(
     )
 }
 
-/// Whether what stands after a name is a selector.
+/// Whether what comes after a name is a selector.
 #[tactic(auto, using(al_tree::proofs::ExpressionsMade::part_selector_model, al_tree::proofs::ExpressionsMade::part_arguments_model, al_tree::proofs::ExpressionsMade::part_attribute_model, al_tree::proofs::ExpressionsMade::part_range_attribute_model, al_tree::proofs::ExpressionsMade::part_operand_model))]
 pub fn is_selector(part: &NamePart) -> bool
     ensures { result ≡ is_selector (part_model part.now) }
@@ -106,7 +108,7 @@ fn is_range_attribute(part: &NamePart) -> bool
     }
 }
 
-/// Whether it is written as a name.
+/// Whether the expression is written as a name.
 #[tactic(auto, using(crate::proofs::ReadLemmas::longer_is_name, crate::proofs::ReadLemmas::prefixed_is_name, crate::proofs::ReadLemmas::infix_is_name, crate::proofs::ReadLemmas::member_is_name, al_tree::proofs::ExpressionsMade::expression_numeric_model, al_tree::proofs::ExpressionsMade::expression_text_model, al_tree::proofs::ExpressionsMade::expression_name_model, al_tree::proofs::ExpressionsMade::expression_longer_model, al_tree::proofs::ExpressionsMade::expression_prefixed_model, al_tree::proofs::ExpressionsMade::expression_infix_model, al_tree::proofs::ExpressionsMade::expression_member_model, al_tree::proofs::ExpressionsMade::expression_group_model))]
 fn is_name(expression: &Expression) -> bool
     ensures { result ≡ is_name (expression_model expression.now) }
@@ -131,7 +133,7 @@ fn is_name(expression: &Expression) -> bool
     }
 }
 
-/// Whether it is written as a name or a Range attribute.
+/// Whether the expression is written as a name or a Range attribute.
 #[tactic(auto, using(crate::proofs::ReadLemmas::longer_is_range, crate::proofs::ReadLemmas::prefixed_is_range, crate::proofs::ReadLemmas::infix_is_range, crate::proofs::ReadLemmas::member_is_range, al_tree::proofs::ExpressionsMade::expression_numeric_model, al_tree::proofs::ExpressionsMade::expression_text_model, al_tree::proofs::ExpressionsMade::expression_name_model, al_tree::proofs::ExpressionsMade::expression_longer_model, al_tree::proofs::ExpressionsMade::expression_prefixed_model, al_tree::proofs::ExpressionsMade::expression_infix_model, al_tree::proofs::ExpressionsMade::expression_member_model, al_tree::proofs::ExpressionsMade::expression_group_model))]
 fn is_range(expression: &Expression) -> bool
     ensures { result ≡ is_range (expression_model expression.now) }
@@ -151,7 +153,7 @@ fn is_range(expression: &Expression) -> bool
     }
 }
 
-/// E404 at the first token of what is written as neither.
+/// E404 at the first token of an expression that is written as neither.
 #[tactic(auto, unfolding(crate::specs::Texts::unless_range))]
 fn unless_range(expression: &Expression) -> Option<Fault>
     ensures { result ≡ unless_range (expression_model expression.now) }
@@ -163,7 +165,7 @@ fn unless_range(expression: &Expression) -> Option<Fault>
     }
 }
 
-/// As a range of one part.
+/// The subtype of an expression that must be a range of one part.
 #[tactic(auto, unfolding(crate::specs::Texts::one_range))]
 fn as_range(
     alloc: Global,
@@ -176,8 +178,11 @@ fn as_range(
     Ok(unless(unless_range(expression), checked))
 }
 
-/// What an expression may be, until what stands round it is known; E401 or E404 where a name in it has one. The parts of a name are gone down by a
-/// loop, so that they take no more of the stack than one does.
+/// What an expression may be until its context is known. The parts of a name are processed by a loop, so that they take no more of the
+/// stack than one does.
+/// # Errors
+/// `NoMemory` if the allocator refuses memory. The inner error is E401 or E404 at the first of its names that isn't visible or isn't of the
+/// right kind.
 #[cycle(text)]
 pub fn read(
     alloc: Global,
@@ -203,7 +208,7 @@ pub fn read(
     }
 }
 
-/// A step down: the last part of a name and what stands before it, or what is no name with parts.
+/// A step down: the last part of a name and what comes before it, or what is no name with parts.
 #[cycle(text)]
 #[tactic(auto, using(crate::proofs::ReadLemmas::number_read, crate::proofs::ReadLemmas::text_read, crate::proofs::ReadLemmas::name_read, crate::proofs::ReadLemmas::longer_read, crate::proofs::ReadLemmas::group_read, al_tree::proofs::ExpressionsMade::expression_numeric_model, al_tree::proofs::ExpressionsMade::expression_text_model, al_tree::proofs::ExpressionsMade::expression_name_model, al_tree::proofs::ExpressionsMade::expression_longer_model, al_tree::proofs::ExpressionsMade::expression_prefixed_model, al_tree::proofs::ExpressionsMade::expression_infix_model, al_tree::proofs::ExpressionsMade::expression_member_model, al_tree::proofs::ExpressionsMade::expression_group_model))]
 fn step<'a>(
@@ -310,7 +315,9 @@ fn read_member(
     }
 }
 
-/// The subtype of a mark or a Range attribute alone; E404 at the first token of what is neither.
+/// The subtype of a mark or a Range attribute alone.
+/// # Errors
+/// `NoMemory` if the allocator refuses memory. The inner error is E401 or E404 of a name in it; E404 at the first token of what is neither.
 #[cycle(text)]
 pub fn one_range(
     alloc: Global,
@@ -324,7 +331,7 @@ pub fn one_range(
     as_range(alloc, expression, checked)
 }
 
-/// A part of a name, with what its arguments are.
+/// A part of a name, with its arguments as they were read.
 #[cycle(text)]
 #[tactic(auto, using(crate::proofs::ReadLemmas::selector_part, crate::proofs::ReadLemmas::argument_part, crate::proofs::ReadLemmas::arguments_part, crate::proofs::ReadLemmas::attribute_part, crate::proofs::ReadLemmas::range_part, crate::proofs::ReadLemmas::operand_part, al_tree::proofs::ExpressionsMade::part_selector_model, al_tree::proofs::ExpressionsMade::part_arguments_model, al_tree::proofs::ExpressionsMade::part_attribute_model, al_tree::proofs::ExpressionsMade::part_range_attribute_model, al_tree::proofs::ExpressionsMade::part_operand_model))]
 fn link<'a>(
@@ -356,7 +363,7 @@ fn link<'a>(
     }
 }
 
-/// What stands in parentheses.
+/// The term of what is in parentheses.
 #[cycle(text)]
 #[tactic(auto, using(crate::proofs::ReadLemmas::sole_group, crate::proofs::ReadLemmas::aggregate_group, crate::proofs::ReadLemmas::others_group, al_tree::proofs::ExpressionsMade::group_positional_model, al_tree::proofs::ExpressionsMade::group_others_aggregate_model))]
 fn group_term(
@@ -409,8 +416,11 @@ fn several(
     Ok(done)
 }
 
-/// The term of a whole text; E401 or E404 at the first of its names that isn't visible or isn't what is wanted. A chain of operators is gone down
-/// by a loop, so that it takes no more of the stack than one operator does.
+/// The term of a whole expression. A chain of operators is processed by a loop, so that it takes no more of the stack than one operator
+/// does.
+/// # Errors
+/// `NoMemory` if the allocator refuses memory. The inner error is E401 or E404 at the first of its names that isn't visible or isn't of the
+/// right kind.
 #[cycle(text)]
 pub fn term_of(
     alloc: Global,
@@ -435,6 +445,8 @@ pub fn term_of(
 }
 
 /// The subtype that a mark names.
+/// # Errors
+/// `NoMemory` if the allocator refuses memory. The inner error is E401 or E404 of a name in it; E404 at its first token if it is no mark.
 #[tactic(auto, unfolding(crate::specs::Texts::mark_of_text))]
 pub fn mark_of_text(
     alloc: Global,

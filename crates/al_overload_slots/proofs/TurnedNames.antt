@@ -17,7 +17,7 @@ use Rattle.al_overload_slots.specs.Turned.{has_prefix, prefix_in, with_prefix}
 
 -- ---- trees
 
--- the whole name, where this one was turned round above what stands before its components
+-- the whole name, if this one was turned round above what comes before its components
 abbrev pub unwound : NameTree → NameTree → NameTree
 unwound (ObjectName place is_constant) name = name
 unwound (ComponentName up offset) name = unwound up (ComponentName name offset)

@@ -32,7 +32,7 @@ second_after word (BinaryForm operator left right) = after word right
 second_after word (ShortCircuitForm operator left right) = after word right
 second_after word form = word
 
--- the whole expression, where this one was turned round above its left operands
+-- the whole expression, if this one was turned round above its left operands
 abbrev pub unwound : TypedTree → TypedTree → TypedTree
 unwound (Labelled labels (BinaryForm operator up right)) operand = unwound up (Labelled labels (BinaryForm operator operand right))
 unwound (Labelled labels (ShortCircuitForm operator up right)) operand = unwound up (Labelled labels (ShortCircuitForm operator operand right))
@@ -246,7 +246,7 @@ is_up bound word typed passed new new-passed e f leans below =
     subst (λ (n : Typed). IsUp bound word typed passed n new-passed) (sym e)
     (subst (IsUp bound word typed passed (with_left passed typed)) (sym f) (went_up bound word typed passed.labels passed.form leans below))
 
--- the right operand, which was taken out, has its words and stands in its place again
+-- the right operand, which was taken out, has its words and is in its place again
 right_numbered : (word next : ℕ) (form : Form) (spare right : Typed) → form_leans form ≡ true → typed_model right ≡ numbered word (typed_model (form_right_in form spare))
     → next ≡ after word (typed_model (form_right_in form spare))
     → (form_model (form_with_right (form_with_right form spare) right) ≡ second_numbered word (form_model form)) × (next ≡ second_after word (form_model form))

@@ -11,7 +11,7 @@ use Rattle.al_view_typed.specs.ExpressionTrees.ActualsTree.{NoActual, MoreActual
 use Rattle.al_view_typed.specs.ExpressionTrees.CallTree.{Called}
 use Rattle.al_overload_slots.specs.Slots.{after, numbered, unless_static}
 
--- the words that the temporaries of a tree have, in the order of the text
+-- the words that the temporaries of a tree have, in source order
 abbrev mutual
   pub words : TypedTree → List ℕ
   words (Labelled labels form) = unless_static labels.value [] (form_words form)
@@ -58,7 +58,7 @@ words_from word zero = []
 words_from word (suc count) = word ∷ words_from (word + 1) count
 
 -- As long as there are words, a tree's temporaries have those from the first one on up to the next one after the tree, each
--- once and in the order of the text.
+-- once and in source order.
 abbrev pub EachHasAWordOfItsOwn : Type 0
 EachHasAWordOfItsOwn =
     (word : ℕ) (tree : TypedTree) → after word tree < 2 ^ 32 - 1

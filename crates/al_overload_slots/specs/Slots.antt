@@ -1,4 +1,4 @@
--- The words of the frame that an expression's temporaries take, in the order of the text: of each membership test that isn't
+-- The words of the frame that an expression's temporaries take, in source order: of each membership test that isn't
 -- static the word that keeps its value, and of each actual parameter that is copied back the word that keeps its address.
 use Rattle.std.specs.Prelude.{ℕ, ◌+◌, ◌-◌, ◌^◌, min, Option, Some, None}
 use Rattle.al_view.specs.declared.types.StaticValue.{StaticValue}
@@ -21,7 +21,7 @@ abbrev pub unless_static : {A : Type 0} → Option StaticValue → A → A → A
 unless_static (Some value) static other = static
 unless_static None static other = other
 
--- The next word after those of a tree, where the first one to take is this one.
+-- The next word after those of a tree, if the first one to take is this one.
 abbrev mutual
   pub after : ℕ → TypedTree → ℕ
   after word (Labelled labels form) = unless_static labels.value word (form_after word form)
@@ -62,7 +62,7 @@ abbrev mutual
   pub call_after : ℕ → CallTree → ℕ
   call_after word (Called callee flag words actuals) = actuals_after word actuals
 
--- The tree with its words, where the first one to take is this one.
+-- The tree with its words, if the first one to take is this one.
 abbrev mutual
   pub numbered : ℕ → TypedTree → TypedTree
   numbered word (Labelled labels form) = Labelled labels (unless_static labels.value form (form_numbered word form))

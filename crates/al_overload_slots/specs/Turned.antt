@@ -1,4 +1,4 @@
--- Chains that were turned round: what stands at the left of a link may be another chain.
+-- Chains that were turned round: what is at the left of a link may be another chain.
 use Rattle.std.specs.Prelude.{Bool, true, false}
 use Rattle.al_view_typed.specs.ExpressionTrees.{FormTree}
 use Rattle.al_view_typed.specs.ExpressionTrees.FormTree.{BinaryForm, ShortCircuitForm}
@@ -8,7 +8,7 @@ use Rattle.al_view_typed.specs.declared.expression.Typed.{Typed}
 use Rattle.al_view_typed.specs.declared.expression.TypedName.{TypedName}
 use Rattle.al_view_typed.specs.declared.expression.TypedName.TheVariants.{Object, Component', Indexed'}
 
--- whether something stands before the last component of a name
+-- whether something comes before the last component of a name
 abbrev pub has_prefix : TypedName → Bool
 has_prefix (Object place is_constant) = false
 has_prefix (Component' p whole offset) = true
@@ -20,7 +20,7 @@ with_prefix (Object place is_constant) other = Object place is_constant
 with_prefix (Component' p whole offset) other = Component' p other offset
 with_prefix (Indexed' p array q labels form bounds words) other = Indexed' p other q labels form bounds words
 
--- what stands before the last component of a name, if something does
+-- what comes before the last component of a name, if something does
 abbrev pub prefix_in : TypedName → TypedName → TypedName
 prefix_in (Object place is_constant) other = other
 prefix_in (Component' p whole offset) other = whole
@@ -50,7 +50,7 @@ form_left_in form left = left
 abbrev pub left_in : Typed → Typed → Typed
 left_in typed left = form_left_in typed.form left
 
--- whether it is computed of two operands, told from what it is seen as
+-- whether it is computed of two operands, as it is seen
 abbrev pub tree_leans : FormTree → Bool
 tree_leans (BinaryForm operator left right) = true
 tree_leans (ShortCircuitForm operator left right) = true

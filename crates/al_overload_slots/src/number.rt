@@ -10,15 +10,15 @@ use crate::turn::{
 };
 use al_view_typed::{Actual, CheckedValue, Form, Typed, TypedCall, TypedName};
 
-/// The word after this one; after the last one that there is, that one again.
+/// The word after this one; if this is the last one that there is, this one.
 fn next(word: u32) -> u32
     ensures { result ≡ next_word word }
 {
     word.saturating_add(1)
 }
 
-/// Gives each temporary of an expression its word, from this one on, in the order of the text, and tells the next word. Where there is none,
-/// nothing is gone down, so that a chain of operators takes nothing of the stack.
+/// Gives each temporary of an expression its word, from this one on, in source order. The result is the next word. If there is no
+/// temporary, the expression isn't entered, so that a chain of operators takes no stack.
 #[cycle(slots)]
 #[tactic(auto, using(crate::proofs::Unchanged::stays))]
 pub fn number_slots(typed: &mut Typed, word: u32) -> u32
@@ -32,7 +32,7 @@ pub fn number_slots(typed: &mut Typed, word: u32) -> u32
     }
 }
 
-/// Left operands are gone down by a loop, and right ones have their words on the way back.
+/// Gives words to the left operands by a loop, and to the right ones on the way back.
 #[cycle(slots)]
 fn number_typed(typed: &mut Typed, word: u32) -> u32
     ensures tree { typed_model typed.new ≡ numbered word (typed_model typed.old) }
@@ -54,7 +54,7 @@ fn number_typed(typed: &mut Typed, word: u32) -> u32
     word
 }
 
-/// What no operator with two operands makes.
+/// Gives words within an expression that isn't an operator with two operands.
 #[cycle(slots)]
 fn number_first(form: &mut Form, is_static: bool, word: u32) -> u32
     ensures tree { form_model form.new ≡ (if is_static then form_model form.old else form_numbered word (form_model form.old)) }
@@ -66,7 +66,7 @@ fn number_first(form: &mut Form, is_static: bool, word: u32) -> u32
     number_form(form, word)
 }
 
-/// A left operand, which isn't looked at once more.
+/// Gives words to a left operand, which isn't searched for temporaries again.
 #[cycle(slots)]
 fn number_left(operand: &mut Box<Typed>, word: u32) -> u32
     ensures tree { typed_model operand.new.value ≡ numbered word (typed_model operand.old.value) }
@@ -75,7 +75,7 @@ fn number_left(operand: &mut Box<Typed>, word: u32) -> u32
     number_typed(operand, word)
 }
 
-/// An operand in its box.
+/// Gives words to an operand in its box.
 #[cycle(slots)]
 fn number_operand(operand: &mut Box<Typed>, word: u32) -> u32
     ensures tree { typed_model operand.new.value ≡ numbered word (typed_model operand.old.value) }
@@ -122,7 +122,7 @@ fn number_form(form: &mut Form, word: u32) -> u32
     }
 }
 
-/// The indexes of a name. What stands before a component is gone down by a loop, and indexes have their words on the way back.
+/// Gives words to the indexes of a name. What comes before a component is processed by a loop, and indexes get their words on the way back.
 #[cycle(slots)]
 fn number_name(name: &mut TypedName, word: u32) -> u32
     ensures tree { name_model name.new ≡ name_numbered word (name_model name.old) }
@@ -153,7 +153,7 @@ fn number_value(value: &mut CheckedValue, word: u32) -> u32
     number_slots(&mut value.value, word)
 }
 
-/// A value in its box.
+/// Gives words to a value in its box.
 #[cycle(slots)]
 fn number_boxed(value: &mut Box<CheckedValue>, word: u32) -> u32
     ensures tree { value_model value.new.value ≡ value_numbered word (value_model value.old.value) }
@@ -203,7 +203,7 @@ fn number_actuals(actuals: &mut Vec<Actual>, word: u32) -> u32
     after
 }
 
-/// The same of a call.
+/// Gives each temporary of a call its word, from this one on, in source order. The result is the next word.
 #[cycle(slots)]
 #[tactic(auto, using(crate::proofs::Layers::call_layers, al_view_typed::proofs::ExpressionsMade::call_made))]
 pub fn number_call(call: &mut TypedCall, word: u32) -> u32

@@ -17,7 +17,7 @@ fn number_piece(piece: &mut Piece, word: u32) -> u32
     }
 }
 
-/// Gives each temporary in what is put its word, from this one on, in the order of the text, and tells the next word.
+/// Gives each temporary in what is put its word, from this one on, in source order. The result is the next word.
 #[tactic(auto, using(crate::proofs::Gathered::pieces_end_word, crate::proofs::Gathered::pieces_end_tree))]
 pub fn number_pieces(pieces: &mut Vec<Piece>, word: u32) -> u32
     ensures tree { map piece_model pieces.new.items ≡ pieces_numbered word (map piece_model pieces.old.items) }

@@ -1,4 +1,4 @@
-// Whether an expression has temporaries at all. Few have: so a chain of operators is mostly looked at alone, by a loop.
+// Whether an expression has temporaries at all. Few have, so that mostly a chain of operators is only searched, by a loop.
 ghost use Rattle.std.specs.Prelude.{◌≡◌, ◌||◌, IfSome, map};
 ghost use Rattle.al_overload_slots.specs.Temporaries.{IsBelow, actual_takes, actuals_take, call_takes, form_takes, name_takes, takes, value_takes, values_take};
 ghost use Rattle.al_view_typed.specs.ExpressionViews.{actual_model, actuals_of, call_model, form_model, name_model, typed_model, value_model, values_of};
@@ -12,7 +12,7 @@ struct Operands<'a> {
     right: &'a Typed,
 }
 
-/// The operands of an expression that is computed, where it has two.
+/// The operands of an expression that is computed, if it has two.
 #[tactic(auto, using(crate::proofs::Layers::typed_layers, al_view_typed::proofs::ExpressionsMade::binary_made, al_view_typed::proofs::ExpressionsMade::short_circuit_made))]
 fn operands_of(typed: &Typed) -> Option<Operands<'_>>
     ensures takes { IfSome result (λ o. takes (typed_model typed.now) ≡ (takes (typed_model o.right.now) || takes (typed_model o.left.now))) }
@@ -28,7 +28,7 @@ fn operands_of(typed: &Typed) -> Option<Operands<'_>>
     }
 }
 
-/// Whether an expression has temporaries. Left operands are gone down by a loop.
+/// Whether an expression has temporaries. Left operands are processed by a loop.
 #[cycle(takes)]
 pub(crate) fn takes(typed: &Typed) -> bool
     ensures { result ≡ takes (typed_model typed.now) }

@@ -1,5 +1,5 @@
-// Chains turned round on the way down and back on the way up, so that they take neither memory nor the stack: what stands at the left of a link
-// is taken out, and the links that were passed before take its place.
+// Chains are reversed on the way down and back on the way up, so that they take neither memory nor stack: what is at the left of a link is
+// taken out, and the links that were passed before take its place.
 ghost use Rattle.std.specs.Prelude.{◌≡◌, false};
 ghost use Rattle.al_overload_slots.specs.Temporaries.{unless_value};
 ghost use Rattle.al_overload_slots.specs.Turned.{form_leans, form_left_in, form_right_in, form_with_left, form_with_right, has_prefix, left_in, prefix_in, right_in, tree_leans, with_left, with_prefix, with_right};
@@ -21,7 +21,7 @@ fn swap_boxed(prefix: &mut Box<TypedName>, other: &mut TypedName)
     mem::swap(&mut **prefix, other);
 }
 
-/// Exchanges what stands before the last component of a name with another name.
+/// Exchanges what comes before the last component of a name with another name.
 fn swap_prefix(name: &mut TypedName, other: &mut TypedName)
     ensures name { name.new ≡ with_prefix name.old other.old }
     ensures other { other.new ≡ prefix_in name.old other.old }
@@ -33,7 +33,7 @@ fn swap_prefix(name: &mut TypedName, other: &mut TypedName)
     }
 }
 
-/// Whether something stands before the last component of a name.
+/// Whether something comes before the last component of a name.
 pub(crate) fn has_prefix(name: &TypedName) -> bool
     ensures { result ≡ has_prefix name.now }
 {
@@ -44,7 +44,7 @@ pub(crate) fn has_prefix(name: &TypedName) -> bool
     }
 }
 
-/// What stands at the end of a chain that was turned round.
+/// What is at the end of a reversed chain of components.
 pub(crate) fn no_name() -> TypedName
     ensures { result ≡ Object (Frame 0 0) false }
 {
@@ -54,7 +54,7 @@ pub(crate) fn no_name() -> TypedName
     }
 }
 
-/// A step down: what stands before the last component takes the name's place, and that component goes round what was passed.
+/// A step down: what comes before the last component takes the name's place, and that component goes round what was passed.
 pub(crate) fn descend(name: &mut TypedName, passed: &mut TypedName)
     ensures name { name.new ≡ prefix_in name.old passed.old }
     ensures passed { passed.new ≡ with_prefix name.old passed.old }
@@ -63,7 +63,7 @@ pub(crate) fn descend(name: &mut TypedName, passed: &mut TypedName)
     mem::swap(name, passed);
 }
 
-/// A step back up.
+/// A step back up a chain of components.
 pub(crate) fn ascend(name: &mut TypedName, passed: &mut TypedName)
     ensures name { name.new ≡ with_prefix passed.old name.old }
     ensures passed { passed.new ≡ prefix_in passed.old name.old }
@@ -175,7 +175,7 @@ pub(crate) fn leans(typed: &Typed) -> bool
     form_leans(&typed.form)
 }
 
-/// What stands at the end of a chain of operators that was turned round.
+/// What is at the end of a reversed chain of operators.
 pub(crate) fn no_operand() -> Typed
     ensures { result.form ≡ Clock }
 {
@@ -199,7 +199,7 @@ pub(crate) fn descend_operand(typed: &mut Typed, passed: &mut Typed)
     mem::swap(typed, passed);
 }
 
-/// A step back up.
+/// A step back up a chain of operators.
 pub(crate) fn ascend_operand(typed: &mut Typed, passed: &mut Typed)
     ensures typed { typed.new ≡ with_left passed.old typed.old }
     ensures passed { passed.new ≡ left_in passed.old typed.old }

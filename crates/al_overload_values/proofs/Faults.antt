@@ -70,7 +70,7 @@ unfolding text_fault
 bounds_fault p own d at found m high is = ap (text_fault p own d at found) (member_fields m)
     ∙ ap (λ (u : Option Expression). text_fault p own d at found (member_of (expression_model (out-Member m).left) (option_map place_label (out-Member m).not) (expression_model (out-Member m).low) (option_map expression_model u))) is
 
--- ---- what stands after a name
+-- ---- what comes after a name
 
 pub selector_fault : (p : Predefined) (own : Option Symbol) (d : Denotations) (at : Place) (found : Option Fault) (x : ExpressionTree) (l : Label) → after_fault p own d at found x (part.Selector l) ≡ found
 unfolding after_fault
@@ -94,7 +94,7 @@ pub operand_fault : (p : Predefined) (own : Option Symbol) (d : Denotations) (at
 unfolding after_fault
 operand_fault p own d at found x group = refl
 
--- ---- what stands in parentheses
+-- ---- what is in parentheses
 
 pub positional_fault : (p : Predefined) (own : Option Symbol) (d : Denotations) (at : Place) (found : Option Fault) (l : Label) (first : ExpressionTree) (others : ExpressionsTree)
     → group_fault p own d at found (g.Positional l first others) ≡ all_fault p own d at (text_fault p own d at found first) others

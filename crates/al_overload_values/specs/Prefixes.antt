@@ -1,5 +1,5 @@
--- What is wrong in the prefix of an attribute (ARM 4.1.4). It tells the attribute nothing but its array, which is known without interpretation; but
--- what stands in its indexes is part of the context round the attribute (ARM 8.6(4)), and must have its one interpretation there as all else has.
+-- What is wrong in the prefix of an attribute (ARM 4.1.4). Only its array matters to the attribute, which is known without interpretation; but
+-- what is in its indexes is part of the context round the attribute (ARM 8.6(4)), and must have its one interpretation there as all else has.
 use Rattle.std.specs.Prelude.{Bool, true, false, ◌&&◌, ◌||◌, ◌==◌, [], Option, Some, None, is_some, Result, Ok, Err, if◌then◌else◌}
 use Rattle.al_base.specs.declared.place.Place.{Place}
 use Rattle.al_overload.specs.declared.everywhere.Predefined.{Predefined}
@@ -19,7 +19,7 @@ use Rattle.al_view.specs.declared.symbol.Symbol.{Symbol}
 abbrev pub is_at : Place → Place → Bool
 is_at p q = (p.line == q.line) && (p.col == q.col)
 
--- That the prefix as a whole has no interpretation, or several, is told of the context round it, which begins elsewhere; contexts inside it
+-- That the prefix as a whole has no interpretation, or several, is reported for the context round it, which begins elsewhere; contexts inside it
 -- begin after its first token.
 unfoldable pub moved : Place → Place → Fault → Fault
 moved at first f = if is_at f.place first then fault_at at f.rule else f
@@ -28,7 +28,7 @@ abbrev pub moved_of : Place → Place → Result TypedTree Fault → Option Faul
 moved_of at first (Ok x) = None
 moved_of at first (Err f) = Some (moved at first f)
 
--- An object or a part of one, as a value of any type. It isn't evaluated, so nothing in it fails: only what is wrong with its tree is told, not what
+-- An object or a part of one, as a value of any type. It isn't evaluated, so nothing in it fails: only what is wrong with its tree is reported, not what
 -- is known of its value.
 abbrev pub part_fault : Predefined → Option Symbol → Place → TermTree → Option Fault
 part_fault p own at t = moved_of at (first_place t) (term_read p own contexts.Target None [] t).tree

@@ -54,7 +54,7 @@ image mark value = option_map_or (λ (x : TypeView). image_of mark value x.defin
 abbrev pub image_checked : Predefined → Option Symbol → SubtypeView → TermTree → Result PieceTree Fault
 image_checked p own mark argument = map_ok (image mark) (term_checked p own (contexts.ImageArgument (mark_type mark)) None mark.types argument)
 
--- the pieces of a string expression, in the order of the text, after those that were read
+-- the pieces of a string expression, in source order, after those that were read
 abbrev pub text_read : Predefined → Option Symbol → TermTree → Parts PieceTree → Parts PieceTree
 text_read p own (t.TextTerm place bytes) pieces = with_part pieces None (Ok (TextPiece bytes))
 text_read p own (t.ImageTerm place mark argument) pieces = with_part pieces None (image_checked p own mark argument)

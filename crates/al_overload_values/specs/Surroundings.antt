@@ -1,4 +1,4 @@
--- What is known where expressions stand.
+-- What is known at the places of expressions.
 use Rattle.std.specs.Prelude.{List, Option}
 use Rattle.al_base.specs.declared.unit_key.UnitKey.{UnitKey}
 use Rattle.al_overload.specs.declared.everywhere.Predefined.{Predefined}

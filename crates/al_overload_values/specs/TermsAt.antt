@@ -1,4 +1,4 @@
--- What texts are at their place, where these packages are mentioned: the names of each text are looked up there, by a table of answers
+-- What texts are at their place, if these packages are mentioned: the names of each text are looked up there, by a table of answers
 -- (ARM 4.1 to 4.7, 8.3).
 use Rattle.std.specs.Prelude.{ℕ, List, ◌++◌, map, Result}
 use Rattle.al_base.specs.declared.unit_key.UnitKey.{UnitKey}
@@ -28,10 +28,10 @@ mark_at t place packages x = mark_of_text (denotations_at t place packages x) x
 
 -- ---- which names are asked for
 
--- those of a text
+-- the names in an expression, as they are asked for
 abbrev pub text_names : ExpressionTree → List (List ℕ)
 text_names x = map asked_name (names_in x)
 
--- those of two bounds
+-- the names in two bounds, as they are asked for
 abbrev pub range_names : RangeTree → List (List ℕ)
 range_names r = text_names r.low ++ text_names r.high

@@ -1,5 +1,5 @@
 -- The first fault in the prefixes of all attributes of a text, by what its names denote: that which was found already, or one in the text. The text
--- stands in a context that begins at this place.
+-- is in a context that begins at this place.
 use Rattle.std.specs.Prelude.{Option}
 use Rattle.al_base.specs.declared.place.Place.{Place}
 use Rattle.al_overload.specs.declared.everywhere.Predefined.{Predefined}

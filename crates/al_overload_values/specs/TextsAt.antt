@@ -1,4 +1,4 @@
--- What texts are at their place, each with the first fault in the prefixes of its attributes; where a name of the text has E401 or E404, that is all.
+-- What texts are at their place, each with the first fault in the prefixes of its attributes; if a name of the text has E401 or E404, that is all.
 -- The names of each text are looked up there, by a table of answers.
 use Rattle.std.specs.Prelude.{List, Option, None, Result, Ok}
 use Rattle.al_base.specs.declared.place.Place.{Place}
@@ -71,7 +71,7 @@ abbrev pub bounds_with_at : Table → scopes.Place → List UnitKey → Predefin
 bounds_with_at t place packages p own r =
     map_ok joined (both (term_with_at t place packages p own (first_place r.low) r.low) (term_with_at t place packages p own (first_place r.low) r.high))
 
--- what a text that is a context may be, until what stands round it is known
+-- what a text that is a context may be, until what is round it is known
 abbrev pub read_with_at : Table → scopes.Place → List UnitKey → Predefined → Option Symbol → ExpressionTree → Result (With ReadTree) Fault
 read_with_at t place packages p own x = read_with p own (denotations_at t place packages x) (first_place x) x
 

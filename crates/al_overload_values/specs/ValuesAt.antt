@@ -1,4 +1,4 @@
--- What expressions are where they stand (ARM 8.6): their labelled trees with the words of their temporaries, or the first rule that is
+-- What expressions are at their places (ARM 8.6): their labelled trees with the words of their temporaries, or the first rule that is
 -- broken in them. Their names are looked up by a table of answers.
 use Rattle.std.specs.Prelude.{ℕ, List, [], Option, Some, None, Result}
 use Rattle.al_overload.specs.declared.part.Nominal.{Nominal}
@@ -27,12 +27,12 @@ use Rattle.al_view.specs.declared.view.SubtypeView.{SubtypeView}
 -- ---- any context
 
 -- An expression in its context, whose types are among these: E401 and E404 of its names; else E402, E403, E405, E604, those in the prefixes of its
--- attributes among them. An aggregate may stand where a nominal subtype is given.
+-- attributes among them. An aggregate is allowed if a nominal subtype is given.
 abbrev pub checked_at : Table → Surroundings → Context → Option Nominal → List TypeView → ExpressionTree → Result TypedTree Fault
 checked_at t s context allowed types x =
     next (context_with_at t s.place s.packages s.predefined s.own x) (λ (w : With TermTree). unless w.1 (term_checked s.predefined s.own context allowed types w.0))
 
--- the same of an expression that must be static: E304 at its first token, too
+-- an expression that must be static in its context: E304 at its first token, too
 abbrev pub static_checked_at : Table → Surroundings → Context → List TypeView → ExpressionTree → Result TypedTree Fault
 static_checked_at t s context types x =
     next (context_with_at t s.place s.packages s.predefined s.own x) (λ (w : With TermTree). unless w.1 (static_term_checked s.predefined s.own context types w.1 w.0))
@@ -47,7 +47,7 @@ pair_judged_at t s context types r =
     next (bounds_with_at t s.place s.packages s.predefined s.own r)
     (λ (b : With (TermTree × TermTree)). unless b.1 (bounds_checked s.predefined s.own context types b.0.0 b.0.1))
 
--- the same of bounds that must be static: E304 at each that isn't, too
+-- a pair of bounds that must be static: E304 at each that isn't, too
 abbrev pub static_pair_at : Table → Surroundings → Context → List TypeView → RangeTree → Result PairTree Fault
 static_pair_at t s context types r =
     next (bounds_with_at t s.place s.packages s.predefined s.own r)
@@ -72,7 +72,7 @@ abbrev pub target_at : Table → Surroundings → ExpressionTree → ℕ → Wor
 target_at t s x word =
     with_words word (next (context_with_at t s.place s.packages s.predefined s.own x) (λ (w : With TermTree). unless w.1 (target_checked s.predefined s.own [] w.0)))
 
--- what is assigned to a target of this nominal subtype; an aggregate may stand there
+-- what is assigned to a target of this nominal subtype; an aggregate is allowed there
 abbrev pub source_checked : Table → Surroundings → ExpressionTree → Nominal → Result TypedTree Fault
 source_checked t s x of = checked_at t s (contexts.Source (value_type of.types of.subtype.base)) (Some of) of.types x
 

@@ -18,7 +18,7 @@ abbrev pub all_read : Predefined → Option Symbol → List TermTree → Parts P
 all_read p own [] pieces = pieces
 all_read p own (x ∷ xs) pieces = text_read p own x (all_read p own xs pieces)
 
--- what a step makes of a term: both operands of `&`, what stands in parentheses, or a piece
+-- what a step makes of a term: both operands of `&`, what is in parentheses, or a piece
 abbrev pub stepped : Predefined → Option Symbol → Step → Parts PieceTree → Parts PieceTree
 stepped p own (steps.Both left right) pieces = text_read p own (term_model right.now) (text_read p own (term_model left.now) pieces)
 stepped p own (steps.Inside inner) pieces = text_read p own (term_model inner.now) pieces
@@ -32,7 +32,7 @@ IsBelow term (steps.Found piece) = ⊤
 
 -- ---- that the loop over all that waits ends
 
--- how many terms one of this depth has at most, where each has two parts at most
+-- how many terms one of this depth has at most, if each has two parts at most
 abbrev pub most : ℕ → ℕ
 most zero = 1
 most (suc depth) = 1 + (most depth + most depth)

@@ -53,7 +53,10 @@ fn check_found_target(
     }
 }
 
-/// What is assigned to (ARM 5.2): E406 at its first token where it is no name of a variable.
+/// The target of an assignment (ARM 5.2). The words of its temporaries begin at `word`, which is the next free one afterwards.
+/// # Errors
+/// `NoMemory` if the allocator refuses memory. The inner error is E401 or E404 of a name in it; else E402 or E403 at its first token, or
+/// the first of E405 and E604 in it and E406 at its first token if it is no name of a variable.
 pub fn target_at<A: Answers>(
     site: &Site<'_>,
     expression: &Expression,
@@ -97,7 +100,7 @@ fn source_context(labeller: &Labeller, of: &Nominal) -> Result<Context, NoMemory
     Ok(Context::Source(of))
 }
 
-/// A value in that context, where an aggregate of this nominal subtype may stand.
+/// A value in that context, which may be an aggregate of this nominal subtype.
 fn value_of<A: Answers>(
     site: &Site<'_>,
     of: &Nominal,
@@ -166,8 +169,11 @@ fn target_part_at<A: Answers>(
     part_of_target(labeller, term)
 }
 
-/// What is assigned to this target (ARM 5.2), which is expected at the type of the target's nominal subtype; an aggregate of that may stand
-/// there.
+/// The value that is assigned to this target (ARM 5.2). It is expected to have the type of the target's nominal subtype, and may be an
+/// aggregate of that.
+/// # Errors
+/// `NoMemory` if the allocator refuses memory. The inner error is that of the target if it is no object or part of one; else E401 or E404
+/// of a name in the value, E402 or E403 at its first token, E405 and E604 in it.
 pub fn source_at<A: Answers>(
     site: &Site<'_>,
     target: &Expression,

@@ -1,4 +1,4 @@
-// The texts of expressions at their place, with what is wrong in their prefixes.
+// Expressions at their place, with what is wrong in their prefixes.
 ghost use Rattle.std.specs.Prelude.{◌≡◌, IfOk};
 ghost use Rattle.al_base_fault.specs.Judging.{both, map_ok};
 ghost use Rattle.al_overload_lookup.specs.Keys.{denoted};
@@ -43,7 +43,8 @@ fn term_with(
     }
 }
 
-/// The term of an expression in a context that begins at `at`, with the first fault in the prefixes of its attributes; or E401 or E404 of its names.
+/// The term of an expression in a context that begins at `at`, with the first fault in the prefixes of its attributes; or E401 or E404 of
+/// its names.
 fn term_with_at<A: Answers>(
     labeller: &Labeller,
     scope: &Scope,
@@ -61,7 +62,10 @@ fn term_with_at<A: Answers>(
     Ok(checked)
 }
 
-/// The term of an expression that is a context, with the first fault in the prefixes of its attributes; or E401 or E404 of its names.
+/// The term of an expression that is a context, with the first fault in the prefixes of its attributes.
+/// # Errors
+/// `NoMemory` if the allocator refuses memory. The inner error is E401 or E404 at the first of its names that isn't visible or isn't of the
+/// right kind.
 pub fn context_with_at<A: Answers>(
     labeller: &Labeller,
     scope: &Scope,
@@ -90,7 +94,10 @@ fn joined(
     }
 }
 
-/// The terms of two bounds, which are one context, with the first fault in the prefixes of their attributes; or E401 or E404 of their names.
+/// The terms of two bounds, which are one context, with the first fault in the prefixes of their attributes.
+/// # Errors
+/// `NoMemory` if the allocator refuses memory. The inner error is E401 or E404 at the first of their names that isn't visible or isn't of
+/// the right kind.
 pub fn bounds_with_at<A: Answers>(
     labeller: &Labeller,
     scope: &Scope,
@@ -129,8 +136,10 @@ fn read_with(
     }
 }
 
-/// What an expression that is a context may be, until what stands round it is known, with the first fault in the prefixes of its attributes; or E401 or
-/// E404 where a name in it has one.
+/// What an expression that is a context may be, until what is round it is known, with the first fault in the prefixes of its attributes.
+/// # Errors
+/// `NoMemory` if the allocator refuses memory. The inner error is E401 or E404 at the first of its names that isn't visible or isn't of the
+/// right kind.
 pub fn read_with_at<A: Answers>(
     labeller: &Labeller,
     scope: &Scope,
@@ -168,8 +177,10 @@ fn range_with(
     }
 }
 
-/// The subtype of a range by itself, a mark or a Range attribute, at a place; E404 at the first token of what is neither; else what is wrong in the
-/// prefixes of its attributes (ARM 3.5, 3.6.1).
+/// The subtype of a range by itself, a mark or a Range attribute, at a place (ARM 3.5, 3.6.1).
+/// # Errors
+/// `NoMemory` if the allocator refuses memory. The inner error is E401 or E404 of a name in it, E404 at the first token of what is neither,
+/// or else the first fault in the prefixes of its attributes.
 pub fn range_with_at<A: Answers>(
     labeller: &Labeller,
     scope: &Scope,

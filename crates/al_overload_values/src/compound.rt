@@ -1,4 +1,4 @@
-// Names of several identifiers at their place, as the marks of declarations are.
+// Names of several identifiers at their place, like the marks of declarations.
 ghost use Rattle.std.specs.Prelude.{◌≡◌, IfOk, map};
 ghost use Rattle.al_base_fault.specs.Judging.{map_ok};
 ghost use Rattle.al_overload_lookup.specs.Keys.{denoted};
@@ -52,7 +52,7 @@ fn read_name(
     Ok(checked)
 }
 
-/// What the names in it denote at a place.
+/// What the names in a name of several identifiers denote at a place.
 fn names_of_name<A: Answers>(
     alloc: Global,
     scope: &Scope,
@@ -84,7 +84,9 @@ fn mark_of_name(
     }
 }
 
-/// The subtype that a mark of several identifiers names at a place; E404 at what is no mark (ARM 3.2.2).
+/// The subtype that a mark of several identifiers names at a place (ARM 3.2.2).
+/// # Errors
+/// `NoMemory` if the allocator refuses memory. The inner error is E401 at an identifier that isn't visible; E404 at what is no mark.
 pub fn name_mark_at<A: Answers>(
     alloc: Global,
     scope: &Scope,

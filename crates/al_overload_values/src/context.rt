@@ -22,7 +22,9 @@ use al_view::{Seq, SubtypeView, Types};
 use al_view_typed::Typed;
 use std::alloc::Global;
 
-/// No types beside those that every unit has.
+/// No types besides those that every unit has.
+/// # Errors
+/// `NoMemory` if the allocator refuses memory.
 pub fn no_types(alloc: Global) -> Result<Types, NoMemory>
     ensures { IfOk result (λ types. types ≡ []) }
 {
@@ -30,7 +32,9 @@ pub fn no_types(alloc: Global) -> Result<Types, NoMemory>
     Ok(types)
 }
 
-/// A condition (ARM 5.3, 5.5, 5.7).
+/// A condition (ARM 5.3, 5.5, 5.7). The words of its temporaries begin at `word`, which is the next free one afterwards.
+/// # Errors
+/// `NoMemory` if the allocator refuses memory. The inner error is that of `value_at`.
 pub fn condition_at<A: Answers>(
     site: &Site<'_>,
     expression: &Expression,
@@ -46,7 +50,9 @@ pub fn condition_at<A: Answers>(
     value_at(site, &context, &None, &types, expression, word, recorder)
 }
 
-/// The moment of a `delay until` (ARM 9.6).
+/// The moment of a `delay until` (ARM 9.6). The words of its temporaries begin at `word`, which is the next free one afterwards.
+/// # Errors
+/// `NoMemory` if the allocator refuses memory. The inner error is that of `value_at`.
 pub fn moment_at<A: Answers>(
     site: &Site<'_>,
     expression: &Expression,
@@ -70,7 +76,10 @@ fn result_context(labeller: &Labeller, of: &SubtypeView) -> Result<Context, NoMe
     Ok(Context::ReturnValue(of))
 }
 
-/// What a function with this result returns (ARM 6.5).
+/// The value that a function with this result returns (ARM 6.5). The words of its temporaries begin at `word`, which is the next free one
+/// afterwards.
+/// # Errors
+/// `NoMemory` if the allocator refuses memory. The inner error is that of `value_at`.
 pub fn result_at<A: Answers>(
     site: &Site<'_>,
     of: &SubtypeView,

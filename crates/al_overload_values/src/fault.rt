@@ -21,7 +21,7 @@ fn is_at(place: Place, other: Place) -> bool
     place.line == other.line && place.col == other.col
 }
 
-/// A fault of the prefix as a whole is told of the context round it, which begins at `at`.
+/// The fault of a prefix as a whole is reported at the first token of the context round it, which begins at `at`.
 #[tactic(auto, unfolding(crate::specs::Prefixes::moved))]
 fn moved(at: Place, first: Place, fault: Fault) -> Fault
     ensures { result ≡ moved at first fault }
@@ -45,7 +45,8 @@ fn moved_of(at: Place, first: Place, checked: &CheckResult<Typed>) -> Option<Fau
     }
 }
 
-/// An object or a part of one, as a value of any type, in a context that begins at `at`. It isn't evaluated, so nothing in it fails.
+/// The fault of an object or a part of one, as a value of any type, in a context that begins at `at`. It isn't evaluated, so nothing in it
+/// fails.
 fn part_fault(labeller: &Labeller, at: Place, term: &Term) -> Result<Option<Fault>, NoMemory>
     ensures { IfOk result (λ fault. fault ≡ part_fault labeller.now.predefined labeller.now.own at (term_model term.now)) }
 {
@@ -70,7 +71,7 @@ fn reading_fault(
     }
 }
 
-/// What is wrong with the prefix of an attribute that stands in a context that begins at `at`: E402 and E403 of its indexes, and what is wrong in
+/// What is wrong with the prefix of an attribute in a context that begins at `at`: E402 and E403 of its indexes, and what is wrong in
 /// contexts inside them.
 pub(crate) fn prefix_fault(
     labeller: &Labeller,
@@ -105,7 +106,7 @@ fn argument_place(
     }
 }
 
-/// Where the context of an argument after this name begins, whose first token is at `first`.
+/// The place where the context of an argument after this name begins. The name's first token is at `first`.
 pub(crate) fn place_after(
     alloc: Global,
     at: Place,

@@ -1,4 +1,9 @@
-//! What expressions are where they stand: labelled trees with the words of their temporaries, or the first rule that is broken (ARM 8.6).
+//! Expressions at their places: labelled trees with the words of their temporaries, or the first rule that is broken (ARM 8.6).
+//!
+//! A `Site` (`site`) is a place: the labeller, the regions and the packages that are mentioned. `text_at` and `at` look the names of an
+//! expression up there and give its term; `value`, `pair`, `selector`, `assigned`, `perform` and `context` check it in its context; `words`
+//! numbers its temporaries. `text`, `fault` and `mark` find what is wrong in the prefixes of attributes, which are contexts of their own
+//! but belong to the context round them. `compound` has names of several identifiers, and `put_text` what Put puts.
 #![tactic(auto)]
 
 mod assigned;

@@ -1,4 +1,4 @@
-// Where the context of an argument begins, by the form of what stands before it.
+// The place where the context of an argument begins, by the form of what comes before it.
 ghost use Rattle.std.specs.Prelude.{◌≡◌};
 ghost use Rattle.al_overload_values.specs.Prefixes.{is_attribute, may_be_mark};
 ghost use Rattle.al_tree.specs.ExpressionViews.{expression_model, part_model};
@@ -19,8 +19,8 @@ fn is_attribute(part: &NamePart) -> bool
     }
 }
 
-/// Whether an argument after it may be one of a conversion or of Image. Of a chain of indexes this is told by the last part and the selectors before
-/// it, so that what each front of the chain may be isn't found out.
+/// Whether an argument after it may be one of a conversion or of Image. For a chain of indexes this is decided by the last part and the
+/// selectors before it, so that what each prefix of the chain may be isn't computed.
 #[tactic(auto, using(crate::proofs::Marks::longer_may_be, crate::proofs::Marks::prefixed_is_none, crate::proofs::Marks::infix_is_none, crate::proofs::Marks::member_is_none, al_tree::proofs::ExpressionsMade::expression_numeric_model, al_tree::proofs::ExpressionsMade::expression_text_model, al_tree::proofs::ExpressionsMade::expression_name_model, al_tree::proofs::ExpressionsMade::expression_longer_model, al_tree::proofs::ExpressionsMade::expression_prefixed_model, al_tree::proofs::ExpressionsMade::expression_infix_model, al_tree::proofs::ExpressionsMade::expression_member_model, al_tree::proofs::ExpressionsMade::expression_group_model))]
 pub(crate) fn may_be_mark(expression: &Expression) -> bool
     ensures { result ≡ may_be_mark (expression_model expression.now) }

@@ -39,8 +39,10 @@ fn check_pair(
     }
 }
 
-/// Two bounds as one context, with the type of their range, or the first rule that is broken: E401 or E404 of a name in either; else E402
-/// or E403 at the low one's first token, E405 and E604 in them. Their temporaries have no words yet.
+/// Two bounds as one context, with the type of their range. Their temporaries have no words yet.
+/// # Errors
+/// `NoMemory` if the allocator refuses memory. The inner error is E401 or E404 of a name in either; else E402 or E403 at the low one's
+/// first token, E405 and E604 in them.
 pub fn pair_judged_at<A: Answers>(
     site: &Site<'_>,
     context: &Context,
@@ -77,7 +79,10 @@ fn check_static_pair(
     }
 }
 
-/// The same of bounds that must be static: E304 at the first token of each that isn't, too.
+/// Two bounds that must be static, as one context, with the type of their range. Their temporaries have no words yet.
+/// # Errors
+/// `NoMemory` if the allocator refuses memory. The inner error is the first of that of `pair_judged_at` and E304 at the first token of each
+/// bound that isn't static.
 pub fn static_pair_at<A: Answers>(
     site: &Site<'_>,
     context: &Context,

@@ -25,7 +25,7 @@ use al_view_typed::{Piece, TypedCall};
 pub enum CallEffect {
     /// It calls a procedure or an entry (ARM 6.4, 9.5.3).
     Call(TypedCall),
-    /// It puts these, and whether the line ends then (ARM A.10.5, A.10.7).
+    /// It puts these pieces; the flag says whether the line ends then (ARM A.10.5, A.10.7).
     Put { pieces: Vec<Piece>, ends_line: bool },
 }
 
@@ -73,7 +73,7 @@ fn called<'a>(
     }
 }
 
-/// Every one but Put ends its line.
+/// Whether the procedure ends its line: each does except Put.
 fn ends_line(name: &[u8]) -> bool
     ensures { result ≡ ends_line name.now }
 {
@@ -152,8 +152,10 @@ fn read_performed(
     }
 }
 
-/// What a call as a statement does, or what is wrong with it: E402 or E403 at its first token, E604 of an own operation, the first
-/// fault in its arguments.
+/// What a call as a statement does.
+/// # Errors
+/// `NoMemory` if the allocator refuses memory. The inner error is E402 or E403 at its first token, E604 of an operation of the own
+/// protected object, or the first fault in its arguments.
 pub fn check_performed(
     labeller: &Labeller,
     term: &Term,

@@ -63,7 +63,7 @@ fn upper(alloc: Global, name: &[u8]) -> Result<Name, NoMemory>
     Ok(Name::new(bytes))
 }
 
-/// One more image.
+/// Appends an image.
 fn push_image(alloc: Global, name: &[u8], images: &mut Seq<Name>) -> Result<(), NoMemory>
     ensures { OnOk result (images.new ≡ images.old ++ upper name.now ∷ []) }
 {
@@ -72,7 +72,7 @@ fn push_image(alloc: Global, name: &[u8], images: &mut Seq<Name>) -> Result<(), 
     Ok(())
 }
 
-/// The names of literals as their images are (ARM 3.5(32)).
+/// The images of literals by their names (ARM 3.5(32)).
 fn images(alloc: Global, names: &[Name]) -> Result<Seq<Name>, NoMemory>
     ensures { IfOk result (λ images. images ≡ map upper names.now) }
 {
@@ -83,7 +83,7 @@ fn images(alloc: Global, names: &[Name]) -> Result<Seq<Name>, NoMemory>
     Ok(images)
 }
 
-/// The image of a value of a subtype whose type is defined so.
+/// The image of a value of a subtype whose type has this definition.
 fn image_of(
     alloc: Global,
     mark: &SubtypeView,
@@ -133,7 +133,7 @@ fn check_argument(
     value
 }
 
-/// `mark'Image (argument)`
+/// `mark'Image (argument)`.
 fn check_image(
     labeller: &Labeller,
     mark: &SubtypeView,
@@ -162,12 +162,12 @@ fn text_piece(alloc: Global, bytes: &[u8]) -> Result<CheckResult<Piece>, NoMemor
 enum Step<'a> {
     /// Both operands of `&`.
     Both(&'a Term, &'a Term),
-    /// What stands in parentheses.
+    /// What is in parentheses.
     Inside(&'a Term),
     Found(CheckResult<Piece>),
 }
 
-/// What fits nothing.
+/// The fault of what fits nothing.
 fn misfit(place: Place) -> CheckResult<Piece>
     ensures { map_ok piece_model result ≡ Err (nothing_fits place) }
 {
@@ -215,7 +215,7 @@ fn step_into<'a>(labeller: &Labeller, term: &'a Term) -> Result<Step<'a>, NoMemo
     }
 }
 
-/// Reads what comes next: its piece, or what is in it waits.
+/// Reads what comes next: its piece, or the operands in it, which wait.
 #[tactic(auto, using(crate::proofs::Worklists::last_read, crate::proofs::Worklists::last_room, crate::proofs::Worklists::some, crate::proofs::Worklists::one_within, crate::proofs::Worklists::two_within))]
 fn advance<'a>(
     labeller: &Labeller,
@@ -240,7 +240,7 @@ fn advance<'a>(
     }
 }
 
-/// The pieces of a string expression, in the order of the text. Operands wait in a list, so that a chain of `&` takes nothing of the stack.
+/// The pieces of a string expression, in source order. Operands wait in a list, so that a chain of `&` takes no stack.
 #[tactic(auto, using(crate::proofs::Worklists::last_read, crate::proofs::Worklists::last_room))]
 fn read_text(labeller: &Labeller, term: &Term, pieces: &mut Pieces) -> Result<(), NoMemory>
     ensures { OnOk result (pieces_model pieces.new ≡ text_read labeller.now.predefined labeller.now.own (term_model term.now) (pieces_model pieces.old)) }

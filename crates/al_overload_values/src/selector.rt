@@ -37,8 +37,11 @@ fn check_found(
     }
 }
 
-/// The selector of a case statement with its type, which is the root type where it is of numbers alone (ARM 5.4(4)). Its temporaries have no
+/// The selector of a case statement with its type, which is the root type if it is of numbers alone (ARM 5.4(4)). Its temporaries have no
 /// words yet.
+/// # Errors
+/// `NoMemory` if the allocator refuses memory. The inner error is E401 or E404 of a name in it; else E402 or E403 at its first token, E405
+/// and E604 in it.
 pub fn selector_judged_at<A: Answers>(
     site: &Site<'_>,
     expression: &Expression,
@@ -54,7 +57,9 @@ pub fn selector_judged_at<A: Answers>(
     check_found(labeller, term)
 }
 
-/// The same with the words of its temporaries, from `word` on, in which the next one stands then.
+/// The selector of a case statement with its type. The words of its temporaries begin at `word`, which is the next free one afterwards.
+/// # Errors
+/// `NoMemory` if the allocator refuses memory. The inner error is that of `selector_judged_at`.
 pub fn selector_at<A: Answers>(
     site: &Site<'_>,
     expression: &Expression,

@@ -1,4 +1,4 @@
-// What is wrong in the prefixes of a text.
+// What is wrong in the prefixes of attributes in an expression.
 ghost use Rattle.std.specs.Prelude.{◌≡◌, IfOk, map};
 ghost use Rattle.al_base_fault.specs.Faults.{earlier};
 ghost use Rattle.al_base_fault.specs.Judging.{map_ok};
@@ -20,7 +20,7 @@ use al_overload_nodes::Labeller;
 use al_overload_readings::{Reading, read};
 use al_tree::{Expression, Group, Member, NamePart};
 
-/// What stands before a part of a name may be.
+/// What the prefix of a part of a name may be.
 fn prefix_read(
     labeller: &Labeller,
     names: &Names,
@@ -32,17 +32,17 @@ fn prefix_read(
     read(labeller.alloc, standard, names, prefix)
 }
 
-/// A step into a text.
+/// A step into an expression.
 #[derive(Drop)]
 pub(crate) enum Step<'a> {
-    /// The first fault so far, with what stands at the left.
+    /// The first fault so far, with what is at the left.
     Down(Option<Fault>, &'a Expression),
-    /// That of all.
+    /// The first fault of all.
     Last(Option<Fault>),
 }
 
-/// The first fault in the prefixes of attributes: the one that was found already, or one in this text, which stands in a context that begins at
-/// `at`. What stands at the left is gone down by a loop.
+/// The first fault in the prefixes of attributes: the one that was found already, or one in this expression, which is in a context that
+/// begins at `at`. What is at the left is processed by a loop.
 #[cycle(text)]
 pub(crate) fn text_fault(
     labeller: &Labeller,
@@ -66,7 +66,7 @@ pub(crate) fn text_fault(
     }
 }
 
-/// A step by the form of the text: all but what stands at the left.
+/// A step by the form of the expression: all but what is at the left.
 #[cycle(text)]
 #[tactic(auto, using(crate::proofs::Faults::number_fault, crate::proofs::Faults::string_fault, crate::proofs::Faults::name_fault, crate::proofs::Faults::longer_fault, crate::proofs::Faults::prefixed_fault, crate::proofs::Faults::infix_fault, crate::proofs::Faults::grouped_fault, al_tree::proofs::ExpressionsMade::expression_numeric_model, al_tree::proofs::ExpressionsMade::expression_text_model, al_tree::proofs::ExpressionsMade::expression_name_model, al_tree::proofs::ExpressionsMade::expression_longer_model, al_tree::proofs::ExpressionsMade::expression_prefixed_model, al_tree::proofs::ExpressionsMade::expression_infix_model, al_tree::proofs::ExpressionsMade::expression_member_model, al_tree::proofs::ExpressionsMade::expression_group_model))]
 fn step_into<'a>(
@@ -103,7 +103,7 @@ fn step_into<'a>(
     }
 }
 
-/// That of a mark or a range that a value is tested against.
+/// The first fault in the prefixes in a mark or a range that a value is tested against.
 #[cycle(text)]
 #[tactic(auto, using(crate::proofs::Faults::mark_fault, crate::proofs::Faults::bounds_fault))]
 fn range_fault(
@@ -124,7 +124,7 @@ fn range_fault(
     }
 }
 
-/// That of a part after a name.
+/// The first fault in the prefixes in a part after a name.
 #[cycle(text)]
 #[tactic(auto, using(crate::proofs::Faults::selector_fault, crate::proofs::Faults::arguments_fault, crate::proofs::Faults::attribute_fault, crate::proofs::Faults::range_fault, crate::proofs::Faults::operand_fault, al_tree::proofs::ExpressionsMade::part_selector_model, al_tree::proofs::ExpressionsMade::part_arguments_model, al_tree::proofs::ExpressionsMade::part_attribute_model, al_tree::proofs::ExpressionsMade::part_range_attribute_model, al_tree::proofs::ExpressionsMade::part_operand_model))]
 fn after_fault(
@@ -152,7 +152,7 @@ fn after_fault(
     }
 }
 
-/// Where the context of an argument after a name begins.
+/// The place where the context of an argument after a name begins.
 #[tactic(auto, using(crate::proofs::Marks::place_after_none))]
 fn argument_place(
     labeller: &Labeller,
@@ -172,7 +172,7 @@ fn argument_place(
     place
 }
 
-/// That of an attribute after this prefix.
+/// The fault of an attribute after this prefix.
 fn attribute_fault(
     labeller: &Labeller,
     names: &Names,
@@ -188,7 +188,7 @@ fn attribute_fault(
     Ok(earlier(found, fault?))
 }
 
-/// That of what stands in parentheses.
+/// The first fault in the prefixes in what is in parentheses.
 #[cycle(text)]
 #[tactic(auto, using(crate::proofs::Faults::positional_fault, crate::proofs::Faults::others_fault, al_tree::proofs::ExpressionsMade::group_positional_model, al_tree::proofs::ExpressionsMade::group_others_aggregate_model))]
 fn group_fault(
@@ -209,7 +209,7 @@ fn group_fault(
     }
 }
 
-/// That of several texts.
+/// The first fault in the prefixes in several expressions.
 #[cycle(text)]
 #[tactic(auto, using(crate::proofs::Faults::none_fault, crate::proofs::Faults::more_fault))]
 fn all_fault(

@@ -1,4 +1,4 @@
-// What one expression's text is at its place.
+// What an expression is at its place.
 ghost use Rattle.std.specs.Prelude.{◌≡◌, IfOk};
 ghost use Rattle.al_base_fault.specs.Judging.{map_ok};
 ghost use Rattle.al_overload_lookup.specs.Lookups.{asked_units};
@@ -20,7 +20,10 @@ use al_view::SubtypeView;
 use al_view_predefined::StandardTypes;
 use std::alloc::Global;
 
-/// The term of an expression at a place; E401 or E404 at the first of its names that isn't visible or isn't what is wanted.
+/// The term of an expression at a place.
+/// # Errors
+/// `NoMemory` if the allocator refuses memory. The inner error is E401 or E404 at the first of its names that isn't visible or isn't of the
+/// right kind.
 pub fn term_at<A: Answers>(
     alloc: Global,
     standard: &StandardTypes,
@@ -38,7 +41,9 @@ pub fn term_at<A: Answers>(
     Ok(checked)
 }
 
-/// The subtype that a mark names at a place; E404 at what is no mark (ARM 3.2.2).
+/// The subtype that a mark names at a place (ARM 3.2.2).
+/// # Errors
+/// `NoMemory` if the allocator refuses memory. The inner error is E401 or E404 of a name in it; E404 at what is no mark.
 pub fn mark_at<A: Answers>(
     alloc: Global,
     standard: &StandardTypes,

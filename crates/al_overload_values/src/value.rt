@@ -43,9 +43,11 @@ fn check(
     }
 }
 
-/// The labelled tree of an expression in its context, or the first rule that is broken: E401 or E404 of a name in it; else E402 or E403
-/// at its first token, E405 and E604 in it. The type that the context wants is among `types` or one that every unit has; an aggregate may
-/// stand where a nominal subtype is given for it. Its temporaries have no words yet.
+/// The labelled tree of an expression in its context. The type that the context wants is among `types` or one that every unit has; an
+/// aggregate is allowed if a nominal subtype is given for it. Its temporaries have no words yet.
+/// # Errors
+/// `NoMemory` if the allocator refuses memory. The inner error is E401 or E404 of a name in it; else E402 or E403 at its first token, E405
+/// and E604 in it.
 pub fn checked_at<A: Answers>(
     site: &Site<'_>,
     context: &Context,
@@ -83,8 +85,10 @@ fn check_static(
     }
 }
 
-/// The labelled tree of an expression that must be static in its context, or the first rule that is broken: as `checked_at`, and E304 at its first
-/// token.
+/// The labelled tree of an expression that must be static in its context. Its temporaries have no words yet.
+/// # Errors
+/// `NoMemory` if the allocator refuses memory. The inner error is the first of that of `checked_at` and E304 at its first token if it isn't
+/// static.
 pub fn static_checked_at<A: Answers>(
     site: &Site<'_>,
     context: &Context,
@@ -102,7 +106,9 @@ pub fn static_checked_at<A: Answers>(
     check_static(labeller, context, types, term)
 }
 
-/// An expression as `checked_at` has it, with the words of its temporaries, from `word` on, in which the next one stands then.
+/// The labelled tree of an expression in its context. The words of its temporaries begin at `word`, which is the next free one afterwards.
+/// # Errors
+/// `NoMemory` if the allocator refuses memory. The inner error is that of `checked_at`.
 pub fn value_at<A: Answers>(
     site: &Site<'_>,
     context: &Context,

@@ -1,4 +1,4 @@
-// The words of what was judged.
+// The words of the temporaries of what was checked.
 ghost use Rattle.std.specs.Prelude.{◌≡◌};
 ghost use Rattle.al_base_fault.specs.Judging.{map_ok};
 ghost use Rattle.al_overload_nodes.specs.RangesSeen.{found_model};
@@ -23,7 +23,7 @@ pub(crate) fn take_words(checked: &mut CheckResult<Typed>, word: &mut u32)
     }
 }
 
-/// The same of an expression with its type.
+/// Gives the temporaries of an expression with its type their words, if it is right, and leaves the next one there.
 #[tactic(auto, unfolding(crate::specs::Words::found_with_words))]
 pub(crate) fn take_found_words(checked: &mut CheckResult<DeterminedValue>, word: &mut u32)
     ensures { (word.new, map_ok found_model checked.new) ≡ found_with_words word.old (map_ok found_model checked.old) }

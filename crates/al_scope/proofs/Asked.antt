@@ -1,4 +1,4 @@
--- Which units are asked where what a region has is looked for.
+-- Which units are asked if what a region has is looked for.
 use Rattle.std.proofs.Common.{◌≡◌, List, [], ◌∷◌, ◌++◌, Bool, true, false, cond, Some, refl, sym, ap, subst}
 use Rattle.std.specs.List.{find}
 use Rattle.std.specs.Option.{option_map_or}

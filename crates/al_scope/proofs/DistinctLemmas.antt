@@ -1,4 +1,4 @@
--- No declaration stands twice in what is visible.
+-- No declaration is there twice in what is visible.
 use Rattle.std.proofs.Common.{◌≡◌, List, [], ◌∷◌, ◌++◌, Bool, true, false, cond, not, ◌||◌, inl, inr, filter, refl, sym, ◌∙◌, ap, subst, Some}
 use Rattle.std.specs.List.{list_any}
 use Rattle.al_view.specs.declared.view.ViewKind.{ViewKind}

@@ -23,7 +23,7 @@ construct-is s (Some c) h = ap (λ (x : Symbol). Some x) (sym (same_symbol-one s
 is-construct : (s : Symbol) (o : Option Symbol) → o ≡ Some s → option_map_or (same_symbol s) o false ≡ true
 is-construct s o h = subst (λ (x : Option Symbol). option_map_or (same_symbol s) x false ≡ true) (sym h) (same_symbol-self s)
 
--- no region is the construct's, where the first one isn't
+-- no region is the construct's, if the first one isn't
 elsewhere : (s : Symbol) (r : Region) (rs : List Region) → is_region_of s r ≡ false → (Encloses s rs → ⊥) → (q : Region) → Has (r ∷ rs) q → q.construct ≡ Some s → ⊥
 elsewhere s r rs i h q (inl e) is =
     let there : is_region_of s q ≡ true = is-construct s q.construct is in

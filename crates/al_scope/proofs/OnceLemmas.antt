@@ -1,4 +1,4 @@
--- What use clauses open stands once, where nothing clashes.
+-- What use clauses open is there once, if nothing clashes.
 use Rattle.std.proofs.Common.{◌≡◌, ℕ, List, [], ◌∷◌, ◌++◌, Bool, true, false, cond, not, ◌&&◌, inl, inr, length, filter, refl, sym, ◌∙◌, ap, subst, arith, rules, tests}
 use Rattle.std.proofs.lemmas.Bool.Decides.{nat_tests}
 use Rattle.std.proofs.lemmas.Map.Keys.{sorted_head, sorted_tail}
@@ -35,7 +35,7 @@ all-split p (x ∷ xs) ys h =
     let rest = all-split p xs ys first.1 in
     (and_both (p x) (list_all p xs) first.0 rest.0, rest.1)
 
--- a package that stands further on has another name
+-- a package that is further on has another name
 another-name : (n : List ℕ) (us : Uses) (w : List ℕ × PackageUse) → AllByRecursion (λ k. name_cmp n k ≡ Less) (keys_of us) → Has us w → n ≡ w.0 → ⊥
 another-name n [] w h k e = k
 another-name n (u ∷ us) w h (inl i) e =
@@ -59,7 +59,7 @@ once-opened t m name (u ∷ us) each one apart all =
     let second = filter-has (opens from.0.1) (offered_by t m name from.0) v from.2 in
     another-name u.0 us from.0 (sorted_head name_cmp u.0 (keys_of us) each) from.1 (apart u from.0 v (inl refl) (inr from.1) (all-has may_be_overloaded here v parts.0 i) first.0 second.0))
 
--- one alone stands once; several that don't clash may all be overloaded
+-- one alone is there once; several that don't clash may all be overloaded
 once-several : (vs : List ViewKind) → clash vs ≡ false → (list_all may_be_overloaded vs ≡ true → Once vs) → Once vs
 once-several [] h more = tt
 once-several (v ∷ []) h more = (λ k. k, tt)
@@ -72,7 +72,7 @@ once-several (v ∷ w ∷ vs) h more =
     at true false i k = sym k
     at false b i k = absurd (cc)
 
--- each package stands once in the use clauses, so what is use-visible does
+-- each package is there once in the use clauses, so what is use-visible is too
 pub once-used : (t : Query → AnswerKind) (m : Declarations) (name : List ℕ) (us : Uses) (fs : List RegionEntry) → EachOnce us → DeclareOnce t m name us → AreApart t m name us → Once (use_visible fs (potential t m name us))
 once-used t m name us fs each one apart = at (clash (potential t m name us)) refl
   where

@@ -1,4 +1,4 @@
--- Partial views that give way to full ones: a declaration more keeps what stands there once.
+-- Partial views that give way to full ones: a declaration more keeps what is there once.
 use Rattle.std.proofs.Common.{◌≡◌, ℕ, zero, suc, ◌+◌, List, [], ◌∷◌, ◌++◌, Bool, true, false, cond, not, ◌||◌, inl, inr, drop, filter, slice_get, Option, Some, None, refl, sym, ◌∙◌, ap, subst, add-one}
 use Rattle.std.specs.List.{list_any}
 use Rattle.std.specs.Option.{option_map_or}
@@ -35,7 +35,7 @@ filter-join p (x ∷ xs) ys = at (p x) (filter-join p xs ys)
     at true more = ap (λ l. x ∷ l) more
     at false more = more
 
--- where none gives way all stay
+-- if none gives way all stay
 pub all-stay : (p : ViewKind → Bool) (xs : List ViewKind) → list_any p xs ≡ false → filter (λ v. not (p v)) xs ≡ xs
 all-stay p [] h = refl
 all-stay p (x ∷ xs) h = at (p x) h (all-stay p xs)

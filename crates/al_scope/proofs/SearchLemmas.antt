@@ -47,7 +47,7 @@ outward-more fs f old new seen s left direct-is decided-is founds-is = record {
       ∙ or-turned (list_any (shuts_out v) fs) (shuts_out v f);
 }
 
--- where a region decides, those further out make no difference
+-- if a region decides, those further out make no difference
 pub outward-decided : (fs : List RegionEntry) (f : RegionEntry) (s : Search) → IsSearch fs s → s.is_decided ≡ true → IsSearch (f ∷ fs) s
 outward-decided fs f s is h =
     let one : list_any decides fs ≡ true = sym is.decided ∙ h in
@@ -121,7 +121,7 @@ looking_outward m name x done before mid now s next found known goes_on from ask
       (parts-turned (region_parts (searched t m name done)) x.parts name before mid now (known.stops t f.0) asks);
 }
 
--- where one of them decides, those further out make no difference
+-- if one of them decides, those further out make no difference
 pub looking_ended : (m : Declarations) (name : List ℕ) (outer done : List Region) (before now : Log) (s : Search) → IsLooking m name done before now s → s.is_decided ≡ true → IsLooking m name (outer ++ done) before now s
 looking_ended m name [] done before now s known decided = known
 looking_ended m name (x ∷ outer) done before now s known decided =

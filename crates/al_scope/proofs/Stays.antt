@@ -1,4 +1,4 @@
--- What stays: all, where no type is seen otherwise; the operands and the result of an operator.
+-- What is unchanged: all, if no type is seen otherwise; the operands and the result of an operator.
 use Rattle.std.proofs.Common.{◌≡◌, true, false, List, [], ◌∷◌, map, Option, Some, None, refl, sym, ap, ◌∙◌}
 use Rattle.std.specs.Prelude.{option_map, if◌then◌else◌}
 use Rattle.al_view.specs.declared.types.Subtype.{Subtype}

@@ -50,7 +50,7 @@ inside-more p us i u rs before after h e b a =
     let split : inside (take (i + 1) us) p ≡ inside (take i us) p ++ inside (u ∷ []) p = ap (λ l. inside l p) more ∙ inside-join p (take i us) (u ∷ []) in
     a ∙ ap (with_clauses (inside (u ∷ []) p)) b ∙ sym (ap (λ l. with_clauses l rs) split ∙ with_clauses-join (inside (take i us) p) (inside (u ∷ []) p) rs)
 
--- where no use clause stands in the part, none of the list does
+-- if no use clause is in the part, none of the list is
 pub inside-none : (p : Part) (us : List UseInPart) (i : ℕ) (u : UseInPart) → i < length us → u ≡ get_or us i u → inside us p ≡ [] → stands_in p u ≡ false
 inside-none p [] i u h e none = absurd (omega arith)
 inside-none p (x ∷ us) zero u h e none = ap (stands_in p) e ∙ at (stands_in p x) none
@@ -64,7 +64,7 @@ inside-none p (x ∷ us) (suc i) u h e none = inside-none p us i u (omega arith)
     at true k = absurd (cc)
     at false k = k
 
--- what joined lists are made of, where these have nothing
+-- what joined lists are made of, if these have nothing
 pub joined-first : {X : Type 0} (xs ys : List X) → xs ++ ys ≡ [] → xs ≡ []
 joined-first [] ys none = refl
 joined-first (x ∷ xs) ys none = absurd (cc)
@@ -228,7 +228,7 @@ pub map-after : {X Y Z : Type 0} (f : Y → Z) (g : X → Y) (xs : List X) → m
 map-after f g [] = refl
 map-after f g (x ∷ xs) = ap (λ l. f (g x) ∷ l) (map-after f g xs)
 
--- a unit has no ancestors just where it has no parent
+-- a unit has no ancestors if, and only if, it has no parent
 
 ends : {X : Type 0} (x : X) (xs : List X) → last_or (Some x) xs ≡ None → ⊥
 ends x [] none = absurd (cc)

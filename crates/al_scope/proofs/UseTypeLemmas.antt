@@ -68,7 +68,7 @@ all-declared s types = at (type_in types s)
     at None = refl
     at (Some t) = all-groups s types [] (operators_of t.definition) refl
 
--- so is each that stands under a name
+-- so is each that is under a name
 under-name : (s : Symbol) (d : Declarations) (name : List ℕ) → all_of_type s d ≡ true → list_all (of_type s) (views_of d name) ≡ true
 under-name s [] name h = refl
 under-name s (e ∷ es) name h =

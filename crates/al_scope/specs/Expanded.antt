@@ -27,7 +27,7 @@ within t m name s regions = option_map (λ r. (found_in t m name r).views) (regi
 abbrev pub Encloses : Symbol → List Region → Type 0
 Encloses s regions = (r : Region) × Has regions r × (r.construct ≡ Some s)
 
--- what is selected in a construct: where it doesn't enclose the place nothing can be, else it is what a region of it has
+-- what is selected in a construct: if it doesn't enclose the place nothing can be, else it is what a region of it has
 abbrev pub IsSelected : (Query → AnswerKind) → Declarations → List ℕ → Symbol → List Region → Option (List ViewKind) → Type 0
 IsSelected t m name s regions selected =
     MatchOption selected (Encloses s regions → ⊥) (λ views. (r : Region) × Has regions r × (r.construct ≡ Some s) × ((found_in t m name r).views ≡ views))
@@ -36,7 +36,7 @@ IsSelected t m name s regions selected =
 abbrev pub part_of : Symbol → UnitPart
 part_of s = record { unit = s.unit; part = Visible }
 
--- what a package's name selects: where it encloses the place what its region has, with what stands in its private part and body so
+-- what a package's name selects: if it encloses the place what its region has, with what is in its private part and body so
 -- far; else what its visible part declares
 abbrev pub selected_at : (Query → AnswerKind) → List ℕ → Symbol → Place → List ViewKind
 selected_at t name s place = unwrap_or (within t place.mentioned name s place.regions) (declared_by t place.mentioned name (part_of s))
@@ -45,15 +45,15 @@ selected_at t name s place = unwrap_or (within t place.mentioned name s place.re
 abbrev pub selected_parts : Symbol → Place → List UnitPart
 selected_parts s place = option_map_or (λ r. r.parts) (region_of s place.regions) (part_of s ∷ [])
 
--- the parts that are asked where the prefix is a construct that is no package
+-- the parts that are asked if the prefix is a construct that is no package
 abbrev pub within_parts : Symbol → Place → List UnitPart
 within_parts s place = option_map_or (λ r. r.parts) (region_of s place.regions) []
 
--- the outermost region round the place that is a construct's of that unit: the package's, where the unit is a package
+-- the outermost region round the place that is a construct's of that unit: the package's, if the unit is a package
 abbrev pub unit_region : UnitKey → List Region → Option Region
 unit_region unit regions = find (is_within unit) regions
 
--- what it has of a name; nothing, where the unit doesn't enclose the place
+-- what it has of a name; nothing, if the unit doesn't enclose the place
 abbrev pub within_unit : (Query → AnswerKind) → List ℕ → UnitKey → Place → List ViewKind
 within_unit t name unit place = option_map_or (λ r. (found_in t place.mentioned name r).views) (unit_region unit place.regions) []
 

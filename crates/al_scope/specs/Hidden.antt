@@ -1,4 +1,4 @@
--- What a visible part tells of private types whose full views its place sees, as that of a private child does of its ancestors' (ARM 7.3(5), 10.1.1(12)):
+-- What a visible part shows of private types whose full views its place sees, as that of a private child does of its ancestors' (ARM 7.3(5), 10.1.1(12)):
 -- their partial views alone.
 use Rattle.std.specs.Prelude.{ℕ, Bool, ◌&&◌, List, [], ◌∷◌, fold, if◌then◌else◌}
 use Rattle.std.specs.List.{flat_map, list_any}
@@ -22,7 +22,7 @@ is_named s p = same_unit p.unit s.unit && bytes_eq p.name s.name
 abbrev pub is_hidden : List PrivateName → Symbol → Bool
 is_hidden names s = list_any (is_named s) names
 
--- of its values the words alone are told
+-- only the number of words of its values is shown
 abbrev pub by_partial : TypeView → Recast
 by_partial t = record { bounds = definition_bounds t.definition; by = record { types = private_type t.symbol (layout_words t.layout); literals = [] } }
 
@@ -40,7 +40,7 @@ with_hidden names answered named = fold (λ (d : Declarations) (v : ViewKind). w
 abbrev pub all_hidden : List PrivateName → Declarations → Declarations
 all_hidden names declared = fold (with_hidden names) [] declared
 
--- where no type is hidden all stays as it is
+-- if no type is hidden all stays as it is
 abbrev pub hidden_in : List PrivateName → Declarations → Declarations
 hidden_in [] declared = declared
 hidden_in (n ∷ ns) declared = all_hidden (n ∷ ns) declared

@@ -45,7 +45,7 @@ partial_type v = option_and_then (λ (t : TypeView). if is_private t.definition 
 abbrev pub is_full_view : Symbol → ViewKind → Bool
 is_full_view s v = option_map_or (λ (t : TypeView). not (is_private t.definition) && same_symbol s t.symbol) (declared_type v) false
 
--- a partial view gives way to the full view of its type, where that is there too
+-- a partial view gives way to the full view of its type, if that is there too
 abbrev pub gives_way : List ViewKind → ViewKind → Bool
 gives_way views v = option_map_or (λ (s : Symbol). list_any (is_full_view s) views) (partial_type v) false
 

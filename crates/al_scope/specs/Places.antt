@@ -57,7 +57,7 @@ uses_at [] = []
 uses_at (r ∷ []) = r.uses
 uses_at (r ∷ q ∷ inner) = uses_at (q ∷ inner)
 
--- the visible part of a package of use clauses, where it is asked: where it is mentioned at one of them
+-- the visible part of a package of use clauses, if it is asked: if it is mentioned at one of them
 abbrev pub used_part : List ℕ × PackageUse → List UnitPart
 used_part u = if u.1.is_mentioned then visible_part u.0 ∷ [] else []
 
@@ -113,7 +113,7 @@ with_uses clause r = record r { uses = clause r.uses }
 abbrev pub is_region_of : Symbol → Region → Bool
 is_region_of s r = option_map_or (same_symbol s) r.construct false
 
--- at which place the outermost region of a construct stands, from 0; where there is none, how many regions there are
+-- at which place the outermost region of a construct is, from 0; if there is none, how many regions there are
 abbrev pub place_of : Symbol → List Region → ℕ
 place_of s [] = 0
 place_of s (r ∷ rs) = if is_region_of s r then 0 else suc (place_of s rs)
@@ -131,7 +131,7 @@ is_within unit r = option_map_or (λ s. same_unit unit s.unit) r.construct false
 abbrev pub encloses : UnitKey → List Region → Bool
 encloses unit regions = list_any (is_within unit) regions
 
--- a use clause in the innermost region that names the package (ARM 8.4(3)). It has no effect where the package encloses the
+-- a use clause in the innermost region that names the package (ARM 8.4(3)). It has no effect if the package encloses the
 -- place: what it declares is directly visible there, or hidden.
 abbrev pub with_use : UnitKey → List Region → List Region
 with_use unit regions = if encloses unit regions then regions else in_last (with_uses (with_package unit.name)) regions
@@ -140,7 +140,7 @@ with_use unit regions = if encloses unit regions then regions else in_last (with
 abbrev pub is_declared_round : Symbol → List Region → Bool
 is_declared_round s regions = not (same_kind s.unit.kind Decl) || encloses s.unit regions
 
--- a use type clause in the innermost region that names the type (ARM 8.4(4)). It has no effect where the type is declared round the
+-- a use type clause in the innermost region that names the type (ARM 8.4(4)). It has no effect if the type is declared round the
 -- place: its operators are declared beside it.
 abbrev pub with_use_type : Symbol → List Region → List Region
 with_use_type s regions = if is_declared_round s regions then regions else in_last (with_uses (with_type s)) regions

@@ -64,7 +64,7 @@ recast_definition recasts (Enumeration literals) = Enumeration literals
 recast_definition recasts Time = Time
 recast_definition recasts Private = Private
 
--- ---- types: in place of one that is seen otherwise stands what it is seen as, with the types that this is of, each once
+-- ---- types: what one is seen as takes its place, with the types that this is of, each once
 
 abbrev pub recast_type : List Recast → TypeView → TypeView
 recast_type recasts t = record { symbol = t.symbol; definition = recast_definition recasts t.definition; layout = t.layout }
@@ -147,7 +147,7 @@ recast_view recasts (OfTask t) = OfTask t
 recast_view recasts (OfProtected p) = OfProtected (recast_protected recasts p)
 recast_view recasts (OfPackage s) = OfPackage s
 
--- where no type is seen otherwise, it stays as it is
+-- if no type is seen otherwise, it stays as it is
 unfoldable pub recast : List Recast → ViewKind → ViewKind
 recast [] v = v
 recast (r ∷ rs) v = recast_view (r ∷ rs) v

@@ -21,7 +21,7 @@ abbrev pub searched : Table → Declarations → List ℕ → List Region → Li
 searched t m name [] = []
 searched t m name (r ∷ inner) = if any_decides t m name inner then searched t m name inner else r ∷ inner
 
--- the parts that are asked: of these regions, and where none decides of the packages that use clauses open
+-- the parts that are asked: of these regions, and if none decides of the packages that use clauses open
 abbrev pub searched_parts : Table → List ℕ → Place → List UnitPart
 searched_parts t name place =
     region_parts (searched t place.mentioned name place.regions)

@@ -1,4 +1,4 @@
--- What declarations are at a place that sees full views of private types: there the full view of a type stands in place of its partial one,
+-- What declarations are at a place that sees full views of private types: there the full view of a type takes the place of its partial one,
 -- through all that is of it (ARM 7.3(5), 8.2(5)). A view holds its types as the place sees them where it was declared.
 use Rattle.std.specs.Prelude.{List, [], ◌∷◌, map, Option, Some, None, if◌then◌else◌}
 use Rattle.std.specs.List.{find, flat_map}
@@ -41,14 +41,14 @@ type_in (OfPackage s) = None
 abbrev pub full_in : List ViewKind → Symbol → Option DeclaredType
 full_in views s = option_and_then type_in (find (is_full_view s) views)
 
--- the full view of a private type, where the region of its package has one: where the package encloses the place, and its private part is seen there
+-- the full view of a private type, if the region of its package has one: if the package encloses the place, and its private part is seen there
 abbrev pub full_of : Table → Place → Symbol → List Recast
 full_of t place s = recast_by (full_in (within_unit t s.name s.unit place) s)
 
 abbrev pub full_if_private : Table → Place → TypeView → List Recast
 full_if_private t place of = if is_private of.definition then full_of t place of.symbol else []
 
--- those of the private types among these
+-- the full views of the private types among these
 abbrev pub full_views : Table → Place → List TypeView → List Recast
 full_views t place types = flat_map (full_if_private t place) types
 

@@ -1,4 +1,4 @@
--- The place at the start of the text of a unit (ARM 8.1, 8.4, 10.1), told from answers.
+-- The place at the start of a unit's source (ARM 8.1, 8.4, 10.1), computed from answers.
 use Rattle.std.specs.Prelude.{ℕ, List, [], ◌∷◌, ◌++◌, Bool, true, false, ◌&&◌, ◌||◌, Option, Some, None, map, filter, codes, if◌then◌else◌}
 use Rattle.std.specs.List.{flat_map, list_any}
 use Rattle.std.specs.Str.{bytes_eq}
@@ -25,21 +25,21 @@ use Rattle.al_scope.specs.Places.{entered, visible_part, with_part, with_use, wi
 use Rattle.al_scope.specs.UseClauses.{package_unit}
 use Rattle.al_scope.specs.declared.own.OwnText.{OwnText}
 
--- whether a use clause stands in the part; in what stands before a stub, where it stands in the body before that stub
+-- whether a use clause is in the part; in what comes before a stub, whether it is in the body before that stub
 abbrev pub stands_in : Part → UseInPart → Bool
 stands_in (part.Stub name) u = same_part u.part part.Body && list_any (bytes_eq name) u.before
 stands_in p u = same_part p u.part
 
--- the use clauses that stand in a part
+-- the use clauses that are in a part
 abbrev pub inside : List UseInPart → Part → List UseClause
 inside uses p = map (λ u. u.clause) (filter (stands_in p) uses)
 
--- the use clauses that hold in a region which continues the part: those of the unit's context clause, which are told with
--- any part but the private one, that a visible one goes before, and those that stand in it (ARM 8.4(6, 7))
+-- the use clauses that hold in a region which continues the part: those of the unit's context clause, which count with
+-- any part but the private one, which comes after a visible one, and those that are in it (ARM 8.4(6, 7))
 abbrev pub uses_with : ContextView → Part → List UseClause
 uses_with c p = (if same_part p part.Private then [] else c.uses) ++ inside c.uses_inside p
 
--- none where no context is answered
+-- none if no context is answered
 abbrev pub uses_if_told : Option ContextView → Part → List UseClause
 uses_if_told None p = []
 uses_if_told (Some c) p = uses_with c p
@@ -78,7 +78,7 @@ symbol_at t unit = view_symbol (view_at t unit)
 abbrev pub entered_as : Option Symbol → List UnitPart → List Region → Region
 entered_as construct parts rs = record (entered parts rs) { construct = construct }
 
--- a region is entered that continues some parts (ARM 8.1); the use clauses that are told with others hold in it
+-- a region is entered that continues some parts (ARM 8.1); the use clauses of other parts hold in it too
 abbrev pub continued : Table → Option Symbol → List UnitPart → List UnitPart → List Region → List Region
 continued t construct parts used rs = with_clauses (flat_map (part_uses t) used) (rs ++ entered_as construct parts rs ∷ [])
 
@@ -137,7 +137,7 @@ sees_all own = own.is_private || (is_subunit own.unit || (is_body own.unit && (o
 abbrev pub sees_at : Table → OwnText → Bool
 sees_at t own = sees_all own || some_private t (own_declaration own.unit)
 
--- the name of the library unit, of a subunit that of the one in whose body its outermost stub stands (ARM 10.1.3(8))
+-- the name of the library unit, of a subunit that of the one in whose body its outermost stub is (ARM 10.1.3(8))
 abbrev pub outermost : List ℕ → List UnitPart → List ℕ
 outermost name [] = name
 outermost name (stub ∷ inner) = stub.unit.name
@@ -145,7 +145,7 @@ outermost name (stub ∷ inner) = stub.unit.name
 abbrev pub library_name : OwnText → List ℕ
 library_name own = outermost own.unit.name own.stubs
 
--- the region of a body at a stub, where its own view is this: what stands before the stub, and what the body's region continues
+-- the region of a body at a stub, given its own view: what comes before the stub, and what the body's region continues
 abbrev pub at_stub : Table → UnitPart → Option ViewKind → List Region → List Region
 at_stub t stub view rs =
     continued t (view_symbol view)
@@ -167,7 +167,7 @@ standard_symbol = record { unit = standard_unit; name = codes "standard"; number
 abbrev pub standard_parts : List UnitPart
 standard_parts = visible_part (codes "standard") ∷ []
 
--- the regions round the start of a unit's text, where these are round all units: Standard's, the library unit's ancestors', of a
+-- the regions round the start of a unit's source, given those that are round all units: Standard's, the library unit's ancestors', of a
 -- subunit those of the bodies round it, and the unit's own
 abbrev pub unit_regions : Table → OwnText → List Region → List Region
 unit_regions t own rs =
@@ -200,7 +200,7 @@ outward_opened t sees (a ∷ nearer) rs = outward_opened t sees nearer (if sees 
 abbrev pub private_regions : Table → OwnText → List Region → List Region
 private_regions t own rs = outward_opened t (sees_at t own) (ancestor_units (library_name own)) rs
 
--- the units that with clauses name, where a context is answered
+-- the units that with clauses name, if a context is answered
 abbrev pub withs_if_told : Option ContextView → List UnitKey
 withs_if_told None = []
 withs_if_told (Some c) = c.withs
@@ -212,9 +212,9 @@ withs_of t u = withs_if_told (context_of (t (Of u Context)))
 abbrev pub lineages : List UnitKey → List (List ℕ)
 lineages units = flat_map (λ u. lineage u.name) units
 
--- the names of the library units that are mentioned at the start of a unit's text, where its own with clauses, its
--- declaration's, its ancestors' and those of the bodies round a subunit hold (ARM 10.1.2(6, 7), 10.1.6): the library unit's, and
--- those of the units of these clauses, each after those of its ancestors. One may stand several times.
+-- the names of the library units that are mentioned at the start of a unit's source, for its own with clauses, its
+-- declaration's, its ancestors' and those of the bodies round a subunit (ARM 10.1.2(6, 7), 10.1.6): the library unit's, and
+-- those of the units of these clauses, each after those of its ancestors. One may be there several times.
 abbrev pub mentioned_names : Table → OwnText → List (List ℕ)
 mentioned_names t own =
     (lineage (library_name own) ++ lineages own.withs) ++ flat_map (λ u. lineages (withs_of t u)) (asked_units own)

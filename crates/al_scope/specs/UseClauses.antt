@@ -23,7 +23,7 @@ use Rattle.al_scope.specs.declared.uses.PackageUse.{PackageUse}
 abbrev pub Uses : Type 0
 Uses = List (List ℕ × PackageUse)
 
--- no package stands twice, as the names ascend
+-- no package is there twice, as the names ascend
 abbrev pub EachOnce : Uses → Type 0
 EachOnce uses = IsStrictlySortedBy name_cmp (keys_of uses)
 
@@ -38,13 +38,13 @@ use_of uses package_name = unwrap_or (lookup (is_at (name_cmp package_name)) use
 abbrev pub with_package : List ℕ → Uses → Uses
 with_package package_name uses = insert_entry name_cmp uses package_name (record (use_of uses package_name) { is_named = true; is_mentioned = true })
 
--- a use type clause more, for a type of a package that is mentioned where the clause stands (ARM 8.4(4)): the package is asked for its operators
+-- a use type clause more, for a type of a package that is mentioned at the clause (ARM 8.4(4)): the package is asked for its operators
 abbrev pub with_type : Symbol → Uses → Uses
 with_type s uses =
     let before = use_of uses s.unit.name in
     insert_entry name_cmp uses s.unit.name (record before { is_mentioned = true; types = before.types ++ s ∷ [] })
 
--- the operators that the declaration of a type declares (ARM 3.2.3(6)), where it is one of these types
+-- the operators that the declaration of a type declares (ARM 3.2.3(6)), if it is one of these types
 abbrev pub operators_in : Symbol → List TypeView → Declarations
 operators_in s types = option_map_or (λ (t : TypeView). with_operators s types [] [] (operators_of t.definition)) (type_in types s) []
 
@@ -52,7 +52,7 @@ abbrev pub with_operators_in : Symbol → List TypeView → PackageUse → Packa
 with_operators_in s types u =
     if list_any (same_symbol s) u.types then u else record u { types = u.types ++ s ∷ []; operators = u.operators ++ operators_in s types ∷ [] }
 
--- a use type clause more, for a type of a package that isn't mentioned where the clause stands: its operators are those that the type's view
+-- a use type clause more, for a type of a package that isn't mentioned at the clause: its operators are those that the type's view
 -- has, each once, and the package is asked for nothing
 abbrev pub with_type_view : Symbol → List TypeView → Uses → Uses
 with_type_view s types uses = insert_entry name_cmp uses s.unit.name (with_operators_in s types (use_of uses s.unit.name))
@@ -61,7 +61,7 @@ with_type_view s types uses = insert_entry name_cmp uses s.unit.name (with_opera
 abbrev pub package_unit : List ℕ → UnitKey
 package_unit name = record { name = name; kind = Decl }
 
--- what use clauses open of what the package offers (ARM 8.4(8)): all of it where one names the package, the operators
+-- what use clauses open of what the package offers (ARM 8.4(8)): all of it if one names the package, the operators
 -- of the types else
 abbrev pub opens : PackageUse → ViewKind → Bool
 opens u v = u.is_named || list_any (is_operator_of v) u.types

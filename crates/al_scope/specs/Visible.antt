@@ -48,7 +48,7 @@ abbrev pub direct : List RegionEntry → List ViewKind
 direct [] = []
 direct (f ∷ inner) = direct inner ++ filter (λ v. not (list_any (shuts_out v) inner)) f.views
 
--- what a package of use clauses offers under a name: what it declares, where it is mentioned at one of them, else the operators that the
+-- what a package of use clauses offers under a name: what it declares, if it is mentioned at one of them, else the operators that the
 -- views of its types have
 abbrev pub offered_by : (Query → AnswerKind) → Declarations → List ℕ → List ℕ × PackageUse → List ViewKind
 offered_by t m name u = if u.1.is_mentioned then declared_by t m name (visible_part u.0) else flat_map (λ d. interface.views_of d name) u.1.operators

@@ -40,7 +40,7 @@ IsUseVisible t name place v =
 abbrev pub IsVisible : (Query → AnswerKind) → List ℕ → Place → ViewKind → Type 0
 IsVisible t name place v = IsDirect t place.mentioned name place.regions v ⊎ IsUseVisible t name place v
 
--- no item stands twice
+-- no item is there twice
 abbrev pub Once : List ViewKind → Type 0
 Once [] = ⊤
 Once (v ∷ vs) = (Has vs v → ⊥) × Once vs
@@ -64,11 +64,11 @@ AreApart t m name us =
     (a b : List ℕ × PackageUse) (v : ViewKind) → Has us a → Has us b → may_be_overloaded v ≡ true
     → Has (offered_by t m name a) v → Has (offered_by t m name b) v → a.0 ≡ b.0
 
--- where no region and no package has a declaration twice, and packages share none, none stands twice in the list
+-- if no region and no package has a declaration twice, and packages share none, none is there twice in the list
 abbrev pub KeepsOnce : (Query → AnswerKind) → List ℕ → Place → List ViewKind → Type 0
 KeepsOnce t name place views =
     HasOnce t name place → DeclareOnce t place.mentioned name (uses_at place.regions) → AreApart t place.mentioned name (uses_at place.regions) → Once views
 
--- where no region had a declaration twice, none has one twice
+-- if no region had a declaration twice, none has one twice
 abbrev pub StaysOnce : (Query → AnswerKind) → Place → Place → Type 0
 StaysOnce t old new = (name : List ℕ) → HasOnce t name old → HasOnce t name new

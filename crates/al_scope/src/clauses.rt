@@ -13,7 +13,7 @@ use al_query::{ContextView, UseClause, UseInPart};
 use al_view::Part;
 use std::alloc::Global;
 
-/// A use clause of the innermost region. Where it names a package that encloses the place it takes no memory.
+/// Adds a use clause to the innermost region. If it names a package that encloses the place, it takes no memory.
 fn use_clause(alloc: Global, scope: &mut Scope, clause: &UseClause) -> Result<(), NoMemory>
     requires { 0 < length scope.old.regions }
     ensures regions { IfOk result (λ _. scope.new.regions ≡ with_clause clause.now scope.old.regions) }
@@ -32,7 +32,9 @@ fn use_clause(alloc: Global, scope: &mut Scope, clause: &UseClause) -> Result<()
     Ok(())
 }
 
-/// Use clauses of the innermost region, in order. Where there are none it takes no memory.
+/// Adds use clauses to the innermost region, in order. If there are none, it takes no memory.
+/// # Errors
+/// `NoMemory` if the allocator refuses memory.
 pub fn use_each(alloc: Global, scope: &mut Scope, clauses: &[UseClause]) -> Result<(), NoMemory>
     requires { 0 < length scope.old.regions }
     ensures regions { IfOk result (λ _. scope.new.regions ≡ with_clauses clauses.now scope.old.regions) }
@@ -53,7 +55,7 @@ fn has_name(names: &[Name], name: &[u8]) -> bool
     names.iter().any(|other| name == other.as_slice())
 }
 
-/// Whether a use clause stands in the part; in what stands before a stub, where it stands in the body before that stub.
+/// Whether a use clause is in the part. For a part that ends at a stub: whether it is in the body before that stub.
 fn does_stand_in(part: &Part, used: &UseInPart) -> bool
     ensures { result ≡ stands_in part.now used.now }
 {
@@ -67,7 +69,7 @@ fn does_stand_in(part: &Part, used: &UseInPart) -> bool
     }
 }
 
-/// The use clause, in the innermost region, if it stands in the part; if not it takes no memory.
+/// Adds the use clause to the innermost region, if it is in the part; else it takes no memory.
 fn use_if_inside(
     alloc: Global,
     scope: &mut Scope,
@@ -87,7 +89,7 @@ fn use_if_inside(
     Ok(())
 }
 
-/// The use clauses that stand in the part, in the innermost region. Where there are none it takes no memory.
+/// Adds the use clauses in the part to the innermost region. If there are none, it takes no memory.
 fn use_inside(
     alloc: Global,
     scope: &mut Scope,
@@ -106,7 +108,9 @@ fn use_inside(
     Ok(())
 }
 
-/// The use clauses that a region has by continuing the part of a unit with that context. Where there are none it takes no memory.
+/// The use clauses that a region has because it continues the part of a unit with that context. If there are none, it takes no memory.
+/// # Errors
+/// `NoMemory` if the allocator refuses memory.
 pub fn use_context(
     alloc: Global,
     scope: &mut Scope,

@@ -13,8 +13,9 @@ use std::alloc::Global;
 /// What a region has of a name.
 #[derive(Drop)]
 pub struct RegionEntry {
-    /// Whether a declaration of it was begun.
+    /// Whether a declaration of the name was begun.
     pub begun: bool,
+    /// The declarations of the name.
     pub views: Views,
 }
 
@@ -39,7 +40,7 @@ fn shuts_any(view: &View, founds: &[RegionEntry]) -> bool
     founds.iter().any(|found| shuts(view, found))
 }
 
-/// The views that no region shuts out. Where there are none it takes no memory.
+/// The views that no region shuts out. If there are none, it takes no memory.
 fn left_by(alloc: Global, founds: &[RegionEntry], views: &Views) -> Result<Views, NoMemory>
     ensures is { IfOk result (λ left. left ≡ filter (λ v. not (list_any (shuts_out v) founds.now)) views.now) }
     ensures takes_none { filter (λ v. not (list_any (shuts_out v) founds.now)) views.now ≡ [] → is_ok result ≡ true }
@@ -68,19 +69,19 @@ fn is_decided(found: &RegionEntry) -> bool
     found.begun || !all_overload(found.views.as_slice())
 }
 
-/// What regions have of one name, from the innermost outward, so far as they were looked into.
+/// What regions have of one name, from the innermost outward, as far as they were looked into.
 #[derive(Drop)]
 pub struct Search {
-    /// What is directly visible of it, of the innermost region first.
+    /// What is directly visible of the name, that of the innermost region first.
     pub direct: Views,
-    /// What each region has that was looked into, innermost first.
+    /// What each region that was looked into has of the name, innermost first.
     pub founds: Vec<RegionEntry>,
     /// Whether one of them decides: it shuts out every other declaration of the name.
     pub is_decided: bool,
 }
 
 impl Search {
-    /// No region was looked into. It takes no memory.
+    /// A search that has looked into no region. It takes no memory.
     pub fn new(alloc: Global) -> Self
         ensures { IsSearch [] result }
     {
@@ -91,7 +92,9 @@ impl Search {
         }
     }
 
-    /// Looks into one region further out, which has this of the name.
+    /// Looks into one region further out, which has this entry of the name.
+    /// # Errors
+    /// `NoMemory` if the allocator refuses memory.
     pub fn go_outward(&mut self, alloc: Global, found: RegionEntry) -> Result<(), NoMemory>
         ensures { OnOk result ((founds : List RegionEntry) → IsSearch founds self.old → IsSearch (found ∷ founds) self.new) }
     {
@@ -103,14 +106,16 @@ impl Search {
     }
 }
 
-/// Whether several are there that can't all be overloaded.
+/// Whether there are several views that can't all be overloaded.
 fn do_clash(views: &Views) -> bool
     ensures { result ≡ clash views.now }
 {
     views.as_slice().len() > 1 && !all_overload(views.as_slice())
 }
 
-/// The use-visible ones among those that are potentially so. Where there are none it takes no memory.
+/// The use-visible views among those that are potentially use-visible. If there are none, it takes no memory.
+/// # Errors
+/// `NoMemory` if the allocator refuses memory; never if no view is use-visible.
 pub fn use_visible_of(
     alloc: Global,
     founds: &[RegionEntry],

@@ -7,8 +7,8 @@ pub fn local_names_ask_nothing()
     ensures { LocalNamesAskNothing }
 {}
 
-/// A use type clause of a type whose package isn't mentioned opens all operators of the type, and asks no package: those that it opens where
-/// the package is mentioned (ARM 8.4(8)).
+/// A use type clause of a type whose package isn't mentioned opens all operators of the type and asks no package. It opens the same
+/// operators as if the package were mentioned (ARM 8.4(8)).
 pub fn use_types_need_no_mention()
     ensures all { OpensAllOperators }
     ensures same { NeedsNoMention }

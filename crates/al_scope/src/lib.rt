@@ -1,5 +1,14 @@
-//! What a name means at a place: the regions round it, what they and the use clauses in them make visible, and the place at the start
-//! of a unit's text.
+//! What a name means at a place in the source of a unit (ARM 8). A `Scope` is such a place: the declarative regions round it, outermost
+//! first, and the library units that are mentioned there.
+//!
+//! Terms: a *region* (`region`) has the parts of units that it continues, what is declared in it so far and the names whose declarations
+//! are begun. A declaration is *hidden* (`hiding`) if a region further in shuts it out. What a use clause opens is *potentially
+//! use-visible* (`uses`, `clauses`). A unit is *mentioned* (`mentions`) if a with clause names it or a descendant of it. A *recast*
+//! (`recast`, `seen`, `seen_hiding`) shows a type by its full view in place of the partial one, or the other way round.
+//!
+//! `search` looks a name up from the innermost region outward. `unit_place` enters the regions round the start of a unit's source, and
+//! `private_part` those parts of the ancestors that are seen from a private part on. Other units are asked through a recorder
+//! (`questions`).
 #![tactic(auto)]
 
 mod clauses;

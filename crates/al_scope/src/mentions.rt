@@ -1,4 +1,4 @@
-// The library units that are mentioned at the start of the text of a unit.
+// The library units that are mentioned at the start of a unit's source.
 ghost use Rattle.std.specs.Prelude.{◌≡◌, ◌∷◌, [], ◌++◌, IfOk, OnOk, is_ok, true};
 ghost use Rattle.std.specs.List.{flat_map};
 ghost use Rattle.al_unit_graph.specs.Names.{lineage};
@@ -108,7 +108,8 @@ fn add_stubs(alloc: Global, stubs: &[UnitPart], units: &mut Vec<UnitKey>) -> Res
     Ok(())
 }
 
-/// The units that are asked: the ancestors, the bodies round a subunit, and the declarations of bodies. Where there are none it takes no memory.
+/// The units that are asked: the ancestors, the bodies round a subunit, and the declarations of bodies. If there are none, it takes no
+/// memory.
 fn asked_units_of(alloc: Global, own: &OwnText) -> Result<Vec<UnitKey>, NoMemory>
     ensures is { IfOk result (λ units. units.items ≡ asked_units own.now) }
     ensures takes_none { ancestor_units (library_name own.now) ≡ [] → own.now.stubs ≡ [] → own_declaration own.now.unit ≡ [] → is_ok result ≡ true }
@@ -119,8 +120,10 @@ fn asked_units_of(alloc: Global, own: &OwnText) -> Result<Vec<UnitKey>, NoMemory
     Ok(units)
 }
 
-/// The names of the library units that are mentioned at the start of the text of a unit, one maybe several times
-/// (ARM 10.1.2(6 to 8), 10.1.6). Who makes the place mentions them, each with its view.
+/// The names of the library units that are mentioned at the start of a unit's source, one possibly several times (ARM 10.1.2(6 to 8),
+/// 10.1.6). The caller mentions each of them with its view.
+/// # Errors
+/// `NoMemory` if the allocator refuses memory.
 pub fn mentioned<A: Answers>(
     alloc: Global,
     own: &OwnText,

@@ -32,7 +32,7 @@ impl Model for NameSet {
 }
 
 impl NameSet {
-    /// No names. It takes no memory.
+    /// An empty set. It takes no memory.
     pub fn new(alloc: Global) -> Self
         ensures { result ≡ [] }
     {
@@ -42,14 +42,16 @@ impl NameSet {
         }
     }
 
-    /// Whether the name is there.
+    /// Whether the set has the name.
     pub fn contains(&self, name: &[u8]) -> bool
         ensures { result ≡ list_any (bytes_eq name.now) self.now }
     {
         self.names.contains(name)
     }
 
-    /// One more name, unless it is there.
+    /// Adds a name, unless the set has it.
+    /// # Errors
+    /// `NoMemory` if the allocator refuses memory; the set is unchanged then.
     pub fn insert(&mut self, name: &[u8]) -> Result<(), NoMemory>
         ensures ok { OnOk result (self.new ≡ insert_key name_cmp self.old name.now) }
         ensures err { OnErr result (self.new ≡ self.old) }

@@ -1,4 +1,4 @@
-// Partial views of private types, and full ones, which take their place.
+// Partial views of private types, and the full views that replace them.
 ghost use Rattle.std.specs.Prelude.{◌≡◌, [], find, IfOk, is_ok, is_some, true};
 ghost use Rattle.std.specs.List.{list_any};
 ghost use Rattle.std.specs.Option.{option_copied};
@@ -22,7 +22,7 @@ pub fn is_private(definition: &TypeDefinition) -> bool
     }
 }
 
-/// The last of the types that a type is of.
+/// The last of the types that a type is made of: the type itself.
 pub fn own_type(types: &[TypeView]) -> Option<&TypeView>
     ensures { option_copied result ≡ own_type types.now }
 {
@@ -63,7 +63,7 @@ pub fn partial_type(view: &View) -> Option<&Symbol>
     }
 }
 
-/// Whether it is the full view of that type.
+/// Whether the view is the full view of that type.
 pub fn is_full_view(symbol: &Symbol, view: &View) -> bool
     ensures { result ≡ is_full_view symbol.now view.now }
 {
@@ -73,14 +73,14 @@ pub fn is_full_view(symbol: &Symbol, view: &View) -> bool
     }
 }
 
-/// Whether the full view of that type is among them.
+/// Whether the full view of that type is among the views.
 fn has_full_view(views: &[View], symbol: &Symbol) -> bool
     ensures { result ≡ list_any (is_full_view symbol.now) views.now }
 {
     views.iter().any(|view| is_full_view(symbol, view))
 }
 
-/// Whether it is a partial view, and the full view of its type is there too.
+/// Whether a view is a partial view while the full view of its type is there too.
 fn gives_way(views: &[View], view: &View) -> bool
     ensures { result ≡ gives_way views.now view.now }
 {
@@ -90,14 +90,14 @@ fn gives_way(views: &[View], view: &View) -> bool
     }
 }
 
-/// Whether some of them gives way.
+/// Whether some of the views gives way to a full view.
 fn some_give_way(views: &[View]) -> bool
     ensures { result ≡ list_any (gives_way views.now) views.now }
 {
     views.iter().any(|view| gives_way(views, view))
 }
 
-/// Those that don't give way.
+/// The views that don't give way to a full view.
 fn left_of(alloc: Global, all: &[View]) -> Result<Views, NoMemory>
     ensures { IfOk result (λ left. left ≡ without_partial all.now) }
 {
@@ -110,7 +110,7 @@ fn left_of(alloc: Global, all: &[View]) -> Result<Views, NoMemory>
     Ok(left)
 }
 
-/// Those that don't give way to a full view. Where none does it takes no memory.
+/// The views that don't give way to a full view. If none gives way, it takes no memory.
 pub(crate) fn without_partial(alloc: Global, views: Views) -> Result<Views, NoMemory>
     ensures is { IfOk result (λ left. left ≡ without_partial views) }
     ensures takes_none { views ≡ [] → is_ok result ≡ true }
@@ -123,7 +123,7 @@ pub(crate) fn without_partial(alloc: Global, views: Views) -> Result<Views, NoMe
     left
 }
 
-/// Whether it is a partial view, and the full view of its type isn't there.
+/// Whether a view is a partial view whose type has no full view there.
 fn is_incomplete(views: &[View], view: &View) -> bool
     ensures { result ≡ is_incomplete views.now view.now }
 {
@@ -136,7 +136,7 @@ fn has_incomplete(views: &[View]) -> bool
     views.iter().any(|view| is_incomplete(views, view))
 }
 
-/// Whether the i-th name, from 0, is a private type's that has no full declaration yet.
+/// Whether the i-th name, from 0, is that of a private type that has no full declaration yet.
 fn is_incomplete_at(declared: &Interface, i: usize) -> bool
     ensures { result ≡ incomplete_at declared.now i }
 {

@@ -14,7 +14,9 @@ use al_query::{Answers, Property, Query, Recorder};
 use al_view::{Seq, Symbol, copied_unit};
 use std::alloc::Global;
 
-/// The same part once more.
+/// A copy of a part of a unit.
+/// # Errors
+/// `NoMemory` if the allocator refuses memory.
 pub fn copied_part(alloc: Global, part: &UnitPart) -> Result<UnitPart, NoMemory>
     ensures { IfOk result (λ copy. copy ≡ part.now) }
 {
@@ -24,7 +26,7 @@ pub fn copied_part(alloc: Global, part: &UnitPart) -> Result<UnitPart, NoMemory>
     })
 }
 
-/// The same parts once more. Of none it takes no memory.
+/// Copies of parts of units. Of no parts it takes no memory.
 fn copied_parts(alloc: Global, parts: &[UnitPart]) -> Result<Seq<UnitPart>, NoMemory>
     ensures is { IfOk result (λ copy. copy ≡ parts.now) }
     ensures takes_none { parts.now ≡ [] → is_ok result ≡ true }
@@ -38,6 +40,8 @@ fn copied_parts(alloc: Global, parts: &[UnitPart]) -> Result<Seq<UnitPart>, NoMe
 }
 
 /// The question for a property of a unit.
+/// # Errors
+/// `NoMemory` if the allocator refuses memory.
 pub fn property_of(alloc: Global, unit: &UnitKey, property: Property) -> Result<Query, NoMemory>
     ensures { IfOk result (λ query. query ≡ Of unit.now property) }
 {
@@ -47,7 +51,9 @@ pub fn property_of(alloc: Global, unit: &UnitKey, property: Property) -> Result<
     })
 }
 
-/// The use clauses that the innermost region has by continuing the part.
+/// The use clauses that the innermost region has because it continues the part.
+/// # Errors
+/// `NoMemory` if the allocator refuses memory.
 pub fn use_part<A: Answers>(
     alloc: Global,
     scope: &mut Scope,
@@ -72,7 +78,7 @@ pub fn use_part<A: Answers>(
     }
 }
 
-/// The use clauses that the innermost region has by continuing the parts. Of no parts it takes no memory.
+/// The use clauses that the innermost region has because it continues the parts. Of no parts it takes no memory.
 fn use_parts<A: Answers>(
     alloc: Global,
     scope: &mut Scope,
@@ -94,6 +100,8 @@ fn use_parts<A: Answers>(
 }
 
 /// Enters a region that continues the parts, of that construct if there is one.
+/// # Errors
+/// `NoMemory` if the allocator refuses memory.
 pub fn enter_as(
     scope: &mut Scope,
     construct: Option<Symbol>,
@@ -111,6 +119,8 @@ pub fn enter_as(
 }
 
 /// Enters a region that continues the parts, of that construct if there is one. The use clauses of the other parts hold in it.
+/// # Errors
+/// `NoMemory` if the allocator refuses memory.
 pub fn continue_parts<A: Answers>(
     alloc: Global,
     scope: &mut Scope,

@@ -1,4 +1,4 @@
-// Where the private part of a package's declaration begins, or the declarative part of a subprogram body that acts as one.
+// The start of the private part of a package's declaration, or of the declarative part of a subprogram body that acts as one.
 ghost use Rattle.std.specs.Prelude.{◌≡◌, ◌<◌, [], ◌∷◌, ◌||◌, IfOk, None, is_ok, length, true, if◌then◌else◌};
 ghost use Rattle.al_view.specs.declared.part.Part.TheVariants.{Private};
 ghost use Rattle.al_query.specs.Asked.{AsksOf, by_property};
@@ -26,7 +26,7 @@ fn private_part_of(alloc: Global, unit: &UnitKey) -> Result<UnitPart, NoMemory>
     })
 }
 
-/// The region of that construct, if there is one, continues the part too. Of no construct it takes no memory.
+/// The region of that construct, if there is one, continues the part too. If there is no construct, it takes no memory.
 fn add_part(scope: &mut Scope, construct: Option<Symbol>, part: UnitPart) -> Result<(), NoMemory>
     ensures regions { IfOk result (λ _. scope.new.regions ≡ with_part_of construct part scope.old.regions) }
     ensures depth { length scope.new.regions ≡ length scope.old.regions }
@@ -62,7 +62,7 @@ fn open<A: Answers>(
     Ok(())
 }
 
-/// The same, unless it was seen before. Where it was seen by the place it takes no memory.
+/// Opens the private part of an ancestor, unless the place saw it before; then it takes no memory.
 fn open_unless_model<A: Answers>(
     alloc: Global,
     scope: &mut Scope,
@@ -86,8 +86,8 @@ fn open_unless_model<A: Answers>(
     Ok(())
 }
 
-/// The private parts of the ancestors that weren't seen before, the farthest first. Where the place saw them all, or there are
-/// none, it takes no memory.
+/// Opens the private parts of the ancestors that weren't seen before, the farthest first. If the place saw them all, or there are none, it
+/// takes no memory.
 fn open_each<A: Answers>(
     alloc: Global,
     scope: &mut Scope,
@@ -112,9 +112,11 @@ fn open_each<A: Answers>(
     Ok(())
 }
 
-/// From here on the private parts of the ancestors are seen, with the use clauses that stand in them: where the private part of a
-/// package's declaration begins, and after the profile of a subprogram body that acts as one (ARM 8.2(5), 8.4(7)). The place is in the
-/// unit's own region. Where there are no ancestors it takes no memory, but for the body of a library unit.
+/// Makes the private parts of the ancestors visible from here on, with the use clauses in them (ARM 8.2(5), 8.4(7)). The place is in the
+/// unit's own region, where the private part of a package's declaration begins, or after the profile of a subprogram body that acts as a
+/// declaration. If there are no ancestors, it takes no memory, except for the body of a library unit.
+/// # Errors
+/// `NoMemory` if the allocator refuses memory.
 pub fn enter_private_part<A: Answers>(
     alloc: Global,
     scope: &mut Scope,

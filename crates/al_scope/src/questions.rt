@@ -13,6 +13,8 @@ use al_view::{Interface, Part, Symbol, Views, copied_unit};
 use std::alloc::Global;
 
 /// The visible part of the package of that name.
+/// # Errors
+/// `NoMemory` if the allocator refuses memory.
 pub fn visible_part_of(alloc: Global, package_name: &[u8]) -> Result<UnitPart, NoMemory>
     ensures { IfOk result (λ part. part ≡ visible_part package_name.now) }
 {
@@ -28,6 +30,8 @@ pub fn visible_part_of(alloc: Global, package_name: &[u8]) -> Result<UnitPart, N
 }
 
 /// The visible part of the unit with that symbol.
+/// # Errors
+/// `NoMemory` if the allocator refuses memory.
 pub fn visible_part_at(alloc: Global, symbol: &Symbol) -> Result<UnitPart, NoMemory>
     ensures { IfOk result (λ part. part ≡ part_of symbol.now) }
 {
@@ -56,7 +60,7 @@ fn child_of(alloc: Global, parent: &[u8], name: &[u8]) -> Result<Vec<u8>, NoMemo
     Ok(child)
 }
 
-/// The question of what a part of a unit declares under a name.
+/// The question which declarations a part of a unit has of a name.
 fn query_of(alloc: Global, from: &UnitPart, name: &[u8]) -> Result<Query, NoMemory>
     ensures { IfOk result (λ query. query ≡ query_of name.now from.now) }
 {
@@ -67,7 +71,7 @@ fn query_of(alloc: Global, from: &UnitPart, name: &[u8]) -> Result<Query, NoMemo
     })
 }
 
-/// Appends the mentioned children of that name, where the part is a unit's visible part. Of another part it takes no memory.
+/// Appends the mentioned children of that name, if the part is a unit's visible part. For another part it takes no memory.
 fn append_children(
     alloc: Global,
     mentioned: &Interface,
@@ -86,6 +90,8 @@ fn append_children(
 }
 
 /// Appends what a part of a unit declares under a name.
+/// # Errors
+/// `NoMemory` if the allocator refuses memory.
 pub fn ask_more<A: Answers>(
     alloc: Global,
     mentioned: &Interface,
@@ -106,6 +112,8 @@ pub fn ask_more<A: Answers>(
 }
 
 /// What some parts of units declare under a name. Of no parts it takes no memory.
+/// # Errors
+/// `NoMemory` if the allocator refuses memory.
 pub fn ask_each<A: Answers>(
     alloc: Global,
     mentioned: &Interface,

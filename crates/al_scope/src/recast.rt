@@ -9,9 +9,9 @@ use al_view::{Bounds, Component, DeclaredType, Seq, Subtype, Symbol, TypeDefinit
 use al_view_predefined::copied_layout;
 use std::alloc::Global;
 
-/// How a type is seen: by this full view in place of the partial one, or the other way round.
+/// How a type is seen: by its full view in place of the partial one, or the other way round.
 pub struct Recast {
-    /// The bounds of all its values, as views have them that are declared elsewhere; none of a partial view.
+    /// The bounds of all its values, as views declared elsewhere have them. A partial view has none.
     pub bounds: Option<Bounds>,
     /// What it is seen as.
     pub by: DeclaredType,

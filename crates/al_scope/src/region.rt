@@ -11,7 +11,9 @@ use std::alloc::Global;
 
 /// A part of a unit.
 pub struct UnitPart {
+    /// The unit.
     pub unit: UnitKey,
+    /// Which part of the unit.
     pub part: Part,
 }
 
@@ -23,7 +25,7 @@ impl Drop for UnitPart {
 
 /// A declarative region up to a place in it (ARM 8.1).
 pub struct Region {
-    /// The package, subprogram, task, protected object or entry whose region it is; none of a block, a loop or a record.
+    /// The package, subprogram, task, protected object or entry that has the region. A block, a loop or a record has none.
     pub construct: Option<Symbol>,
     /// The parts of units that it continues.
     pub parts: Seq<UnitPart>,
@@ -31,7 +33,7 @@ pub struct Region {
     pub declared: Interface,
     /// The names whose declarations were begun.
     pub begun: NameSet,
-    /// The use clauses that hold in it so far, those round it too.
+    /// The use clauses that hold in it so far, including those of the regions round it.
     pub uses: UseClauses,
 }
 
@@ -48,8 +50,7 @@ impl Drop for Region {
 }
 
 impl Region {
-    /// The region that continues these parts, of no construct, with nothing of its own yet but these use clauses. It
-    /// takes no memory.
+    /// A region of no construct that continues these parts, with these use clauses and nothing of its own yet. It takes no memory.
     pub fn new(alloc: Global, parts: Seq<UnitPart>, uses: UseClauses) -> Self
         ensures { result ≡ (record { construct = None; parts = parts; declared = []; begun = []; uses = uses }) }
     {
@@ -72,7 +73,7 @@ impl Region {
         }
     }
 
-    /// Whether it is the region of a construct of the unit: of the unit itself, or of one in it.
+    /// Whether it is the region of the unit itself or of a construct in it.
     pub fn is_in(&self, unit: &UnitKey) -> bool
         ensures { result ≡ is_within unit.now self.now }
     {
@@ -82,6 +83,9 @@ impl Region {
         }
     }
 
+    /// Declares a view under a name.
+    /// # Errors
+    /// `NoMemory` if the allocator refuses memory; the region is unchanged then.
     pub fn declare(&mut self, name: &[u8], view: View) -> Result<(), NoMemory>
         ensures { self.new ≡ (if is_ok result then with_declared name.now view self.old else self.old) }
     {
@@ -89,6 +93,9 @@ impl Region {
         Ok(())
     }
 
+    /// Begins the declaration of a name.
+    /// # Errors
+    /// `NoMemory` if the allocator refuses memory; the region is unchanged then.
     pub fn start(&mut self, name: &[u8]) -> Result<(), NoMemory>
         ensures { self.new ≡ (if is_ok result then with_begun name.now self.old else self.old) }
     {
@@ -96,6 +103,9 @@ impl Region {
         Ok(())
     }
 
+    /// Adds a use clause that names a package (ARM 8.4(3)).
+    /// # Errors
+    /// `NoMemory` if the allocator refuses memory; the region is unchanged then.
     pub fn use_package(&mut self, package_name: &[u8]) -> Result<(), NoMemory>
         ensures { self.new ≡ (if is_ok result then with_uses (with_package package_name.now) self.old else self.old) }
     {
@@ -103,6 +113,9 @@ impl Region {
         Ok(())
     }
 
+    /// Adds a use type clause that names a type whose package is mentioned (ARM 8.4(4)).
+    /// # Errors
+    /// `NoMemory` if the allocator refuses memory; the region is unchanged then.
     pub fn use_type(&mut self, symbol: Symbol) -> Result<(), NoMemory>
         ensures { self.new ≡ (if is_ok result then with_uses (with_type symbol) self.old else self.old) }
     {
@@ -110,6 +123,9 @@ impl Region {
         Ok(())
     }
 
+    /// Adds a use type clause that names a type whose package isn't mentioned, with the types that its view has.
+    /// # Errors
+    /// `NoMemory` if the allocator refuses memory; the region is unchanged then.
     pub fn use_type_view(&mut self, symbol: &Symbol, types: &Types) -> Result<(), NoMemory>
         ensures { self.new ≡ (if is_ok result then with_uses (with_type_view symbol.now types.now) self.old else self.old) }
     {

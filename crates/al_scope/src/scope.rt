@@ -28,7 +28,7 @@ use al_view::{Interface, Seq, Symbol, Types, View, Views};
 use std::alloc::Global;
 use std::marker::Model;
 
-/// The use clauses that hold in the innermost region. Where there are none it takes no memory.
+/// The use clauses that hold in the innermost region. If there are none, it takes no memory.
 fn uses_of(alloc: Global, regions: &[Region]) -> Result<UseClauses, NoMemory>
     ensures is { IfOk result (λ uses. uses ≡ uses_at regions.now) }
     ensures takes_none { uses_at regions.now ≡ [] → is_ok result ≡ true }
@@ -49,7 +49,7 @@ fn region_of<'a>(regions: &'a [Region], construct: &Symbol) -> Option<&'a Region
     regions.iter().find(|region| region.is_of(construct))
 }
 
-/// At which place the outermost region of the construct stands, from 0; where there is none, how many regions there are.
+/// The index of the outermost region of the construct, from 0. If there is none, the number of regions.
 fn place_of(regions: &[Region], construct: &Symbol) -> usize
     ensures is { result ≡ place_of construct.now regions.now }
     ensures most { result ≤ length regions.now }
@@ -64,7 +64,7 @@ fn place_of(regions: &[Region], construct: &Symbol) -> usize
     place
 }
 
-/// The outermost region that is a construct's of that unit.
+/// The outermost region of a construct of that unit.
 fn unit_region<'a>(regions: &'a [Region], unit: &UnitKey) -> Option<&'a Region>
     ensures { option_copied result ≡ unit_region unit.now regions.now }
 {
@@ -97,7 +97,7 @@ impl Model for Scope {
 }
 
 impl Scope {
-    /// A place with no region round it, where nothing is mentioned. It takes no memory.
+    /// A place with no region round it, where no unit is mentioned. It takes no memory.
     pub fn new(alloc: Global) -> Self
         ensures { result ≡ (record { mentioned = []; regions = [] }) }
     {
@@ -115,9 +115,11 @@ impl Scope {
         self.regions.is_empty()
     }
 
-    /// The library unit of that full name, in lower case, is mentioned (ARM 10.1.2(6)), with its view: from here on it
-    /// counts as declared in its parent's visible part, a root unit in Standard's (ARM 8.1(9), 10.1.2(8)). The unit that
-    /// the place is in and its ancestors are mentioned too. A unit that is mentioned already takes no memory.
+    /// Mentions the library unit of that full name, in lower case, with its view (ARM 10.1.2(6)). From here on it counts as declared in its
+    /// parent's visible part, a root unit in Standard's (ARM 8.1(9), 10.1.2(8)). The unit that the place is in and its ancestors are
+    /// mentioned too. If the unit is mentioned already, it takes no memory.
+    /// # Errors
+    /// `NoMemory` if the allocator refuses memory; nothing is mentioned then.
     pub fn mention(&mut self, unit_name: &[u8], view: View) -> Result<(), NoMemory>
         ensures mentioned { self.new.mentioned ≡ (if is_ok result then with_mentioned unit_name.now view self.old.mentioned else self.old.mentioned) }
         ensures regions { self.new.regions ≡ self.old.regions }
@@ -129,7 +131,7 @@ impl Scope {
         Ok(())
     }
 
-    /// A region that continues these parts, in which the use clauses round it hold. Where there are none it takes no memory.
+    /// A region that continues these parts, in which the use clauses round it hold. If no use clauses hold there, it takes no memory.
     fn inner_region(&self, parts: Seq<UnitPart>) -> Result<Region, NoMemory>
         ensures is { IfOk result (λ region. region ≡ entered parts self.now.regions) }
         ensures takes_none { uses_at self.now.regions ≡ [] → is_ok result ≡ true }
@@ -140,6 +142,8 @@ impl Scope {
     }
 
     /// Enters a region that continues these parts of units (ARM 8.1). The use clauses round it hold in it.
+    /// # Errors
+    /// `NoMemory` if the allocator refuses memory; the regions are unchanged then.
     pub fn enter(&mut self, parts: Seq<UnitPart>) -> Result<(), NoMemory>
         ensures ok { OnOk result (self.new.regions ≡ self.old.regions ++ entered parts self.old.regions ∷ []) }
         ensures err { OnErr result (self.new.regions ≡ self.old.regions) }
@@ -150,8 +154,10 @@ impl Scope {
         Ok(())
     }
 
-    /// Enters the region of a package, a subprogram, a task, a protected object or an entry, which may then be the prefix of
-    /// an expanded name (ARM 4.1.3(4, 13)). Blocks and loops are entered by `enter`, also those that have names (a choice).
+    /// Enters the region of a package, a subprogram, a task, a protected object or an entry, which may then be the prefix of an expanded
+    /// name (ARM 4.1.3(4, 13)). Blocks and loops are entered by `enter`, also if they have names (a choice).
+    /// # Errors
+    /// `NoMemory` if the allocator refuses memory; the regions are unchanged then.
     pub fn enter_construct(
         &mut self,
         construct: Symbol,
@@ -177,8 +183,9 @@ impl Scope {
         drop(left);
     }
 
-    /// Begins a declaration that may not be overloaded: until the region is left it hides outer declarations of its
-    /// name (ARM 8.3(15, 16)).
+    /// Begins a declaration that may not be overloaded: until the region is left it hides outer declarations of its name (ARM 8.3(15, 16)).
+    /// # Errors
+    /// `NoMemory` if the allocator refuses memory; the regions are unchanged then.
     pub fn start(&mut self, name: &[u8]) -> Result<(), NoMemory>
         requires { 0 < length self.old.regions }
         ensures new { self.new.regions ≡ (if is_ok result then in_last (with_begun name.now) self.old.regions else self.old.regions) }
@@ -198,9 +205,11 @@ impl Scope {
         self.regions.iter().any(|region| region.is_in(unit))
     }
 
-    /// From here on the outermost region of the construct continues this part too: where the private part of a library
-    /// package or the body of a library subprogram begins, the private parts of its ancestors are seen (ARM 8.2(5)). Where there is
-    /// no such region it takes no memory.
+    /// From here on the outermost region of the construct continues this part too. It is called where the private part of a library package
+    /// or the body of a library subprogram begins: from there on the private parts of its ancestors are seen (ARM 8.2(5)). If there is no
+    /// such region, it takes no memory.
+    /// # Errors
+    /// `NoMemory` if the allocator refuses memory; the regions are unchanged then.
     pub fn add_part(&mut self, construct: &Symbol, part: UnitPart) -> Result<(), NoMemory>
         ensures ok { OnOk result (self.new.regions ≡ with_part construct.now part self.old.regions) }
         ensures err { OnErr result (self.new.regions ≡ self.old.regions) }
@@ -216,8 +225,10 @@ impl Scope {
         Ok(())
     }
 
-    /// A use clause that names the package, in the innermost region (ARM 8.4(3)). It has no effect where the package
-    /// encloses the place: all that it opens is directly visible there, or hidden. Then it takes no memory.
+    /// Adds a use clause that names the package to the innermost region (ARM 8.4(3)). It has no effect if the package encloses the place:
+    /// all that it opens is directly visible there, or hidden. Then it takes no memory.
+    /// # Errors
+    /// `NoMemory` if the allocator refuses memory; the regions are unchanged then.
     pub fn use_package(&mut self, unit: &UnitKey) -> Result<(), NoMemory>
         requires { 0 < length self.old.regions }
         ensures new { self.new.regions ≡ (if is_ok result then with_use unit.now self.old.regions else self.old.regions) }
@@ -241,8 +252,10 @@ impl Scope {
         !matches!(symbol.unit.kind, UnitKind::Decl) || self.is_in(&symbol.unit)
     }
 
-    /// A use type clause that names the type, in the innermost region (ARM 8.4(4)). It has no effect where the type is declared
-    /// round the place: its operators are declared beside it (ARM 3.2.3(6)). Then it takes no memory.
+    /// Adds a use type clause that names the type to the innermost region (ARM 8.4(4)). It has no effect if the type is declared round the
+    /// place: its operators are declared beside it (ARM 3.2.3(6)). Then it takes no memory.
+    /// # Errors
+    /// `NoMemory` if the allocator refuses memory; the regions are unchanged then.
     pub fn use_type(&mut self, symbol: Symbol) -> Result<(), NoMemory>
         requires { 0 < length self.old.regions }
         ensures new { self.new.regions ≡ (if is_ok result then with_use_type symbol self.old.regions else self.old.regions) }
@@ -259,7 +272,10 @@ impl Scope {
         Ok(())
     }
 
-    /// The same, of a type whose package isn't mentioned there, with the types that its view has: these say which operators it has.
+    /// Adds a use type clause that names a type whose package isn't mentioned there, with the types that its view has: these say which
+    /// operators it has.
+    /// # Errors
+    /// `NoMemory` if the allocator refuses memory; the regions are unchanged then.
     pub fn use_type_view(&mut self, symbol: &Symbol, types: &Types) -> Result<(), NoMemory>
         requires { 0 < length self.old.regions }
         ensures new { self.new.regions ≡ (if is_ok result then with_use_view symbol.now types.now self.old.regions else self.old.regions) }
@@ -275,9 +291,10 @@ impl Scope {
         Ok(())
     }
 
-    /// What the innermost region has of a name, with the parts that it continues: what a new declaration of the name may be
-    /// a homograph of, and what it may complete. Where that region continues no part and nothing of the name is declared in it, it
-    /// takes no memory.
+    /// What the innermost region has of a name, with the parts that it continues: a new declaration of the name may be a homograph of it,
+    /// or complete it. If that region continues no part and declares nothing of the name, it takes no memory.
+    /// # Errors
+    /// `NoMemory` if the allocator refuses memory.
     pub fn declared_here<A: Answers>(
         &self,
         name: &[u8],
@@ -300,7 +317,7 @@ impl Scope {
         Ok(found.views)
     }
 
-    /// What is declared of a name in the innermost region, without the parts that it continues.
+    /// What the innermost region itself declares of a name, without the parts that it continues.
     pub fn declared_alone(&self, name: &[u8]) -> &[View]
         ensures { result.now ≡ views_of (inner_declared self.now.regions) name.now }
     {
@@ -310,7 +327,7 @@ impl Scope {
         }
     }
 
-    /// Whether a private type of the innermost region has no full declaration yet, the parts that the region continues left out.
+    /// Whether a private type of the innermost region has no full declaration yet, apart from the parts that the region continues.
     pub fn is_incomplete(&self) -> bool
         ensures { result ≡ some_incomplete (inner_declared self.now.regions) }
     {
@@ -320,8 +337,10 @@ impl Scope {
         }
     }
 
-    /// Whether the innermost region has a homograph, so that the declaration wouldn't fit there (ARM 8.3(26)). Where that region
-    /// continues no part and nothing of the name is declared in it, it takes no memory.
+    /// Whether the innermost region has a homograph of the view, so that the declaration is illegal there (ARM 8.3(26)). If that region
+    /// continues no part and declares nothing of the name, it takes no memory.
+    /// # Errors
+    /// `NoMemory` if the allocator refuses memory.
     pub fn has_homograph<A: Answers>(
         &self,
         name: &[u8],
@@ -339,7 +358,10 @@ impl Scope {
         Ok(has)
     }
 
-    /// Declares, unless the innermost region has a homograph (ARM 8.3(26)): then it answers false and changes nothing.
+    /// Declares a view under a name, unless the innermost region has a homograph (ARM 8.3(26)): then the result is false, and nothing
+    /// changes.
+    /// # Errors
+    /// `NoMemory` if the allocator refuses memory; the regions are unchanged then.
     pub fn declare<A: Answers>(
         &mut self,
         name: &[u8],
@@ -365,7 +387,9 @@ impl Scope {
         Ok(true)
     }
 
-    /// One more declaration in the innermost region, whatever it has of the name: it asks nothing.
+    /// Adds a declaration to the innermost region, whatever it has of the name. It asks nothing.
+    /// # Errors
+    /// `NoMemory` if the allocator refuses memory; the regions are unchanged then.
     pub fn add(&mut self, name: &[u8], view: View) -> Result<(), NoMemory>
         requires { 0 < length self.old.regions }
         ensures new { self.new.regions ≡ (if is_ok result then in_last (with_declared name.now view) self.old.regions else self.old.regions) }
@@ -378,10 +402,12 @@ impl Scope {
         Ok(())
     }
 
-    /// What is visible by selection of a name in a construct that encloses the place (ARM 4.1.3(4, 13), 8.3(8)): what
-    /// the parts that its region continues declare, and what is declared in it so far. None where the construct doesn't
-    /// enclose the place, so that it is no prefix of an expanded name; then it takes no memory. Nor does it where the region of the construct
-    /// continues no part and nothing of the name is declared in it.
+    /// What is visible by selection of a name in a construct that encloses the place (ARM 4.1.3(4, 13), 8.3(8)): what the parts that its
+    /// region continues declare, and what is declared in it so far. `None` if the construct doesn't enclose the place, so that it is no
+    /// prefix of an expanded name; then it takes no memory. Nor does it if the region of the construct continues no part and declares
+    /// nothing of the name.
+    /// # Errors
+    /// `NoMemory` if the allocator refuses memory.
     pub fn selected_within<A: Answers>(
         &self,
         construct: &Symbol,
@@ -404,8 +430,10 @@ impl Scope {
         }
     }
 
-    /// What the region of a package that encloses the place has of a name, by the package's unit: nothing where it doesn't enclose the place, and
-    /// then it takes no memory.
+    /// What the region of a package that encloses the place has of a name. `unit` is the package's unit. If it doesn't enclose the place,
+    /// the result is empty, and it takes no memory.
+    /// # Errors
+    /// `NoMemory` if the allocator refuses memory.
     pub fn within_unit<A: Answers>(
         &self,
         unit: &UnitKey,
@@ -426,7 +454,7 @@ impl Scope {
         }
     }
 
-    /// What the visible part of the package declares under a name, in text order and its mentioned children last.
+    /// What the visible part of the package declares under a name, in source order and its mentioned children last.
     fn declared_by<A: Answers>(
         &self,
         prefix: &Symbol,
@@ -450,9 +478,11 @@ impl Scope {
         Ok(views)
     }
 
-    /// What is visible by selection of a name in the package with this symbol (ARM 4.1.3(4), 8.3(8)): where it encloses the
-    /// place, what its region has, with what stands in its private part and body so far; else what its visible part declares,
-    /// in text order and its mentioned children last. Where its region continues no part and nothing of the name is declared in it, it takes no memory.
+    /// What is visible by selection of a name in the package with this symbol (ARM 4.1.3(4), 8.3(8)). If the package encloses the place,
+    /// that is what its region has, including its private part and body so far; else what its visible part declares, in source order and
+    /// its mentioned children last. If its region continues no part and declares nothing of the name, it takes no memory.
+    /// # Errors
+    /// `NoMemory` if the allocator refuses memory.
     pub fn selected<A: Answers>(
         &self,
         prefix: &Symbol,
@@ -476,10 +506,11 @@ impl Scope {
         }
     }
 
-    /// What is visible of a name (ARM 8.3, 8.4): directly visible ones first, innermost region first, then use-visible
-    /// ones in the order of their package and text. It looks from the innermost region outward and stops at the first that
-    /// shuts out every other declaration; packages that use clauses open are asked where there is none. Where there is no region it
-    /// takes no memory.
+    /// What is visible of a name (ARM 8.3, 8.4): directly visible declarations first, those of the innermost region first, then use-visible
+    /// ones in the order of their package and source. It looks from the innermost region outward and stops at the first that shuts out
+    /// every other declaration. If there is none, the packages that use clauses open are asked. If there is no region, it takes no memory.
+    /// # Errors
+    /// `NoMemory` if the allocator refuses memory.
     pub fn visible<A: Answers>(
         &self,
         name: &[u8],

@@ -19,7 +19,9 @@ use al_query::{Answers, Recorder};
 use al_view::{Interface, View, Views};
 use std::alloc::Global;
 
-/// Appends the others, if there are any; where there are none it takes no memory.
+/// Appends the others, if there are any; if not, it takes no memory.
+/// # Errors
+/// `NoMemory` if the allocator refuses memory.
 pub fn append_some(views: &mut Views, others: &[View]) -> Result<(), NoMemory>
     ensures is { OnOk result (views.new ≡ views.old ++ others.now) }
     ensures takes_none { others.now ≡ [] → is_ok result ≡ true }
@@ -30,7 +32,9 @@ pub fn append_some(views: &mut Views, others: &[View]) -> Result<(), NoMemory>
     Ok(())
 }
 
-/// What a region has of a name. Where it continues no part and nothing of the name is declared in it, it takes no memory.
+/// What a region has of a name. If it continues no part and declares nothing of the name, it takes no memory.
+/// # Errors
+/// `NoMemory` if the allocator refuses memory.
 pub fn find<A: Answers>(
     alloc: Global,
     mentioned: &Interface,
@@ -50,8 +54,10 @@ pub fn find<A: Answers>(
     Ok(RegionEntry { begun, views })
 }
 
-/// What the regions have of a name, from the innermost outward up to the first that decides. No region further out is asked.
-/// Where there is no region it takes no memory.
+/// What the regions have of a name, from the innermost outward up to the first that decides. No region further out is asked. If there is no
+/// region, it takes no memory.
+/// # Errors
+/// `NoMemory` if the allocator refuses memory.
 pub fn search_outward<A: Answers>(
     alloc: Global,
     mentioned: &Interface,
@@ -78,8 +84,8 @@ pub fn search_outward<A: Answers>(
     Ok(search)
 }
 
-/// What is potentially use-visible of a name, by the use clauses that hold in the innermost region. Where none hold it takes
-/// no memory; where there is no region, it is nothing.
+/// What is potentially use-visible of a name, by the use clauses that hold in the innermost region. If none hold, it takes no memory; if
+/// there is no region, the result is empty.
 fn potential_of<A: Answers>(
     alloc: Global,
     mentioned: &Interface,
@@ -103,8 +109,10 @@ fn potential_of<A: Answers>(
     }
 }
 
-/// What is use-visible of a name, of which the regions have this. No package is asked where a region has what shuts out
-/// every other declaration, and no memory is taken; nor where there is no region, and then it is nothing.
+/// What is use-visible of a name, of which the search found this in the regions. If a region shuts out every other declaration, no package
+/// is asked, and no memory is taken. If there is no region, the result is empty, and no memory is taken either.
+/// # Errors
+/// `NoMemory` if the allocator refuses memory.
 pub fn used_of<A: Answers>(
     alloc: Global,
     mentioned: &Interface,

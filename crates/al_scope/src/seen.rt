@@ -21,7 +21,7 @@ use al_view::{
 };
 use std::alloc::Global;
 
-/// By that full view in place of a partial one, which has no bounds.
+/// The recast of a type to this full view. A partial view has no bounds.
 fn by_full(of: &DeclaredType) -> Result<Recast, NoMemory>
     ensures { IfOk result (λ made. made ≡ record { bounds = None; by = of.now }) }
 {
@@ -33,7 +33,7 @@ fn by_full(of: &DeclaredType) -> Result<Recast, NoMemory>
     })
 }
 
-/// With the full view of a type, if there is one.
+/// Adds the recast to the full view of a type, if there is one.
 fn add_by(recasts: &mut Seq<Recast>, of: Option<&DeclaredType>) -> Result<(), NoMemory>
     ensures { OnOk result (recasts.new ≡ recasts.old ++ recast_by (option_copied of.entry)) }
 {
@@ -65,7 +65,7 @@ fn type_in(view: &View) -> Option<&DeclaredType>
     }
 }
 
-/// The first full view of the type among these.
+/// The first full view of the type among these views.
 fn full_view<'a>(views: &'a [View], symbol: &Symbol) -> Option<&'a View>
     ensures { option_copied result ≡ find (is_full_view symbol.now) views.now }
 {
@@ -81,7 +81,7 @@ fn full_in<'a>(views: &'a [View], symbol: &Symbol) -> Option<&'a DeclaredType>
     }
 }
 
-/// With the full view of a private type, where the place sees one.
+/// Adds the recast to the full view of a private type, if the place sees one.
 fn add_full_of<A: Answers>(
     scope: &Scope,
     symbol: &Symbol,
@@ -96,7 +96,7 @@ fn add_full_of<A: Answers>(
     add_by(recasts, full_in(views.as_slice(), symbol))
 }
 
-/// The same of a type, if it is private.
+/// Adds the recast to the full view of a type, if the type is private and the place sees a full view.
 fn add_full<A: Answers>(
     scope: &Scope,
     of: &TypeView,
@@ -113,7 +113,7 @@ fn add_full<A: Answers>(
     Ok(())
 }
 
-/// With the full views of the private types among these.
+/// Adds the recasts to the full views of the private types among these.
 fn add_fulls<A: Answers>(
     scope: &Scope,
     types: &[TypeView],
@@ -130,7 +130,7 @@ fn add_fulls<A: Answers>(
     Ok(())
 }
 
-/// With those of the types of operations.
+/// Adds the recasts to the full views of the private types of operations.
 fn add_operations<A: Answers>(
     scope: &Scope,
     operations: &[Operation],
@@ -148,7 +148,7 @@ fn add_operations<A: Answers>(
     Ok(())
 }
 
-/// With those of the types of a protected object.
+/// Adds the recasts to the full views of the private types of a protected object.
 fn add_protected<A: Answers>(
     scope: &Scope,
     of: &ProtectedView,
@@ -164,7 +164,7 @@ fn add_protected<A: Answers>(
     Ok(())
 }
 
-/// With those of the types of a declaration.
+/// Adds the recasts to the full views of the private types of a declaration.
 fn add_of_view<A: Answers>(
     scope: &Scope,
     view: &View,
@@ -189,7 +189,7 @@ fn add_of_view<A: Answers>(
     }
 }
 
-/// The full views that the place sees of the private types of a declaration.
+/// The recasts to the full views that the place sees of the private types of a declaration.
 fn full_views_of<A: Answers>(
     alloc: Global,
     scope: &Scope,
@@ -222,6 +222,8 @@ fn seen_at<A: Answers>(
 }
 
 /// Declarations as a place sees them.
+/// # Errors
+/// `NoMemory` if the allocator refuses memory.
 pub fn all_seen_at<A: Answers>(
     alloc: Global,
     scope: &Scope,
@@ -254,7 +256,9 @@ fn completion_seen_at<A: Answers>(
     Ok(Completion { name, view })
 }
 
-/// What waits for its body, as a place sees it.
+/// The declarations that wait for their bodies, as a place sees them.
+/// # Errors
+/// `NoMemory` if the allocator refuses memory.
 pub fn completions_seen_at<A: Answers>(
     alloc: Global,
     scope: &Scope,
@@ -272,7 +276,7 @@ pub fn completions_seen_at<A: Answers>(
     Ok(seen)
 }
 
-/// A subtype of whose types some are seen otherwise.
+/// A subtype, some of whose types are seen otherwise.
 fn subtype_recast(
     alloc: Global,
     recasts: &[Recast],
@@ -291,6 +295,8 @@ fn subtype_recast(
 }
 
 /// A subtype as a place sees it.
+/// # Errors
+/// `NoMemory` if the allocator refuses memory.
 #[tactic(auto, unfolding(crate::specs::Seen::subtype_seen_at))]
 pub fn subtype_seen_at<A: Answers>(
     alloc: Global,

@@ -1,4 +1,4 @@
-// What a visible part tells of private types whose full views its place sees: their partial views alone.
+// What a visible part shows of private types whose full views its place sees: their partial views alone.
 ghost use Rattle.std.specs.Prelude.{◌≡◌, ◌<◌, ◌++◌, ℕ, IfOk, List, OnOk, Some, length, slice_get};
 ghost use Rattle.std.specs.List.{flat_map};
 ghost use Rattle.al_scope.specs.Hidden.{all_hidden, by_partial, hidden, hidden_in, is_hidden, is_named, partial_if_hidden, with_hidden};
@@ -18,7 +18,9 @@ use std::alloc::Global;
 
 /// A private type by its name and the package that declares it.
 pub struct PrivateName {
+    /// The package that declares it.
     pub unit: UnitKey,
+    /// Its name in lower case.
     pub name: Name,
 }
 
@@ -40,7 +42,7 @@ fn is_hidden(names: &[PrivateName], symbol: &Symbol) -> bool
     names.iter().any(|of| is_named(symbol, of))
 }
 
-/// By a partial view, which tells the words of its values alone.
+/// The recast of a type to a partial view, which shows only how many words its values take.
 fn by_partial(alloc: Global, of: &TypeView) -> Result<Recast, NoMemory>
     ensures { IfOk result (λ made. made ≡ by_partial of.now) }
 {
@@ -52,7 +54,7 @@ fn by_partial(alloc: Global, of: &TypeView) -> Result<Recast, NoMemory>
     })
 }
 
-/// With the partial view of a type, where it is hidden.
+/// Adds the recast to the partial view of a type, if the full one is hidden.
 fn add_partial(
     alloc: Global,
     names: &[PrivateName],
@@ -82,7 +84,7 @@ fn add_partials(
     Ok(())
 }
 
-/// With those of the types of operations.
+/// Adds the recasts to the partial views of the types of operations that are hidden.
 fn add_operations(
     alloc: Global,
     names: &[PrivateName],
@@ -98,7 +100,7 @@ fn add_operations(
     Ok(())
 }
 
-/// With those of the types of a protected object.
+/// Adds the recasts to the partial views of the types of a protected object that are hidden.
 fn add_protected(
     alloc: Global,
     names: &[PrivateName],
@@ -112,7 +114,7 @@ fn add_protected(
     Ok(())
 }
 
-/// With those of the types of a declaration.
+/// Adds the recasts to the partial views of the types of a declaration that are hidden.
 fn add_of_view(
     alloc: Global,
     names: &[PrivateName],
@@ -135,7 +137,7 @@ fn add_of_view(
     }
 }
 
-/// The partial views of the types of a declaration that are hidden.
+/// The recasts to the partial views of the types of a declaration that are hidden.
 fn partials_of(alloc: Global, names: &[PrivateName], view: &View) -> Result<Seq<Recast>, NoMemory>
     ensures { IfOk result (λ recasts. recasts ≡ flat_map (partial_if_hidden names.now) (view_types view.now)) }
 {
@@ -144,7 +146,9 @@ fn partials_of(alloc: Global, names: &[PrivateName], view: &View) -> Result<Seq<
     Ok(recasts)
 }
 
-/// A declaration as a visible part tells it.
+/// A declaration as a visible part shows it.
+/// # Errors
+/// `NoMemory` if the allocator refuses memory.
 #[tactic(auto, unfolding(crate::specs::Hidden::hidden))]
 pub fn hidden(alloc: Global, names: &[PrivateName], view: &View) -> Result<View, NoMemory>
     ensures { IfOk result (λ answered. answered ≡ hidden names.now view.now) }
@@ -153,7 +157,7 @@ pub fn hidden(alloc: Global, names: &[PrivateName], view: &View) -> Result<View,
     recast(alloc, recasts.as_slice(), view)
 }
 
-/// One name more with its views, as they are told.
+/// Adds a name with its views, as a visible part shows them.
 fn add_hidden(
     alloc: Global,
     names: &[PrivateName],
@@ -170,7 +174,7 @@ fn add_hidden(
     Ok(())
 }
 
-/// The i-th name of what is declared with its views, as they are told.
+/// Adds the i-th name of what is declared with its views, as a visible part shows them.
 fn add_hidden_at(
     alloc: Global,
     names: &[PrivateName],
@@ -201,7 +205,9 @@ fn all_hidden(
     Ok(answered)
 }
 
-/// What a visible part declares, as it is told: of these private types their partial views alone.
+/// What a visible part declares, as other units see it: of these private types only the partial views.
+/// # Errors
+/// `NoMemory` if the allocator refuses memory.
 pub fn hidden_in(
     alloc: Global,
     names: &[PrivateName],

@@ -29,7 +29,7 @@ impl Model for TypeOperators {
     ghost view = { λ o. o.declared.value };
 }
 
-/// The operators that the declaration of the type declares (ARM 3.2.3(6)), where it is one of these.
+/// The operators that the declaration of the type declares (ARM 3.2.3(6)), if the type is one of these.
 fn operators_in(alloc: Global, symbol: &Symbol, types: &Types) -> Result<Interface, NoMemory>
     ensures { IfOk result (λ declared. declared ≡ operators_in symbol.now types.now) }
 {
@@ -43,7 +43,9 @@ fn operators_in(alloc: Global, symbol: &Symbol, types: &Types) -> Result<Interfa
 }
 
 impl TypeOperators {
-    /// Those of the type with this symbol, where it is one of these.
+    /// The operators of the type with this symbol, if it is one of these.
+    /// # Errors
+    /// `NoMemory` if the allocator refuses memory.
     pub fn new(alloc: Global, symbol: &Symbol, types: &Types) -> Result<Self, NoMemory>
         ensures { IfOk result (λ made. made ≡ operators_in symbol.now types.now) }
     {
@@ -52,7 +54,9 @@ impl TypeOperators {
         Ok(TypeOperators { declared })
     }
 
-    /// The same once more.
+    /// The same operators, shared.
+    /// # Errors
+    /// `NoMemory` if the allocator refuses memory.
     pub fn share(&self) -> Result<Self, NoMemory>
         ensures { IfOk result (λ shared. shared ≡ self.now) }
     {
@@ -60,7 +64,7 @@ impl TypeOperators {
         Ok(TypeOperators { declared })
     }
 
-    /// Those of a sign.
+    /// The operators with a sign.
     pub fn views(&self, name: &[u8]) -> &[View]
         ensures { result.now ≡ views_of self.now name.now }
     {

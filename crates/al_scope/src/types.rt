@@ -1,4 +1,4 @@
-// Lists of types some of which are seen otherwise.
+// Lists of types, some of which are seen otherwise.
 ghost use Rattle.std.specs.Prelude.{◌≡◌, fold, IfOk, OnOk};
 ghost use Rattle.std.specs.List.{list_any};
 ghost use Rattle.al_view.specs.Symbols.{same_symbol};
@@ -17,7 +17,7 @@ fn is_there(types: &[TypeView], symbol: &Symbol) -> bool
     types.iter().any(|of| of.symbol.is(symbol))
 }
 
-/// One more type, unless it is there.
+/// Adds a type, unless it is there.
 fn add_type(types: &mut Seq<TypeView>, of: TypeView) -> Result<(), NoMemory>
     ensures { OnOk result (types.new ≡ with_type types.old of) }
 {
@@ -29,7 +29,7 @@ fn add_type(types: &mut Seq<TypeView>, of: TypeView) -> Result<(), NoMemory>
     Ok(())
 }
 
-/// More types, each unless it is there.
+/// Adds types, each unless it is there.
 fn add_types(alloc: Global, types: &mut Seq<TypeView>, others: &[TypeView]) -> Result<(), NoMemory>
     ensures { OnOk result (types.new ≡ fold with_type types.old others.now) }
 {
@@ -40,7 +40,7 @@ fn add_types(alloc: Global, types: &mut Seq<TypeView>, others: &[TypeView]) -> R
     Ok(())
 }
 
-/// A type as it is seen.
+/// Adds a type as it is seen.
 fn add_recast(
     alloc: Global,
     recasts: &[Recast],

@@ -1,4 +1,4 @@
-// The place at the start of the text of a unit.
+// The place at the start of a unit's source.
 ghost use Rattle.std.specs.Prelude.{◌≡◌, ◌+◌, ◌<◌, [], ◌∷◌, ◌++◌, ◌||◌, IfOk, None, OnOk, Some, drop, is_ok, length, true};
 ghost use Rattle.std.specs.Option.{option_copied};
 ghost use Rattle.std.specs.List.{flat_map};
@@ -18,6 +18,8 @@ use al_view::{Part, Seq, Symbol, View, ViewKind, copied_unit};
 use std::alloc::Global;
 
 /// The declaration of that name.
+/// # Errors
+/// `NoMemory` if the allocator refuses memory.
 pub fn declaration_of(alloc: Global, name: &[u8]) -> Result<UnitKey, NoMemory>
     ensures { IfOk result (λ unit. unit ≡ package_unit name.now) }
 {
@@ -28,7 +30,9 @@ pub fn declaration_of(alloc: Global, name: &[u8]) -> Result<UnitKey, NoMemory>
     })
 }
 
-/// The declarations of the ancestors, the farthest first. Where there are none it takes no memory.
+/// The declarations of the ancestors, the farthest first. If there are none, it takes no memory.
+/// # Errors
+/// `NoMemory` if the allocator refuses memory.
 pub fn ancestors_of(alloc: Global, name: &[u8]) -> Result<Vec<UnitKey>, NoMemory>
     ensures is { IfOk result (λ units. units.items ≡ ancestor_units name.now) }
     ensures takes_none { ancestor_units name.now ≡ [] → is_ok result ≡ true }
@@ -87,8 +91,10 @@ fn parts_of(alloc: Global, unit: &UnitKey, sees_private: bool) -> Result<Seq<Uni
     Ok(parts)
 }
 
-/// Whether the private part of what encloses these units is seen, where it is anyway or one of them is private. Where it is
-/// anyway, or of no units, it takes no memory.
+/// Whether the private part of the unit that encloses these is seen: if it is seen anyway, or if one of them is private. If it is seen
+/// anyway, or there are no such units, it takes no memory.
+/// # Errors
+/// `NoMemory` if the allocator refuses memory.
 pub fn sees_private_part<A: Answers>(
     alloc: Global,
     sees: bool,
@@ -109,7 +115,7 @@ pub fn sees_private_part<A: Answers>(
     Ok(are)
 }
 
-/// The symbol of the package or subprogram with that view. Where there is none it takes no memory.
+/// The symbol of the package or subprogram with that view. If there is no view, it takes no memory.
 fn symbol_of(alloc: Global, view: Option<&View>) -> Result<Option<Symbol>, NoMemory>
     ensures is { IfOk result (λ symbol. symbol ≡ view_symbol (option_copied view.entry)) }
     ensures takes_none { view_symbol (option_copied view.entry) ≡ None → is_ok result ≡ true }
@@ -135,6 +141,8 @@ fn is_package(view: Option<&View>) -> bool
 }
 
 /// The symbol of the unit, by its own view.
+/// # Errors
+/// `NoMemory` if the allocator refuses memory.
 pub fn symbol_from<A: Answers>(
     alloc: Global,
     unit: &UnitKey,
@@ -150,7 +158,7 @@ pub fn symbol_from<A: Answers>(
     Ok(symbol)
 }
 
-/// Enters the region of an ancestor, which has these others nearer to the unit.
+/// Enters the region of an ancestor; these other ancestors are nearer to the unit.
 fn enter_ancestor<A: Answers>(
     alloc: Global,
     scope: &mut Scope,
@@ -219,7 +227,7 @@ fn enter_standard(alloc: Global, scope: &mut Scope) -> Result<(), NoMemory>
     Ok(())
 }
 
-/// The parts that the region of a unit continues. Where there are none it takes no memory.
+/// The parts that the region of a unit continues. If there are none, it takes no memory.
 fn own_parts_of(alloc: Global, unit: &UnitKey, is_package: bool) -> Result<Seq<UnitPart>, NoMemory>
     ensures is { IfOk result (λ parts. parts ≡ own_parts unit.now is_package) }
     ensures takes_none { own_parts unit.now is_package ≡ [] → is_ok result ≡ true }
@@ -232,7 +240,7 @@ fn own_parts_of(alloc: Global, unit: &UnitKey, is_package: bool) -> Result<Seq<U
     Ok(parts)
 }
 
-/// The parts whose use clauses hold in the region of a unit. Where there are none it takes no memory.
+/// The parts whose use clauses hold in the region of a unit. If there are none, it takes no memory.
 fn own_uses_of(alloc: Global, unit: &UnitKey, is_package: bool) -> Result<Seq<UnitPart>, NoMemory>
     ensures is { IfOk result (λ parts. parts ≡ own_uses unit.now is_package) }
     ensures takes_none { own_uses unit.now is_package ≡ [] → is_ok result ≡ true }
@@ -259,7 +267,7 @@ fn stub_parts_of(
     Ok(parts)
 }
 
-/// The parts whose use clauses hold there.
+/// The parts whose use clauses hold in the region of the body at a stub.
 fn stub_uses_of(alloc: Global, stub: &UnitPart, is_package: bool) -> Result<Seq<UnitPart>, NoMemory>
     ensures { IfOk result (λ parts. parts ≡ own_uses stub.now.unit is_package ++ stub.now ∷ []) }
 {
@@ -269,7 +277,7 @@ fn stub_uses_of(alloc: Global, stub: &UnitPart, is_package: bool) -> Result<Seq<
     Ok(used)
 }
 
-/// Enters the region of a body at a stub, where its own view is this.
+/// Enters the region of a body at a stub. Its own view is given.
 fn enter_at<A: Answers>(
     alloc: Global,
     scope: &mut Scope,
@@ -334,7 +342,7 @@ fn enter_stubs<A: Answers>(
     Ok(())
 }
 
-/// The name of the library unit in whose body the outermost stub stands; where there is none, this name.
+/// The name of the library unit whose body has the outermost stub. If there is no stub, this name.
 fn outermost<'a>(name: &'a [u8], stubs: &'a [UnitPart]) -> &'a [u8]
     ensures { result.now ≡ outermost name.now stubs.now }
 {
@@ -344,14 +352,14 @@ fn outermost<'a>(name: &'a [u8], stubs: &'a [UnitPart]) -> &'a [u8]
     }
 }
 
-/// The name of the library unit, of a subunit that of the one whose body it is part of.
+/// The name of the library unit. For a subunit that is the unit whose body it is part of.
 pub fn library_name_of(own: &OwnText) -> &[u8]
     ensures { result.now ≡ library_name own.now }
 {
     outermost(own.unit.name.as_slice(), own.stubs.as_slice())
 }
 
-/// Whether the place sees the ancestors' private parts, whatever these are.
+/// Whether the place sees the ancestors' private parts, whatever the ancestors are.
 fn sees_all_parts(own: &OwnText) -> bool
     ensures { result ≡ sees_all own.now }
 {
@@ -361,7 +369,9 @@ fn sees_all_parts(own: &OwnText) -> bool
             && (own.is_package || matches!(own.symbol.unit.kind, UnitKind::Decl)))
 }
 
-/// Adds the declaration of a library unit's body. Of another unit it takes no memory.
+/// Adds the declaration of a library unit's body. For another unit it takes no memory.
+/// # Errors
+/// `NoMemory` if the allocator refuses memory.
 pub fn add_declaration(
     alloc: Global,
     unit: &UnitKey,
@@ -378,8 +388,10 @@ pub fn add_declaration(
     Ok(())
 }
 
-/// Whether the place at the start of the text sees the ancestors' private parts. Where it isn't that of a library unit's body it takes
-/// no memory.
+/// Whether the place at the start of the source sees the ancestors' private parts. If the unit isn't a library unit's body, it takes no
+/// memory.
+/// # Errors
+/// `NoMemory` if the allocator refuses memory.
 pub fn sees_private_parts<A: Answers>(
     alloc: Global,
     own: &OwnText,
@@ -442,9 +454,11 @@ fn enter_round<A: Answers>(
     Ok(())
 }
 
-/// Enters the regions round the start of a unit's text: Standard's, the ancestors', of a subunit those of the bodies round it at
-/// their stubs, and its own (ARM 8.1, 10.1.1, 10.1.3(8)), with the use clauses that hold there (ARM 8.4(6, 7)). Only other units
-/// are asked: the ancestors, the bodies round a subunit, and the declarations of bodies.
+/// Enters the regions round the start of a unit's source: Standard's, the ancestors', for a subunit those of the bodies round it at their
+/// stubs, and its own (ARM 8.1, 10.1.1, 10.1.3(8)), with the use clauses that hold there (ARM 8.4(6, 7)). Only other units are asked: the
+/// ancestors, the bodies round a subunit, and the declarations of bodies.
+/// # Errors
+/// `NoMemory` if the allocator refuses memory.
 pub fn enter_unit<A: Answers>(
     alloc: Global,
     scope: &mut Scope,

@@ -24,13 +24,13 @@ use std::rc::Rc;
 
 /// What use clauses say of a package.
 pub struct PackageUse {
-    /// Whether one names it (ARM 8.4(3)).
+    /// Whether a use clause names it (ARM 8.4(3)).
     pub is_named: bool,
-    /// Whether it is mentioned where one of them stands: then it is asked for what it declares.
+    /// Whether the package is mentioned at the place of one of the clauses: then it is asked for what it declares.
     pub is_mentioned: bool,
-    /// The types of it that use type clauses name (ARM 8.4(4)).
+    /// The types of the package that use type clauses name (ARM 8.4(4)).
     pub types: Seq<Symbol>,
-    /// The operators of those that are named where it isn't mentioned, as the types' views have them.
+    /// The operators of those types that are named where the package isn't mentioned, as the types' views have them.
     pub operators: Seq<TypeOperators>,
 }
 
@@ -45,7 +45,7 @@ impl Drop for PackageUse {
     }
 }
 
-/// The same symbols once more. Of none it takes no memory.
+/// Copies of symbols. Of no symbols it takes no memory.
 fn copied_symbols(alloc: Global, symbols: &[Symbol]) -> Result<Seq<Symbol>, NoMemory>
     ensures is { IfOk result (λ copy. copy ≡ symbols.now) }
     ensures takes_none { symbols.now ≡ [] → is_ok result ≡ true }
@@ -58,7 +58,7 @@ fn copied_symbols(alloc: Global, symbols: &[Symbol]) -> Result<Seq<Symbol>, NoMe
     Ok(copy)
 }
 
-/// The same operators once more. Of none it takes no memory.
+/// The same operators, shared. Of no operators it takes no memory.
 fn shared_operators(
     alloc: Global,
     operators: &[TypeOperators],
@@ -75,7 +75,7 @@ fn shared_operators(
 }
 
 impl PackageUse {
-    /// What is said of a package that no use clause names. It takes no memory.
+    /// What use clauses say of a package that none of them names. It takes no memory.
     fn none(alloc: Global) -> Self
         ensures { result ≡ no_use }
     {
@@ -87,7 +87,7 @@ impl PackageUse {
         }
     }
 
-    /// The same once more. Where no type is named it takes no memory.
+    /// A copy. If no type is named, it takes no memory.
     fn copy(&self, alloc: Global) -> Result<Self, NoMemory>
         ensures is { IfOk result (λ copy. copy ≡ self.now) }
         ensures takes_none { self.now.types ≡ [] → self.now.operators ≡ [] → is_ok result ≡ true }
@@ -102,14 +102,14 @@ impl PackageUse {
         })
     }
 
-    /// Whether one of them names the type.
+    /// Whether a use type clause names the type.
     fn has_type(&self, symbol: &Symbol) -> bool
         ensures { result ≡ list_any (same_symbol symbol.now) self.now.types }
     {
         self.types.as_slice().iter().any(|of| symbol.is(of))
     }
 
-    /// One more type, with the operators that its view has; once.
+    /// Adds a type with the operators that its view has, unless it is there.
     fn add_operators(
         &mut self,
         alloc: Global,
@@ -148,7 +148,7 @@ impl PackageUse {
             .any(|symbol| view.is_operator_of(symbol))
     }
 
-    /// What is opened of what the package offers. Where that is nothing it takes no memory.
+    /// What the clauses open of what the package offers. If that is nothing, it takes no memory.
     fn opened(&self, alloc: Global, views: &Views) -> Result<Views, NoMemory>
         ensures is { IfOk result (λ opened. opened ≡ filter (opens self.now) views.now) }
         ensures takes_none { filter (opens self.now) views.now ≡ [] → is_ok result ≡ true }
@@ -197,7 +197,9 @@ impl UseClauses {
         }
     }
 
-    /// The same use clauses once more. Of none it takes no memory.
+    /// A copy of the use clauses. Of no clauses it takes no memory.
+    /// # Errors
+    /// `NoMemory` if the allocator refuses memory.
     #[tactic(auto, using(crate::proofs::UseLemmas::uses_none, crate::proofs::UseLemmas::none_uses))]
     pub fn copy(&self) -> Result<Self, NoMemory>
         ensures is { IfOk result (λ copy. copy ≡ self.now) }
@@ -213,7 +215,7 @@ impl UseClauses {
         })
     }
 
-    /// What is said of a package. Where no type of it is named it takes no memory.
+    /// What the clauses say of a package. If no type of it is named, it takes no memory.
     #[tactic(auto, using(crate::proofs::UseLemmas::lookup_uses_of))]
     fn of(&self, package_name: &[u8]) -> Result<PackageUse, NoMemory>
         ensures is { IfOk result (λ used. used ≡ use_of self.now package_name.now) }
@@ -228,7 +230,7 @@ impl UseClauses {
         }
     }
 
-    /// Says this of a package.
+    /// Sets what the clauses say of a package.
     fn set(&mut self, package_name: &[u8], used: PackageUse) -> Result<(), NoMemory>
         ensures ok { OnOk result (self.new ≡ insert_entry name_cmp self.old package_name.now used) }
         ensures err { OnErr result (self.new ≡ self.old) }
@@ -239,7 +241,9 @@ impl UseClauses {
         Ok(())
     }
 
-    /// A use clause that names the package.
+    /// Adds a use clause that names the package.
+    /// # Errors
+    /// `NoMemory` if the allocator refuses memory; the clauses are unchanged then.
     pub fn use_package(&mut self, package_name: &[u8]) -> Result<(), NoMemory>
         ensures { self.new ≡ (if is_ok result then with_package package_name.now self.old else self.old) }
     {
@@ -250,7 +254,9 @@ impl UseClauses {
         Ok(())
     }
 
-    /// A use type clause that names the type, where its package is mentioned.
+    /// Adds a use type clause that names the type, whose package is mentioned.
+    /// # Errors
+    /// `NoMemory` if the allocator refuses memory; the clauses are unchanged then.
     pub fn use_type(&mut self, symbol: Symbol) -> Result<(), NoMemory>
         ensures { self.new ≡ (if is_ok result then with_type symbol self.old else self.old) }
     {
@@ -262,7 +268,9 @@ impl UseClauses {
         Ok(())
     }
 
-    /// A use type clause that names the type, where its package isn't mentioned, with the types that its view has.
+    /// Adds a use type clause that names a type whose package isn't mentioned, with the types that its view has.
+    /// # Errors
+    /// `NoMemory` if the allocator refuses memory; the clauses are unchanged then.
     pub fn use_type_view(&mut self, symbol: &Symbol, types: &Types) -> Result<(), NoMemory>
         ensures { self.new ≡ (if is_ok result then with_type_view symbol.now types.now self.old else self.old) }
     {
@@ -272,7 +280,9 @@ impl UseClauses {
         Ok(())
     }
 
-    /// What is potentially use-visible of a name. Where there are no use clauses it takes no memory.
+    /// What is potentially use-visible of a name. If there are no use clauses, it takes no memory.
+    /// # Errors
+    /// `NoMemory` if the allocator refuses memory.
     pub fn potential<A: Answers>(
         &self,
         mentioned: &Interface,
@@ -301,7 +311,7 @@ impl UseClauses {
     }
 }
 
-/// What a package of use clauses offers under a name. Where it isn't mentioned, it is asked for nothing.
+/// What a package of use clauses offers under a name. If the package isn't mentioned, it isn't asked.
 fn offered_by<A: Answers>(
     alloc: Global,
     mentioned: &Interface,

@@ -177,7 +177,7 @@ fn recast_view(alloc: Global, recasts: &[Recast], view: &View) -> Result<View, N
     }
 }
 
-/// A declaration of whose types some are seen otherwise. Where none is it is shared.
+/// A declaration, some of whose types are seen otherwise. If none is, the view is shared.
 #[tactic(auto, unfolding(crate::specs::Recasts::recast))]
 pub(crate) fn recast(alloc: Global, recasts: &[Recast], view: &View) -> Result<View, NoMemory>
     ensures { IfOk result (λ made. made ≡ recast recasts.now view.now) }

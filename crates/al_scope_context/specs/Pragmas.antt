@@ -26,7 +26,7 @@ names_only name (Some a) = is_one a.names.others
     is_one [] = is_alone a.names.first.first.text a.names.first.selectors name
     is_one (n ∷ ns) = false
 
--- Elaborate_Body with the last identifier of the package's name as its argument or with none, where one may stand: before every declaration of
+-- Elaborate_Body with the last identifier of the package's name as its argument or with none, where one is allowed: before every declaration of
 -- that library package (ARM 10.2.1(20))
 abbrev pub is_elaborate_body : Option (List ℕ) → PragmaTree → Bool
 is_elaborate_body None p = false

@@ -1,4 +1,4 @@
--- What use clauses open at a place, where these packages are mentioned: the names are looked up there, by a table of answers (ARM 8.4).
+-- What use clauses open at a place, if these packages are mentioned: the names are looked up there, by a table of answers (ARM 8.4).
 use Rattle.std.specs.Prelude.{ℕ, Bool, ◌||◌, List, [], ◌∷◌, ◌++◌, Option, Some, None, Result, Ok, Err, if◌then◌else◌}
 use Rattle.al_base.specs.declared.place.Place.{Place as TextPlace}
 use Rattle.al_base.specs.declared.unit_key.UnitKey.{UnitKey}
@@ -30,8 +30,8 @@ use Rattle.al_view.specs.declared.view.ViewKind.TheVariants as views
 abbrev pub names_denoted : Table → Place → List UnitKey → CompoundNameTree → Denotations
 names_denoted t place packages n = denoted (looked_up_all t place packages (identifier_names n.first n.selectors))
 
--- what is wrong with a selector, where the key is the name up to it: E404 at the name's first token where nothing is looked for after the name
--- before it, E401 where nothing is visible
+-- what is wrong with a selector, if the key is the name up to it: E404 at the name's first token if nothing is looked for after the name
+-- before it, E401 if nothing is visible
 abbrev pub selector_fault : Denotations → TextPlace → List ℕ → Label → Option Fault
 selector_fault d p key l = if is_none (d.prefixes key) then Some (wrong_kind p) else if is_none (d.visible key) then Some (not_visible l) else None
 
@@ -39,7 +39,7 @@ abbrev pub unless_faulty : {X : Type 0} → Option Fault → Result X Fault → 
 unless_faulty None r = r
 unless_faulty (Some f) r = Err f
 
--- the key of a name with these selectors after this key, where all of it is visible
+-- the key of a name with these selectors after this key, if all of it is visible
 abbrev pub visible_key : Denotations → TextPlace → List ℕ → List Label → Result (List ℕ) Fault
 visible_key d p key [] = Ok key
 visible_key d p key (l ∷ ls) = unless_faulty (selector_fault d p (dotted key l.text) l) (visible_key d p (dotted key l.text) ls)
@@ -63,7 +63,7 @@ package_at t place packages n = denoted_package (names_denoted t place packages 
 abbrev pub is_looked_for : Place → List UnitKey → Symbol → Bool
 is_looked_for place packages s = (has_unit packages s.unit || is_reserved s.unit.name) || is_declared_round s place.regions
 
--- the operators of the type of a mark (ARM 8.4(4)): where they aren't looked for, those that its view has
+-- the operators of the type of a mark (ARM 8.4(4)): if they aren't looked for, those that its view has
 abbrev pub type_opened : Place → List UnitKey → SubtypeView → UseClause
 type_opened place packages s = if is_looked_for place packages s.subtype.base then «Type» s.subtype.base else Operators s.subtype.base s.types
 
@@ -88,7 +88,7 @@ opened_from t place packages of_type done (n ∷ ns) = next (opened_at t place p
 abbrev pub all_names : CompoundNamesTree → List CompoundNameTree
 all_names n = n.first ∷ n.others
 
--- what a use clause opens, each name looked up in front of the clause (ARM 8.4(6))
+-- what a use clause opens, each name looked up before the clause (ARM 8.4(6))
 unfoldable pub uses_at : Table → Place → List UnitKey → UseTree → Result (List UseClause) Fault
 uses_at t place packages u = opened_from t place packages u.of_type [] (all_names u.names)
 

@@ -17,7 +17,7 @@ use al_unit_graph::is_reserved;
 use al_view::{Seq, SubtypeView, Symbol};
 use std::alloc::Global;
 
-/// Whether the operators of a type are looked for where it is declared.
+/// Whether the operators of a type are looked up where the type is declared.
 fn is_looked_for(scope: &Scope, packages: &[UnitKey], symbol: &Symbol) -> bool
     ensures { result ≡ is_looked_for scope.now packages.now symbol.now }
 {
@@ -122,7 +122,7 @@ fn opened_by<A: Answers>(
     opened_package(alloc, scope, packages, name, recorder)
 }
 
-/// One more clause, if it is right; else its fault.
+/// Adds a clause, if it is right; else the result is its fault.
 fn add_clause(
     clauses: &mut Seq<UseClause>,
     clause: CheckResult<UseClause>,
@@ -139,7 +139,7 @@ fn add_clause(
     }
 }
 
-/// What these names open, after what others do; the first fault.
+/// What these names open, after what others do; or the first fault.
 fn opened_from<A: Answers>(
     alloc: Global,
     scope: &Scope,
@@ -163,8 +163,10 @@ fn opened_from<A: Answers>(
     Ok(Ok(clauses))
 }
 
-/// What a use clause opens at a place, where these packages are mentioned: E401 where a name isn't visible, E404 at what is no package, of a
-/// use type clause at what is no subtype (ARM 8.4(3, 4)).
+/// What a use clause opens at a place, if these packages are mentioned (ARM 8.4(3, 4)).
+/// # Errors
+/// `NoMemory` if the allocator refuses memory. The inner error is E401 at a name that isn't visible, or E404 at what is no package, or in a
+/// use type clause no subtype.
 pub fn uses_at<A: Answers>(
     alloc: Global,
     scope: &Scope,
@@ -188,7 +190,7 @@ pub fn uses_at<A: Answers>(
     Ok(all)
 }
 
-/// What is opened is opened from here on in the innermost region.
+/// Opens from here on, in the innermost region, what the judged clause opens.
 fn use_judged(
     alloc: Global,
     scope: &mut Scope,
@@ -208,8 +210,11 @@ fn use_judged(
     }
 }
 
-/// A use clause in the innermost region of a place, where these packages are mentioned: what it opens is opened from there on (ARM 8.4(6)).
-/// E401 where a name isn't visible, E404 at what is no package, of a use type clause at what is no subtype; then nothing is opened.
+/// Adds a use clause to the innermost region of a place where these packages are mentioned: what it opens is open from there on (ARM
+/// 8.4(6)).
+/// # Errors
+/// `NoMemory` if the allocator refuses memory. The inner error is E401 at a name that isn't visible, or E404 at what is no package, or in a
+/// use type clause no subtype; nothing is opened then.
 pub fn use_at<A: Answers>(
     alloc: Global,
     scope: &mut Scope,

@@ -41,7 +41,7 @@ fn is_new_root(name: &[u8], views: &[View]) -> bool
     parent_of(name).is_none() && is_none(views)
 }
 
-/// A unit with this view, if there is one, is declared in the innermost region, or not.
+/// Declares a unit with this view, if there is one, in the innermost region, if that is wanted.
 fn declare_if(
     scope: &mut Scope,
     new: bool,
@@ -62,7 +62,7 @@ fn declare_if(
     Ok(())
 }
 
-/// A root unit is declared in the region of the clause, once.
+/// Declares a root unit in the region of the clause, once.
 fn add_root<A: Answers>(
     scope: &mut Scope,
     name: &[u8],
@@ -80,7 +80,7 @@ fn add_root<A: Answers>(
     Ok(())
 }
 
-/// One unit is mentioned.
+/// Mentions one unit.
 fn mention_unit<A: Answers>(
     alloc: Global,
     context: &mut Context,
@@ -99,7 +99,7 @@ fn mention_unit<A: Answers>(
     Ok(())
 }
 
-/// Units are mentioned, in their order.
+/// Mentions units, in their order.
 fn mention_units<A: Answers>(
     alloc: Global,
     context: &mut Context,
@@ -138,7 +138,7 @@ fn lineage_of(alloc: Global, name: &[u8]) -> Result<Vec<Name>, NoMemory>
     Ok(names)
 }
 
-/// A with clause names one more unit.
+/// Adds a unit that a with clause names.
 fn add_named(alloc: Global, context: &mut Context, name: &[u8]) -> Result<(), NoMemory>
     ensures named { OnOk result (context.new ≡ with_named context.old name.now) }
     ensures depth { length context.new.scope.regions ≡ length context.old.scope.regions }
@@ -149,7 +149,7 @@ fn add_named(alloc: Global, context: &mut Context, name: &[u8]) -> Result<(), No
     Ok(())
 }
 
-/// One name of a with clause.
+/// Adds one name of a with clause.
 fn add_with<A: Answers>(
     alloc: Global,
     context: &mut Context,
@@ -168,7 +168,7 @@ fn add_with<A: Answers>(
     Ok(())
 }
 
-/// More names of a with clause.
+/// Adds further names of a with clause.
 fn add_each_with<A: Answers>(
     alloc: Global,
     context: &mut Context,
@@ -186,7 +186,7 @@ fn add_each_with<A: Answers>(
     Ok(())
 }
 
-/// A with clause.
+/// Adds a with clause.
 fn add_withs<A: Answers>(
     alloc: Global,
     context: &mut Context,
@@ -203,7 +203,7 @@ fn add_withs<A: Answers>(
     Ok(None)
 }
 
-/// More of what use clauses open.
+/// Appends what further use clauses open.
 fn append_uses(alloc: Global, uses: &mut Seq<UseClause>, more: &[UseClause]) -> Result<(), NoMemory>
     ensures { OnOk result (uses.new ≡ uses.old ++ more.now) }
 {
@@ -214,7 +214,7 @@ fn append_uses(alloc: Global, uses: &mut Seq<UseClause>, more: &[UseClause]) -> 
     Ok(())
 }
 
-/// More of what use clauses open, if these are right; else their fault.
+/// Appends what further use clauses open, if these are right; else the result is their fault.
 fn add_uses(
     alloc: Global,
     uses: &mut Seq<UseClause>,
@@ -232,7 +232,7 @@ fn add_uses(
     }
 }
 
-/// A use clause. What it opens is opened in the unit, and nowhere in the context clause (ARM 8.4(6)).
+/// Adds a use clause. What it opens is opened in the unit, and nowhere in the context clause (ARM 8.4(6)).
 fn add_use<A: Answers>(
     alloc: Global,
     context: &mut Context,
@@ -250,7 +250,7 @@ fn add_use<A: Answers>(
     Ok(fault)
 }
 
-/// One item of a context clause; its fault, which ends it.
+/// Adds one item of a context clause. The result is its fault, which ends the clause.
 fn add_item<A: Answers>(
     alloc: Global,
     context: &mut Context,
@@ -271,7 +271,7 @@ fn add_item<A: Answers>(
     }
 }
 
-/// Where a context clause begins.
+/// The state at the start of a context clause.
 fn context_start(alloc: Global) -> Result<Context, NoMemory>
     ensures { IfOk result (λ context. context ≡ context_start) }
 {
@@ -285,8 +285,10 @@ fn context_start(alloc: Global) -> Result<Context, NoMemory>
     })
 }
 
-/// What a context clause says: whom its with clauses name, and what its use clauses open. Each use clause and pragma sees what the with clauses
-/// before it mention, and what is selected in that, alone (ARM 8.4(6), 10.1.6, 10.2.1); the first that is faulty ends it.
+/// What a context clause says: which units its with clauses name, and what its use clauses open. Each use clause and pragma sees only what
+/// the with clauses before it mention, and what is selected in that (ARM 8.4(6), 10.1.6, 10.2.1).
+/// # Errors
+/// `NoMemory` if the allocator refuses memory. The inner error is the fault of the first item that is faulty, which ends the clause.
 pub fn context_at<A: Answers>(
     alloc: Global,
     items: &[ContextItem],

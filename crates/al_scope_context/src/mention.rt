@@ -26,7 +26,9 @@ fn question(alloc: Global, name: &[u8], kind: UnitKind) -> Result<Query, NoMemor
     Ok(Query::Of { unit, property })
 }
 
-/// The view once more, if there is one.
+/// The same view, shared, if there is one.
+/// # Errors
+/// `NoMemory` if the allocator refuses memory.
 pub fn shared(view: Option<&View>) -> Result<Option<View>, NoMemory>
     ensures { IfOk result (λ copy. copy ≡ option_copied view.entry) }
 {
@@ -37,6 +39,8 @@ pub fn shared(view: Option<&View>) -> Result<Option<View>, NoMemory>
 }
 
 /// The own view of the declaration or the body of that name.
+/// # Errors
+/// `NoMemory` if the allocator refuses memory.
 pub fn view_of<A: Answers>(
     alloc: Global,
     name: &[u8],
@@ -62,7 +66,9 @@ fn view_or(view: Option<View>, other: Option<View>) -> Option<View>
     }
 }
 
-/// What a library unit is by its own view: by that of its declaration, or else by that of the body that acts as one (ARM 10.1.4(4)).
+/// The own view of a library unit: that of its declaration, or else that of the body that acts as one (ARM 10.1.4(4)).
+/// # Errors
+/// `NoMemory` if the allocator refuses memory.
 pub fn library_view<A: Answers>(
     alloc: Global,
     name: &[u8],
@@ -91,7 +97,7 @@ pub(crate) fn has_unit(units: &[UnitKey], unit: &UnitKey) -> bool
     units.iter().any(|other| is_unit(unit, other))
 }
 
-/// One package more, unless it is there.
+/// Adds a package, unless it is there.
 fn add_package(alloc: Global, name: &[u8], packages: &mut Seq<UnitKey>) -> Result<(), NoMemory>
     ensures { OnOk result (packages.new ≡ (if has_unit packages.old (declaration name.now) then packages.old else packages.old ++ declaration name.now ∷ [])) }
 {
@@ -105,7 +111,9 @@ fn add_package(alloc: Global, name: &[u8], packages: &mut Seq<UnitKey>) -> Resul
     Ok(())
 }
 
-/// A unit with this view is mentioned, if there is one; it is one of the packages, if it is one.
+/// Mentions a unit with this view, if there is one. If it is a package, it is added to the packages.
+/// # Errors
+/// `NoMemory` if the allocator refuses memory.
 pub fn mention_view(
     alloc: Global,
     scope: &mut Scope,
@@ -128,7 +136,7 @@ pub fn mention_view(
     Ok(())
 }
 
-/// The unit of that name is mentioned, if it is there.
+/// Mentions the unit of that name, if it exists.
 fn mention_one<A: Answers>(
     alloc: Global,
     scope: &mut Scope,
@@ -145,7 +153,9 @@ fn mention_one<A: Answers>(
     Ok(())
 }
 
-/// The units of these names are mentioned at a place, as far as they are there, and the packages among them are known as such.
+/// Mentions the units of these names at a place, as far as they exist, and adds the packages among them to the packages.
+/// # Errors
+/// `NoMemory` if the allocator refuses memory.
 pub fn mention_all<A: Answers>(
     alloc: Global,
     scope: &mut Scope,

@@ -17,7 +17,7 @@ use al_tree::{CompoundName, Identifier};
 use al_view::{View, ViewKind, Views, copied_unit};
 use std::alloc::Global;
 
-/// The key with one selector more.
+/// The key, longer by one selector.
 fn longer(alloc: Global, key: &[u8], selector: &Identifier) -> Result<Vec<u8>, NoMemory>
     ensures { IfOk result (λ longer. longer.items ≡ dotted key.now (identifier_label selector.now).text) }
 {
@@ -25,8 +25,7 @@ fn longer(alloc: Global, key: &[u8], selector: &Identifier) -> Result<Vec<u8>, N
     Ok(longer)
 }
 
-/// What is wrong with a selector after a key: E404 at the name's first token where nothing is looked for after that, E401 where nothing
-/// is visible.
+/// The fault of a selector after a key: E404 at the name's first token if nothing is looked for after the key, E401 if nothing is visible.
 fn selector_fault(names: &Names, place: Place, key: &[u8], selector: &Identifier) -> Option<Fault>
     ensures { result ≡ selector_fault (denoted names.now) place key.now (identifier_label selector.now) }
 {
@@ -39,7 +38,7 @@ fn selector_fault(names: &Names, place: Place, key: &[u8], selector: &Identifier
     None
 }
 
-/// The key of a whole name, where all of it is visible.
+/// The key of a whole name, if all of it is visible.
 fn visible_key(
     alloc: Global,
     names: &Names,
@@ -86,7 +85,7 @@ fn package_under(
     }
 }
 
-/// The package under a key, if all of it is visible.
+/// The package under a key, if all of the key is visible.
 fn package_after(
     alloc: Global,
     names: &Names,
@@ -104,7 +103,7 @@ fn package_after(
     }
 }
 
-/// The package that a name denotes, where these names of its text are found.
+/// The package that a name denotes, if these names of its source are found.
 fn denoted_package(
     alloc: Global,
     names: &Names,
@@ -122,7 +121,7 @@ fn denoted_package(
     Ok(unit)
 }
 
-/// The package that a name denotes at a place; E401 where a name in it isn't visible, E404 at what is no package.
+/// The package that a name denotes at a place; E401 if a name in it isn't visible, E404 at what is no package.
 pub(crate) fn package_at<A: Answers>(
     alloc: Global,
     scope: &Scope,

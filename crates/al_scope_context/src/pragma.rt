@@ -13,6 +13,8 @@ use al_tree::{CompoundName, Pragma, PragmaArguments};
 use std::alloc::Global;
 
 /// The identifiers of a name with dots between them.
+/// # Errors
+/// `NoMemory` if the allocator refuses memory.
 pub fn full_name(alloc: Global, name: &CompoundName) -> Result<Vec<u8>, NoMemory>
     ensures { IfOk result (λ full. full.items ≡ full_name (compound_model name.now)) }
 {
@@ -71,7 +73,7 @@ fn is_named_elaborate(name: &[u8]) -> bool
     name == b"elaborate".as_slice() || name == b"elaborate_all".as_slice()
 }
 
-/// What is wrong with a pragma in a context clause, after with clauses of these units: Elaborate and Elaborate_All of some of them are right.
+/// The fault of a pragma in a context clause, after with clauses of these units: Elaborate and Elaborate_All of some of them are right.
 pub(crate) fn context_pragma_fault(
     alloc: Global,
     withs: &[UnitKey],

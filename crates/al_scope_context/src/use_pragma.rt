@@ -47,7 +47,7 @@ fn names_only(name: &[u8], arguments: &Option<PragmaArguments>) -> bool
     }
 }
 
-/// Whether it is a pragma Elaborate_Body that stands in its place, with the right argument.
+/// Whether it is a pragma Elaborate_Body at its place, with the right argument.
 fn is_elaborate_body(package_name: Option<&[u8]>, pragma: &Pragma) -> bool
     ensures { result ≡ is_elaborate_body (option_copied package_name.entry) (pragma_model pragma.now) }
 {
@@ -60,8 +60,9 @@ fn is_elaborate_body(package_name: Option<&[u8]>, pragma: &Pragma) -> bool
     }
 }
 
-/// What is wrong with a pragma among declarations. The name is the last identifier of a library package's name, where the pragma stands in the
-/// declaration of that and before all that it declares: there Elaborate_Body is right (ARM 10.2.1(20)). Anywhere else each pragma has E307.
+/// The fault of a pragma among declarations. The name is the last identifier of a library package's name, if the pragma is in the
+/// declaration of that package and before all that it declares: there Elaborate_Body is right (ARM 10.2.1(20)). Anywhere else each pragma
+/// has E307.
 pub fn pragma_fault(package_name: Option<&[u8]>, pragma: &Pragma) -> Option<Fault>
     ensures { result ≡ pragma_fault (option_copied package_name.entry) (pragma_model pragma.now) }
 {

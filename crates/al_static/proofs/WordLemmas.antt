@@ -6,7 +6,7 @@ use Rattle.std.specs.Prelude.{FitsSigned, pos, negsuc}
 use Rattle.std.specs.Int.{w64}
 use Rattle.al_static.specs.Words.{is_word, word_of}
 
--- a number is a word just where it fits
+-- a number is a word if, and only if, it fits
 pub word_tells : (z : ℤ) → ((is_word z ≡ true) × FitsSigned w64 z) ⊎ ((is_word z ≡ false) × (¬ FitsSigned w64 z))
 word_tells (pos n) =
     elim (leb_tells (suc n) 9223372036854775808) [

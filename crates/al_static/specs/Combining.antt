@@ -15,7 +15,7 @@ use Rattle.al_static.specs.declared.knowledge.Known.TheVariants.{Value, Fails, O
 use Rattle.al_static.specs.Operators.{binary_value, converted_value, decides, is_member, is_scalar, keeps_static, unary_value}
 use Rattle.al_static.specs.Words.{bit}
 
--- a static expression whose first token stands there has no value
+-- a static expression whose first token is there has no value
 abbrev pub failure_at : Place → Fault
 failure_at place = fault_at place StaticFailure
 
@@ -24,7 +24,7 @@ is_static (Value v) = true
 is_static (Fails place) = true
 is_static (Open fault) = false
 
--- the first failure in an expression that stands by itself: of its largest static expressions
+-- the first failure in an expression by itself: of its largest static expressions
 abbrev pub failure_in : Known → Option Fault
 failure_in (Value v) = None
 failure_in (Fails place) = Some (failure_at place)
@@ -70,11 +70,11 @@ abbrev pub membership : Place → Bool → Known → Known → Known → Known
 membership place is_negated (Value v) (Value l) (Value h) = Value (record { word = bit (is_member is_negated v.word l.word h.word) })
 membership place is_negated v l h = untested place v l h
 
--- Where the left operand decides, nothing is known to fail in the right one, which isn't evaluated (ARM 4.9(33)).
+-- If the left operand decides, nothing is known to fail in the right one, which isn't evaluated (ARM 4.9(33)).
 abbrev pub decided : StaticValue → Known → Known
 decided v right = if is_static right then Value v else Open None
 
--- where the left operand has a value that doesn't decide, the right one is the value
+-- if the left operand has a value that doesn't decide, the right one is the value
 abbrev pub undecided : Place → Known → Known
 undecided place right = of_one place Some right
 
@@ -82,7 +82,7 @@ abbrev pub short_circuit : Place → ShortCircuit → Known → Known → Known
 short_circuit place form (Value v) right = if decides form v.word then decided v right else undecided place right
 short_circuit place form left right = joined place left right
 
--- a name of an object: a constant with a static value has it, else what fails in the indices is told
+-- a name of an object: a constant with a static value has it, else what fails in the indices is reported
 abbrev pub named : Option StaticValue → Option Fault → Known
 named (Some v) fault = Value v
 named None fault = Open fault

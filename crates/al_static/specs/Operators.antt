@@ -1,4 +1,4 @@
--- What predefined operators and attributes give of static operands (ARM 4.5, 3.5.5), where they give something.
+-- What predefined operators and attributes give of static operands (ARM 4.5, 3.5.5), if they give something.
 use Rattle.std.specs.Prelude.{ℤ, pos, neg_ℤ, unsigned_abs, ◌+ℤ◌, ◌-ℤ◌, ◌*ℤ◌, int_lt, int_le, int_div, int_rem, Bool, true, false, not, ◌&&◌, ◌||◌, if◌then◌else◌, Option, Some, None}
 use Rattle.std.specs.Ordering.{int_eq}
 use Rattle.al_view.specs.declared.types.Bounds.{Bounds}
@@ -64,7 +64,7 @@ is_scalar binary.Power = true
 is_scalar binary.SameWords = false
 is_scalar binary.OtherWords = false
 
--- a value of a range, where there is a range
+-- a value of a range, if there is a range
 abbrev pub within : Option Bounds → ℤ → Option ℤ
 within None z = Some z
 within (Some b) z = if int_le b.low z && int_le z b.high then Some z else None
@@ -74,7 +74,7 @@ abbrev pub word_within : Option Bounds → Option ℤ → Option ℤ
 word_within b None = None
 word_within b (Some z) = within b z
 
--- what an attribute or conversion makes of a value, before it is held against a range
+-- what an attribute or conversion makes of a value, before it is compared with a range
 unfoldable pub changed : Conversion → ℤ → Option ℤ
 changed conversions.ToType z = Some z
 changed conversions.Qualification z = Some z

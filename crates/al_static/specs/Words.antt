@@ -8,7 +8,7 @@ abbrev pub is_word : ℤ → Bool
 is_word (pos n) = nat_lt n 9223372036854775808
 is_word (negsuc n) = nat_lt n 9223372036854775808
 
--- the number as a word, where it is one
+-- the number as a word, if it is one
 abbrev pub word_of : ℤ → Option ℤ
 word_of z = if is_word z then Some z else None
 

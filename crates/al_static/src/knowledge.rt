@@ -1,4 +1,4 @@
-// What is known of an expression by what is known of its operands (ARM 4.9).
+// What is known of an expression from what is known of its operands (ARM 4.9).
 ghost use Rattle.std.specs.Prelude.{◌≡◌, ◌&&◌, if◌then◌else◌};
 ghost use Rattle.std.specs.Option.{option_copied};
 ghost use Rattle.al_base_fault.specs.Faults.{earlier};
@@ -18,13 +18,13 @@ use al_view_typed::{BinaryOperator, Conversion, ShortCircuit, UnaryOperator};
 pub enum Known {
     /// It is static and has this value.
     Value(StaticValue),
-    /// It is static and has no value, as its evaluation would raise Constraint_Error (ARM 4.9(34)). Its first token stands here.
+    /// It is static and has no value, as its evaluation would raise Constraint_Error (ARM 4.9(34)). This is the place of its first token.
     Fails(Place),
-    /// It isn't static. The first of the largest static expressions in it that have no value, if any.
+    /// It isn't static. This is the first of the largest static expressions in it that have no value, if any.
     Open(Option<Fault>),
 }
 
-/// A static expression whose first token stands here has no value.
+/// A static expression without a value, whose first token is at this place.
 fn failure_at(place: Place) -> Fault
     ensures { result ≡ failure_at place }
 {
@@ -44,7 +44,7 @@ fn static_at(place: Place, word: Option<i64>) -> Known
     }
 }
 
-/// An expression that begins here, of two operands one of which at least has no value.
+/// An expression that begins here, of two operands, at least one of which has no value.
 fn joined(place: Place, left: Known, right: Known) -> Known
     ensures { result ≡ joined place left right }
 {
@@ -55,7 +55,7 @@ fn joined(place: Place, left: Known, right: Known) -> Known
     }
 }
 
-/// A membership test that begins here, of a value and two bounds one of which at least has no value.
+/// A membership test that begins here, of a value and two bounds, at least one of which has no value.
 fn untested(place: Place, value: Known, low: Known, high: Known) -> Known
     ensures { result ≡ untested place value low high }
 {
@@ -66,6 +66,7 @@ fn untested(place: Place, value: Known, low: Known, high: Known) -> Known
 }
 
 impl Known {
+    /// Whether the expression is static, with a value or without.
     pub fn is_static(self) -> bool
         ensures { result ≡ is_static self }
     {
@@ -87,7 +88,7 @@ impl Known {
         }
     }
 
-    /// A name of an object. A constant with a static value has that; else there is what fails in its indices.
+    /// The name of an object. A constant with a static value has that value; for another object, what fails in its indices.
     pub fn named(value: Option<StaticValue>, failure: Option<Fault>) -> Known
         ensures { result ≡ named value failure }
     {
@@ -123,8 +124,8 @@ impl Known {
         }
     }
 
-    /// A conversion, a qualified expression, or an attribute or function that is like one, which begins here: of this operand,
-    /// held against this range.
+    /// A conversion, a qualified expression, or an attribute or function that is like one, which begins here: of this operand, checked
+    /// against this range.
     pub fn converted(
         place: Place,
         conversion: Conversion,
@@ -182,7 +183,7 @@ impl Known {
     }
 }
 
-/// Where the left operand decides, nothing fails in the right one, which isn't evaluated (ARM 4.9(33)).
+/// If the left operand decides, nothing fails in the right one, which isn't evaluated (ARM 4.9(33)).
 fn decided(value: StaticValue, right: Known) -> Known
     ensures { result ≡ decided value right }
 {
@@ -193,7 +194,7 @@ fn decided(value: StaticValue, right: Known) -> Known
     }
 }
 
-/// Where it doesn't, the right one is the value.
+/// If the left operand doesn't decide, the right one is the value.
 fn undecided(place: Place, right: Known) -> Known
     ensures { result ≡ undecided place right }
 {

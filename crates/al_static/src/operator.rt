@@ -6,7 +6,7 @@ use crate::word::{bit, divided, is_true, modulus, power, remainder};
 use al_view::Bounds;
 use al_view_typed::{BinaryOperator, Conversion, ShortCircuit, UnaryOperator};
 
-/// What an operator gives of one operand, where that is a word.
+/// What an operator gives of one operand, if that is a word.
 #[tactic(auto, using(crate::proofs::WordLemmas::word_of_some), unfolding(crate::specs::Operators::unary_value))]
 pub(crate) fn unary_value(operator: UnaryOperator, a: i64) -> Option<i64>
     ensures { result ≡ unary_value operator a }
@@ -19,7 +19,7 @@ pub(crate) fn unary_value(operator: UnaryOperator, a: i64) -> Option<i64>
     }
 }
 
-/// What an operator gives of the left operand and the right one, where there is such a word.
+/// What an operator gives of the left operand and the right one, if there is such a word.
 #[tactic(auto, using(crate::proofs::WordLemmas::word_of_some), unfolding(crate::specs::Operators::binary_value))]
 pub(crate) fn binary_value(operator: BinaryOperator, a: i64, b: i64) -> Option<i64>
     ensures { result ≡ binary_value operator a b }
@@ -57,7 +57,7 @@ pub(crate) fn is_scalar(operator: BinaryOperator) -> bool
     )
 }
 
-/// A value of a range, where there is a range.
+/// The value, if it is in the range or there is no range.
 fn within(bounds: Option<Bounds>, word: i64) -> Option<i64>
     ensures { result ≡ within bounds word }
 {
@@ -73,7 +73,7 @@ fn within(bounds: Option<Bounds>, word: i64) -> Option<i64>
     }
 }
 
-/// What an attribute or conversion makes of a value, before it is held against a range.
+/// What an attribute or conversion makes of a value, before it is checked against a range.
 #[tactic(auto, using(crate::proofs::WordLemmas::word_of_some), unfolding(crate::specs::Operators::changed))]
 fn changed(conversion: Conversion, word: i64) -> Option<i64>
     ensures { result ≡ changed conversion word }
@@ -89,7 +89,7 @@ fn changed(conversion: Conversion, word: i64) -> Option<i64>
     }
 }
 
-/// What an attribute or conversion gives of a value, where that is within the range.
+/// What an attribute or conversion gives of a value, if that is within the range.
 pub(crate) fn converted_value(
     conversion: Conversion,
     bounds: Option<Bounds>,
@@ -100,7 +100,7 @@ pub(crate) fn converted_value(
     within(bounds, changed(conversion, word)?)
 }
 
-/// Whether it makes a static expression of one.
+/// Whether the attribute or conversion makes a static expression of a static one.
 #[tactic(auto, unfolding(crate::specs::Operators::keeps_static))]
 pub(crate) fn keeps_static(conversion: Conversion) -> bool
     ensures { result ≡ keeps_static conversion }
@@ -108,7 +108,7 @@ pub(crate) fn keeps_static(conversion: Conversion) -> bool
     !matches!(conversion, Conversion::Milliseconds)
 }
 
-/// Whether a value lies in a range, or doesn't.
+/// Whether a value lies in a range, or doesn't, as the test asks.
 pub(crate) fn is_member(is_negated: bool, word: i64, low: i64, high: i64) -> bool
     ensures { result ≡ is_member is_negated word low high }
 {

@@ -1,4 +1,4 @@
--- What stands after one another.
+-- What comes after one another.
 use Rattle.std.proofs.Common.{◌≡◌, List, Option, Some, None, refl, append_assoc, append-nil}
 use Rattle.al_base_fault.specs.declared.fault.Fault.{Fault}
 use Rattle.al_stmts.specs.FaultLists.{followed}
@@ -34,7 +34,7 @@ parted_by ha hb hc fa fb (Some f) eb sa sb ba bb c = refl
 parted_by ha hb hc fa fb None (Some g) sa sb ba bb c = refl
 parted_by ha hb hc fa fb None None sa sb ba bb c = rw (joined_by fa fb c.checked.faults.faults c.checked.faults.end sa sb c.checked.statements ba bb c.bodies) refl
 
--- it makes no difference where statements are parted
+-- the faults are the same wherever statements are divided
 pub parted : {H : Type 0} (a b c : H × Walked) → walked_after (walked_after a b) c ≡ walked_after a (walked_after b c)
 parted a b c =
     parted_by a.0 b.0 c.0 a.1.checked.faults.faults b.1.checked.faults.faults a.1.checked.faults.end b.1.checked.faults.end a.1.checked.statements b.1.checked.statements a.1.bodies b.1.bodies c.1
@@ -75,7 +75,7 @@ parts_parted_by ha hb hc fa fb (Some f) eb da db ba bb c = refl
 parts_parted_by ha hb hc fa fb None (Some g) da db ba bb c = refl
 parts_parted_by ha hb hc fa fb None None da db ba bb c = rw (parts_by fa fb c.faults.faults c.faults.end da db c.declarations ba bb c.bodies) refl
 
--- it makes no difference where a part is parted
+-- the faults are the same wherever a part is divided
 pub parts_parted : {H : Type 0} (a b c : H × Part) → part_after (part_after a b) c ≡ part_after a (part_after b c)
 parts_parted a b c =
     parts_parted_by a.0 b.0 c.0 a.1.faults.faults b.1.faults.faults a.1.faults.end b.1.faults.end a.1.declarations b.1.declarations a.1.bodies b.1.bodies c.1

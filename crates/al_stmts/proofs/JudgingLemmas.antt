@@ -1,4 +1,4 @@
--- Only how often each value is chosen tells whether ranges are right.
+-- How often each value is chosen decides alone whether ranges are right.
 use Rattle.std.proofs.Common.{◌≡◌, ℕ, ◌<◌, ℤ, Bool, List, ap, sym, subst, ◌∙◌, refl, arith}
 use Rattle.al_view.specs.declared.types.Bounds.{Bounds}
 use Rattle.al_stmts.specs.declared.choice.Selector.{Selector}

@@ -11,7 +11,7 @@ no_length : {X : Type 0} (xs : List X) → length xs ≡ 0 → xs ≡ []
 no_length [] e = refl
 no_length (x ∷ xs) e = absurd (omega (arith, e))
 
--- what is left where the last one is taken, if there is one
+-- what is left if the last one is taken, if there is one
 pub innermost_taken : (old new : EnclosingLoops) (taken : Option (Option (List ℕ))) → old ≡ new ++ option_to_list taken → (0 < length old → IsSome taken) → reverse new ≡ without_innermost (reverse old)
 innermost_taken old new (Some loop) e some = sym (ap (λ l. without_innermost (reverse l)) e ∙ ap without_innermost (reverse_push new loop))
 innermost_taken [] [] None e some = refl

@@ -20,7 +20,7 @@ holds_nothing b v h = grind (arith, ints)
 times_cons : (b : Bounds) (rest : List Bounds) (v : ℤ) → times_chosen (b ∷ rest) v ≡ cond (holds b v) 1 0 + times_chosen rest v
 times_cons b rest v = sum_by-cons (λ r. cond (holds r v) 1 0) b rest
 
--- one more range, which goes only where it has values
+-- one more range, which goes only if it has values
 one_more : (t : Bool) (b : Bounds) (v : ℤ) (kept ranges : List Bounds) → (t ≡ false → holds b v ≡ false) → times_chosen kept v ≡ times_chosen ranges v
     → times_chosen (cons_option (if t then Some b else None) kept) v ≡ times_chosen (b ∷ ranges) v
 one_more true b v kept ranges none e = times_cons b kept v ∙ ap (λ n. cond (holds b v) 1 0 + n) e ∙ sym (times_cons b ranges v)

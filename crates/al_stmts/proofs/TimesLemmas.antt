@@ -22,7 +22,7 @@ is_none v r h = ap (λ t. cond t 1 0) h
 pub chosen_at : (rs : List Bounds) (v : ℤ) (k : ℕ) (d : Bounds) → k < length rs → holds (get_or rs k d) v ≡ true → 0 < times_chosen rs v
 chosen_at rs v k d lt h = omega (arith, get_or-le-sum_by (in_range v) rs k d lt, is_one v (get_or rs k d) h)
 
--- and so it is where more ranges stand after
+-- and so it is if more ranges come after
 pub chosen_more : (rs : List Bounds) (v : ℤ) (n : ℕ) → 0 < times_chosen (take n rs) v → 0 < times_chosen rs v
 chosen_more rs v n h = omega (arith, sum_by-take-le (in_range v) rs n)
 
@@ -37,7 +37,7 @@ pub chosen_twice : (rs : List Bounds) (v : ℤ) (j : ℕ) (d : Bounds) → j + 1
 chosen_twice rs v j d lt one two =
     omega (arith, sum_by_more (in_range v) rs j d (omega arith), sum_by_more (in_range v) rs (j + 1) d lt, sum_by-take-le (in_range v) rs (j + 1 + 1), is_one v (get_or rs j d) one, is_one v (get_or rs (j + 1) d) two)
 
--- where all ranges lie within another one, so do the chosen values
+-- if all ranges lie within another one, so do the chosen values
 pub chosen_within : (rs : List Bounds) (whole : Bounds) (v : ℤ) → All (λ r. (whole.low ≤ℤ r.low) × (r.high ≤ℤ whole.high)) rs → 0 < times_chosen rs v → (t : Bool) → holds whole v ≡ t → t ≡ true
 chosen_within rs whole v all some true e = refl
 chosen_within rs whole v all some false e =
@@ -48,7 +48,7 @@ pub none_between : (rs : List Bounds) (v : ℤ) (n : ℕ) → AllWithin (λ r. r
 none_between rs v n before after =
     none_chosen rs v (λ k d lt. elim (cases_lt k n) [ inl l ↦ none_after (get_or rs k d) v (before k d (omega arith) l) | inr h ↦ none_before (get_or rs k d) v (after k d h lt) ])
 
--- where all chosen values lie within a range, so do the bounds of the ranges
+-- if all chosen values lie within a range, so do the bounds of the ranges
 pub bounds_within : (rs : List Bounds) (whole : Bounds) (n : ℕ) (e : Bounds) → n < length rs → All (λ r. has_values r ≡ true) rs → ((v : ℤ) → 0 < times_chosen rs v → holds whole v ≡ true)
     → (whole.low ≤ℤ (get_or rs n e).low) × ((get_or rs n e).high ≤ℤ whole.high)
 bounds_within rs whole n e lt some all =

@@ -8,10 +8,10 @@ use Rattle.al_stmts.specs.FaultLists.{all_faults, followed, no_fault, of_declara
 abbrev pub StatementsEndNoList : Type 0
 StatementsEndNoList = (f : Fault) (after : FaultList) → all_faults (followed (of_statement (Some f)) after) ≡ f ∷ all_faults after
 
--- after a faulty declaration nothing is told
+-- after a faulty declaration nothing is reported
 abbrev pub DeclarationsEndTheList : Type 0
 DeclarationsEndTheList = (before : FaultList) (f : Fault) (after : FaultList) → followed (followed before (of_declaration (Some f))) after ≡ followed before (of_declaration (Some f))
 
--- it makes no difference where a text is parted
+-- the faults are the same wherever the source is divided
 abbrev pub PartsFollow : Type 0
 PartsFollow = (a b c : FaultList) → followed (followed a b) c ≡ followed a (followed b c)

@@ -12,7 +12,7 @@ use Rattle.al_view_typed.specs.StatementViews.{branch_model, branches_of, statem
 use Rattle.al_stmts.specs.Checking.{Checked, compound}
 use Rattle.al_stmts.specs.declared.branches.CheckedBranches.{CheckedBranches}
 
--- the branches so far: what is wrong inside them, the first fault of a condition, and what is done where no condition holds
+-- the branches so far: what is wrong inside them, the first fault of a condition, and what is done if no condition holds
 pub record Branched : Type 0 where
   pub faults : FaultList
   pub own : Option Fault

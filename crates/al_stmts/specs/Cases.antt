@@ -42,7 +42,7 @@ no_alternative = record { fault = None; alternatives = [] }
 abbrev pub with_choices : CaseChoices → AlternativeChoices → CaseChoices
 with_choices c a = record { fault = earlier c.fault a.fault; alternatives = c.alternatives ++ a.choices ∷ [] }
 
--- what the choices of a selector are held against: the range of its nominal subtype, where it has one, or else that of its whole
+-- what the choices of a selector are compared with: the range of its nominal subtype, if it has one, or else that of its whole
 -- type (ARM 5.4(7 to 9))
 abbrev pub held_against : Option Bounds → Bounds → Selector
 held_against (Some bounds) whole = OfSubtype bounds
@@ -51,12 +51,12 @@ held_against None whole = OfType whole
 abbrev pub bounds_of : TypedTree → Option Bounds
 bounds_of (Labelled labels form) = labels.bounds
 
--- the same of a selector that has no fault
+-- what the choices are compared with, for a selector that has no fault
 abbrev pub held_by : Result TypedTree Fault → Bounds → Option Selector
 held_by (Ok s) whole = Some (held_against (bounds_of s) whole)
 held_by (Err f) whole = None
 
--- the choices are right for what they are held against; where the selector has a fault, nothing is asked of them
+-- the choices are right for what they are compared with; if the selector has a fault, nothing is asked of them
 abbrev pub RightFor : Option Selector → List (List Choice) → Type 0
 RightFor (Some selector) alternatives = AreRight selector alternatives
 RightFor None alternatives = Unit {0}
@@ -64,7 +64,7 @@ RightFor None alternatives = Unit {0}
 abbrev pub right_or_told : Place → Bool → TypedTree → Result TypedTree Fault
 right_or_told place are_right s = if are_right then Ok s else Err (fault_at place BadChoices)
 
--- The selector with its choices, which are right for it or not: that they aren't is told, at `case`, only where neither the selector
+-- The selector with its choices, which are right for it or not: that they aren't is reported, at `case`, only if neither the selector
 -- nor a choice has a fault.
 abbrev pub selected : Place → Result TypedTree Fault → Option Fault → Bool → Result TypedTree Fault
 selected place selector fault are_right = next (unless fault selector) (right_or_told place are_right)

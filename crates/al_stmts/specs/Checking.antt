@@ -19,12 +19,12 @@ one_checked s = record { faults = s.faults; statements = option_to_list (option_
 abbrev pub all_checked : CheckedStatements → Checked
 all_checked s = record { faults = s.faults; statements = map statement_model s.statements.items }
 
--- one thing that was checked, and then what stands after it
+-- one thing that was checked, and then what comes after it
 abbrev pub checked_after : Checked → Checked → Checked
 checked_after a b = record { faults = followed a.faults b.faults; statements = a.statements ++ b.statements }
 
--- A statement by its own parts, with what is wrong with what stands inside it. Of its own parts it has the first fault alone, and
--- is then no statement; what stands inside it has its faults all the same.
+-- A statement by its own parts, with what is wrong with what is inside it. Of its own parts it has the first fault alone, and
+-- is then no statement; what is inside it has its faults all the same.
 abbrev pub compound : Result StatementTree Fault → FaultList → Checked
 compound (Ok s) inner = record { faults = inner; statements = s ∷ [] }
 compound (Err f) inner = record { faults = round (Some f) inner; statements = [] }

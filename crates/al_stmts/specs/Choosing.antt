@@ -12,12 +12,12 @@ abbrev pub range_of : Choice → Option Bounds
 range_of (Range bounds) = Some bounds
 range_of _ = None
 
--- the range of a choice, where it has values
+-- the range of a choice, if it has values
 abbrev pub value_range : Choice → Option Bounds
 value_range (Range bounds) = if has_values bounds then Some bounds else None
 value_range _ = None
 
--- the ranges of all choices, in the order of the text
+-- the ranges of all choices, in source order
 abbrev pub ranges_of : List (List Choice) → List Bounds
 ranges_of alternatives = flat_map (filter_map range_of) alternatives
 
@@ -32,12 +32,12 @@ is_of_type _ = true
 abbrev pub has_others : List Choice → Bool
 has_others choices = list_any is_others choices
 
--- where an alternative has `others`, that is its only choice, and the alternative is the last one (ARM 5.4(5))
+-- if an alternative has `others`, that is its only choice, and the alternative is the last one (ARM 5.4(5))
 abbrev pub OthersIsAloneAndLast : List (List Choice) → Type 0
 OthersIsAloneAndLast alternatives =
     EachIndex alternatives (λ i. IsTrue (has_others (slice_index_or alternatives i [])) → (length (slice_index_or alternatives i []) ≡ 1) × (i + 1 ≡ length alternatives))
 
--- the range of the values that the choices cover: those of the selector's subtype, where that is static, else of its type
+-- the range of the values that the choices cover: those of the selector's subtype, if that is static, else of its type
 abbrev pub covered_by : Selector → Bounds
 covered_by (OfSubtype bounds) = bounds
 covered_by (OfType bounds) = bounds

@@ -12,7 +12,7 @@ abbrev pub ends : Option (List ℕ) → List ℕ → Bool
 ends None spelled = false
 ends (Some name) spelled = str_eq_ignore_ascii_case name spelled
 
--- the fault at the name's first token; where no name stands at the end there is none
+-- the fault at the name's first token; if no name is at the end there is none
 abbrev pub end_fault : Option (List ℕ) → Option (Place × List ℕ) → Option Fault
 end_fault name None = None
 end_fault name (Some (place, spelled)) = if ends name spelled then None else Some (fault_at place EndName)

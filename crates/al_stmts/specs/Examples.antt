@@ -1,5 +1,5 @@
 -- Short texts with what is wrong with them, over a reading that knows two things: `foo` is not visible anywhere, and a subprogram that is
--- declared waits until a body stands there, which none does. A body is entered with its head. So the walk itself is held against lists that are known.
+-- declared waits until a body is there, which none does. A body is entered with its head. So the walk itself is compared with lists that are known.
 use Rattle.std.specs.Prelude.{◌≡◌, ◌+◌, ℕ, pos, false, List, [], ◌∷◌, Option, Some, None, Result, Ok, Err, codes, if◌then◌else◌}
 use Rattle.std.specs.Str.{bytes_eq}
 use Rattle.al_base.specs.declared.place.Place.{Place}
@@ -101,7 +101,7 @@ context_of (ProcedureSpecification l n f) = record { body = bodies.Procedure; wo
 context_of (FunctionSpecification l n f r m) = record { body = bodies.Function; words = 1; bounds = None }
 
 -- how far the check has come: of the bodies round the place, the innermost first, the names that wait for a body in it and what returns in it
--- stand in
+-- are in
 abbrev pub Bodies : Type 0
 Bodies = List (List (List ℕ) × ReturnContext)
 
@@ -315,7 +315,7 @@ wrong_operation = SubprogramOperation procedure_x (Body NoItem (at 60) (one (wro
 abbrev pub wrong_entry : OperationBodyTree
 wrong_entry = EntryOperation (at 100) (x 106) (Name (x 113)) (Handled NoItem (at 118) (one (wrong_at 124)) (record { end = at 138; end_name = None }))
 
--- protected body foo is procedure x is begin foo := x; end; end x; where an operation has no body, a second item
+-- protected body foo is procedure x is begin foo := x; end; end x; if an operation has no body, a second item
 abbrev pub WhatIsMissingEndsAProtectedBody : Type 0
 WhatIsMissingEndsAProtectedBody =
     (b : LabelledBody) → told_of_items b (MoreItems (ProtectedBodyItem (at 16) (foo 31) (MoreOperationBodies wrong_operation NoOperationBody) (record { end = at 90; end_name = Some (x 94) })) (object_of (foo 110)))

@@ -7,7 +7,7 @@ use Rattle.al_base_fault.specs.declared.check_rule.CheckRule.TheVariants.{BadExi
 use Rattle.al_base_fault.specs.Faults.{fault_at}
 use Rattle.al_base_fault.specs.declared.fault.Fault.{Fault}
 
--- the loops round a statement, innermost first, each with its name where it has one
+-- the loops round a statement, innermost first, each with its name if it has one
 abbrev pub EnclosingLoops : Type 0
 EnclosingLoops = List (Option (List ℕ))
 
@@ -17,7 +17,7 @@ may_leave None loop = true
 may_leave (Some name) (Some loop) = bytes_eq name loop
 may_leave (Some name) None = false
 
--- how many loops stand between the statement and the loop that it leaves: the innermost one that it may leave
+-- how many loops are between the statement and the loop that it leaves: the innermost one that it may leave
 abbrev pub loops_between : EnclosingLoops → Option (List ℕ) → Option ℕ
 loops_between loops name = position (may_leave name) loops
 

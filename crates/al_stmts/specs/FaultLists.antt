@@ -16,7 +16,7 @@ of_statement fault = record { faults = option_to_list fault; end = None }
 abbrev pub of_declaration : Option Fault → FaultList
 of_declaration fault = record { faults = []; end = fault }
 
--- what is wrong with a text and then with what stands after it: nothing after a faulty declaration is looked at
+-- what is wrong with a text and then with what comes after it: nothing after a faulty declaration is looked at
 abbrev pub followed : FaultList → FaultList → FaultList
 followed a b = after a.end
   where
@@ -24,17 +24,17 @@ followed a b = after a.end
     after (Some f) = a
     after None = record { faults = a.faults ++ b.faults; end = b.end }
 
--- whether one place stands after another one
+-- whether one place comes after another one
 abbrev pub is_after : Place → Place → Bool
 is_after p q = nat_lt q.line p.line || ((p.line == q.line) && nat_lt q.col p.col)
 
--- whether a fault stands after the end of a list
+-- whether a fault comes after the end of a list
 abbrev pub is_cut : Fault → Option Fault → Bool
 is_cut f None = false
 is_cut f (Some last) = is_after f.place last.place
 
--- a statement's own fault, and what is wrong with what stands inside it. The own one may stand at a word after all that, and is
--- then cut off where a faulty declaration ends the list before.
+-- a statement's own fault, and what is wrong with what is inside it. The own one may be at a word after all that, and is
+-- then cut off if a faulty declaration ends the list before.
 abbrev pub round : Option Fault → FaultList → FaultList
 round None inner = inner
 round (Some f) inner = if is_cut f inner.end then inner else record { faults = f ∷ inner.faults; end = inner.end }

@@ -1,4 +1,4 @@
--- What a walk tells, over any reading.
+-- What a walk gives, over any reading.
 use Rattle.std.specs.Prelude.{◌≡◌}
 use Rattle.al_tree_syntax.specs.StatementTrees.{ItemTree, ItemsTree, MoreStatementsTree, OperationBodiesTree, OperationBodyTree, StatementTree}
 use Rattle.al_tree_syntax.specs.StatementTrees.ItemsTree.{MoreItems}

@@ -19,7 +19,7 @@ use Rattle.al_stmts.specs.Checking.{Checked, compound}
 use Rattle.al_stmts.specs.declared.loops.LoopRange.{LoopRange}
 use Rattle.al_stmts.specs.declared.loops.LoopWords.{LoopWords}
 
--- the values of a loop's parameter: both bounds, and the range of the mark that stands before `range`
+-- the values of a loop's parameter: both bounds, and the range of the mark that comes before `range`
 pub record RangeTree : Type 0 where
   pub low : TypedTree
   pub high : TypedTree
@@ -28,12 +28,12 @@ pub record RangeTree : Type 0 where
 abbrev pub range_model : LoopRange → RangeTree
 range_model r = record { low = typed_model r.low; high = typed_model r.high; mark = r.mark }
 
--- a static bound of a mark, which stands there, as an expression
+-- a static bound of a mark, which is there, as an expression
 abbrev pub bound_of : Place → Symbol → StaticValue → TypedTree
 bound_of place type_symbol value =
     Labelled (record { place = place; of = Declared type_symbol; bounds = None; words = 1; value = Some value }) (forms.LiteralForm value)
 
--- the range of a mark that stands alone
+-- the range of a mark that is alone
 abbrev pub range_of_mark : Place → Symbol → Bounds → RangeTree
 range_of_mark place type_symbol bounds = record {
   low = bound_of place type_symbol (record { word = bounds.low });
@@ -44,7 +44,7 @@ range_of_mark place type_symbol bounds = record {
 abbrev pub value_in : TypedTree → Option StaticValue
 value_in (Labelled labels form) = labels.value
 
--- the range of the parameter's subtype, which is static where both bounds are (ARM 4.9(26))
+-- the range of the parameter's subtype, which is static if both bounds are (ARM 4.9(26))
 abbrev pub static_range : Option StaticValue → Option StaticValue → Option Bounds
 static_range (Some low) (Some high) = Some (record { low = low.word; high = high.word })
 static_range (Some low) None = None
@@ -68,7 +68,7 @@ looped_over line scheme ss = next scheme (λ s. Ok (numbered.Numbered line (stat
 abbrev pub looped : ℕ → Result SchemeTree Fault → Option Fault → Checked → Checked
 looped line scheme end inner = compound (unless end (looped_over line scheme inner.statements)) inner.faults
 
--- a block, with the fault of the name at its end; what is wrong with its declarations stands before its statements
+-- a block, with the fault of the name at its end; what is wrong with its declarations comes before its statements
 abbrev pub blocked : ℕ → List DeclarationTree → Option Fault → Checked → Checked
 blocked line declarations end inner =
     compound (unless end (Ok (numbered.Numbered line (statements.BlockStatement declarations (statements_of inner.statements))))) inner.faults

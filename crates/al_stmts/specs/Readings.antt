@@ -34,7 +34,7 @@ abbrev pub giving : {H A : Type 0} → H → A → H × A
 giving h a = (h, a)
 
 pub record Reading (H : Type 0) : Type 0 where
-  -- ---- expressions, each with its labels and with the words of its temporaries in the order of the text
+  -- ---- expressions, each with its labels and with the words of its temporaries in source order
   pub condition : H → ExpressionTree → Read H TypedTree
   pub moment : H → ExpressionTree → Read H TypedTree
   -- what is assigned to, and the value that is wanted at its type
@@ -55,11 +55,11 @@ pub record Reading (H : Type 0) : Type 0 where
   -- ---- regions (ARM 8.1): of a loop, in which its parameter is begun; of a block; both are left again
   pub loop_entered : H → Label → H
   pub loop_range : H → DiscreteRangeTree → Read H RangeTree
-  -- the parameter is declared, where its range is right
+  -- the parameter is declared, if its range is right
   pub with_parameter : H → Label → RangeTree → LoopWords → H
   pub block_entered : H → H
   pub left : H → H
-  -- ---- declarations: what they do where they stand, or their fault
+  -- ---- declarations: what they do at their places, or their fault
   pub declared : H → CommonTree → Read H (List DeclarationTree)
   pub subprogram : H → SpecificationTree → Read H (List DeclarationTree)
   pub stub : H → SpecificationTree → Label → Read H (List DeclarationTree)
@@ -68,20 +68,20 @@ pub record Reading (H : Type 0) : Type 0 where
   pub single_object : H → Label → ProtectedTree → Read H (List DeclarationTree)
   -- what waits for its body at the end of a part
   pub missing : H → Label → Option Fault
-  -- ---- bodies: what stands before `is`, with what the body does where it stands; of a subprogram, of a task by its name, of an entry by
+  -- ---- bodies: what comes before `is`, with what the body does at its place; of a subprogram, of a task by its name, of an entry by
   -- its name and its barrier (ARM 6.3, 9.1, 9.5.2)
   pub head : H → SpecificationTree → Read H (List DeclarationTree)
   pub task_head : H → Label → Read H (List DeclarationTree)
   pub entry_head : H → Label → ExpressionTree → Read H (List DeclarationTree)
   -- after its head, the region of a body with its formals, one deeper, where the words of the frame begin after theirs
   pub body_entered : H → H
-  -- what its return statements stand in
+  -- what its return statements are in
   pub returns : H → ReturnContext
-  -- after what stood inside: the body as it is labelled; and how far the check has come after it, in what stands round it
+  -- after what was inside: the body as it is labelled; and how far the check has come after it, in what is round it
   pub body : H → BodyExtent → List DeclarationTree → List StatementTree → BodyTree
   pub body_left : H → H
   -- ---- protected bodies (ARM 9.4): by the place of `protected`, the name and the operations a region in which these wait for their
-  -- bodies, with what the body does where it stands; it is left again
+  -- bodies, with what the body does at its place; it is left again
   pub object_entered : H → Label → Label → OperationBodiesTree → Read H (List DeclarationTree)
   pub object_left : H → H
   -- ---- units

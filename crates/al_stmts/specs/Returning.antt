@@ -1,4 +1,4 @@
--- Whether a return statement stands among statements: one of theirs, or one inside them, but for those of bodies among their
+-- Whether a return statement is among statements: one of theirs, or one inside them, but for those of bodies among their
 -- declarations, which are the return statements of these (ARM 6.5(5)).
 use Rattle.std.specs.Prelude.{Bool, true, false, ◌||◌}
 use Rattle.al_tree_syntax.specs.StatementTrees.{StatementsTree, MoreStatementsTree, StatementTree, BranchTree, ElsifsTree, ElseTree, AlternativeTree, AlternativesTree, LoopTree, BlockTree, HandledTree}

@@ -7,7 +7,7 @@ use Rattle.al_base_fault.specs.declared.fault.Fault.{Fault}
 use Rattle.al_stmts.specs.declared.returns.EnclosingBody.{EnclosingBody}
 use Rattle.al_stmts.specs.declared.returns.EnclosingBody.TheVariants.{Function, Procedure, Entry, Package, Task}
 
--- whether a return statement, with a value or without one, may stand in the body: that of a function has a value, that of
+-- whether a return statement, with a value or without one, is allowed in the body: that of a function has a value, that of
 -- a procedure or an entry has none, and in other bodies there is none (ARM 6.5(4, 5))
 abbrev pub may_return : EnclosingBody → Bool → Bool
 may_return Function has_value = has_value

@@ -18,7 +18,7 @@ use Rattle.al_view_typed.specs.declared.label.Labels.{Labels}
 use Rattle.al_stmts.specs.declared.simple.ReturnContext.{ReturnContext}
 use Rattle.al_stmts.specs.declared.target.Target.{Target}
 
--- a variable that is assigned to: its words, and the range of its nominal subtype where that is scalar
+-- a variable that is assigned to: its words, and the range of its nominal subtype if that is scalar
 pub record TargetTree : Type 0 where
   pub name : NameTree
   pub words : ℕ
@@ -64,7 +64,7 @@ abbrev pub value_returned : ℕ → ReturnContext → Result TypedTree Fault →
 value_returned line context value =
     next value (λ v. Ok (numbered.Numbered line (statements.ReturnStatement (Some (values.Checked v context.bounds)) context.words)))
 
--- a return statement, by the innermost body round it: one that may not stand there is told at its first word, before its value
+-- a return statement, by the innermost body round it: one that isn't allowed there is reported at its first word, before its value
 abbrev pub returned : Place → ReturnContext → Option (Result TypedTree Fault) → Result StatementTree Fault
 returned place context None =
     unless (return_fault place context.body false) (Ok (numbered.Numbered place.line (statements.ReturnStatement None 0)))

@@ -16,7 +16,7 @@ use Rattle.al_stmts.specs.Checking.{Checked, alone, broken_off, checked_after}
 use Rattle.al_stmts.specs.LoopForms.{blocked, looped}
 use Rattle.al_stmts.specs.declared.simple.ReturnContext.{ReturnContext}
 
--- what stands round statements: the innermost body, and the loops in it
+-- what is round statements: the innermost body, and the loops in it
 pub record Enclosing : Type 0 where
   pub returns : ReturnContext
   pub loops : EnclosingLoops
@@ -24,7 +24,7 @@ pub record Enclosing : Type 0 where
 abbrev pub name_of : Option Label → Option (List ℕ)
 name_of name = option_map (λ l. l.text) name
 
--- one more loop, with its name where it has one
+-- one more loop, with its name if it has one
 abbrev pub in_loop : Enclosing → Option Label → Enclosing
 in_loop r name = record { returns = r.returns; loops = name_of name ∷ r.loops }
 
@@ -87,7 +87,7 @@ pub record Choosing : Type 0 where
 unfoldable pub choosing : ℕ → Result TypedTree Fault → List (List Choice) → Choosing
 choosing slot selector choices = record { slot = slot; selector = selector; choices = choices; so_far = none_chosen; bodies = [] }
 
--- those of the next alternative, and the rest
+-- the choices of the next alternative, and those after them
 abbrev pub next_choices : List (List Choice) → List Choice
 next_choices [] = []
 next_choices (c ∷ cs) = c
@@ -146,7 +146,7 @@ pub record Inside : Type 0 where
   pub statements : List StatementTree
   pub bodies : List BodyTree
 
--- what is wrong with both stands in one list
+-- what is wrong with both is in one list
 unfoldable pub inside_of : Part → Walked → Inside
 inside_of part inner = record {
   faults = followed part.faults inner.checked.faults;
@@ -166,7 +166,7 @@ block_of line end inside = record {
 abbrev pub body_faults : FaultList → Option Fault → Option Fault → FaultList
 body_faults inside no_return end = followed (followed inside (of_statement no_return)) (of_declaration end)
 
--- a body by what it does where it stands, by what is wrong at its end, and by what it is with its labels, which stands in front of the bodies
+-- a body by what it does at its place, by what is wrong at its end, and by what it is with its labels, which is before the bodies
 -- inside it
 unfoldable pub body_of : List DeclarationTree → Option Fault → Option Fault → BodyTree → Inside → Part
 body_of effects no_return end body inside = record {
@@ -184,7 +184,7 @@ ended_by inside fault = record {
   bodies = inside.bodies;
 }
 
--- a protected body by what it does where it stands, with its operations' bodies and the fault of the name at its end, which counts as a
+-- a protected body by what it does at its place, with its operations' bodies and the fault of the name at its end, which counts as a
 -- declaration
 unfoldable pub object_of : List DeclarationTree → Option Fault → Part → Part
 object_of effects end operations = record { faults = followed operations.faults (of_declaration end); declarations = effects; bodies = operations.bodies }

@@ -34,7 +34,7 @@ private_walked R h (Some p) = declarations_walked R (R.private_entered h) p.decl
 abbrev pub parts_walked : {H : Type 0} → Reading H → H → PackageTree → H × Part
 parts_walked R h k = let visible = declarations_walked R h k.visible in part_after visible (private_walked R visible.0 k.private_part)
 
--- both parts up to the end: E302 there where a private type has no full declaration
+-- both parts up to the end: E302 there if a private type has no full declaration
 abbrev pub parts_completed : {H : Type 0} → Reading H → H × Part → Label → H × Part
 parts_completed R part end = (part.0, closed_by part.1 (R.incomplete part.0 end))
 
@@ -58,7 +58,7 @@ abbrev pub package_body_walked : {H : Type 0} → Reading H → H → PackageBod
 package_body_walked R h k =
     let inside = package_inside R (items_walked R h k.items) k.end.end k.statements in (inside.0, ended_by inside.1 (end_of_compound k.name k.end.end_name))
 
--- the item of a unit. The head of a library body is held against its declaration, that of a subunit against its stub, whatever their
+-- the item of a unit. The head of a library body is compared with its declaration, that of a subunit with its stub, whatever their
 -- types are; after it the ancestors' private parts are seen.
 abbrev pub unit_walked : {H : Type 0} → Reading H → H → LibraryItemTree → H × Inside
 unit_walked R h (LibrarySubprogram p s) = without_statements (declared_part (R.subprogram h s))

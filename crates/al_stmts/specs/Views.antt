@@ -1,4 +1,4 @@
--- What declarations do where they stand, as plain data.
+-- What declarations do at their places, as plain data.
 use Rattle.std.specs.Prelude.{List, Vec, map}
 use Rattle.std.specs.declared.alloc.Global.{Global}
 use Rattle.al_view_typed.specs.DeclarationTrees.{DeclarationTree, declaration_model}

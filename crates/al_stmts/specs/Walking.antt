@@ -1,4 +1,4 @@
--- The walk over statements, blocks and bodies: what is wrong with them, and what they are with their labels. What was walked over stands in a
+-- The walk over statements, blocks and bodies: what is wrong with them, and what they are with their labels. What was walked over is in a
 -- pair: how far the check has come after it, and what it gives.
 use Rattle.std.specs.Prelude.{ℕ, Bool, true, false, List, ◌∷◌, ◌++◌, fold, Option, Some, None, option_map, is_some, is_ok, Result, Ok, Err, if◌then◌else◌}
 use Rattle.al_base.specs.declared.place.Place.{Place}
@@ -94,11 +94,11 @@ abbrev pub more_choices : {H : Type 0} → Reading H → H → ExpressionTree �
 more_choices R h e so_far NoAlternative = so_far
 more_choices R h e so_far (MoreAlternatives a more) = more_choices R h e (choices_walked R h e so_far a) more
 
--- of all alternatives; where the selector is faulty none is looked at
+-- of all alternatives; if the selector is faulty none is looked at
 abbrev pub all_choices : {H : Type 0} → Reading H → H → ExpressionTree → Bool → AlternativeTree → AlternativesTree → CaseChoices
 all_choices R h e is_right first more = if is_right then more_choices R h e (choices_walked R h e no_alternative first) more else no_alternative
 
--- whether they are right; where the selector is faulty nothing is asked of them
+-- whether they are right; if the selector is faulty nothing is asked of them
 abbrev pub right_choices : {H : Type 0} → Reading H → H → ExpressionTree → Result TypedTree Fault → CaseChoices → Bool
 right_choices R h e selector choices = held (held_by selector (R.whole h e))
   where
@@ -106,7 +106,7 @@ right_choices R h e selector choices = held (held_by selector (R.whole h e))
     held None = true
     held (Some s) = R.are_right s choices.alternatives
 
--- ---- what stands before the statements inside a statement
+-- ---- what comes before the statements inside a statement
 
 -- a selector that was read, with its choices
 abbrev pub case_after : {H : Type 0} → Reading H → H → Place → ℕ → ExpressionTree → Result TypedTree Fault → AlternativeTree → AlternativesTree → H × Choosing
@@ -125,7 +125,7 @@ while_walked condition = (condition.0, while_scheme condition.1)
 abbrev pub loop_words : {H : Type 0} → Reading H → H → LoopWords
 loop_words R h = record { parameter = R.word h; last = R.word (R.with_word h) }
 
--- a for loop up to its statements: both words are taken first; where its range is right the parameter is declared
+-- a for loop up to its statements: both words are taken first; if its range is right the parameter is declared
 abbrev pub parameter_declared : {H : Type 0} → Reading H → H → Label → Bool → LoopWords → Result RangeTree Fault → H × Result SchemeTree Fault
 parameter_declared R h i is_reverse words (Ok range) = (R.with_parameter h i range words, Ok (for_scheme is_reverse range words))
 parameter_declared R h i is_reverse words (Err f) = (h, Err f)
@@ -160,7 +160,7 @@ end_of_compound n end = end_fault (Some (dotted n.first n.selectors)) (compound_
 
 -- ---- from where to where
 
--- the line of the first token of a loop or a block, which is its name where it has one
+-- the line of the first token of a loop or a block, which is its name if it has one
 abbrev pub named_line : Option Label → Label → ℕ
 named_line None l = l.line
 named_line (Some n) l = n.line
@@ -177,7 +177,7 @@ subprogram_extent s e = record { line = first_line s; end = place_of e.end; name
 abbrev pub named_extent : Label → Label → NamedEndTree → BodyExtent
 named_extent l n e = record { line = l.line; end = place_of e.end; name_fault = end_of (Some n) e.end_name }
 
--- ---- one text, and then what stands after it: nothing, where the list of faults has ended
+-- ---- one text, and then what comes after it: nothing, if the list of faults has ended
 
 abbrev pub walked_after : {H : Type 0} → H × Walked → H × Walked → H × Walked
 walked_after a b = if is_some a.1.checked.faults.end then a else (b.0, joined a.1 b.1)
@@ -190,11 +190,11 @@ part_after a b = if is_some a.1.faults.end then a else (b.0, parts_joined a.1 b.
 abbrev pub declared_part : {H : Type 0} → Read H (List DeclarationTree) → H × Part
 declared_part read = (read.0, part_of read.1)
 
--- a part up to `begin`: E302 there where a declaration of the part still waits
+-- a part up to `begin`: E302 there if a declaration of the part still waits
 abbrev pub closed : {H : Type 0} → Reading H → H × Part → Label → H × Part
 closed R part begin = (part.0, closed_by part.1 (R.missing part.0 begin))
 
--- the statements after a part, which aren't looked at where its list of faults has ended
+-- the statements after a part, which aren't looked at if its list of faults has ended
 abbrev pub inside_after : {H : Type 0} → H × Part → H × Walked → H × Inside
 inside_after part inner = if is_some part.1.faults.end then (part.0, inside_of part.1 nothing) else (inner.0, inside_of part.1 inner.1)
 
@@ -210,16 +210,16 @@ abbrev pub for_walked : {H : Type 0} → Reading H → H → ℕ → Result Sche
 for_walked R h line (Ok scheme) end inner = region_left R (loop_walked line (Ok scheme) end inner)
 for_walked R h line (Err f) end inner = region_left R (h, broken_by f)
 
--- the region of a body, and what its statements stand in
+-- the region of a body, and what its statements are in
 abbrev pub body_entered : {H : Type 0} → Reading H → H → H × Enclosing
 body_entered R h = let inner = R.body_entered h in (inner, in_body (R.returns inner))
 
--- a body after what stands inside it, with E504 where a function has no return statement
+-- a body after what is inside it, with E504 if a function has no return statement
 abbrev pub body_ended : {H : Type 0} → Reading H → List DeclarationTree → BodyExtent → Option Fault → H × Inside → H × Part
 body_ended R effects extent no_return inside =
     (R.body_left inside.0, body_of effects no_return extent.name_fault (R.body inside.0 extent inside.1.declarations inside.1.statements) inside.1)
 
--- after its head a body; where that is faulty nothing after it is looked at
+-- after its head a body; if that is faulty nothing after it is looked at
 abbrev pub body_after : {H : Type 0} → Reading H → Read H (List DeclarationTree) → BodyExtent → Option Fault → H × Inside → H × Part
 body_after {H} R head extent no_return inside = made head.1
   where
@@ -234,7 +234,7 @@ body_by R head extent items begin has statements =
     let part = closed R (items inner.0) begin in
     body_after R head extent (no_return_fault extent.end inner.1.returns.body has) (inside_after part (statements inner.1 part.0))
 
--- a protected body with the bodies of its operations, whose region is left: E302 at its `end` where one is missing
+-- a protected body with the bodies of its operations, whose region is left: E302 at its `end` if one is missing
 abbrev pub object_ended : {H : Type 0} → Reading H → List DeclarationTree → Option Fault → H × Part → H × Part
 object_ended R effects end operations = (R.object_left operations.0, object_of effects end operations.1)
 

@@ -21,7 +21,7 @@ use std::alloc::{AllocError, Global};
 pub enum Chosen {
     /// All values that no other alternative chooses.
     OtherValues,
-    /// The values of these ranges, in text order.
+    /// The values of these ranges, in source order.
     Ranges(Seq<Bounds>),
 }
 
@@ -29,8 +29,9 @@ pub enum Chosen {
 pub struct CheckedAlternatives {
     /// What is wrong inside them.
     pub faults: FaultList,
+    /// The alternatives, in source order.
     pub alternatives: Vec<Alternative>,
-    /// What is done for other values.
+    /// What is done for the other values.
     pub otherwise: Vec<TypedStatement>,
 }
 
@@ -82,6 +83,8 @@ fn ranges_in(alloc: Global, choices: &[Choice]) -> Result<Seq<Bounds>, AllocErro
 
 impl Chosen {
     /// What an alternative with these choices chooses.
+    /// # Errors
+    /// `NoMemory` if the allocator refuses memory.
     pub fn by(alloc: Global, choices: &[Choice]) -> Result<Self, NoMemory>
         ensures { IfOk result (λ chosen. chosen ≡ chosen_by choices.now) }
     {
@@ -124,7 +127,9 @@ impl CheckedAlternatives {
         }
     }
 
-    /// The alternative that stands after.
+    /// Adds the next alternative.
+    /// # Errors
+    /// `NoMemory` if the allocator refuses memory.
     #[tactic(auto, using(std::proofs::lemmas::Grind::common_steps))]
     pub fn add(&mut self, chosen: Chosen, inner: CheckedStatements) -> Result<(), NoMemory>
         ensures { OnOk result (alternatives_checked self.new ≡ with_alternative (alternatives_checked self.old) chosen (all_checked inner)) }
@@ -140,6 +145,8 @@ impl CheckedAlternatives {
     }
 
     /// The whole statement, whose selector is kept in this word of the frame.
+    /// # Errors
+    /// `NoMemory` if the allocator refuses memory.
     pub fn finish(
         self,
         alloc: Global,

@@ -8,7 +8,7 @@ ghost use Rattle.al_stmts.specs.Values.{AreApart, has_values, times_chosen};
 use crate::bounds::ends_before;
 use al_view::Bounds;
 
-/// Whether no value lies in two of the ranges, which stand in the order of their low bounds.
+/// Whether no value lies in two of the ranges, which are in the order of their low bounds.
 pub(crate) fn are_apart(ranges: &[Bounds]) -> bool
     requires some { All (λ r. IsTrue (has_values r)) ranges.now }
     requires sorted { IsSortedByKey (λ r. r.low) int_cmp ranges.now }

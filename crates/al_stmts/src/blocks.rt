@@ -10,8 +10,10 @@ use al_base_fault::{Fault, unless};
 use al_view_typed::{StatementForm, TypedDeclaration, TypedStatement};
 use std::alloc::Global;
 
-/// A block by its declarations, the fault of the name at its end, and its statements (ARM 5.6). What is wrong with its declarations
-/// stands before what is wrong with its statements, in one list.
+/// A block by its declarations, the fault of the name at its end, and its statements (ARM 5.6). The faults of its declarations come before
+/// those of its statements, in one list.
+/// # Errors
+/// `NoMemory` if the allocator refuses memory.
 #[tactic(auto, using(crate::proofs::Seen::seen_unless))]
 pub fn block_statement(
     alloc: Global,

@@ -5,7 +5,7 @@ ghost use Rattle.al_view_typed.specs.UnitTrees.{body_model};
 use al_base::NoMemory;
 use al_view_typed::TypedBody;
 
-/// More bodies, after those that there are.
+/// Appends bodies.
 #[tactic(auto, using(std::proofs::lemmas::Grind::common_steps))]
 pub(crate) fn append(bodies: &mut Vec<TypedBody>, more: Vec<TypedBody>) -> Result<(), NoMemory>
     ensures { OnOk result (map body_model bodies.new.items ≡ map body_model bodies.old.items ++ map body_model more.items) }

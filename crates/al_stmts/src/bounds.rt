@@ -32,7 +32,7 @@ pub(crate) fn lies_within(range: &Bounds, other: &Bounds) -> bool
     other.low <= range.low && range.high <= other.high
 }
 
-/// What of some values lies after a range; none where the range ends with them or later.
+/// What of some values lies after a range; none if the range ends with them or later.
 pub(crate) fn rest_after(range: &Bounds, values: Bounds) -> Option<Bounds>
     requires { values.low ≤ℤ values.high }
     ensures { MatchOption result (values.high ≤ℤ range.now.high) (λ rest. IsRestAfter range.now values rest) }

@@ -19,8 +19,9 @@ pub struct CheckedBranches {
     pub faults: FaultList,
     /// The first fault of a condition.
     pub own: Option<Fault>,
+    /// The branches, in source order.
     pub branches: Vec<Branch>,
-    /// What is done where no condition holds.
+    /// What is done if no condition holds.
     pub otherwise: Vec<TypedStatement>,
 }
 
@@ -35,7 +36,7 @@ impl Drop for CheckedBranches {
     }
 }
 
-/// One more branch, unless its condition is faulty.
+/// Adds a branch, unless its condition is faulty.
 #[tactic(auto, using(std::proofs::lemmas::Grind::common_steps))]
 fn push(
     branches: &mut Vec<Branch>,
@@ -75,7 +76,9 @@ impl CheckedBranches {
         }
     }
 
-    /// The branch that stands after, with the line of its `if` or `elsif`.
+    /// Adds the next branch, with the line of its `if` or `elsif`.
+    /// # Errors
+    /// `NoMemory` if the allocator refuses memory.
     pub fn add(
         &mut self,
         line: usize,
@@ -90,7 +93,9 @@ impl CheckedBranches {
         self.faults.follow(faults)
     }
 
-    /// The statements after `else`.
+    /// Adds the statements after `else`.
+    /// # Errors
+    /// `NoMemory` if the allocator refuses memory.
     pub fn add_otherwise(&mut self, inner: CheckedStatements) -> Result<(), NoMemory>
         ensures { OnOk result (branches_checked self.new ≡ with_otherwise (branches_checked self.old) (all_checked inner)) }
     {
@@ -99,7 +104,9 @@ impl CheckedBranches {
         self.faults.follow(faults)
     }
 
-    /// The whole statement: of its conditions the first fault is its own.
+    /// The whole statement. Its own fault is the first fault of its conditions.
+    /// # Errors
+    /// `NoMemory` if the allocator refuses memory.
     #[tactic(auto, using(crate::proofs::Seen::seen_unless))]
     pub fn finish(self, alloc: Global, line: usize) -> Result<CheckedStatement, NoMemory>
         ensures { IfOk result (λ one. one_checked one ≡ branched line (branches_checked self)) }

@@ -12,8 +12,8 @@ use al_view::Bounds;
 use al_view_typed::Typed;
 use std::alloc::Global;
 
-/// What the choices of a selector are held against: the range of its nominal subtype, where it has one, or else that of its
-/// whole type (ARM 5.4(7 to 9)).
+/// What the choices of a selector are compared with: the range of its nominal subtype, if it has one, or else that of its whole type (ARM
+/// 5.4(7 to 9)).
 #[tactic(auto, using(crate::proofs::Layers::typed_bounds))]
 pub fn selector_of(selector: &Typed, whole: Bounds) -> Selector
     ensures { result ≡ held_against (bounds_of (typed_model selector.now)) whole }
@@ -24,7 +24,7 @@ pub fn selector_of(selector: &Typed, whole: Bounds) -> Selector
     }
 }
 
-/// What the choices of a selector are held against, where it has no fault.
+/// What the choices of a selector are compared with, if it has no fault.
 #[tactic(auto, using(crate::proofs::Layers::typed_bounds))]
 fn held_by(selector: &CheckResult<Typed>, whole: Bounds) -> Option<Selector>
     ensures { result ≡ held_by (map_ok typed_model selector.now) whole }
@@ -35,8 +35,10 @@ fn held_by(selector: &CheckResult<Typed>, whole: Bounds) -> Option<Selector>
     }
 }
 
-/// Whether the choices of a case statement are right for its selector, of a type with these bounds (ARM 5.4(5 to 10)). Of a
-/// selector that has a fault they always are.
+/// Whether the choices of a case statement are right for its selector, of a type with these bounds (ARM 5.4(5 to 10)). If the selector has
+/// a fault, they always are.
+/// # Errors
+/// `NoMemory` if the allocator refuses memory.
 pub fn choices_are_right(
     alloc: Global,
     selector: &CheckResult<Typed>,
@@ -51,8 +53,9 @@ pub fn choices_are_right(
     }
 }
 
-/// The selector of a case statement, by the first fault of its choices and by whether they are right for it. E503 at `case`, where
-/// they aren't, is told only where neither the selector nor a choice has a fault.
+/// The selector of a case statement, by the first fault of its choices and by whether they are right for it.
+/// # Errors
+/// The first of the fault of the selector and that of its choices; if there is none, E503 at `case` if the choices aren't right.
 #[tactic(auto, using(crate::proofs::Seen::seen_unless))]
 pub fn checked_selector(
     place: Place,

@@ -12,30 +12,37 @@ use al_base_fault::{CheckResult, Fault};
 use al_view_typed::TypedStatement;
 use std::alloc::{AllocError, Global};
 
-/// A statement that is checked: what is wrong with it and with what stands inside it, and the statement where its own parts are
-/// right.
+/// A statement that is checked: what is wrong with it and with what is inside it, and the statement if its own parts are right.
 #[derive(Drop)]
 pub struct CheckedStatement {
+    /// What is wrong with it and with what is inside it.
     pub faults: FaultList,
+    /// The statement, if its own parts are right.
     pub statement: Option<TypedStatement>,
 }
 
-/// Statements that are checked, in text order.
+/// Statements that are checked, in source order.
 #[derive(Drop)]
 pub struct CheckedStatements {
+    /// What is wrong with them.
     pub faults: FaultList,
+    /// The statements whose own parts are right.
     pub statements: Vec<TypedStatement>,
 }
 
 impl CheckedStatement {
     /// A statement with nothing inside it.
+    /// # Errors
+    /// `NoMemory` if the allocator refuses memory.
     pub fn alone(alloc: Global, judged: CheckResult<TypedStatement>) -> Result<Self, NoMemory>
         ensures { IfOk result (λ one. one_checked one ≡ alone (map_ok statement_model judged)) }
     {
         CheckedStatement::compound(alloc, judged, FaultList::none(alloc))
     }
 
-    /// A statement by its own parts, with what is wrong with what stands inside it.
+    /// A statement by its own parts, with what is wrong with what is inside it.
+    /// # Errors
+    /// `NoMemory` if the allocator refuses memory.
     pub fn compound(
         alloc: Global,
         judged: CheckResult<TypedStatement>,
@@ -73,7 +80,7 @@ impl CheckedStatement {
     }
 }
 
-/// One more statement, if there is one.
+/// Adds a statement, if there is one.
 #[tactic(auto, using(std::proofs::lemmas::Grind::common_steps))]
 fn push(statements: &mut Vec<TypedStatement>, one: Option<TypedStatement>) -> Result<(), AllocError>
     ensures { OnOk result (map statement_model statements.new.items ≡ map statement_model statements.old.items ++ option_to_list (option_map statement_model one)) }
@@ -86,7 +93,7 @@ fn push(statements: &mut Vec<TypedStatement>, one: Option<TypedStatement>) -> Re
 }
 
 impl CheckedStatements {
-    /// No statement yet, after text of which this is wrong.
+    /// No statement yet, after source with these faults.
     pub fn after(alloc: Global, faults: FaultList) -> Self
         ensures { all_checked result ≡ broken_off faults }
     {
@@ -96,14 +103,16 @@ impl CheckedStatements {
         }
     }
 
-    /// Whether nothing after is looked at.
+    /// Whether the list of faults has ended, so that nothing after it is checked.
     pub fn is_ended(&self) -> bool
         ensures { result ≡ is_some self.now.faults.end }
     {
         self.faults.is_ended()
     }
 
-    /// The statement that stands after.
+    /// Adds the next statement.
+    /// # Errors
+    /// `NoMemory` if the allocator refuses memory.
     pub fn add(&mut self, one: CheckedStatement) -> Result<(), NoMemory>
         ensures { OnOk result (all_checked self.new ≡ checked_after (all_checked self.old) (one_checked one)) }
     {

@@ -8,7 +8,7 @@ use al_view::{Bounds, Seq};
 /// A choice of a case statement (ARM 3.8.1(5), 5.4(3)).
 #[derive(Clone, Copy)]
 pub enum Choice {
-    /// The values of a range; of one value its bounds are the same.
+    /// The values of a range; if it is one value, both bounds are that value.
     Range(Bounds),
     /// A mark of another type than the selector's.
     OfOtherType,
@@ -16,13 +16,13 @@ pub enum Choice {
     Others,
 }
 
-/// What the choices are held against.
+/// What the choices are compared with.
 #[derive(Clone, Copy)]
 pub enum Selector {
-    /// The bounds of its nominal subtype, where it is the name of an object, a call, a conversion or a qualified expression
-    /// and that subtype is static (ARM 5.4(7)).
+    /// The bounds of its nominal subtype, if the selector is the name of an object, a call, a conversion or a qualified expression and that
+    /// subtype is static (ARM 5.4(7)).
     OfSubtype(Bounds),
-    /// The bounds of its whole type: of any other selector (ARM 5.4(8, 9)).
+    /// The bounds of its whole type, for any other selector (ARM 5.4(8, 9)).
     OfType(Bounds),
 }
 
@@ -80,7 +80,7 @@ pub(crate) fn are_of_type(alternatives: &[Seq<Choice>]) -> bool
         .all(|choices| is_all_of_type(choices.as_slice()))
 }
 
-/// Whether `others` stands alone and last.
+/// Whether `others` is alone and last.
 pub(crate) fn is_others_in_place(alternatives: &[Seq<Choice>]) -> bool
     ensures { IsTrue result ↔ OthersIsAloneAndLast alternatives.now }
 {

@@ -11,14 +11,18 @@ use std::alloc::Global;
 /// The choices of an alternative so far: the first fault of one, and those that are right.
 #[derive(Drop)]
 pub struct AlternativeChoices {
+    /// The first fault of a choice.
     pub fault: Option<Fault>,
+    /// The choices that are right, in source order.
     pub choices: Seq<Choice>,
 }
 
-/// The choices of a case statement so far, by alternatives in text order.
+/// The choices of a case statement so far, by alternatives in source order.
 #[derive(Drop)]
 pub struct CaseChoices {
+    /// The first fault of a choice.
     pub fault: Option<Fault>,
+    /// The choices that are right, by alternatives.
     pub alternatives: Seq<Seq<Choice>>,
 }
 
@@ -33,7 +37,9 @@ impl AlternativeChoices {
         }
     }
 
-    /// One more choice, or its fault.
+    /// Adds a choice, or its fault.
+    /// # Errors
+    /// `NoMemory` if the allocator refuses memory.
     pub fn add(&mut self, choice: CheckResult<Choice>) -> Result<(), NoMemory>
         ensures { OnOk result (self.new ≡ with_choice self.old choice) }
     {
@@ -56,7 +62,9 @@ impl CaseChoices {
         }
     }
 
-    /// The choices of one more alternative.
+    /// Adds the choices of the next alternative.
+    /// # Errors
+    /// `NoMemory` if the allocator refuses memory.
     pub fn add(&mut self, alternative: AlternativeChoices) -> Result<(), NoMemory>
         ensures { OnOk result (self.new ≡ with_choices self.old alternative) }
     {

@@ -20,7 +20,7 @@ pub(crate) fn are_within(ranges: &[Bounds], whole: Bounds) -> bool
     true
 }
 
-/// Whether each value of a range lies in one of the others, which stand apart and in order.
+/// Whether each value of a range lies in one of the others, which are apart and in order.
 pub(crate) fn are_covering(ranges: &[Bounds], whole: Bounds) -> bool
     requires some { All (λ r. IsTrue (has_values r)) ranges.now }
     requires apart { AreApart ranges.now }

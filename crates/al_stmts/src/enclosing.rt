@@ -1,4 +1,4 @@
-// What stands round statements.
+// What is round statements.
 ghost use Rattle.std.specs.Prelude.{◌≡◌, IfOk, OnErr, OnOk, option_map};
 ghost use Rattle.al_base_fault.specs.Judging.{map_ok};
 ghost use Rattle.al_stmts.specs.Exits.{without_innermost};
@@ -16,7 +16,7 @@ use al_view_typed::{Typed, TypedStatement};
 use std::alloc::Global;
 use std::marker::Model;
 
-/// What stands round statements: the innermost body, and the loops in it.
+/// What is round statements: the innermost body, and the loops in it.
 pub struct Enclosing {
     alloc: Global,
     returns: ReturnContext,
@@ -41,7 +41,7 @@ impl Model for Enclosing {
     ghost view = { λ r. record { returns = r.returns; loops = r.loops } };
 }
 
-/// The name of a loop, where it has one.
+/// The name of a loop, if it has one.
 fn name_in(alloc: Global, name: &Option<Identifier>) -> Result<Option<Name>, NoMemory>
     ensures { IfOk result (λ named. named ≡ name_of (option_map identifier_label name.now)) }
 {
@@ -66,19 +66,21 @@ impl Enclosing {
         }
     }
 
-    /// Where memory comes from.
+    /// The allocator.
     pub fn alloc(&self) -> Global {
         self.alloc
     }
 
-    /// What return statements stand in.
+    /// The body that return statements are in.
     pub fn returns(&self) -> ReturnContext
         ensures { result ≡ self.now.returns }
     {
         self.returns
     }
 
-    /// One more loop, with its name where it has one.
+    /// Enters a loop, with its name if it has one.
+    /// # Errors
+    /// `NoMemory` if the allocator refuses memory; nothing is entered then.
     pub fn enter(&mut self, name: &Option<Identifier>) -> Result<(), NoMemory>
         ensures ok { OnOk result (self.new ≡ in_loop self.old (option_map identifier_label name.now)) }
         ensures err { OnErr result (self.new ≡ self.old) }
@@ -87,7 +89,7 @@ impl Enclosing {
         self.loops.enter(name)
     }
 
-    /// The innermost loop ends.
+    /// Leaves the innermost loop.
     pub fn leave(&mut self)
         ensures { self.new ≡ record { returns = self.old.returns; loops = without_innermost self.old.loops } }
     {
@@ -95,6 +97,8 @@ impl Enclosing {
     }
 
     /// An exit statement among the loops round it, at the place of its first word (ARM 5.7).
+    /// # Errors
+    /// The first of E502 at that word if no such loop is round it, and the fault of the condition.
     pub fn exit(
         &self,
         place: Place,

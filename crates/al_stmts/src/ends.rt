@@ -7,10 +7,12 @@ ghost use Rattle.al_stmts.specs.Ends.{end_fault, ends};
 use al_base::Place;
 use al_base_fault::{CheckRule, Fault};
 
-/// A name after `end`: where its first token stands, and how it is spelled, with dots between its identifiers.
+/// A name after `end`: the place of its first token, and its spelling with dots between its identifiers.
 #[derive(Clone, Copy)]
 pub struct NameAtEnd<'a> {
+    /// The place of its first token.
     pub place: Place,
+    /// Its spelling, with dots between its identifiers.
     pub spelled: &'a [u8],
 }
 
@@ -30,8 +32,7 @@ fn is_same_name(name: &[u8], spelled: &[u8]) -> bool
     name.eq_ignore_ascii_case(spelled)
 }
 
-/// What is wrong with what stands after the `end` of something with this name, with dots between its identifiers,
-/// or without a name.
+/// E308 at the name after the `end` of something that has another name, with dots between its identifiers, or has none.
 pub fn end_fault(name: Option<&[u8]>, end: Option<NameAtEnd>) -> Option<Fault>
     ensures { result ≡ end_fault (option_map (λ n. n.now) name.entry) (option_map (λ e. (e.place, e.spelled.now)) end.entry) }
 {

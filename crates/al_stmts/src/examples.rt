@@ -1,7 +1,7 @@
-// The walk over short texts, of which it is known what is wrong with them.
+// The walk over short examples whose faults are known.
 ghost use Rattle.al_stmts.specs.Examples.{FaultsBeforeADeclarationStay, FaultyConditionsHideNothing, FaultyDeclarationsCutOffEnds, FaultyDeclarationsEndTheList, FaultyLoopRangesEndTheList, FaultyStatementsEndNoList, FunctionsReturn, NamesAtEndsAreOfTheLoop, NoValueIsReturnedInATask, OneFaultOfAllConditions, OperationsStandOneAfterAnother, ReturnsAreOfTheInnermostBody, WhatIsMissingEndsAProtectedBody, WhatWaitsEndsTheList};
 
-/// Faults of statements: each is told, in front of those of the statements inside it.
+/// Faults of statements: each is reported before those of the statements inside it.
 pub fn faults_of_statements()
     ensures goes_on { FaultyStatementsEndNoList }
     ensures inside { FaultyConditionsHideNothing }
@@ -9,7 +9,7 @@ pub fn faults_of_statements()
     ensures conditions { OneFaultOfAllConditions }
 {}
 
-/// Faults of declarations inside statements: they end the list by their places.
+/// Faults of declarations inside statements: they end the list at their places.
 pub fn faults_of_declarations_inside()
     ensures range { FaultyLoopRangesEndTheList }
     ensures cut_off { FaultyDeclarationsCutOffEnds }

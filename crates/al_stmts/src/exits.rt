@@ -9,7 +9,7 @@ use al_base_fault::{CheckResult, CheckRule, Fault};
 use std::alloc::Global;
 use std::marker::Model;
 
-/// The loops round a statement, within the body that it stands in, with their names in lower case.
+/// The loops round a statement, within the body that it is in, with their names in lower case.
 pub struct Loops {
     names: Vec<Option<Name>>,
 }
@@ -41,7 +41,7 @@ fn may_leave(name: Option<&[u8]>, label: &Option<Name>) -> bool
     }
 }
 
-/// How many labels stand after the last loop that may be left.
+/// How many labels come after that of the last loop that may be left.
 fn innermost(labels: &[Option<Name>], name: Option<&[u8]>) -> Option<usize>
     ensures value { result ≡ position (may_leave (option_map (λ n. n.now) name.entry)) (reverse labels.now) }
     ensures within { IfSome result (λ i. i < length labels.now) }
@@ -50,7 +50,7 @@ fn innermost(labels: &[Option<Name>], name: Option<&[u8]>) -> Option<usize>
 }
 
 impl Loops {
-    /// No loops: of the statements of a body.
+    /// No loops, as for the statements of a body.
     pub fn new(alloc: Global) -> Self
         ensures { result ≡ [] }
     {
@@ -59,7 +59,9 @@ impl Loops {
         }
     }
 
-    /// One more loop, innermost, with its name where it has one.
+    /// Enters a loop, with its name if it has one; it is the innermost one then.
+    /// # Errors
+    /// `NoMemory` if the allocator refuses memory; the loops are unchanged then.
     #[tactic(auto, using(std::proofs::lemmas::Grind::common_steps, crate::proofs::LoopLemmas::reverse_push))]
     pub fn enter(&mut self, name: Option<Name>) -> Result<(), NoMemory>
         ensures ok { OnOk result (self.new ≡ name ∷ self.old) }
@@ -72,15 +74,15 @@ impl Loops {
         Ok(())
     }
 
-    /// The innermost loop ends.
+    /// Leaves the innermost loop.
     pub fn leave(&mut self)
         ensures { self.new ≡ without_innermost self.old }
     {
         let _ = self.names.pop();
     }
 
-    /// How many loops stand between an exit statement, with this name or with none, and the loop that it leaves; none where
-    /// there is no such loop.
+    /// How many loops are between an exit statement, with this name or with none, and the loop that it leaves; `None` if there is no such
+    /// loop.
     pub fn between(&self, name: Option<&[u8]>) -> Option<u32>
         ensures { result ≡ loops_between self.now (option_map (λ n. n.now) name.entry) }
     {
@@ -90,7 +92,9 @@ impl Loops {
         }
     }
 
-    /// The same, or the fault at the word `exit`.
+    /// How many loops are between an exit statement and the loop that it leaves.
+    /// # Errors
+    /// E502 at the word `exit` if there is no such loop.
     pub fn checked_exit(&self, place: Place, name: Option<&[u8]>) -> CheckResult<u32>
         ensures { result ≡ exit_checked place self.now (option_map (λ n. n.now) name.entry) }
     {

@@ -11,7 +11,7 @@ use al_base::{NoMemory, Place};
 use al_tree::{CompoundEnd, CompoundName, Identifier, NamedEnd, Specification};
 use std::alloc::Global;
 
-/// The line of the first token of a loop or a block, which is its name where it has one.
+/// The line of the first token of a loop or a block, which is its name if it has one.
 pub fn named_line(name: &Option<Identifier>, opening: Place) -> usize
     ensures { result ≡ named_line (option_map identifier_label name.now) (place_label opening) }
 {
@@ -42,6 +42,8 @@ fn specified_name(specification: &Specification) -> &CompoundName
 }
 
 /// From the first token of a subprogram's body to its `end`.
+/// # Errors
+/// `NoMemory` if the allocator refuses memory.
 pub fn subprogram_extent(
     alloc: Global,
     specification: &Specification,

@@ -1,4 +1,4 @@
-// What is wrong with a piece of a text.
+// What is wrong with a piece of source.
 ghost use Rattle.std.specs.Prelude.{◌≡◌, ◌++◌, Some, is_some, OnOk, IfOk, IsTrue, ◌↔◌};
 ghost use Rattle.al_stmts.specs.FaultLists.{all_faults, followed, is_after, is_cut, no_fault, of_declaration, of_statement, round};
 
@@ -7,12 +7,12 @@ use al_base_fault::Fault;
 use al_view::Seq;
 use std::alloc::{AllocError, Global};
 
-/// What is wrong with a piece of a text.
+/// What is wrong with a piece of source.
 pub struct FaultList {
-    /// The faults of its statements: of each one the first rule that it breaks, without the statements inside it, which follow.
+    /// The faults of its statements: for each statement the first rule that it breaks, apart from the statements inside it, which follow.
     pub faults: Seq<Fault>,
-    /// The fault of a declaration, pragma or use clause, or of the end of a body or of its declarations: it ends the list, as
-    /// what stands after it isn't looked at.
+    /// The fault of a declaration, pragma or use clause, or of the end of a body or of its declarations. It ends the list, as nothing after
+    /// it is checked.
     pub end: Option<Fault>,
 }
 
@@ -22,14 +22,14 @@ impl Drop for FaultList {
     }
 }
 
-/// Whether one place stands after another one.
+/// Whether one place is after another one.
 fn is_after(place: Place, other: Place) -> bool
     ensures { result ≡ is_after place other }
 {
     other.line < place.line || (place.line == other.line && other.col < place.col)
 }
 
-/// Whether a fault stands after the end of a list.
+/// Whether a fault is after the end of a list.
 fn is_cut(fault: &Fault, end: Option<Fault>) -> bool
     ensures { result ≡ is_cut fault.now end }
 {
@@ -39,7 +39,7 @@ fn is_cut(fault: &Fault, end: Option<Fault>) -> bool
     }
 }
 
-/// More faults, after those that there are.
+/// Appends faults.
 #[tactic(auto, using(std::proofs::lemmas::Grind::common_steps))]
 fn append(faults: &mut Seq<Fault>, more: &[Fault]) -> Result<(), AllocError>
     ensures { OnOk result (faults.new ≡ faults.old ++ more.now) }
@@ -51,7 +51,7 @@ fn append(faults: &mut Seq<Fault>, more: &[Fault]) -> Result<(), AllocError>
 }
 
 impl FaultList {
-    /// Nothing is wrong. It takes no memory.
+    /// The list of source in which nothing is wrong. It takes no memory.
     pub fn none(alloc: Global) -> Self
         ensures { result ≡ no_fault }
     {
@@ -61,7 +61,7 @@ impl FaultList {
         }
     }
 
-    /// A declaration's fault, and nothing before it. It takes no memory.
+    /// The list of a declaration's fault, with nothing before it. It takes no memory.
     pub fn ended(alloc: Global, fault: Fault) -> Self
         ensures { result ≡ of_declaration (Some fault) }
     {
@@ -71,14 +71,16 @@ impl FaultList {
         }
     }
 
-    /// Whether nothing after is looked at.
+    /// Whether the list has ended, so that nothing after it is checked.
     pub fn is_ended(&self) -> bool
         ensures { result ≡ is_some self.now.end }
     {
         self.end.is_some()
     }
 
-    /// What is wrong with the text that stands after.
+    /// Adds what is wrong with the source that follows.
+    /// # Errors
+    /// `NoMemory` if the allocator refuses memory.
     pub fn follow(&mut self, after: FaultList) -> Result<(), NoMemory>
         ensures { OnOk result (self.new ≡ followed self.old after) }
     {
@@ -96,7 +98,9 @@ impl FaultList {
         Ok(())
     }
 
-    /// What is wrong with the statement that stands after, if anything is.
+    /// Adds the fault of the next statement, if it has one.
+    /// # Errors
+    /// `NoMemory` if the allocator refuses memory.
     pub fn add_statement(&mut self, fault: Option<Fault>) -> Result<(), NoMemory>
         ensures { OnOk result (self.new ≡ followed self.old (of_statement fault)) }
     {
@@ -108,7 +112,7 @@ impl FaultList {
         Ok(())
     }
 
-    /// What is wrong with the declaration or the end that stands after, if anything is.
+    /// Adds the fault of the next declaration or of an end, if it has one.
     pub fn add_declaration(&mut self, fault: Option<Fault>)
         ensures { self.new ≡ followed self.old (of_declaration fault) }
     {
@@ -117,7 +121,9 @@ impl FaultList {
         }
     }
 
-    /// What is wrong with a statement, if anything is, and with what stands inside it.
+    /// The list of a statement's fault, if it has one, and then of what is wrong inside it.
+    /// # Errors
+    /// `NoMemory` if the allocator refuses memory.
     pub fn round(alloc: Global, own: Option<Fault>, inner: FaultList) -> Result<Self, NoMemory>
         ensures { IfOk result (λ list. list ≡ round own inner) }
     {
@@ -142,7 +148,9 @@ impl FaultList {
         })
     }
 
-    /// All of them.
+    /// All faults, in source order.
+    /// # Errors
+    /// `NoMemory` if the allocator refuses memory.
     pub fn into_faults(self) -> Result<Seq<Fault>, NoMemory>
         ensures { IfOk result (λ faults. faults ≡ all_faults self) }
     {

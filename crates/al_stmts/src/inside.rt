@@ -10,17 +10,23 @@ use al_base_fault::Fault;
 use al_view_typed::{TypedBody, TypedDeclaration, TypedStatement};
 use std::alloc::Global;
 
-/// Declarations with the statements after them, and the bodies inside both. What is wrong with them stands in one list.
+/// Declarations with the statements after them, and the bodies inside both. Their faults are in one list.
 #[derive(Drop)]
 pub struct WalkedInside {
+    /// What is wrong with them.
     pub faults: FaultList,
+    /// What the declarations do.
     pub declarations: Vec<TypedDeclaration>,
+    /// The statements, in source order.
     pub statements: Vec<TypedStatement>,
+    /// The bodies inside both, in the order of their first tokens.
     pub bodies: Vec<TypedBody>,
 }
 
 impl WalkedInside {
     /// A block, with the fault of the name at its end (ARM 5.6).
+    /// # Errors
+    /// `NoMemory` if the allocator refuses memory.
     #[tactic(auto, unfolding(crate::specs::WalkedViews::inside_model, crate::specs::WalkedViews::one_model, crate::specs::Steps::block_of))]
     pub fn into_block(
         self,

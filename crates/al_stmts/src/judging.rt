@@ -1,4 +1,4 @@
-// The choices of a case statement, judged.
+// Whether the choices of a case statement are right.
 ghost use Rattle.std.specs.Prelude.{◌↔◌, IfOk, IsTrue};
 ghost use Rattle.std.specs.List.{All};
 ghost use Rattle.std.specs.List.Sorted.{IsSortedByKey};
@@ -25,7 +25,7 @@ fn are_of_selector(ranges: &[Bounds], selector: Selector) -> bool
     }
 }
 
-/// Whether ranges with values, which stand in the order of their low bounds, are right.
+/// Whether ranges with values, which are in the order of their low bounds, are right.
 fn are_ranges_right(ranges: &[Bounds], selector: Selector, has_others: bool) -> bool
     requires some { All (λ r. IsTrue (has_values r)) ranges.now }
     requires sorted { IsSortedByKey (λ r. r.low) int_cmp ranges.now }
@@ -38,6 +38,8 @@ fn are_ranges_right(ranges: &[Bounds], selector: Selector, has_others: bool) -> 
 }
 
 /// Whether the choices of a case statement are right, by its alternatives in order.
+/// # Errors
+/// `NoMemory` if the allocator refuses memory.
 pub fn are_right(
     alloc: Global,
     alternatives: &[Seq<Choice>],

@@ -9,7 +9,7 @@ pub fn an_exit_leaves_the_innermost_loop()
     ensures innermost { (loops : EnclosingLoops) (name : Option (List ℕ)) (n k : ℕ) (d : Option (List ℕ)) → loops_between loops name ≡ Some n → k < n → IsFalse (may_leave name (slice_index_or loops k d)) }
 {}
 
-/// Where an exit statement leaves no loop, it may leave none of those round it.
+/// If an exit statement leaves no loop, it may leave none of those round it.
 pub fn no_exit_where_no_loop()
     ensures { (loops : EnclosingLoops) (name : Option (List ℕ)) → loops_between loops name ≡ None → All (λ loop. IsFalse (may_leave name loop)) loops }
 {}

@@ -1,5 +1,13 @@
-//! Statements by their judged parts: what is wrong with them, all of it in the order of the text, and the statements with their labels.
-//! Nothing is asked here.
+//! Statements by their checked parts: all faults in source order, and the statements with their labels. Nothing is asked here.
+//!
+//! A `FaultList` (`fault_list`) is what is wrong with a piece of source: the faults of its statements, and at most one *end*, the fault of
+//! a declaration, which ends the list because nothing after it is checked. *Checked* statements (`checked`, `branches`, `alternatives`)
+//! carry their faults; *walked* ones (`statements`, `part`, `inside`, `walked_branches`, `walked_alternatives`) also the bodies inside
+//! them.
+//!
+//! `simple`, `blocks`, `loops`, `cases` and `returns` make the statements, `exits` and `enclosing` have what is round them, `ends` and
+//! `extents` the names and places at ends. `choice`, `cover`, `apart` and `judging` decide whether the choices of a case statement are
+//! right. `walk`, `walked_laws`, `laws` and `examples` state what a walk over statements gives.
 #![tactic(auto)]
 
 mod alternatives;

@@ -15,18 +15,23 @@ use al_view_typed::{
 };
 use std::alloc::Global;
 
-/// The values of a loop's parameter (ARM 5.5(4)): both bounds, and the range of the mark that stands before `range`.
+/// The values of a loop's parameter (ARM 5.5(4)): both bounds, and the range of the mark before `range`.
 #[derive(Drop)]
 pub struct LoopRange {
+    /// The low bound.
     pub low: Typed,
+    /// The high bound.
     pub high: Typed,
+    /// The range of the mark, if there is one.
     pub mark: Option<Bounds>,
 }
 
-/// The words of the frame that keep a loop's parameter and the last value that it is to have.
+/// The words of the frame for a loop's parameter and for the last value that it is to have.
 #[derive(Clone, Copy)]
 pub struct LoopWords {
+    /// The word of the parameter.
     pub parameter: u32,
+    /// The word of its last value.
     pub last: u32,
 }
 
@@ -44,7 +49,9 @@ fn bound(place: Place, of: Symbol, value: StaticValue) -> Typed
     Typed::new(labels, Form::literal(value))
 }
 
-/// The range of a mark that stands alone, of this type and with these bounds, at its place (ARM 3.6.1(4)).
+/// The range of a mark alone, of this type and with these bounds, at its place (ARM 3.6.1(4)).
+/// # Errors
+/// `NoMemory` if the allocator refuses memory.
 pub fn mark_range(
     alloc: Global,
     place: Place,
@@ -64,7 +71,7 @@ pub fn mark_range(
     })
 }
 
-/// The value of an expression, where it is static.
+/// The value of an expression, if it is static.
 #[tactic(auto, using(crate::proofs::Layers::typed_value))]
 fn value_in(typed: &Typed) -> Option<StaticValue>
     ensures { result ≡ value_in (typed_model typed.now) }
@@ -72,7 +79,7 @@ fn value_in(typed: &Typed) -> Option<StaticValue>
     typed.labels.value
 }
 
-/// The range of the parameter's subtype, which is static where both bounds are (ARM 4.9(26)).
+/// The range of the parameter's subtype, which is static if both bounds are (ARM 4.9(26)).
 pub fn parameter_bounds(range: &LoopRange) -> Option<Bounds>
     ensures { result ≡ parameter_bounds (range_model range.now) }
 {
@@ -100,7 +107,9 @@ pub fn for_scheme(is_reverse: bool, range: LoopRange, words: LoopWords) -> LoopS
     }
 }
 
-/// `while condition`
+/// `while condition`.
+/// # Errors
+/// The fault of the condition.
 pub fn while_scheme(condition: CheckResult<Typed>) -> CheckResult<LoopScheme>
     ensures { map_ok scheme_model result ≡ while_scheme (map_ok typed_model condition) }
 {
@@ -127,8 +136,10 @@ fn over(
     }
 }
 
-/// A loop by how often it goes round, the fault of the name at its end, and its statements (ARM 5.5). The range of a for loop is a
-/// declaration: where that is faulty the list of faults ends there, and there is no loop.
+/// A loop by its scheme (how often it goes round), the fault of the name at its end, and its statements (ARM 5.5). The range of a for loop
+/// is a declaration: if it is faulty, the list of faults ends there, and there is no loop.
+/// # Errors
+/// `NoMemory` if the allocator refuses memory.
 #[tactic(auto, using(crate::proofs::Seen::seen_unless))]
 pub fn loop_statement(
     alloc: Global,

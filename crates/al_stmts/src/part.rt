@@ -17,10 +17,13 @@ use al_base_fault::{CheckResult, Fault};
 use al_view_typed::{TypedBody, TypedDeclaration};
 use std::alloc::Global;
 
-/// Declarations that were walked over, in text order, with the bodies inside them.
+/// Declarations that were walked over, in source order, with the bodies inside them.
 pub struct WalkedPart {
+    /// What is wrong with them.
     pub faults: FaultList,
+    /// What they do.
     pub declarations: Vec<TypedDeclaration>,
+    /// The bodies inside them, in the order of their first tokens.
     pub bodies: Vec<TypedBody>,
 }
 
@@ -34,7 +37,7 @@ impl Drop for WalkedPart {
     }
 }
 
-/// More of what declarations do, after what there is.
+/// Appends what further declarations do.
 #[tactic(auto, using(std::proofs::lemmas::Grind::common_steps))]
 fn append_effects(
     effects: &mut Vec<TypedDeclaration>,
@@ -49,7 +52,7 @@ fn append_effects(
     }
 }
 
-/// A body in front of those inside it.
+/// Puts a body before those inside it.
 #[tactic(auto, using(std::proofs::lemmas::Grind::common_steps))]
 fn in_front(
     alloc: Global,
@@ -64,7 +67,7 @@ fn in_front(
     Ok(bodies)
 }
 
-/// What is wrong with a body after its head.
+/// Adds what is wrong with a body after its head.
 fn add_ends(
     faults: &mut FaultList,
     no_return: Option<Fault>,
@@ -90,7 +93,7 @@ impl WalkedPart {
         }
     }
 
-    /// A declaration by what it does where it stands, or by its fault, which ends the list. It takes no memory.
+    /// A declaration by what it does at its place, or by its fault, which ends the list. It takes no memory.
     #[tactic(auto, unfolding(crate::specs::WalkedViews::part_model, crate::specs::Steps::part_of))]
     pub fn declared(alloc: Global, checked: CheckResult<Vec<TypedDeclaration>>) -> Self
         ensures { part_model result ≡ part_of (map_ok effects_model checked) }
@@ -109,7 +112,7 @@ impl WalkedPart {
         }
     }
 
-    /// Whether nothing after is looked at.
+    /// Whether the list of faults has ended, so that nothing after it is checked.
     #[tactic(auto, unfolding(crate::specs::WalkedViews::part_model))]
     pub fn is_ended(&self) -> bool
         ensures { result ≡ is_some (part_model self.now).faults.end }
@@ -117,7 +120,9 @@ impl WalkedPart {
         self.faults.is_ended()
     }
 
-    /// The declarations that stand after.
+    /// Adds the next declarations.
+    /// # Errors
+    /// `NoMemory` if the allocator refuses memory.
     #[tactic(auto, unfolding(crate::specs::WalkedViews::part_model, crate::specs::Steps::parts_joined))]
     pub fn add(&mut self, one: WalkedPart) -> Result<(), NoMemory>
         ensures { OnOk result (part_model self.new ≡ parts_joined (part_model self.old) (part_model one)) }
@@ -140,7 +145,9 @@ impl WalkedPart {
         self.faults.add_declaration(fault);
     }
 
-    /// With the statements that stand after.
+    /// The part with the statements after it.
+    /// # Errors
+    /// `NoMemory` if the allocator refuses memory.
     #[tactic(auto, unfolding(crate::specs::WalkedViews::all_model, crate::specs::WalkedViews::inside_model, crate::specs::WalkedViews::part_model, crate::specs::Steps::inside_of))]
     pub fn with_statements(self, inner: WalkedStatements) -> Result<WalkedInside, NoMemory>
         ensures { IfOk result (λ inside. inside_model inside ≡ inside_of (part_model self) (all_model inner)) }
@@ -151,14 +158,16 @@ impl WalkedPart {
         part.after(checked)
     }
 
-    /// Without the statements that stand after, as they aren't looked at.
+    /// The part without the statements after it, as they aren't checked.
+    /// # Errors
+    /// `NoMemory` if the allocator refuses memory.
     pub fn without_statements(self, alloc: Global) -> Result<WalkedInside, NoMemory>
         ensures { IfOk result (λ inside. inside_model inside ≡ inside_of (part_model self) nothing) }
     {
         self.with_statements(WalkedStatements::new(alloc))
     }
 
-    /// With the statements that stand after, whose bodies are among its own already.
+    /// The part with the statements after it, whose bodies are among its own already.
     #[tactic(auto, unfolding(crate::specs::WalkedViews::inside_model))]
     fn after(self, inner: CheckedStatements) -> Result<WalkedInside, NoMemory>
         ensures { IfOk result (λ inside. inside_model inside ≡ record { faults = followed self.faults inner.faults; declarations = effects_model self.declarations; statements = map statement_model inner.statements.items; bodies = map body_model self.bodies.items }) }
@@ -183,7 +192,7 @@ impl WalkedPart {
         }
     }
 
-    /// With what is wrong at the end of a body.
+    /// The part with what is wrong at the end of a body.
     #[tactic(auto, unfolding(crate::specs::WalkedViews::part_model))]
     fn with_ends(self, no_return: Option<Fault>, end: Option<Fault>) -> Result<Self, NoMemory>
         ensures { IfOk result (λ part. part_model part ≡ record { faults = body_faults self.faults no_return end; declarations = effects_model self.declarations; bodies = map body_model self.bodies.items }) }
@@ -195,8 +204,9 @@ impl WalkedPart {
         }
     }
 
-    /// A body by what it does where it stands, by what is wrong inside it and at its end, and by what it is with its labels, with the bodies
-    /// inside it.
+    /// A body by what it does at its place, by what is wrong inside it and at its end, and by the labelled body with the bodies inside it.
+    /// # Errors
+    /// `NoMemory` if the allocator refuses memory.
     #[tactic(auto, unfolding(crate::specs::WalkedViews::part_model))]
     pub fn of_body(
         alloc: Global,
@@ -218,8 +228,8 @@ impl WalkedPart {
         part.with_ends(no_return, end)
     }
 
-    /// A protected body by what it does where it stands, by the bodies of its operations, and by what is wrong with the name at its end
-    /// (ARM 9.4).
+    /// A protected body by what it does at its place, by the bodies of its operations, and by what is wrong with the name at its end (ARM
+    /// 9.4).
     #[tactic(auto, unfolding(crate::specs::WalkedViews::part_model, crate::specs::Steps::object_of))]
     pub fn into_object(self, effects: Vec<TypedDeclaration>, end: Option<Fault>) -> Self
         ensures { part_model result ≡ object_of (effects_model effects) end (part_model self) }

@@ -11,7 +11,7 @@ use crate::choice::Choice;
 use al_view::{Bounds, Seq};
 use std::alloc::{AllocError, Global};
 
-/// The range of a choice, where it has values.
+/// The range of a choice, if it has values.
 fn value_range(choice: &Choice) -> Option<Bounds>
     ensures { result ≡ value_range choice.now }
 {
@@ -21,7 +21,7 @@ fn value_range(choice: &Choice) -> Option<Bounds>
     }
 }
 
-/// The ranges of an alternative that have values, after those found before.
+/// Adds the ranges of an alternative that have values.
 #[tactic(auto, using(std::proofs::lemmas::Grind::common_steps, crate::proofs::RangeLemmas::value_ranges_steps))]
 fn add_ranges(ranges: &mut Vec<Bounds>, choices: &[Choice]) -> Result<(), AllocError>
     ensures { OnOk result (ranges.new.items ≡ ranges.old.items ++ filter_map value_range choices.now) }
@@ -49,7 +49,7 @@ fn ranges_with_values(
     Ok(ranges)
 }
 
-/// The same by their low bounds.
+/// The ranges of all alternatives that have values, in the order of their low bounds.
 pub(crate) fn sorted_ranges(
     alloc: Global,
     alternatives: &[Seq<Choice>],

@@ -1,22 +1,22 @@
-// Return statements and the bodies that they stand in.
+// Return statements and the bodies that they are in.
 ghost use Rattle.std.specs.Prelude.{◌≡◌};
 ghost use Rattle.al_stmts.specs.Returns.{lacks_return, may_return, no_return_fault, return_fault};
 
 use al_base::Place;
 use al_base_fault::{CheckRule, Fault};
 
-/// The innermost body that a statement stands in, blocks and loops aside (ARM 6.5(5)).
+/// The innermost body that a statement is in, apart from blocks and loops (ARM 6.5(5)).
 #[derive(Clone, Copy)]
 pub enum EnclosingBody {
-    /// Of a function, one of a protected object too.
+    /// The body of a function, also of a protected object.
     Function,
-    /// Of a procedure, one of a protected object too.
+    /// The body of a procedure, also of a protected object.
     Procedure,
-    /// Of an entry.
+    /// The body of an entry.
     Entry,
-    /// Of a package: its statements.
+    /// The statements of a package.
     Package,
-    /// Of a task.
+    /// The body of a task.
     Task,
 }
 
@@ -32,7 +32,8 @@ fn may_return(body: EnclosingBody, has_value: bool) -> bool
     }
 }
 
-/// What is wrong with a return statement, which has a value or none, at the place of its first token.
+/// E501 at the first token of a return statement that isn't allowed in the body: its value is missing or not wanted, or the body allows
+/// none.
 pub fn return_fault(place: Place, body: EnclosingBody, has_value: bool) -> Option<Fault>
     ensures { result ≡ return_fault place body has_value }
 {
@@ -55,7 +56,7 @@ fn lacks_return(body: EnclosingBody, has_return: bool) -> bool
     }
 }
 
-/// What is wrong with a body that has a return statement or none, at the place of its `end`.
+/// E504 at the `end` of a function's body that has no return statement.
 pub fn no_return_fault(place: Place, body: EnclosingBody, has_return: bool) -> Option<Fault>
     ensures { result ≡ no_return_fault place body has_return }
 {

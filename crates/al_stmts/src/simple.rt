@@ -13,12 +13,15 @@ use al_base_fault::{CheckResult, both, unless};
 use al_view::Bounds;
 use al_view_typed::{CheckedValue, Piece, StatementForm, Typed, TypedCall, TypedStatement};
 
-/// What a return statement stands in: the innermost body round it, and of a function the words of its result, with the range of
-/// its subtype where that is scalar; 0 and none of other bodies.
+/// The body that a return statement is in, and for a function the words of its result, with the range of its subtype if that is scalar; 0
+/// and none for other bodies.
 #[derive(Clone, Copy)]
 pub struct ReturnContext {
+    /// The innermost body.
     pub body: EnclosingBody,
+    /// How many words the result has.
     pub words: u32,
+    /// The range of the result's subtype, if it is scalar.
     pub bounds: Option<Bounds>,
 }
 
@@ -29,7 +32,9 @@ pub fn null(line: usize) -> TypedStatement
     TypedStatement::new(line, StatementForm::null())
 }
 
-/// `target := value;`, by the value that was wanted at the target's type, or its fault (ARM 5.2).
+/// `target := value;`, by the value, which has the target's type (ARM 5.2).
+/// # Errors
+/// The fault of the value.
 pub fn assignment(
     line: usize,
     target: Target,
@@ -48,6 +53,8 @@ pub fn assignment(
 }
 
 /// A call of a procedure or an entry (ARM 6.4, 9.5.3).
+/// # Errors
+/// The fault of the call.
 pub fn call(line: usize, call: CheckResult<TypedCall>) -> CheckResult<TypedStatement>
     ensures { map_ok statement_model result ≡ called line (map_ok call_model call) }
 {
@@ -58,6 +65,8 @@ pub fn call(line: usize, call: CheckResult<TypedCall>) -> CheckResult<TypedState
 }
 
 /// `Put` or `Put_Line` of these pieces (ARM A.10.7).
+/// # Errors
+/// The fault of the pieces.
 pub fn put(
     line: usize,
     pieces: CheckResult<Vec<Piece>>,
@@ -72,6 +81,8 @@ pub fn put(
 }
 
 /// `delay until moment;` (ARM 9.6).
+/// # Errors
+/// The fault of the moment.
 pub fn delay(line: usize, moment: CheckResult<Typed>) -> CheckResult<TypedStatement>
     ensures { map_ok statement_model result ≡ delayed line (map_ok typed_model moment) }
 {
@@ -99,8 +110,9 @@ fn value_returned(
     }
 }
 
-/// A return statement, at the place of its first word, with its value where it has one (ARM 6.5). E501 at that word where a
-/// value is missing or not wanted, or where no return statement may stand.
+/// A return statement, at the place of its first word, with its value if it has one (ARM 6.5).
+/// # Errors
+/// The first of E501 at that word if a value is missing or not wanted or no return statement is allowed, and the fault of the value.
 #[tactic(auto, using(crate::proofs::Seen::seen_unless))]
 pub fn return_statement(
     place: Place,
@@ -122,7 +134,7 @@ pub fn return_statement(
     }
 }
 
-/// What may be left out.
+/// A part that may be left out.
 fn maybe(judged: Option<CheckResult<Typed>>) -> CheckResult<Option<Typed>>
     ensures { map_ok (option_map typed_model) result ≡ maybe_checked (option_map (map_ok typed_model) judged) }
 {
@@ -133,8 +145,10 @@ fn maybe(judged: Option<CheckResult<Typed>>) -> CheckResult<Option<Typed>>
     }
 }
 
-/// An exit statement, at the place of its first word, among the loops round it: with the name of one, in lower case, or without;
-/// and with its condition where it has one (ARM 5.7). E502 at that word where no such loop is round it.
+/// An exit statement, at the place of its first word, among the loops round it: with the name of one, in lower case, or without; and with
+/// its condition if it has one (ARM 5.7).
+/// # Errors
+/// The first of E502 at that word if no such loop is round it, and the fault of the condition.
 #[tactic(auto, using(crate::proofs::Seen::seen_both))]
 pub fn exit_statement(
     place: Place,

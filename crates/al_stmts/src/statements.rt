@@ -16,19 +16,25 @@ use std::alloc::Global;
 /// A statement that was walked over, with the bodies inside it.
 #[derive(Drop)]
 pub struct WalkedStatement {
+    /// The statement with its faults.
     pub checked: CheckedStatement,
+    /// The bodies inside it.
     pub bodies: Vec<TypedBody>,
 }
 
-/// Statements that were walked over, in text order, with the bodies inside them.
+/// Statements that were walked over, in source order, with the bodies inside them.
 #[derive(Drop)]
 pub struct WalkedStatements {
+    /// The statements with their faults.
     pub checked: CheckedStatements,
+    /// The bodies inside them.
     pub bodies: Vec<TypedBody>,
 }
 
 impl WalkedStatement {
     /// A statement with nothing inside it.
+    /// # Errors
+    /// `NoMemory` if the allocator refuses memory.
     #[tactic(auto, unfolding(crate::specs::WalkedViews::one_model, crate::specs::Steps::alone_of))]
     pub fn alone(alloc: Global, checked: CheckResult<TypedStatement>) -> Result<Self, NoMemory>
         ensures { IfOk result (λ one. one_model one ≡ alone_of (map_ok statement_model checked)) }
@@ -60,7 +66,9 @@ impl WalkedStatements {
         WalkedStatements { checked, bodies }
     }
 
-    /// A statement, and none after it yet.
+    /// The list of a first statement.
+    /// # Errors
+    /// `NoMemory` if the allocator refuses memory.
     pub fn first(alloc: Global, one: WalkedStatement) -> Result<Self, NoMemory>
         ensures { IfOk result (λ all. all_model all ≡ one_model one) }
     {
@@ -71,7 +79,7 @@ impl WalkedStatements {
         }
     }
 
-    /// Whether nothing after is looked at.
+    /// Whether the list of faults has ended, so that nothing after it is checked.
     #[tactic(auto, unfolding(crate::specs::WalkedViews::all_model))]
     pub fn is_ended(&self) -> bool
         ensures { result ≡ is_some (all_model self.now).checked.faults.end }
@@ -79,7 +87,9 @@ impl WalkedStatements {
         self.checked.is_ended()
     }
 
-    /// The statement that stands after.
+    /// Adds the next statement.
+    /// # Errors
+    /// `NoMemory` if the allocator refuses memory.
     pub fn add(&mut self, one: WalkedStatement) -> Result<(), NoMemory>
         ensures { OnOk result (all_model self.new ≡ joined (all_model self.old) (one_model one)) }
     {
@@ -88,7 +98,9 @@ impl WalkedStatements {
         append(&mut self.bodies, bodies)
     }
 
-    /// A loop over them, by how often it goes round and the fault of the name at its end (ARM 5.5).
+    /// A loop over the statements, by how often it goes round and the fault of the name at its end (ARM 5.5).
+    /// # Errors
+    /// `NoMemory` if the allocator refuses memory.
     pub fn into_loop(
         self,
         alloc: Global,
@@ -103,7 +115,9 @@ impl WalkedStatements {
         Ok(WalkedStatement { checked, bodies })
     }
 
-    /// A block of them without declarations, with the fault of the name at its end (ARM 5.6).
+    /// A block of the statements without declarations, with the fault of the name at its end (ARM 5.6).
+    /// # Errors
+    /// `NoMemory` if the allocator refuses memory.
     pub fn into_block(
         self,
         alloc: Global,

@@ -11,11 +11,14 @@ use al_base_fault::{CheckResult, CheckRule, Fault};
 use al_view::Bounds;
 use al_view_typed::{Labels, Typed, TypedName};
 
-/// A variable that is assigned to: its words, and the range of its nominal subtype where that is scalar.
+/// A variable that is assigned to.
 #[derive(Drop)]
 pub struct Target {
+    /// The name.
     pub name: TypedName,
+    /// How many words it has.
     pub words: u32,
+    /// The range of its nominal subtype, if that is scalar.
     pub bounds: Option<Bounds>,
 }
 
@@ -34,7 +37,7 @@ fn is_variable(name: &TypedName) -> bool
     }
 }
 
-/// The fault at the first token of what is no variable.
+/// E406 at the first token of what is no variable.
 fn no_variable(place: Place) -> Fault
     ensures { result ≡ fault_at place NotAVariable }
 {
@@ -66,7 +69,9 @@ fn named(labels: Labels, name: Option<TypedName>) -> CheckResult<Target>
     }
 }
 
-/// What stands on the left of an assignment, or the fault at its first token that it is no variable (ARM 5.2(5)).
+/// What is on the left of an assignment (ARM 5.2(5)).
+/// # Errors
+/// E406 at its first token if it is no variable.
 #[tactic(auto, using(crate::proofs::Layers::typed_layers))]
 pub fn target_of(found: Typed) -> CheckResult<Target>
     ensures { map_ok target_model result ≡ target_of (typed_model found) }

@@ -8,8 +8,7 @@ use al_tree::{
     Statements,
 };
 
-/// Whether a return statement stands among statements, or inside them, but for those of bodies among their declarations
-/// (ARM 6.5(4, 5)).
+/// Whether a return statement is among statements, or inside them, except in bodies among their declarations (ARM 6.5(4, 5)).
 #[cycle(walk)]
 #[tactic(auto, using(crate::proofs::ReturnsLayers::statements_layers))]
 pub fn has_return(statements: &Statements) -> bool

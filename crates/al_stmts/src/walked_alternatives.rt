@@ -15,19 +15,24 @@ use al_view::Seq;
 use al_view_typed::{Typed, TypedBody};
 use std::alloc::Global;
 
-/// A case statement so far: its selector with its choices, in the word that keeps it, and the alternatives, with the bodies inside them. The
-/// choices of the alternative that stands after are at `next`.
+/// A case statement so far.
 #[derive(Drop)]
 pub struct WalkedAlternatives {
+    /// The word that keeps the selector.
     pub slot: u32,
+    /// The selector, or the fault of it or of its choices.
     pub selector: CheckResult<Typed>,
+    /// The choices of all alternatives.
     pub choices: Seq<Seq<Choice>>,
+    /// The index of the next alternative's choices.
     pub next: usize,
+    /// The alternatives so far.
     pub alternatives: CheckedAlternatives,
+    /// The bodies inside them.
     pub bodies: Vec<TypedBody>,
 }
 
-/// The place after this one, unless it is after them all.
+/// The index after this one, unless it is after them all.
 #[tactic(auto, using(crate::proofs::Choosing::rest_within, crate::proofs::Choosing::rest_past))]
 fn after(next: usize, choices: &[Seq<Choice>]) -> usize
     ensures { drop result choices.now ≡ rest_of (drop next choices.now) }
@@ -62,7 +67,7 @@ impl WalkedAlternatives {
         }
     }
 
-    /// Whether nothing after is looked at.
+    /// Whether the list of faults has ended, so that nothing after it is checked.
     #[tactic(auto, unfolding(crate::specs::WalkedViews::choosing_model))]
     pub fn is_ended(&self) -> bool
         ensures { result ≡ is_some (choosing_model self.now).so_far.faults.end }
@@ -70,7 +75,7 @@ impl WalkedAlternatives {
         self.alternatives.faults.is_ended()
     }
 
-    /// What the alternative that stands after chooses.
+    /// What the next alternative chooses.
     #[tactic(auto, using(crate::proofs::Choosing::next_some, crate::proofs::Choosing::next_none), unfolding(crate::specs::WalkedViews::choosing_model))]
     fn chosen(&self, alloc: Global) -> Result<Chosen, NoMemory>
         ensures { IfOk result (λ chosen. chosen ≡ chosen_by (next_choices (choosing_model self.now).choices)) }
@@ -81,7 +86,9 @@ impl WalkedAlternatives {
         }
     }
 
-    /// The alternative that stands after, by its statements.
+    /// Adds the next alternative, by its statements.
+    /// # Errors
+    /// `NoMemory` if the allocator refuses memory.
     #[tactic(auto, unfolding(crate::specs::WalkedViews::all_model, crate::specs::WalkedViews::choosing_model, crate::specs::Steps::one_alternative))]
     pub fn add(&mut self, alloc: Global, inner: WalkedStatements) -> Result<(), NoMemory>
         ensures { OnOk result (choosing_model self.new ≡ one_alternative (choosing_model self.old) (all_model inner)) }
@@ -94,6 +101,8 @@ impl WalkedAlternatives {
     }
 
     /// The whole statement.
+    /// # Errors
+    /// `NoMemory` if the allocator refuses memory.
     #[tactic(auto, unfolding(crate::specs::WalkedViews::one_model, crate::specs::WalkedViews::choosing_model, crate::specs::Steps::case_of))]
     pub fn finish(self, alloc: Global, line: usize) -> Result<WalkedStatement, NoMemory>
         ensures { IfOk result (λ one. one_model one ≡ case_of line (choosing_model self)) }

@@ -15,7 +15,9 @@ use std::alloc::Global;
 
 /// The branches so far, with the bodies inside them.
 pub struct WalkedBranches {
+    /// The branches with their faults.
     pub branches: CheckedBranches,
+    /// The bodies inside them.
     pub bodies: Vec<TypedBody>,
 }
 
@@ -39,7 +41,7 @@ impl WalkedBranches {
         WalkedBranches { branches, bodies }
     }
 
-    /// Whether nothing after is looked at.
+    /// Whether the list of faults has ended, so that nothing after it is checked.
     #[tactic(auto, unfolding(crate::specs::WalkedViews::branching_model))]
     pub fn is_ended(&self) -> bool
         ensures { result ≡ is_some (branching_model self.now).so_far.faults.end }
@@ -47,7 +49,9 @@ impl WalkedBranches {
         self.branches.faults.is_ended()
     }
 
-    /// The branch that stands after, with the line of its `if` or `elsif`.
+    /// Adds the next branch, with the line of its `if` or `elsif`.
+    /// # Errors
+    /// `NoMemory` if the allocator refuses memory.
     #[tactic(auto, unfolding(crate::specs::WalkedViews::all_model, crate::specs::WalkedViews::branching_model, crate::specs::Steps::one_branch))]
     pub fn add(
         &mut self,
@@ -62,7 +66,9 @@ impl WalkedBranches {
         append(&mut self.bodies, bodies)
     }
 
-    /// The statements after `else`.
+    /// Adds the statements after `else`.
+    /// # Errors
+    /// `NoMemory` if the allocator refuses memory.
     #[tactic(auto, unfolding(crate::specs::WalkedViews::all_model, crate::specs::WalkedViews::branching_model, crate::specs::Steps::one_otherwise))]
     pub fn add_otherwise(&mut self, inner: WalkedStatements) -> Result<(), NoMemory>
         ensures { OnOk result (branching_model self.new ≡ one_otherwise (branching_model self.old) (all_model inner)) }
@@ -73,6 +79,8 @@ impl WalkedBranches {
     }
 
     /// The whole statement.
+    /// # Errors
+    /// `NoMemory` if the allocator refuses memory.
     #[tactic(auto, unfolding(crate::specs::WalkedViews::one_model, crate::specs::WalkedViews::branching_model, crate::specs::Steps::if_of))]
     pub fn finish(self, alloc: Global, line: usize) -> Result<WalkedStatement, NoMemory>
         ensures { IfOk result (λ one. one_model one ≡ if_of line (branching_model self)) }

@@ -23,7 +23,7 @@ fn end_named(name: &Option<Identifier>, end: NameAtEnd) -> Option<Fault>
     }
 }
 
-/// What is wrong with what stands after the `end` of a loop or a block.
+/// What is wrong with what comes after the `end` of a loop or a block.
 pub fn end_of(name: &Option<Identifier>, end: &Option<Identifier>) -> Option<Fault>
     ensures { result ≡ end_of (option_map identifier_label name.now) (option_map identifier_label end.now) }
 {
@@ -37,7 +37,7 @@ pub fn end_of(name: &Option<Identifier>, end: &Option<Identifier>) -> Option<Fau
     }
 }
 
-/// One more identifier, after a dot.
+/// Appends a dot and an identifier.
 fn select(spelled: &mut Vec<u8>, selector: &Identifier) -> Result<(), NoMemory>
     ensures { OnOk result (spelled.new.items ≡ with_selector spelled.old.items selector.now) }
 {
@@ -84,7 +84,9 @@ fn compound_end(
     ))
 }
 
-/// What is wrong with what stands after the `end` of a unit or a subprogram.
+/// What is wrong with what comes after the `end` of a unit or a subprogram.
+/// # Errors
+/// `NoMemory` if the allocator refuses memory.
 pub fn end_of_compound(
     alloc: Global,
     name: &CompoundName,
@@ -101,7 +103,7 @@ pub fn end_of_compound(
     }
 }
 
-/// What is wrong with what stands after the `end` of something that has this name.
+/// What is wrong with what comes after the `end` of something that has this name.
 pub fn end_of_named(name: &Identifier, end: &Option<Identifier>) -> Option<Fault>
     ensures { result ≡ end_of (Some (identifier_label name.now)) (option_map identifier_label end.now) }
 {

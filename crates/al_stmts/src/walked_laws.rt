@@ -1,4 +1,4 @@
-// What a walk tells, over any reading.
+// What a walk gives, over any reading.
 ghost use Rattle.al_stmts.specs.Laws.{FaultsFollow, ItemsFollow, OperationsFollow};
 
 /// What is wrong with statements is what is wrong with the first one, and then with those after it, unless that one ended the list.

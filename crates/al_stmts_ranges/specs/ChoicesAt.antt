@@ -1,4 +1,4 @@
--- Choices of case statements where they stand (ARM 3.8.1, 5.4), wanted at the selector's type. Their names are looked up by a table of answers.
+-- Choices of case statements at their places (ARM 3.8.1, 5.4), wanted at the selector's type. Their names are looked up by a table of answers.
 use Rattle.std.specs.Prelude.{ℕ, pos, negsuc, List, [], Option, Some, None, Result, Ok, Err, option_map, unwrap_or, if◌then◌else◌}
 use Rattle.al_base.specs.declared.place.Place.{Place}
 use Rattle.al_stmts.specs.declared.choice.Choice.{Choice}
@@ -43,7 +43,7 @@ all_words = record { low = negsuc 9223372036854775807; high = pos 92233720368547
 abbrev pub all_values : FoundType → Bounds
 all_values found = unwrap_or (positions_in found.types found.of) all_words
 
--- the same of a selector that is judged; of a faulty one nothing is asked
+-- the range of the whole type of a selector that was checked; of a faulty one nothing is asked
 abbrev pub values_of : Result FoundTree Fault → Bounds
 values_of (Ok x) = all_values x.found
 values_of (Err f) = all_words
@@ -55,7 +55,7 @@ whole_at t s selector = values_of (selector_judged_at t s selector)
 abbrev pub choice_context : FoundType → Context
 choice_context found = contexts.ChoiceOf (value_type found.types found.of)
 
--- one value, which must be static; before that is asked, it must be right, what stands in the prefixes of its attributes too
+-- one value, which must be static; before that is asked, it must be right, what is in the prefixes of its attributes too
 abbrev pub one_value : StaticValue → Choice
 one_value v = choices.Range (record { low = v.word; high = v.word })
 
@@ -71,7 +71,7 @@ bounds_choice None = choices.OfOtherType
 unfoldable pub mark_choice : FoundType → SubtypeView → Choice
 mark_choice found mark = if same_symbol mark.subtype.base found.of then bounds_choice (range_in mark.types mark.subtype) else choices.OfOtherType
 
--- what stands alone: a mark or a Range attribute, or else a value
+-- what is alone: a mark or a Range attribute, or else a value
 abbrev pub part_choice : Predefined → Option Symbol → FoundType → With ReadTree → Option Choice → Result Choice Fault
 part_choice p own found r (Some c) = unless r.1 (Ok c)
 part_choice p own found r None = next (valued r.0) (value_choice p own found r.1)
@@ -92,7 +92,7 @@ range_choice r = choices.Range r.bounds
 abbrev pub fitted_choice : Result SubtypeView Fault → Result Choice Fault
 fitted_choice subtype = map_ok (λ (m : SubtypeView). bounds_choice m.subtype.bounds) subtype
 
--- the same after a mark at this place: E305 where they don't lie in it
+-- the same after a mark at this place: E305 if they don't lie in it
 unfoldable pub marked_choice : FoundType → Place → SubtypeView × StaticRange → Result Choice Fault
 marked_choice found place x =
     if same_symbol x.0.subtype.base found.of then fitted_choice (subtype_of x.0 place (Some x.1)) else Ok choices.OfOtherType
@@ -107,7 +107,7 @@ abbrev pub choice_at : Table → Surroundings → FoundType → ChoiceTree → R
 choice_at t s found OthersChoice = Ok choices.Others
 choice_at t s found (RangeChoice r) = discrete_choice t s found r
 
--- a choice of the selector that stands there
+-- a choice of the selector that is there
 abbrev pub selected_at : Table → Surroundings → ExpressionTree → ChoiceTree → Result Choice Fault
 selected_at t s selector c = next (selector_judged_at t s selector) (λ (x : FoundTree). choice_at t s x.found c)
 

@@ -1,4 +1,4 @@
--- Ranges of for loops where they stand (ARM 5.5, 3.6.1), with the words of their temporaries. Their names are looked up by a table of answers.
+-- Ranges of for loops at their places (ARM 5.5, 3.6.1), with the words of their temporaries. Their names are looked up by a table of answers.
 use Rattle.std.specs.Prelude.{ℕ, [], Option, Some, None, Result, Ok, Err}
 use Rattle.al_base.specs.declared.place.Place.{Place}
 use Rattle.al_decl_judged.specs.TypeSubtypes.{scalar_bounds, subtype_bounds}
@@ -58,7 +58,7 @@ abbrev pub after_mark : Predefined → Option Symbol → (SubtypeView × Bounds)
 after_mark p own x =
     map_ok (between (Some x.0.1)) (unless x.1.1 (bounds_checked p own (contexts.BoundOf (mark_type x.0.0)) x.0.0.types x.1.0.0 x.1.0.1))
 
--- The range of a loop: a mark or a Range attribute; two bounds, as one context; or a mark with two bounds, which are held against it when it
+-- The range of a loop: a mark or a Range attribute; two bounds, as one context; or a mark with two bounds, which are compared with it when it
 -- runs. E401 and E404 of all names in it come first.
 abbrev pub loop_range_checked : Table → Surroundings → DiscreteRangeTree → Result FoundRangeTree Fault
 loop_range_checked t s (ranges.SoleMark x) = next (range_with_at t s.place s.packages s.predefined s.own x) (whole_range (first_place x))

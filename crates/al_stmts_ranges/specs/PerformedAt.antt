@@ -1,4 +1,4 @@
--- Calls as statements where they stand (ARM 6.4, 9.5.3, A.10.7), with the words of their temporaries. Their names are looked up by a table of
+-- Calls as statements at their places (ARM 6.4, 9.5.3, A.10.7), with the words of their temporaries. Their names are looked up by a table of
 -- answers.
 use Rattle.std.specs.Prelude.{ℕ, false, [], Result, Ok, Err}
 use Rattle.al_base_fault.specs.Judging.{next, map_ok, unless}

@@ -110,7 +110,7 @@ fn bounds_choice(bounds: Option<Bounds>) -> Choice
     }
 }
 
-/// A subtype; one of another type than the selector's is none of its choices.
+/// The choice of a subtype; a subtype of another type than the selector's is no choice of it.
 #[tactic(auto, unfolding(crate::specs::ChoicesAt::mark_choice))]
 fn mark_choice(standard: &StandardTypes, found: &FoundType, mark: &SubtypeView) -> Choice
     ensures { result ≡ mark_choice found.now mark.now }
@@ -157,7 +157,7 @@ fn range_part(
     }
 }
 
-/// What stands alone: a mark or a Range attribute, or else a value.
+/// What is alone: a mark or a Range attribute, or else a value.
 fn read_choice(
     labeller: &Labeller,
     found: &FoundType,
@@ -256,7 +256,7 @@ fn fitted_choice(subtype: &CheckResult<SubtypeView>) -> CheckResult<Choice>
     }
 }
 
-/// Two bounds after a mark: E305 where they don't lie in it.
+/// Two bounds after a mark: E305 if they don't lie in it.
 #[tactic(auto, unfolding(crate::specs::ChoicesAt::marked_choice))]
 fn marked_choice(
     labeller: &Labeller,
@@ -346,8 +346,10 @@ fn discrete_choice<A: Answers>(
     }
 }
 
-/// A choice of a case statement at a place, whose selector has this type (ARM 5.4), or the first rule that is broken: E401 or E404 of a name
-/// in it, what is wrong with its values, E304 at one that isn't static, E305 at one that lies outside of the mark's.
+/// A choice of a case statement at a place, whose selector has this type (ARM 5.4).
+/// # Errors
+/// `NoMemory` if the allocator refuses memory. The inner error is E401 or E404 of a name in it; what is wrong with its values; E304 at one
+/// that isn't static; E305 at one that lies outside the mark's.
 pub fn choice_at<A: Answers>(
     site: &Site<'_>,
     found: &FoundType,

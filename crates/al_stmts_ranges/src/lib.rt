@@ -1,4 +1,6 @@
-//! Ranges of loops and choices of case statements where they stand (ARM 3.6.1, 3.8.1, 5.4, 5.5).
+//! Ranges of loops, choices of case statements and calls as statements, read at their place (ARM 3.6.1, 3.8.1, 5.4, 5.5, 6.4). `loop_range`
+//! and `choice` read a range by itself, after a mark or as a mark alone; `selected` reads a choice with its selector, and `perform` a name
+//! that is a statement. Each result is a labelled tree or the first rule that is broken.
 #![tactic(auto)]
 
 mod choice;

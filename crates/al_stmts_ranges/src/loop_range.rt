@@ -37,7 +37,9 @@ use std::alloc::Global;
 /// The values of a loop's parameter, with its type.
 #[derive(Drop)]
 pub struct FoundRange {
+    /// The values.
     pub range: LoopRange,
+    /// The type.
     pub found: FoundType,
 }
 
@@ -101,7 +103,7 @@ fn whole_range(
     }
 }
 
-/// From one bound to another, after a mark with this range or by themselves.
+/// The range from one bound to another, after a mark with this range or by themselves.
 fn between(mark: Option<Bounds>, pair: CheckResult<Pair>) -> CheckResult<FoundRange>
     ensures { map_ok found_range_model result ≡ map_ok (between mark) (map_ok pair_model pair) }
 {
@@ -130,7 +132,7 @@ fn pair_after(
     check_bounds(labeller, &context, &mark.types, low, high)
 }
 
-/// From one bound to another, after a mark with its range.
+/// The range from one bound to another, after a mark with its range.
 fn after_found(
     labeller: &Labeller,
     mark: (SubtypeView, Bounds),
@@ -253,9 +255,10 @@ fn take_range_words(checked: &mut CheckResult<FoundRange>, word: &mut u32)
     }
 }
 
-/// The range of a for loop at a place (ARM 5.5), with the words of its temporaries from `word` on, in which the next one stands then; or
-/// the first rule that is broken: E401 or E404 of a name in it, E404 at what is no range and at a mark of no discrete type; else what is
-/// wrong with the bounds.
+/// The range of a for loop at a place (ARM 5.5). The words of its temporaries begin at `word`, which is the next free one afterwards.
+/// # Errors
+/// `NoMemory` if the allocator refuses memory. The inner error is E401 or E404 of a name in it; E404 at what is no range and at a mark of
+/// no discrete type; else what is wrong with the bounds.
 pub fn loop_range_at<A: Answers>(
     site: &Site<'_>,
     range: &DiscreteRange,

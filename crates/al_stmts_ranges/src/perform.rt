@@ -71,9 +71,11 @@ fn check(
     }
 }
 
-/// What a name alone does at a place: a call of a procedure or an entry, Put, Put_Line or New_Line; or the first rule that is broken: E401 or
-/// E404 of a name in it; else E402 or E403 at its first token, E604 of an own operation, what is wrong with its arguments. With the words of
-/// its temporaries, from `word` on, in which the next one stands then.
+/// What a name alone does at a place: a call of a procedure or an entry, Put, Put_Line or New_Line. The words of its temporaries begin at
+/// `word`, which is the next free one afterwards.
+/// # Errors
+/// `NoMemory` if the allocator refuses memory. The inner error is E401 or E404 of a name in it; else E402 or E403 at its first token, E604
+/// of an operation of the own protected object, or what is wrong with its arguments.
 pub fn call_effect_at<A: Answers>(
     site: &Site<'_>,
     expression: &Expression,

@@ -1,4 +1,4 @@
-// Selectors of case statements, with what chooses of them.
+// Selectors of case statements, with the choices of their values.
 ghost use Rattle.std.specs.Prelude.{◌≡◌, IfOk};
 ghost use Rattle.al_base_fault.specs.Judging.{next, map_ok};
 ghost use Rattle.al_overload_nodes.specs.RangesSeen.{found_model};
@@ -46,7 +46,9 @@ fn values_of(standard: &StandardTypes, checked: &CheckResult<DeterminedValue>) -
     }
 }
 
-/// The range of the whole type of a selector at a place (ARM 5.4(8, 9)); all words where it is faulty.
+/// The range of the whole type of a selector at a place (ARM 5.4(8, 9)); all words if it is faulty.
+/// # Errors
+/// `NoMemory` if the allocator refuses memory.
 pub fn whole_at<A: Answers>(
     site: &Site<'_>,
     selector: &Expression,
@@ -76,7 +78,9 @@ fn choice_of<A: Answers>(
     }
 }
 
-/// A choice of the selector that stands at a place (ARM 5.4); a faulty selector's fault.
+/// A choice of the selector at a place (ARM 5.4).
+/// # Errors
+/// `NoMemory` if the allocator refuses memory. The inner error is the selector's fault, or else that of `choice_at`.
 pub fn selected_at<A: Answers>(
     site: &Site<'_>,
     selector: &Expression,

@@ -69,7 +69,7 @@ covers_if rs b h =
 same_next : (a b : ℤ) → a ≤ℤ b → b <ℤ (a +ℤ pos 1) → b +ℤ pos 1 ≡ a +ℤ pos 1
 same_next a b h k = omega (arith, ints)
 
--- after a value that some of the ranges have stands one that they have, or one that is chosen
+-- after a value that some of the ranges have is one that they have, or one that is chosen
 next : (all : List Bounds) (b : Bounds) (rs : List Bounds) (v : ℤ) → list_all (goes_on all b) rs ≡ true → 0 < times_chosen rs v → holds b (v +ℤ pos 1) ≡ true → (0 < times_chosen rs (v +ℤ pos 1)) ⊎ (0 < times_chosen all (v +ℤ pos 1))
 next all b [] v h some wanted = absurd (omega arith)
 next all b (r ∷ rs) v h some wanted = case (holds r v) refl (λ one. next all b rs v (both_right (goes_on all b r) (list_all (goes_on all b) rs) h) one wanted)

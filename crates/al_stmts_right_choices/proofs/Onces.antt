@@ -1,4 +1,4 @@
--- Where a value is chosen twice, the low bound of a range is.
+-- If a value is chosen twice, the low bound of a range is.
 use Rattle.std.proofs.Common.{◌≡◌, ◌≤◌, ℤ, ◌≤ℤ◌, ◌<ℤ◌, Bool, true, false, not, ◌||◌, List, [], ◌∷◌, refl, ◌∙◌, arith, ◌⊎◌, inl, inr}
 use Rattle.std.specs.Prelude.{int_le, nat_le}
 use Rattle.std.specs.List.{list_all}
@@ -37,7 +37,7 @@ record Greatest (rs : List Bounds) (v : ℤ) : Type 0 where
   below : at ≤ℤ v
   last : list_all (from v at) rs ≡ true
 
--- where it isn't chosen, no range has it
+-- if it isn't chosen, no range has it
 none_from : (rs : List Bounds) (v w : ℤ) → times_chosen rs v ≡ 0 → list_all (from v w) rs ≡ true
 none_from [] v w h = refl
 none_from (r ∷ rs) v w h = case (holds r v) refl (λ e. none_from rs v w e)

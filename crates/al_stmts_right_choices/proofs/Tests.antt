@@ -11,7 +11,7 @@ pub both_right : (x y : Bool) → (x && y) ≡ true → y ≡ true
 both_right true y h = h
 both_right false y h = absurd (false≢true h)
 
--- one of two holds: where the first doesn't, the second
+-- one of two holds: if the first doesn't, the second
 pub or_else : (x y : Bool) → (not x || y) ≡ true → x ≡ true → y ≡ true
 or_else true y h e = h
 or_else false y h e = absurd (false≢true e)

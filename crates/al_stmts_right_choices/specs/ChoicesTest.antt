@@ -14,7 +14,7 @@ others_in_place [] = true
 others_in_place (a ∷ []) = not (has_others a) || length a == 1
 others_in_place (a ∷ b ∷ more) = not (has_others a) && others_in_place (b ∷ more)
 
--- no value is chosen twice: where two ranges have a value in common, they have the low bound of one
+-- no value is chosen twice: if two ranges have a value in common, they have the low bound of one
 abbrev pub is_once : List Bounds → Bounds → Bool
 is_once ranges r = nat_le (times_chosen ranges r.low) 1
 
@@ -32,11 +32,11 @@ stays_within (OfType bounds) ranges = true
 abbrev pub is_chosen : List Bounds → ℤ → Bool
 is_chosen ranges v = nat_lt 0 (times_chosen ranges v)
 
--- the value after a range is chosen, where it is wanted
+-- the value after a range is chosen, if it is wanted
 abbrev pub goes_on : List Bounds → Bounds → Bounds → Bool
 goes_on ranges bounds r = not (holds bounds (r.high +ℤ pos 1)) || is_chosen ranges (r.high +ℤ pos 1)
 
--- the first value is chosen, and what stands after each range
+-- the first value is chosen, and what comes after each range
 abbrev pub covers : List Bounds → Bounds → Bool
 covers ranges bounds = not (has_values bounds) || (is_chosen ranges bounds.low && list_all (goes_on ranges bounds) ranges)
 

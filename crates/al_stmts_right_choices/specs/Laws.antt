@@ -1,4 +1,4 @@
--- What the test tells.
+-- What the test means.
 use Rattle.std.specs.Prelude.{◌↔◌, List, IsTrue}
 use Rattle.al_stmts.specs.Choosing.{AreRight}
 use Rattle.al_stmts.specs.declared.choice.Choice.{Choice}

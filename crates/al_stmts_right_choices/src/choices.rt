@@ -8,6 +8,8 @@ use al_view::Seq;
 use std::alloc::Global;
 
 /// Whether the choices of a case statement are right, by its alternatives in order.
+/// # Errors
+/// `NoMemory` if the allocator refuses memory.
 pub fn are_right(
     alloc: Global,
     alternatives: &[Seq<Choice>],

@@ -1,7 +1,7 @@
-// What the test tells.
+// What the test means.
 ghost use Rattle.al_stmts_right_choices.specs.Laws.{TheTestDecides};
 
-/// The test holds exactly where the choices are right.
+/// The test holds if, and only if, the choices are right.
 pub fn the_test_decides()
     ensures { TheTestDecides }
 {}

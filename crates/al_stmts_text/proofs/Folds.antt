@@ -42,14 +42,14 @@ statements_folded R r s [] = sym (last s.0 s.1)
 statements_folded R r s (x ∷ xs) =
     statements_folded R r (statement_step R r s x) xs ∙ again s (statement_walked R r s.0 (statement_model x)) (λ h. more_walked R r h (more_statements_of (map statement_model xs)))
 
--- where the list goes on, a statement more
+-- if the list goes on, a statement more
 pub statement_added : {H : Type 0} (R : Reading H) (r env : Enclosing) (h after : H) (a one made : Walked) (x : Statement)
     → is_some a.checked.faults.end ≡ false → env ≡ r → giving after one ≡ statement_walked R env h (statement_model x) → made ≡ joined a one → giving after made ≡ statement_step R r (giving h a) x
 statement_added {H} R r env h after a one made x goes same is made_is =
     let walked : (giving after one) ≡ statement_walked R r h (statement_model x) = is ∙ ap (λ (k : Enclosing). statement_walked R k h (statement_model x)) same in
     rw goes (ap (λ (w : Walked). giving after w) made_is ∙ goes_on (λ (k : H) (w : Walked). giving k (joined a w)) after one (statement_walked R r h (statement_model x)) walked)
 
--- where it has ended, no more statements
+-- if it has ended, no more statements
 pub statements_stop : {H : Type 0} (R : Reading H) (r : Enclosing) (s : H × Walked) (xs : List Statement) → is_some s.1.checked.faults.end ≡ true → fold (statement_step R r) s xs ≡ s
 statements_stop R r s xs ended = stops (statement_step R r) s xs (λ x. rw ended refl)
 
@@ -61,7 +61,7 @@ branch_step R r s b = if is_some s.1.so_far.faults.end then s else branch_walked
 pub branches_stop : {H : Type 0} (R : Reading H) (r : Enclosing) (s : H × Branching) (bs : List ElsifBranch) → is_some s.1.so_far.faults.end ≡ true → fold (branch_step R r) s bs ≡ s
 branches_stop R r s bs ended = stops (branch_step R r) s bs (λ b. rw ended refl)
 
--- where the list goes on, a branch more
+-- if the list goes on, a branch more
 pub branch_added : {H : Type 0} (R : Reading H) (r env : Enclosing) (h : H) (a : Branching) (done : H × Branching) (b : ElsifBranch)
     → is_some a.so_far.faults.end ≡ false
     → env ≡ r
@@ -89,7 +89,7 @@ alternative_step R r s a = if is_some s.1.so_far.faults.end then s else alternat
 pub alternatives_stop : {H : Type 0} (R : Reading H) (r : Enclosing) (s : H × Choosing) (more : List Alternative) → is_some s.1.so_far.faults.end ≡ true → fold (alternative_step R r) s more ≡ s
 alternatives_stop R r s more ended = stops (alternative_step R r) s more (λ a. rw ended refl)
 
--- where the list goes on, an alternative more
+-- if the list goes on, an alternative more
 pub alternative_added : {H : Type 0} (R : Reading H) (r env : Enclosing) (h : H) (so_far : Choosing) (done : H × Choosing) (a : Alternative)
     → is_some so_far.so_far.faults.end ≡ false → env ≡ r → done ≡ alternative_walked R env (giving h so_far) (alternative_model a) → done ≡ alternative_step R r (giving h so_far) a
 alternative_added R r env h so_far done a goes same is = rw goes (is ∙ ap (λ (k : Enclosing). alternative_walked R k (giving h so_far) (alternative_model a)) same)

@@ -1,4 +1,4 @@
--- What stands before the statements inside a statement, read by read.
+-- What comes before the statements inside a statement, read by read.
 use Rattle.std.proofs.Common.{◌≡◌, ℕ, Bool, Result, Ok, Err, refl, ap, sym, ◌∙◌}
 use Rattle.std.specs.Prelude.{is_ok}
 use Rattle.al_base.specs.declared.place.Place.{Place}

@@ -13,7 +13,7 @@ use Rattle.al_stmts_text.proofs.ChoiceFolds.{alternative_step, alternatives_fold
 use Rattle.al_stmts_text.proofs.Loops.{ends, step}
 use Rattle.al_stmts_text.specs.Chosen.{with_chosen}
 
--- one more step, where how far the check has come stays
+-- one more step, if how far the check has come stays
 stays : {H S X : Type 0} (f : H → S → X → S) (start h after : H) (s0 s made : S) (xs : List X) (i : ℕ) (x : X)
     → giving after made ≡ giving h (f h s x)
     → giving h (fold (f start) s (drop i xs)) ≡ giving start (fold (f start) s0 xs)

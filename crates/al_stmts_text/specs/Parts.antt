@@ -31,7 +31,7 @@ abbrev pub all_alternatives : {H : Type 0} → Reading H → Enclosing → H × 
 all_alternatives R r so_far s =
     alternatives_walked R r (alternative_walked R r so_far (alternative_model (out-CaseStatement s).first)) (alternatives_of (map alternative_model (out-CaseStatement s).others.items))
 
--- what stands inside a body
+-- what is inside a body
 abbrev pub body_inside : {H : Type 0} → Reading H → Enclosing → H → ItemsTree → Label → StatementsTree → H × Inside
 body_inside R r h is begin ss = let part = closed R (items_walked R h is) begin in inside_after part (statements_walked R r part.0 ss)
 

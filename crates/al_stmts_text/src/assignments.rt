@@ -19,7 +19,7 @@ use al_stmts::{Enclosing, Target, WalkedStatement, assignment, target_of};
 use al_tree::Assignment;
 use al_view_typed::{Typed, TypedStatement};
 
-/// A target that was found, if it is a variable.
+/// A target that was read, if it is a variable.
 fn found_target(found: CheckResult<Typed>) -> CheckResult<Target>
     ensures { map_ok target_model result ≡ next (map_ok typed_model found) target_of }
 {
@@ -43,7 +43,10 @@ fn assign<R: Analyzer>(
     Ok(assignment(line, target, value))
 }
 
-/// `target := value;` (ARM 5.2)
+/// `target := value;` (ARM 5.2), checked.
+/// # Errors
+/// `NoMemory` if the allocator refuses memory. The inner error is the fault of the target, which is E406 if it is no variable; else that of
+/// the value.
 pub fn check_assignment<R: Analyzer>(
     analyzer: &mut R,
     statement: &Assignment,
@@ -57,7 +60,9 @@ pub fn check_assignment<R: Analyzer>(
     }
 }
 
-/// `target := value;` (ARM 5.2)
+/// `target := value;` (ARM 5.2), walked over.
+/// # Errors
+/// `NoMemory` if the allocator refuses memory.
 pub fn walk_assignment<R: Analyzer>(
     analyzer: &mut R,
     enclosing: &Enclosing,

@@ -1,4 +1,4 @@
-// Bodies, before and after what stands inside them.
+// Bodies, before and after what is inside them.
 ghost use Rattle.std.specs.Prelude.{◌≡◌, IfOk};
 ghost use Rattle.al_query.specs.Reads.{FromAnswers};
 ghost use Rattle.al_stmts.specs.Views.{effects_model};
@@ -13,7 +13,9 @@ use al_stmts::{BodyExtent, Enclosing, WalkedInside, WalkedPart};
 use al_view_typed::TypedDeclaration;
 use std::alloc::Global;
 
-/// The region of a body, and what its statements stand in.
+/// Enters the region of a body. The result is what its statements are in.
+/// # Errors
+/// `NoMemory` if the allocator refuses memory.
 pub fn enter_body<R: Analyzer>(analyzer: &mut R, alloc: Global) -> Result<Enclosing, NoMemory>
     ensures asked { R.asked analyzer.new ≡ R.asked analyzer.old }
     ensures answered { IfOk result (λ done. FromAnswers (R.log analyzer.old) (R.log analyzer.new) (λ t. (R.env analyzer.new, done) ≡ body_entered (R.reading t) (R.env analyzer.old))) }
@@ -23,7 +25,7 @@ pub fn enter_body<R: Analyzer>(analyzer: &mut R, alloc: Global) -> Result<Enclos
     Ok(Enclosing::new(alloc, returns))
 }
 
-/// The region of a body is left.
+/// Leaves the region of a body.
 fn leave_body<R: Analyzer>(analyzer: &mut R, part: WalkedPart) -> Result<WalkedPart, NoMemory>
     ensures asked { R.asked analyzer.new ≡ R.asked analyzer.old }
     ensures answered { IfOk result (λ done. FromAnswers (R.log analyzer.old) (R.log analyzer.new) (λ t. (R.env analyzer.new, part_model done) ≡ giving ((R.reading t).body_left (R.env analyzer.old)) (part_model part))) }
@@ -34,7 +36,9 @@ fn leave_body<R: Analyzer>(analyzer: &mut R, part: WalkedPart) -> Result<WalkedP
     }
 }
 
-/// A body after what stands inside it: its tree with its labels, and what is wrong at its end.
+/// A body after what is inside it: its tree with its labels, and what is wrong at its end.
+/// # Errors
+/// `NoMemory` if the allocator refuses memory.
 pub fn finish_body<R: Analyzer>(
     analyzer: &mut R,
     alloc: Global,
@@ -59,6 +63,8 @@ pub fn finish_body<R: Analyzer>(
 }
 
 /// A protected body with the bodies of its operations, and what is wrong with the name at its end; its region is left (ARM 9.4).
+/// # Errors
+/// `NoMemory` if the allocator refuses memory.
 pub fn finish_object<R: Analyzer>(
     analyzer: &mut R,
     effects: Vec<TypedDeclaration>,

@@ -29,7 +29,9 @@ fn performing(line: usize, done: CheckResult<CallEffect>) -> CheckResult<TypedSt
     }
 }
 
-/// `name;` (ARM 6.4, 9.5.3)
+/// `name;` (ARM 6.4, 9.5.3), checked.
+/// # Errors
+/// `NoMemory` if the allocator refuses memory. The inner error is the fault of the call.
 pub fn check_call<R: Analyzer>(
     analyzer: &mut R,
     name: &Expression,
@@ -41,7 +43,9 @@ pub fn check_call<R: Analyzer>(
     Ok(performing(first_place(name).line as usize, done))
 }
 
-/// `name;` (ARM 6.4, 9.5.3)
+/// `name;` (ARM 6.4, 9.5.3), walked over.
+/// # Errors
+/// `NoMemory` if the allocator refuses memory.
 pub fn walk_call<R: Analyzer>(
     analyzer: &mut R,
     enclosing: &Enclosing,

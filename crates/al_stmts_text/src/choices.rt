@@ -18,7 +18,7 @@ use al_tree::{Alternative, Choice, Expression};
 use al_view_typed::Typed;
 use std::alloc::Global;
 
-/// One more choice of an alternative, or its fault.
+/// Adds a choice of an alternative, or its fault.
 fn add_choice<R: Analyzer>(
     analyzer: &mut R,
     selector: &Expression,
@@ -32,7 +32,7 @@ fn add_choice<R: Analyzer>(
     choices.add(checked)
 }
 
-/// Choices of an alternative, one after another.
+/// Adds choices of an alternative, one after another.
 fn add_choices<R: Analyzer>(
     analyzer: &mut R,
     selector: &Expression,
@@ -48,7 +48,7 @@ fn add_choices<R: Analyzer>(
     Ok(())
 }
 
-/// Those of an alternative, after the ones that there are.
+/// Adds the choices of an alternative to those that there are.
 fn fill_choices<R: Analyzer>(
     analyzer: &mut R,
     selector: &Expression,
@@ -62,7 +62,7 @@ fn fill_choices<R: Analyzer>(
     add_choices(analyzer, selector, choices, &alternative.others)
 }
 
-/// The choices of one more alternative.
+/// Adds the choices of the next alternative.
 fn add_alternative<R: Analyzer>(
     analyzer: &mut R,
     alloc: Global,
@@ -80,7 +80,7 @@ fn add_alternative<R: Analyzer>(
     }
 }
 
-/// Those of the alternatives after the first one.
+/// Adds the choices of the alternatives after the first one.
 fn add_alternatives<R: Analyzer>(
     analyzer: &mut R,
     alloc: Global,
@@ -97,7 +97,7 @@ fn add_alternatives<R: Analyzer>(
     Ok(())
 }
 
-/// Those of all alternatives, after the ones that there are.
+/// Adds the choices of all alternatives to those that there are.
 fn fill_alternatives<R: Analyzer>(
     analyzer: &mut R,
     alloc: Global,
@@ -113,7 +113,7 @@ fn fill_alternatives<R: Analyzer>(
     add_alternatives(analyzer, alloc, selector, so_far, others)
 }
 
-/// Those of all alternatives. Where the selector is faulty none is looked at.
+/// The choices of all alternatives. If the selector is faulty, none is read.
 pub(crate) fn all_choices<R: Analyzer>(
     analyzer: &mut R,
     alloc: Global,
@@ -135,7 +135,7 @@ pub(crate) fn all_choices<R: Analyzer>(
     }
 }
 
-/// Whether the choices are right. Where the selector is faulty nothing is asked of them.
+/// Whether the choices are right. If the selector is faulty, nothing is asked.
 pub(crate) fn right_choices<R: Analyzer>(
     analyzer: &mut R,
     selector: &Expression,

@@ -1,4 +1,4 @@
-// What stands before the statements inside a statement.
+// What comes before the statements inside a statement.
 ghost use Rattle.std.specs.Prelude.{◌≡◌, IfOk, OnOk, map};
 ghost use Rattle.al_base_fault.specs.Judging.{map_ok};
 ghost use Rattle.al_query.specs.Reads.{FromAnswers};
@@ -64,6 +64,8 @@ fn case_after<R: Analyzer>(
 }
 
 /// A case statement up to its alternatives: the word that keeps its selector is taken first (ARM 5.4).
+/// # Errors
+/// `NoMemory` if the allocator refuses memory.
 pub fn case_head<R: Analyzer>(
     analyzer: &mut R,
     alloc: Global,
@@ -84,6 +86,8 @@ pub fn case_head<R: Analyzer>(
 }
 
 /// How often a while loop goes round.
+/// # Errors
+/// `NoMemory` if the allocator refuses memory. The inner error is the fault of the condition.
 pub fn while_head<R: Analyzer>(
     analyzer: &mut R,
     condition: &Expression,
@@ -95,7 +99,7 @@ pub fn while_head<R: Analyzer>(
     Ok(while_scheme(checked))
 }
 
-/// The words of a loop's parameter and of its last value, which are taken.
+/// Takes the words of a loop's parameter and of its last value.
 fn loop_words<R: Analyzer>(analyzer: &mut R) -> Result<LoopWords, NoMemory>
     ensures asked { R.asked analyzer.new ≡ R.asked analyzer.old }
     ensures answered { IfOk result (λ done. FromAnswers (R.log analyzer.old) (R.log analyzer.new) (λ t. (R.env analyzer.new, done) ≡ giving ((R.reading t).with_word ((R.reading t).with_word (R.env analyzer.old))) (loop_words (R.reading t) (R.env analyzer.old)))) }
@@ -107,7 +111,7 @@ fn loop_words<R: Analyzer>(analyzer: &mut R) -> Result<LoopWords, NoMemory>
     Ok(LoopWords { parameter, last })
 }
 
-/// The parameter of a for loop, where its range is right.
+/// Declares the parameter of a for loop, if its range is right.
 fn declare_parameter<R: Analyzer>(
     analyzer: &mut R,
     parameter: &Identifier,
@@ -133,6 +137,8 @@ fn declare_parameter<R: Analyzer>(
 }
 
 /// A for loop up to its statements (ARM 5.5).
+/// # Errors
+/// `NoMemory` if the allocator refuses memory. The inner error is the fault of the range.
 pub fn for_head<R: Analyzer>(
     analyzer: &mut R,
     parameter: &Identifier,

@@ -13,6 +13,8 @@ use al_tree::{CommonDeclaration, ProtectedDefinition, Specification, TaskDeclara
 use std::alloc::Global;
 
 /// A declaration, a pragma or a use clause.
+/// # Errors
+/// `NoMemory` if the allocator refuses memory.
 pub fn declared_item<R: Analyzer>(
     analyzer: &mut R,
     alloc: Global,
@@ -26,6 +28,8 @@ pub fn declared_item<R: Analyzer>(
 }
 
 /// The declaration of a subprogram (ARM 6.1).
+/// # Errors
+/// `NoMemory` if the allocator refuses memory.
 pub fn subprogram_item<R: Analyzer>(
     analyzer: &mut R,
     alloc: Global,
@@ -39,6 +43,8 @@ pub fn subprogram_item<R: Analyzer>(
 }
 
 /// The stub of a subprogram, with the place of `separate` (ARM 10.1.3).
+/// # Errors
+/// `NoMemory` if the allocator refuses memory.
 pub fn stub_item<R: Analyzer>(
     analyzer: &mut R,
     alloc: Global,
@@ -53,6 +59,8 @@ pub fn stub_item<R: Analyzer>(
 }
 
 /// A task (ARM 9.1).
+/// # Errors
+/// `NoMemory` if the allocator refuses memory.
 pub fn task_item<R: Analyzer>(
     analyzer: &mut R,
     alloc: Global,
@@ -66,6 +74,8 @@ pub fn task_item<R: Analyzer>(
 }
 
 /// A protected object, with the place of `protected` (ARM 9.4).
+/// # Errors
+/// `NoMemory` if the allocator refuses memory.
 pub fn object_item<R: Analyzer>(
     analyzer: &mut R,
     alloc: Global,

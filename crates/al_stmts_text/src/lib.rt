@@ -1,7 +1,9 @@
-//! The walk over statements, blocks and bodies, by whoever reads expressions and declarations at a place (`Analyzer`).
+//! The walk over statements, blocks and bodies. It is generic in an `Analyzer` (`analyzer`), which reads expressions and declarations at a
+//! place.
 //!
-//! The steps that ask something stand each by itself: a file for each simple statement, for heads, choices, regions, declarations and bodies.
-//! `text` has the statements that hold others.
+//! `text` recurses over the statements that hold others. Each step that asks something is a function of its own: a module for each simple
+//! statement (`assignments`, `calls`, `plain`, `returns`), for `heads`, `choices`, `regions`, declarations (`items`) and `bodies`. The
+//! faults are in source order, and a faulty declaration ends the list.
 #![tactic(auto)]
 
 mod analyzer;

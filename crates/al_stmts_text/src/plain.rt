@@ -20,14 +20,16 @@ use al_stmts::{Enclosing, WalkedStatement, delay, null};
 use al_tree::{DelayStatement, ExitStatement, Expression};
 use al_view_typed::{Typed, TypedStatement};
 
-/// `null;` Its line is never seen, as it has no code (ARM 5.1(6)).
+/// `null;`. Its line is never seen, as it has no code (ARM 5.1(6)).
+/// # Errors
+/// `NoMemory` if the allocator refuses memory.
 pub fn walk_null(enclosing: &Enclosing) -> Result<WalkedStatement, NoMemory>
     ensures { IfOk result (λ done. one_model done ≡ alone_of (Ok (Numbered 0 forms.NullStatement))) }
 {
     WalkedStatement::alone(enclosing.alloc(), Ok(null(0)))
 }
 
-/// The condition of an exit statement, where it has one.
+/// The condition of an exit statement, if it has one.
 fn exit_condition<R: Analyzer>(
     analyzer: &mut R,
     condition: &Option<Expression>,
@@ -44,7 +46,9 @@ fn exit_condition<R: Analyzer>(
     }
 }
 
-/// `exit [name] [when condition];` (ARM 5.7)
+/// `exit [name] [when condition];` (ARM 5.7), walked over.
+/// # Errors
+/// `NoMemory` if the allocator refuses memory.
 pub fn walk_exit<R: Analyzer>(
     analyzer: &mut R,
     enclosing: &Enclosing,
@@ -58,7 +62,9 @@ pub fn walk_exit<R: Analyzer>(
     WalkedStatement::alone(enclosing.alloc(), checked)
 }
 
-/// `delay until moment;` (ARM 9.6)
+/// `delay until moment;` (ARM 9.6), checked.
+/// # Errors
+/// `NoMemory` if the allocator refuses memory. The inner error is the fault of the moment.
 pub fn check_delay<R: Analyzer>(
     analyzer: &mut R,
     statement: &DelayStatement,
@@ -70,7 +76,9 @@ pub fn check_delay<R: Analyzer>(
     Ok(delay(statement.opening.line as usize, moment))
 }
 
-/// `delay until moment;` (ARM 9.6)
+/// `delay until moment;` (ARM 9.6), walked over.
+/// # Errors
+/// `NoMemory` if the allocator refuses memory.
 pub fn walk_delay<R: Analyzer>(
     analyzer: &mut R,
     enclosing: &Enclosing,

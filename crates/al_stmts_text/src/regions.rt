@@ -13,7 +13,9 @@ use al_base_fault::Fault;
 use al_stmts::{WalkedInside, WalkedPart, WalkedStatement};
 use std::alloc::Global;
 
-/// The region of a statement that was walked over is left (ARM 8.1).
+/// Leaves the region of a statement that was walked over (ARM 8.1).
+/// # Errors
+/// `NoMemory` if the allocator refuses memory.
 pub fn left_region<R: Analyzer>(
     analyzer: &mut R,
     walked: WalkedStatement,
@@ -31,6 +33,8 @@ pub fn left_region<R: Analyzer>(
 }
 
 /// A for loop whose range is faulty, which ends the list of faults: its region is left.
+/// # Errors
+/// `NoMemory` if the allocator refuses memory.
 pub fn broken_loop<R: Analyzer>(
     analyzer: &mut R,
     alloc: Global,
@@ -43,7 +47,9 @@ pub fn broken_loop<R: Analyzer>(
     Ok(WalkedStatement::broken_by(alloc, fault))
 }
 
-/// A part up to its end: E302 there where a declaration of it giving waits.
+/// A part up to its end: E302 there if one of its declarations still waits.
+/// # Errors
+/// `NoMemory` if the allocator refuses memory.
 pub fn close_part<R: Analyzer>(
     analyzer: &mut R,
     part: &mut WalkedPart,
@@ -57,7 +63,9 @@ pub fn close_part<R: Analyzer>(
     Ok(())
 }
 
-/// Both parts of a package up to its end: E302 there where a private type has no full declaration.
+/// Both parts of a package up to its end: E302 there if a private type has no full declaration.
+/// # Errors
+/// `NoMemory` if the allocator refuses memory.
 pub fn complete_parts<R: Analyzer>(
     analyzer: &mut R,
     part: &mut WalkedPart,
@@ -71,7 +79,9 @@ pub fn complete_parts<R: Analyzer>(
     Ok(())
 }
 
-/// A block after what stands inside it, whose region is left.
+/// A block after what is inside it, whose region is left.
+/// # Errors
+/// `NoMemory` if the allocator refuses memory.
 pub fn finish_block<R: Analyzer>(
     analyzer: &mut R,
     alloc: Global,

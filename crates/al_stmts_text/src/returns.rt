@@ -54,7 +54,7 @@ fn value_returned<R: Analyzer>(
     Ok(return_statement(place, context, Some(value)))
 }
 
-/// A value after `return`, which is looked at in a function alone.
+/// A value after `return`, which is read only in a function.
 fn any_value_returned<R: Analyzer>(
     analyzer: &mut R,
     place: Place,
@@ -70,7 +70,9 @@ fn any_value_returned<R: Analyzer>(
     Ok(unwanted(place, context))
 }
 
-/// `return [value];` in that body (ARM 6.5)
+/// `return [value];` in that body (ARM 6.5), checked.
+/// # Errors
+/// `NoMemory` if the allocator refuses memory. The inner error is the first of E501 at `return` and the fault of the value.
 pub fn check_return<R: Analyzer>(
     analyzer: &mut R,
     statement: &ReturnStatement,
@@ -85,7 +87,9 @@ pub fn check_return<R: Analyzer>(
     }
 }
 
-/// `return [value];` (ARM 6.5)
+/// `return [value];` (ARM 6.5), walked over.
+/// # Errors
+/// `NoMemory` if the allocator refuses memory.
 pub fn walk_return<R: Analyzer>(
     analyzer: &mut R,
     enclosing: &Enclosing,

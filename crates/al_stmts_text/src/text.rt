@@ -38,6 +38,8 @@ use al_view_typed::{LoopScheme, TypedDeclaration};
 use std::alloc::Global;
 
 /// Statements, one after another until the list of faults has ended (ARM 5.1).
+/// # Errors
+/// `NoMemory` if the allocator refuses memory.
 #[cycle(walk)]
 pub fn check_statements<R: Analyzer>(
     analyzer: &mut R,
@@ -56,7 +58,7 @@ pub fn check_statements<R: Analyzer>(
     }
 }
 
-/// Those after the first one.
+/// The statements after the first one.
 #[cycle(walk)]
 fn more_statements<R: Analyzer>(
     analyzer: &mut R,
@@ -291,7 +293,7 @@ fn more_alternatives<R: Analyzer>(
     Ok(())
 }
 
-/// A loop, with its name where it has one (ARM 5.5).
+/// A loop, with its name if it has one (ARM 5.5).
 #[cycle(walk)]
 fn check_loop<R: Analyzer>(
     analyzer: &mut R,
@@ -385,7 +387,7 @@ fn check_round<R: Analyzer>(
     }
 }
 
-/// A for loop, whose range is a declaration: after its fault nothing is looked at.
+/// A for loop, whose range is a declaration: after its fault nothing is checked.
 #[cycle(walk)]
 fn check_for<R: Analyzer>(
     analyzer: &mut R,
@@ -409,7 +411,7 @@ fn check_for<R: Analyzer>(
     }
 }
 
-/// A block, with its name where it has one (ARM 5.6).
+/// A block, with its name if it has one (ARM 5.6).
 #[cycle(walk)]
 fn check_block<R: Analyzer>(
     analyzer: &mut R,
@@ -459,7 +461,9 @@ fn check_declared<R: Analyzer>(
     finish_block(analyzer, enclosing.alloc(), line, fault, inside)
 }
 
-/// The statements after a part, which aren't looked at where its list of faults has ended.
+/// The statements after a part, which aren't checked if its list of faults has ended.
+/// # Errors
+/// `NoMemory` if the allocator refuses memory.
 #[cycle(walk)]
 pub fn check_after<R: Analyzer>(
     analyzer: &mut R,
@@ -480,7 +484,9 @@ pub fn check_after<R: Analyzer>(
     }
 }
 
-/// A part up to its end, with E302 there where a declaration of it still waits (ARM 3.11).
+/// A part up to its end, with E302 there if one of its declarations still waits (ARM 3.11).
+/// # Errors
+/// `NoMemory` if the allocator refuses memory.
 #[cycle(walk)]
 pub fn check_part<R: Analyzer>(
     analyzer: &mut R,
@@ -500,6 +506,8 @@ pub fn check_part<R: Analyzer>(
 }
 
 /// Declarations, one after another until the list of faults has ended.
+/// # Errors
+/// `NoMemory` if the allocator refuses memory.
 #[cycle(walk)]
 pub fn check_items<R: Analyzer>(
     analyzer: &mut R,
@@ -548,7 +556,7 @@ fn check_item<R: Analyzer>(
     }
 }
 
-/// The body of a protected object (ARM 9.4). Where what stands before its operations is faulty nothing after that is looked at.
+/// The body of a protected object (ARM 9.4). If what comes before its operations is faulty, nothing after that is checked.
 #[cycle(walk)]
 fn check_object<R: Analyzer>(
     analyzer: &mut R,
@@ -568,7 +576,7 @@ fn check_object<R: Analyzer>(
     }
 }
 
-/// The body of a protected object in the region of its operations, by what it does where it stands.
+/// The body of a protected object in the region of its operations, by what it does at its place.
 #[cycle(walk)]
 fn check_opened<R: Analyzer>(
     analyzer: &mut R,
@@ -665,6 +673,8 @@ fn check_entry<R: Analyzer>(
 }
 
 /// The body of a subprogram (ARM 6.3).
+/// # Errors
+/// `NoMemory` if the allocator refuses memory.
 #[cycle(walk)]
 pub fn check_body<R: Analyzer>(
     analyzer: &mut R,
@@ -680,7 +690,7 @@ pub fn check_body<R: Analyzer>(
     headed_subprogram(analyzer, alloc, body, head, extent)
 }
 
-/// The body of a subprogram after its head. Where the head is faulty nothing after it is looked at.
+/// The body of a subprogram after its head. If the head is faulty, nothing after it is checked.
 #[cycle(walk)]
 fn headed_subprogram<R: Analyzer>(
     analyzer: &mut R,
@@ -698,7 +708,7 @@ fn headed_subprogram<R: Analyzer>(
     }
 }
 
-/// The body of a subprogram whose head is right, by what it does where it stands.
+/// The body of a subprogram whose head is right, by what it does at its place.
 #[cycle(walk)]
 fn entered_subprogram<R: Analyzer>(
     analyzer: &mut R,
@@ -721,7 +731,7 @@ fn entered_subprogram<R: Analyzer>(
     }
 }
 
-/// What stands inside the body of a subprogram.
+/// What is inside the body of a subprogram.
 #[cycle(walk)]
 fn inside_subprogram<R: Analyzer>(
     analyzer: &mut R,
@@ -736,7 +746,7 @@ fn inside_subprogram<R: Analyzer>(
     check_after(analyzer, enclosing, &body.statements, part)
 }
 
-/// The body of a task or an entry after its head. Where the head is faulty nothing after it is looked at.
+/// The body of a task or an entry after its head. If the head is faulty, nothing after it is checked.
 #[cycle(walk)]
 fn headed_declared<R: Analyzer>(
     analyzer: &mut R,
@@ -754,7 +764,7 @@ fn headed_declared<R: Analyzer>(
     }
 }
 
-/// The body of a task or an entry whose head is right, by what it does where it stands.
+/// The body of a task or an entry whose head is right, by what it does at its place.
 #[cycle(walk)]
 fn entered_declared<R: Analyzer>(
     analyzer: &mut R,
@@ -781,7 +791,7 @@ fn entered_declared<R: Analyzer>(
     }
 }
 
-/// What stands inside the body of a task or an entry.
+/// What is inside the body of a task or an entry.
 #[cycle(walk)]
 fn inside_declared<R: Analyzer>(
     analyzer: &mut R,

@@ -5,7 +5,7 @@ use Rattle.al_decl_judged.specs.Objects.{new_objects}
 use Rattle.al_decl_judged.specs.Progressing.{with_all_counted}
 use Rattle.al_decl_judged.proofs.new_object.new_objects.Given as goal
 
--- the names so far are counted, and their objects stand before those of the others
+-- the names so far are counted, and their objects come before those of the others
 abbrev pub invariant-loop-name : goal.invariant-loop-name
 invariant-loop-name l =
     (l.progress ≡ with_all_counted l.fn.progress (names_of (take l.name-index l.names)))

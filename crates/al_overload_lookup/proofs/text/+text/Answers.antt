@@ -18,7 +18,7 @@ add_all-returns t c =
     ∙ ap (λ (xs : List Expression). names_of c.args.found.now.items ++ flat_map (λ (x : Expression). names_in (expression_model x)) xs) all
     ∙ ap (λ (xs : List TextName). names_of c.args.found.now.items ++ xs) (sym (all_listed c.args.expressions.now))
 
--- ---- what stands first is no deeper than the whole, and each link is less deep
+-- ---- what is first is no deeper than the whole, and each link is less deep
 
 pub add_names-add_first-requires : goal.add_names-add_first-requires
 add_names-add_first-requires t c = (omega (arith, c.decreases, c.in_ok-first.ensures.within.0), tt)

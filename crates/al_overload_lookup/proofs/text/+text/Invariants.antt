@@ -17,7 +17,7 @@ invariant-add_names-loop-link l =
 abbrev pub decreases-add_names-loop-link : goal.decreases-add_names-loop-link
 decreases-add_names-loop-link l = length l.links.items
 
--- ---- how deep what is read is: what stands first may be the whole, so its names are told with less than those of the whole
+-- ---- how deep what is read is: what is first may be the whole, so its names are computed with less than those of the whole
 
 abbrev pub decreases-add_names : goal.decreases-add_names
 decreases-add_names l = 2 * goal.size-add_names l + 1

@@ -77,7 +77,7 @@ returns-clause-stops g c t h =
     let all : c.args.regions.now ≡ i.looked.0 = i.looked.1 ∙ ap (λ (rs : List Region). rs ++ i.looked.0) (none_left c.outward.rest.now none) in
     (subst (λ (rs : List Region). IsLooking c.args.mentioned.now c.args.name.now rs c.args.recorder.now.log c.outward.recorder.log c.outward.search) (sym all) i.looked.2).stops t h
 
--- ---- where there is a region to look into, there are regions
+-- ---- if there is a region to look into, there are regions
 
 pub returns-in_err-found-clause-takes_none : goal.returns-in_err-found-clause-takes_none
 returns-in_err-found-clause-takes_none g c none =

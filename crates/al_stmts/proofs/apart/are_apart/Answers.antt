@@ -1,4 +1,4 @@
--- The neighbours tell of all, as the low bounds rise.
+-- The neighbours decide for all, as the low bounds rise.
 use Rattle.std.proofs.Common.{arith, sym, ◌∙◌}
 use Rattle.std.proofs.lemmas.Bool.{false≢true}
 use Rattle.al_stmts.proofs.ApartLemmas.{apart_from_neighbours, neighbours_meet}

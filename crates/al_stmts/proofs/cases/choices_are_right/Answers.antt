@@ -1,4 +1,4 @@
--- What the choices are held against is the selector's.
+-- What the choices are compared with is the selector's.
 use Rattle.std.proofs.Common.{◌↔◌, IfOk, IsTrue, List, Option, subst}
 use Rattle.al_stmts.specs.Choosing.{AreRight}
 use Rattle.al_stmts.specs.declared.choice.Choice.{Choice}

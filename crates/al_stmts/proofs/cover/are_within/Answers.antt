@@ -1,4 +1,4 @@
--- A range with values lies within another one where its bounds do.
+-- A range with values lies within another one if its bounds do.
 use Rattle.std.proofs.Common.{arith, refl, true, false, sym, ◌∙◌, ◌<◌, ◌≤ℤ◌, length, get_or}
 use Rattle.std.proofs.lemmas.Bool.{false≢true}
 use Rattle.std.specs.List.{All, AllWithin}

@@ -1,4 +1,4 @@
--- Each test tells of one rule.
+-- Each test is for one rule.
 use Rattle.std.proofs.Common.{arith, refl, sym, subst, ◌∙◌}
 use Rattle.std.proofs.lemmas.Bool.{false≢true}
 use Rattle.al_view.specs.declared.types.Bounds.{Bounds}

@@ -1,4 +1,4 @@
--- What `position` says where it finds nothing.
+-- What `position` says if it finds nothing.
 use Rattle.std.proofs.Common.{◌≡◌, ℕ, Bool, true, false, cond, length, Some, None, not, refl, sym, arith, ltb, ◌≤◌}
 use Rattle.std.proofs.lemmas.Bool.Decides.{nat_tests}
 use Rattle.std.specs.List.{position_or_len}
