@@ -78,6 +78,9 @@ fn add_keys(alloc: Global, keys: &mut Vec<UnitKey>, more: &[UnitKey]) -> Result<
 }
 
 /// The parts of an item: itself, its subunits and theirs (ARM 10.1.3). The subunits of each are added once.
+///
+/// # Errors
+/// `NoMemory` if the allocator refuses memory.
 pub fn parts_of(alloc: Global, sources: &Sources, key: &UnitKey) -> Result<Vec<UnitKey>, NoMemory>
     ensures { IfOk result (λ parts. (p : Key) → Contains (map key_of parts.items) p ↔ IsPartOf sources.now (key_of key.now) p) }
 {

@@ -188,6 +188,9 @@ fn without_view(
 }
 
 /// What is found in the text of a unit after its end.
+///
+/// # Errors
+/// `NoMemory` if the allocator refuses memory.
 #[tactic(auto, unfolding(crate::specs::Ended::ended))]
 pub fn found_after(
     alloc: Global,

@@ -39,6 +39,9 @@ fn ask_each<A: Answers>(
 }
 
 /// The views in the answers to all of these questions, which are asked.
+///
+/// # Errors
+/// `NoMemory` if the allocator refuses memory.
 #[tactic(auto, unfolding(crate::specs::Questions::shown_by))]
 pub fn asked_again<A: Answers>(
     alloc: Global,

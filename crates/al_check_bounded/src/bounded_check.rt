@@ -44,6 +44,9 @@ impl<F: UnitFinder> BoundedCheck<F> {
     /// Checks a unit with its text, as it was read. Beside what is promised of every checker, whatever the finder asks:
     /// - `names`: each question is by a word of the text, an operator's sign too, or by a name that an earlier answer tells, or for a property
     ///   of a unit; that for what a body must complete is of the unit's own declaration.
+    ///
+    /// # Errors
+    /// `NoMemory` if the allocator refuses memory.
     pub fn check_unit<A: Answers>(
         &mut self,
         alloc: Global,

@@ -107,6 +107,9 @@ fn found_within<F: UnitFinder, A: Answers>(
 
 /// The check of a unit with this text, which is read as this tree with this header: whoever finds what it says asks within bounds, and the
 /// result is tested.
+///
+/// # Errors
+/// `NoMemory` if the allocator refuses memory.
 pub fn check_within<F: UnitFinder, A: Answers>(
     alloc: Global,
     finder: &F,

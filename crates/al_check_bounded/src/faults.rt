@@ -10,6 +10,9 @@ use al_view::Seq;
 use std::alloc::Global;
 
 /// A fault in the unit's own file.
+///
+/// # Errors
+/// `NoMemory` if the allocator refuses memory.
 pub fn diagnostic(alloc: Global, unit: &UnitKey, fault: &Fault) -> Result<Diagnostic, NoMemory>
     ensures { IfOk result (λ d. d ≡ fault_in unit.now fault.now) }
 {
@@ -33,6 +36,9 @@ fn diagnostics(alloc: Global, unit: &UnitKey, faults: &[Fault]) -> Result<Seq<Di
 }
 
 /// All faults of a list, each in the unit's own file.
+///
+/// # Errors
+/// `NoMemory` if the allocator refuses memory.
 pub fn faults_in(
     alloc: Global,
     unit: &UnitKey,

@@ -41,6 +41,9 @@ pub trait UnitFinder {
     /// - `answered`: under every table that agrees with the log these are the units.
     /// - `asks`, `others`: each question is of another unit, which the unit's text names (ARM 10.1.1(26)) or an earlier answer does.
     /// - `known`: so each of these units is known then.
+    ///
+    /// # Errors
+    /// `NoMemory` if the allocator refuses memory.
     fn units_known<A: Answers>(
         &self,
         alloc: Global,
@@ -58,6 +61,9 @@ pub trait UnitFinder {
     /// - `asked`, `asks`, `others`: as of the units.
     /// - `answered`: under every table that agrees with the log these are the names.
     /// - `answered`: so an answer has told each of these names then.
+    ///
+    /// # Errors
+    /// `NoMemory` if the allocator refuses memory.
     fn names_known<A: Answers>(
         &self,
         alloc: Global,
@@ -76,6 +82,9 @@ pub trait UnitFinder {
     /// - `answered`: under every table that agrees with the log the same is found.
     /// - `names`: its parent and the units of its with clauses are such as its text names.
     /// - `faults`: what is wrong is something, each of it in the unit's own file and of a rule of checks.
+    ///
+    /// # Errors
+    /// `NoMemory` if the allocator refuses memory.
     fn find<A: Answers + Drop>(
         &self,
         alloc: Global,

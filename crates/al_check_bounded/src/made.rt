@@ -109,6 +109,9 @@ fn found(wrong: Seq<Diagnostic>, walked: WalkedUnit) -> UnitVerdict
 
 #[tactic(auto, unfolding(crate::specs::Made::finding_of))]
 /// What is found in the text of a unit that was walked, with these faults.
+///
+/// # Errors
+/// `NoMemory` if the allocator refuses memory.
 pub fn finding_of(
     alloc: Global,
     faults: FaultList,

@@ -53,6 +53,9 @@ impl NameSet {
     }
 
     /// One more name, unless it is there.
+    ///
+    /// # Errors
+    /// `NoMemory` if the allocator refuses memory.
     pub fn insert(&mut self, name: Name) -> Result<(), NoMemory>
         ensures { OnOk result (self.new ≡ insert_key bytes_eq self.old name) }
     {
@@ -61,6 +64,9 @@ impl NameSet {
     }
 
     /// The same names once more.
+    ///
+    /// # Errors
+    /// `NoMemory` if the allocator refuses memory.
     pub fn copy(&self, alloc: Global) -> Result<NameSet, NoMemory>
         ensures { IfOk result (λ copy. copy ≡ self.now) }
     {

@@ -7,6 +7,9 @@ use al_overload::Predefined;
 use std::alloc::Global;
 
 /// What every unit has, made anew.
+///
+/// # Errors
+/// `NoMemory` if the allocator refuses memory.
 pub fn predefined_everywhere(alloc: Global) -> Result<Predefined, NoMemory>
     ensures { IfOk result (λ p. p ≡ predefined) }
 {

@@ -48,6 +48,9 @@ fn add_log(wanted: &Wanted, log: &ReadLog, found: &mut Vec<View>) -> Result<(), 
 }
 
 /// The views in the recorded answers to these questions: whatever table agrees with the log shows them too.
+///
+/// # Errors
+/// `NoMemory` if the allocator refuses memory.
 pub fn recorded_views(alloc: Global, wanted: &Wanted, log: &ReadLog) -> Result<Seq<View>, NoMemory>
     ensures { IfOk result (AreShown wanted.now log.now) }
 {

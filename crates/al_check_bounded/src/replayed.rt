@@ -12,6 +12,9 @@ use al_query_outcome::no_answer;
 use std::alloc::Global;
 
 /// The answer within the bounds: a question that may not be asked has that of a unit that isn't there.
+///
+/// # Errors
+/// `NoMemory` if the allocator refuses memory.
 pub fn answer_within<A: Answers>(
     alloc: Global,
     bounds: &Bounds,
@@ -50,6 +53,9 @@ fn ask_if_allowed<A: Answers>(
 
 /// Asks the recorder each question of the log that may be asked, so that whatever table agrees with the recorder's log then agrees,
 /// within the bounds, with this log.
+///
+/// # Errors
+/// `NoMemory` if the allocator refuses memory.
 pub fn replay<A: Answers>(
     bounds: &Bounds,
     log: &ReadLog,

@@ -35,6 +35,9 @@ fn view_of_subprogram(
 }
 
 /// The own view of a unit: a package, or a subprogram as its own text declares it, or else as what its body completes.
+///
+/// # Errors
+/// `NoMemory` if the allocator refuses memory.
 pub fn own_view(
     alloc: Global,
     own: &OwnText,

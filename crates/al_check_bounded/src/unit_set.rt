@@ -62,6 +62,9 @@ fn copied_units(alloc: Global, units: &[UnitKey]) -> Result<Vec<UnitKey>, NoMemo
 
 impl UnitSet {
     /// These units.
+    ///
+    /// # Errors
+    /// `NoMemory` if the allocator refuses memory.
     pub fn new(alloc: Global, units: Vec<UnitKey>) -> Result<Self, NoMemory>
         ensures { IfOk result (λ set. set ≡ units.items) }
     {
@@ -89,6 +92,9 @@ impl UnitSet {
     }
 
     /// The same units once more.
+    ///
+    /// # Errors
+    /// `NoMemory` if the allocator refuses memory.
     pub fn copy(&self, alloc: Global) -> Result<UnitSet, NoMemory>
         ensures { IfOk result (λ copy. copy ≡ self.now) }
     {

@@ -33,6 +33,9 @@ fn open_ancestors<A: Answers>(
 }
 
 /// The private part of a package's declaration begins.
+///
+/// # Errors
+/// `NoMemory` if the allocator refuses memory.
 pub fn enter_private<A: Answers>(
     state: &mut CheckState,
     recorder: &mut Recorder<A>,
@@ -154,6 +157,9 @@ fn enter_read<A: Answers>(
 }
 
 /// The region of a body after the head that was read last (ARM 6.3, 8.1).
+///
+/// # Errors
+/// `NoMemory` if the allocator refuses memory.
 pub fn enter_body<A: Answers>(
     state: &mut CheckState,
     recorder: &mut Recorder<A>,

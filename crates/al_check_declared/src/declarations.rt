@@ -138,6 +138,9 @@ fn subtype<A: Answers>(
 }
 
 /// The declaration of a subprogram inside a unit (ARM 6.1).
+///
+/// # Errors
+/// `NoMemory` if the allocator refuses memory.
 pub fn nested_subprogram<A: Answers>(
     state: &mut CheckState,
     specification: &Specification,
@@ -237,6 +240,9 @@ fn open_declared<A: Answers>(
 }
 
 /// What packages and bodies declare alike.
+///
+/// # Errors
+/// `NoMemory` if the allocator refuses memory.
 pub fn declared<A: Answers>(
     state: &mut CheckState,
     declaration: &CommonDeclaration,

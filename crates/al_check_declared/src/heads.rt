@@ -57,6 +57,9 @@ fn stub_of<A: Answers>(
 }
 
 /// The stub of a subprogram (ARM 10.1.3).
+///
+/// # Errors
+/// `NoMemory` if the allocator refuses memory.
 pub fn open_stub<A: Answers>(
     state: &mut CheckState,
     specification: &Specification,
@@ -148,6 +151,9 @@ fn operation_head<A: Answers>(
 }
 
 /// What stands before the `is` of a subprogram's body that isn't the unit (ARM 6.3, 9.5.1).
+///
+/// # Errors
+/// `NoMemory` if the allocator refuses memory.
 pub fn inner_head<A: Answers>(
     state: &mut CheckState,
     specification: &Specification,

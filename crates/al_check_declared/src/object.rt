@@ -79,6 +79,9 @@ fn enter_object(
 }
 
 /// Enters the body of a protected object of that view, with the bodies of its operations (ARM 9.4).
+///
+/// # Errors
+/// `NoMemory` if the allocator refuses memory.
 pub fn open_object(
     alloc: Global,
     state: &mut CheckState,
@@ -185,6 +188,9 @@ fn renew_in(alloc: Global, state: &mut CheckState, is_constant: bool) -> Result<
 
 /// Before the body of an operation the region of the object is entered anew where it hasn't the form that this body sees: in that of a function
 /// the components are constants (ARM 9.5.1(2)). Bodies of one kind that follow one another are all in one region.
+///
+/// # Errors
+/// `NoMemory` if the allocator refuses memory.
 pub fn renew_region(
     alloc: Global,
     state: &mut CheckState,
@@ -210,6 +216,9 @@ fn fault_by(
 }
 
 /// What is wrong with the barrier of an entry's body in that object.
+///
+/// # Errors
+/// `NoMemory` if the allocator refuses memory.
 pub fn barrier_fault_here(
     alloc: Global,
     state: &CheckState,

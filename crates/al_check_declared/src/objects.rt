@@ -22,6 +22,9 @@ use al_query::{Answers, Recorder};
 use al_tree::{Expression, Identifier, OperationBody, ProtectedDefinition, TaskDeclaration};
 
 /// The declaration of a task (ARM 9.1).
+///
+/// # Errors
+/// `NoMemory` if the allocator refuses memory.
 pub fn declare_task<A: Answers>(
     state: &mut CheckState,
     task: &TaskDeclaration,
@@ -44,6 +47,9 @@ pub fn declare_task<A: Answers>(
 }
 
 /// The declaration of a protected object, whose first token stands on that line (ARM 9.4).
+///
+/// # Errors
+/// `NoMemory` if the allocator refuses memory.
 pub fn declare_object<A: Answers>(
     state: &mut CheckState,
     line: usize,
@@ -75,6 +81,9 @@ pub fn declare_object<A: Answers>(
 }
 
 /// What stands before the `is` of a task's body (ARM 9.1).
+///
+/// # Errors
+/// `NoMemory` if the allocator refuses memory.
 pub fn task_head<A: Answers>(
     state: &mut CheckState,
     task_name: &Identifier,
@@ -99,6 +108,9 @@ pub fn task_head<A: Answers>(
 }
 
 /// What stands before the `is` of an entry's body: its name and its barrier (ARM 9.5.2).
+///
+/// # Errors
+/// `NoMemory` if the allocator refuses memory.
 pub fn entry_head<A: Answers>(
     state: &mut CheckState,
     entry_name: &Identifier,
@@ -125,6 +137,9 @@ pub fn entry_head<A: Answers>(
 }
 
 /// What stands before the operations of a protected body, whose first token stands on that line (ARM 9.4).
+///
+/// # Errors
+/// `NoMemory` if the allocator refuses memory.
 pub fn enter_object<A: Answers>(
     state: &mut CheckState,
     line: usize,

@@ -45,6 +45,9 @@ fn faulty(alloc: Global, state: &mut CheckState, fault: Fault) -> Result<Effects
 }
 
 /// Outside of all regions nothing is declared.
+///
+/// # Errors
+/// `NoMemory` if the allocator refuses memory.
 pub fn no_place(state: &mut CheckState) -> Result<Effects, NoMemory>
     ensures { IfOk result (λ checked. (state.new, map_ok effects_model checked) ≡ no_place state.old) }
 {

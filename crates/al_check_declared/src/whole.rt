@@ -49,6 +49,9 @@ fn whole_of(state: &mut CheckState, line: usize, heading: &Heading) -> Result<Ef
 }
 
 /// The declaration of a unit that is one subprogram.
+///
+/// # Errors
+/// `NoMemory` if the allocator refuses memory.
 pub fn whole_subprogram<A: Answers>(
     state: &mut CheckState,
     specification: &Specification,
@@ -83,6 +86,9 @@ fn whole_head_of(state: &mut CheckState, line: usize, heading: Heading) -> Resul
 }
 
 /// What stands before the `is` of the body of a unit that is one subprogram.
+///
+/// # Errors
+/// `NoMemory` if the allocator refuses memory.
 pub fn whole_head<A: Answers>(
     state: &mut CheckState,
     specification: &Specification,

@@ -143,6 +143,9 @@ fn open_body(
 }
 
 /// Enters a body in a region of its own, after its head (ARM 6.3, 8.1).
+///
+/// # Errors
+/// `NoMemory` if the allocator refuses memory.
 pub fn enter_nested(
     alloc: Global,
     state: &mut CheckState,
@@ -156,6 +159,9 @@ pub fn enter_nested(
 }
 
 /// Enters the body of a unit that is one subprogram, in the unit's own region.
+///
+/// # Errors
+/// `NoMemory` if the allocator refuses memory.
 pub fn enter_whole(
     alloc: Global,
     state: &mut CheckState,
@@ -304,6 +310,9 @@ fn labelled_inside(
 }
 
 /// The innermost body with its labels, after what stands inside it.
+///
+/// # Errors
+/// `NoMemory` if the allocator refuses memory.
 pub fn labelled(
     alloc: Global,
     state: &CheckState,

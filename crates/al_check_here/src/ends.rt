@@ -83,6 +83,9 @@ fn add_name(alloc: Global, names: &mut Seq<Name>, stub: &StubDeclarations) -> Re
 }
 
 /// The names of stubs.
+///
+/// # Errors
+/// `NoMemory` if the allocator refuses memory.
 pub fn stub_names(alloc: Global, stubs: &[StubDeclarations]) -> Result<Seq<Name>, NoMemory>
     ensures { IfOk result (λ names. names ≡ stub_names stubs.now) }
 {
@@ -249,6 +252,9 @@ fn hide_own(alloc: Global, state: &mut CheckState) -> Result<(), NoMemory>
 }
 
 /// What is left after the end of a unit's text.
+///
+/// # Errors
+/// `NoMemory` if the allocator refuses memory.
 pub fn into_ends(alloc: Global, state: CheckState) -> Result<Ends, NoMemory>
     ensures { IfOk result (λ ends. ends ≡ ends_told state) }
 {

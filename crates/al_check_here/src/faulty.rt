@@ -46,6 +46,9 @@ fn nowhere(alloc: Global, unit: &UnitKey) -> Result<Environment, NoMemory>
 }
 
 /// Nothing of the place is looked at any more.
+///
+/// # Errors
+/// `NoMemory` if the allocator refuses memory.
 pub fn end_list(alloc: Global, state: &mut CheckState) -> Result<(), NoMemory>
     ensures { OnOk result (state.new ≡ ended state.old) }
 {
@@ -54,6 +57,9 @@ pub fn end_list(alloc: Global, state: &mut CheckState) -> Result<(), NoMemory>
 }
 
 /// What a declaration does where it stands, if it does something.
+///
+/// # Errors
+/// `NoMemory` if the allocator refuses memory.
 pub fn effect_list(
     alloc: Global,
     effect: Option<TypedDeclaration>,
@@ -71,6 +77,9 @@ pub fn effect_list(
 }
 
 /// Behind a declaration that was judged at the place: the place goes on where it is right.
+///
+/// # Errors
+/// `NoMemory` if the allocator refuses memory.
 pub fn settle_effect(
     alloc: Global,
     state: &mut CheckState,

@@ -59,6 +59,9 @@ fn add_name(answered: &mut Interface, declared: &Interface, i: usize) -> Result<
 }
 
 /// What is declared once more, name by name.
+///
+/// # Errors
+/// `NoMemory` if the allocator refuses memory.
 pub fn copied_interface(alloc: Global, declared: &Interface) -> Result<Interface, NoMemory>
     ensures { IfOk result (λ answered. answered ≡ told_again declared.now) }
 {
@@ -117,6 +120,9 @@ fn stub_here(
 }
 
 /// A stub with that head stands here (ARM 10.1.3).
+///
+/// # Errors
+/// `NoMemory` if the allocator refuses memory.
 pub fn add_stub(
     alloc: Global,
     state: &mut CheckState,
@@ -160,6 +166,9 @@ fn add_each(alloc: Global, state: &mut CheckState, clauses: &[UseClause]) -> Res
 }
 
 /// Use clauses stand here; those immediately in a part of the unit are told to its continuations (ARM 8.4(7)).
+///
+/// # Errors
+/// `NoMemory` if the allocator refuses memory.
 pub fn add_uses(
     alloc: Global,
     state: &mut CheckState,

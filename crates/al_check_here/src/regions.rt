@@ -27,6 +27,9 @@ pub fn leave_region(scope: &mut Scope)
 }
 
 /// Enters a block: a region that continues nothing, in which nothing waits (ARM 5.6).
+///
+/// # Errors
+/// `NoMemory` if the allocator refuses memory.
 pub fn enter_block(alloc: Global, state: &mut CheckState) -> Result<(), NoMemory>
     ensures entered { OnOk result (state.new ≡ in_block state.old) }
     ensures inside { OnOk result (0 < length state.new.env.scope.regions) }
@@ -50,6 +53,9 @@ fn begin_parameter(
 }
 
 /// Enters a for loop: a region like that of a block, in which its parameter is begun (ARM 5.5, 8.3(16)).
+///
+/// # Errors
+/// `NoMemory` if the allocator refuses memory.
 pub fn enter_loop(
     alloc: Global,
     state: &mut CheckState,
@@ -121,6 +127,9 @@ fn parameter_declaration(
 }
 
 /// A declaration alone becomes visible.
+///
+/// # Errors
+/// `NoMemory` if the allocator refuses memory.
 pub fn declare_alone(
     alloc: Global,
     env: &mut Environment,
@@ -153,6 +162,9 @@ fn declare_found(
 }
 
 /// The parameter of a loop whose range is right is declared with the type of that range, which was read last (ARM 5.5(9)).
+///
+/// # Errors
+/// `NoMemory` if the allocator refuses memory.
 pub fn declare_parameter(
     alloc: Global,
     state: &mut CheckState,

@@ -65,6 +65,9 @@ fn both_hold(kept: bool, complete: bool) -> bool
 /// The result of a check in which no fault was found, where it is what the check promises: it uses and shows nothing of other units but
 /// what these views show; what it uses and shows of its own is defined, left to its body, or the code of a stub; there is code for it; and
 /// it completes what it must, as was tested before. Else E700, as something is compiled that can't be yet.
+///
+/// # Errors
+/// `NoMemory` if the allocator refuses memory.
 pub fn self_checked(
     alloc: Global,
     unit: &UnitKey,

@@ -147,6 +147,9 @@ fn has_main(
 
 /// Whether a unit with this header completes what these views show of bodies, and leaves to its body and its subunits what it may. Its
 /// text is that of its declaration or not.
+///
+/// # Errors
+/// `NoMemory` if the allocator refuses memory.
 #[tactic(auto, unfolding(crate::specs::SelfChecks::is_complete))]
 pub fn is_complete(
     alloc: Global,

@@ -133,6 +133,9 @@ fn add_objects(set: &mut LinkSet, objects: &[ProtectedWords]) -> Result<(), NoMe
 }
 
 /// All that a labelled unit defines.
+///
+/// # Errors
+/// `NoMemory` if the allocator refuses memory.
 pub fn add_defines(set: &mut LinkSet, unit: &TypedUnit) -> Result<(), NoMemory>
     ensures { OnOk result (Gains set.old set.new (unit_defines (unit_model unit.now))) }
 {

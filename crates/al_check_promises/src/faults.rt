@@ -9,6 +9,9 @@ use al_view::Seq;
 use std::alloc::Global;
 
 /// E700 at the first place of the unit's file.
+///
+/// # Errors
+/// `NoMemory` if the allocator refuses memory.
 pub fn not_yet(alloc: Global, unit: &UnitKey) -> Result<Seq<Diagnostic>, NoMemory>
     ensures { IfOk result (λ faults. faults ≡ not_checked unit.now) }
 {
@@ -24,6 +27,9 @@ pub fn not_yet(alloc: Global, unit: &UnitKey) -> Result<Seq<Diagnostic>, NoMemor
 }
 
 /// E700 as the result of a check: the unit isn't checked yet.
+///
+/// # Errors
+/// `NoMemory` if the allocator refuses memory.
 pub fn not_checked(alloc: Global, unit: &UnitKey) -> Result<Checked, NoMemory>
     ensures { IfOk result (λ checked. checked_model checked ≡ Wrong (not_checked unit.now)) }
 {

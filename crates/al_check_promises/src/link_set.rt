@@ -69,6 +69,9 @@ impl LinkSet {
     }
 
     /// This of the declaration with this symbol, unless it is there.
+    ///
+    /// # Errors
+    /// `NoMemory` if the allocator refuses memory.
     pub fn insert(&mut self, kind: LinkKind, symbol: &Symbol) -> Result<(), NoMemory>
         ensures { OnOk result (Gains self.old self.new (link kind symbol.now ∷ [])) }
     {

@@ -87,6 +87,9 @@ fn add_protected(set: &mut LinkSet, object: &ProtectedView) -> Result<(), NoMemo
 }
 
 /// All that the linker must find for who names a view: code, data and protected objects, and no types.
+///
+/// # Errors
+/// `NoMemory` if the allocator refuses memory.
 #[tactic(auto, unfolding(al_view::specs::ViewUses::view_uses))]
 pub fn add_shown(set: &mut LinkSet, view: &View) -> Result<(), NoMemory>
     ensures { OnOk result (Gains set.old set.new (view_uses view.now)) }

@@ -72,6 +72,9 @@ fn all_hold(links: bool, declared: bool, code: bool) -> bool
 }
 
 /// Whether a result is what the check of a unit promises, where it was shown these views.
+///
+/// # Errors
+/// `NoMemory` if the allocator refuses memory.
 pub fn is_kept(
     alloc: Global,
     unit: &UnitKey,

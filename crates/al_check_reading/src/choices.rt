@@ -16,6 +16,9 @@ use al_tree::{Choice as ChoiceOfText, Expression};
 use al_view::Bounds;
 
 /// The bounds of the type of a selector.
+///
+/// # Errors
+/// `NoMemory` if the allocator refuses memory.
 pub fn whole<A: Answers>(
     state: &CheckState,
     selector: &Expression,
@@ -28,6 +31,9 @@ pub fn whole<A: Answers>(
 }
 
 /// A choice with its selector.
+///
+/// # Errors
+/// `NoMemory` if the allocator refuses memory.
 pub fn choice<A: Answers>(
     state: &CheckState,
     selector: &Expression,

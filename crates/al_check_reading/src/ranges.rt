@@ -35,6 +35,9 @@ fn keep_type(state: &mut CheckState, found: CheckResult<FoundRange>) -> CheckRes
 }
 
 /// The range of a for loop (ARM 5.5(4)).
+///
+/// # Errors
+/// `NoMemory` if the allocator refuses memory.
 pub fn loop_range<A: Answers>(
     state: &mut CheckState,
     range: &DiscreteRange,

@@ -38,6 +38,9 @@ pub(crate) fn site(state: &CheckState) -> Site<'_>
 }
 
 /// A condition (ARM 5.3, 5.5, 5.7).
+///
+/// # Errors
+/// `NoMemory` if the allocator refuses memory.
 pub fn condition<A: Answers>(
     state: &mut CheckState,
     expression: &Expression,
@@ -53,6 +56,9 @@ pub fn condition<A: Answers>(
 }
 
 /// The moment of a `delay until` (ARM 9.6).
+///
+/// # Errors
+/// `NoMemory` if the allocator refuses memory.
 pub fn moment<A: Answers>(
     state: &mut CheckState,
     expression: &Expression,
@@ -68,6 +74,9 @@ pub fn moment<A: Answers>(
 }
 
 /// What is assigned to (ARM 5.2).
+///
+/// # Errors
+/// `NoMemory` if the allocator refuses memory.
 pub fn target<A: Answers>(
     state: &mut CheckState,
     expression: &Expression,
@@ -83,6 +92,9 @@ pub fn target<A: Answers>(
 }
 
 /// The value that is assigned to a target that is right.
+///
+/// # Errors
+/// `NoMemory` if the allocator refuses memory.
 pub fn source<A: Answers>(
     state: &mut CheckState,
     target: &Expression,
@@ -99,6 +111,9 @@ pub fn source<A: Answers>(
 }
 
 /// What a name alone does (ARM 6.4, 9.5.3).
+///
+/// # Errors
+/// `NoMemory` if the allocator refuses memory.
 pub fn call_effect<A: Answers>(
     state: &mut CheckState,
     expression: &Expression,
@@ -140,6 +155,9 @@ fn returned<A: Answers>(
 }
 
 /// The value that the innermost function returns (ARM 6.5).
+///
+/// # Errors
+/// `NoMemory` if the allocator refuses memory.
 pub fn result_value<A: Answers>(
     state: &mut CheckState,
     expression: &Expression,
@@ -165,6 +183,9 @@ fn value_of(found: CheckResult<DeterminedValue>) -> CheckResult<Typed>
 }
 
 /// The selector of a case statement (ARM 5.4).
+///
+/// # Errors
+/// `NoMemory` if the allocator refuses memory.
 pub fn selector<A: Answers>(
     state: &mut CheckState,
     expression: &Expression,

@@ -170,6 +170,9 @@ fn with_mentions<A: Answers>(
 
 /// The units that a unit may ask: those that its text names, the units round it, and those that are mentioned there (ARM 10.1.1, 10.1.2,
 /// 10.1.3). All of them are known then.
+///
+/// # Errors
+/// `NoMemory` if the allocator refuses memory.
 #[tactic(auto, unfolding(crate::specs::Starts::units_known))]
 pub fn units_known<A: Answers>(
     alloc: Global,

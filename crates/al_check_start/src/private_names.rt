@@ -67,6 +67,9 @@ fn names_of_each<A: Answers>(
 }
 
 /// The private types whose full views a unit may see: those of the units round it (ARM 7.3, 8.2). An answer has told each of them then.
+///
+/// # Errors
+/// `NoMemory` if the allocator refuses memory.
 #[tactic(auto, unfolding(crate::specs::PrivateNames::names_known))]
 pub fn names_known<A: Answers>(
     alloc: Global,

@@ -164,6 +164,9 @@ fn start_after<A: Answers>(
 
 /// How the check of a unit begins: its context clause is read, then its place is made, and what waits there; the first fault of the context
 /// clause, or else E301 at a name that the parent declares too (ARM 8.3(26), 10.1.1, 10.1.2).
+///
+/// # Errors
+/// `NoMemory` if the allocator refuses memory.
 pub fn unit_at<A: Answers>(
     alloc: Global,
     unit: &UnitKey,

@@ -210,6 +210,9 @@ fn check_package_body<R: Analyzer>(
 }
 
 /// The item of a compilation unit, after its context clause (ARM 10.1.1, 10.1.3).
+///
+/// # Errors
+/// `NoMemory` if the allocator refuses memory.
 pub fn check_unit<R: Analyzer>(
     analyzer: &mut R,
     alloc: Global,

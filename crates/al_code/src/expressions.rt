@@ -27,6 +27,9 @@ use al_view_typed::{
 };
 
 /// The value of an expression, in a body of so much nesting. A chain of operators takes nothing of the stack for each.
+///
+/// # Errors
+/// `NoMemory` if the allocator refuses memory.
 #[cycle(expression)]
 #[tactic(auto, using(crate::proofs::Writing::written_append, crate::proofs::ChainLemmas::next_written, crate::proofs::ChainLemmas::popped_below))]
 pub fn emit_value(out: &mut Output, depth: u32, typed: &Typed) -> Result<(), NoMemory>
@@ -118,6 +121,9 @@ fn emit_form(out: &mut Output, depth: u32, words: u32, form: &Form) -> Result<()
 }
 
 /// The address of an object or of a part of one. A part of parts takes nothing of the stack for each.
+///
+/// # Errors
+/// `NoMemory` if the allocator refuses memory.
 #[cycle(expression)]
 #[tactic(auto, using(crate::proofs::Writing::written_append))]
 pub fn emit_address(out: &mut Output, depth: u32, name: &TypedName) -> Result<(), NoMemory>
@@ -153,6 +159,9 @@ fn emit_element(
 }
 
 /// A value with its check.
+///
+/// # Errors
+/// `NoMemory` if the allocator refuses memory.
 #[cycle(expression)]
 #[tactic(auto, using(crate::proofs::Writing::written_append, crate::proofs::Writing::written_nothing, crate::proofs::ExprLayers::value_layers))]
 pub fn emit_checked(out: &mut Output, depth: u32, value: &CheckedValue) -> Result<(), NoMemory>
@@ -244,6 +253,9 @@ fn emit_components(out: &mut Output, depth: u32, values: &[CheckedValue]) -> Res
 }
 
 /// A call (ARM 6.4).
+///
+/// # Errors
+/// `NoMemory` if the allocator refuses memory.
 #[cycle(expression)]
 #[tactic(auto, using(crate::proofs::Writing::written_append, crate::proofs::Writing::written_nothing, crate::proofs::ExprLayers::call_layers))]
 pub fn emit_call(out: &mut Output, depth: u32, call: &TypedCall) -> Result<(), NoMemory>

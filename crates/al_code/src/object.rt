@@ -25,6 +25,9 @@ use std::alloc::Global;
 
 /// The object of a unit that is free of faults: its code, where symbols are used and stand in it, its words, its tasks, its
 /// protected objects and its lines; large where its code is longer than that of any image.
+///
+/// # Errors
+/// `NoMemory` if the allocator refuses memory.
 pub fn emit(alloc: Global, unit: &TypedUnit) -> Result<Object, NoMemory>
     requires { IsWellFormed (unit_model unit.now) }
     ensures { IfOk result (λ object. object ≡ object_of (unit_model unit.now)) }

@@ -124,6 +124,9 @@ impl Output {
     }
 
     /// One more instruction.
+    ///
+    /// # Errors
+    /// `NoMemory` if the allocator refuses memory.
     #[tactic(auto, using(crate::proofs::Keeping::kept_whole), unfolding(crate::specs::Written::with_piece, crate::specs::Written::written))]
     pub fn put(&mut self, instr: &Instr) -> Result<(), NoMemory>
         requires { IsInstr instr.now }
@@ -138,6 +141,9 @@ impl Output {
     }
 
     /// One more instruction, whose first operand counts from where the symbol stands.
+    ///
+    /// # Errors
+    /// `NoMemory` if the allocator refuses memory.
     #[tactic(auto, using(crate::proofs::Keeping::kept_using), unfolding(crate::specs::Written::with_piece, crate::specs::Written::written))]
     pub fn emit_using(
         &mut self,
@@ -162,6 +168,9 @@ impl Output {
     }
 
     /// A jump whose end isn't there yet.
+    ///
+    /// # Errors
+    /// `NoMemory` if the allocator refuses memory.
     #[tactic(auto, using(crate::proofs::Keeping::kept_leaving), unfolding(crate::specs::Written::with_piece, crate::specs::Written::written))]
     pub fn emit_leaving(&mut self, when: JumpCondition, target: Target) -> Result<(), NoMemory>
         ensures { OnOk result (self.new ≡ written self.old (Leaving when target ∷ [])) }
@@ -184,6 +193,9 @@ impl Output {
     }
 
     /// The symbol stands here.
+    ///
+    /// # Errors
+    /// `NoMemory` if the allocator refuses memory.
     #[tactic(auto, using(crate::proofs::Keeping::kept_begins), unfolding(crate::specs::Written::with_piece, crate::specs::Written::written))]
     pub fn begin(&mut self, kind: LinkKind, symbol: &Symbol) -> Result<(), NoMemory>
         requires { IsCodeKind kind }
@@ -200,6 +212,9 @@ impl Output {
     }
 
     /// From here on code is of this line.
+    ///
+    /// # Errors
+    /// `NoMemory` if the allocator refuses memory.
     #[tactic(auto, unfolding(crate::specs::Written::with_piece, crate::specs::Written::written))]
     pub fn mark(&mut self, line: usize) -> Result<(), NoMemory>
         ensures { OnOk result (self.new ≡ written self.old (Line line ∷ [])) }
@@ -214,6 +229,9 @@ impl Output {
     }
 
     /// A jump back to this place, so many bytes back.
+    ///
+    /// # Errors
+    /// `NoMemory` if the allocator refuses memory.
     pub fn emit_back(&mut self, start: usize) -> Result<(), NoMemory>
         ensures { (n : ℕ) → IfSome self.old (λ b. length b.code ≡ start + n) → OnOk result (self.new ≡ written self.old (back n ∷ [])) }
     {
@@ -222,6 +240,9 @@ impl Output {
     }
 
     /// A construct ends, in which the jumps from this one on were noted.
+    ///
+    /// # Errors
+    /// `NoMemory` if the allocator refuses memory.
     #[tactic(auto, using(crate::proofs::Keeping::kept_cut, crate::proofs::Keeping::kept_closed), unfolding(crate::specs::Written::ended))]
     pub fn close(&mut self, first: usize, construct: Construct) -> Result<(), NoMemory>
         ensures { OnOk result (self.new ≡ ended self.old first construct) }
@@ -238,6 +259,9 @@ impl Output {
     }
 
     /// One more instruction that puts out these bytes.
+    ///
+    /// # Errors
+    /// `NoMemory` if the allocator refuses memory.
     pub fn emit_text(&mut self, text: &[u8]) -> Result<(), NoMemory>
         ensures { OnOk result (self.new ≡ written self.old (Whole (PutText text.now) ∷ [])) }
     {
@@ -250,6 +274,9 @@ impl Output {
     }
 
     /// One more instruction that puts out one of these names.
+    ///
+    /// # Errors
+    /// `NoMemory` if the allocator refuses memory.
     pub fn emit_names(&mut self, below: u32, names: &[Name]) -> Result<(), NoMemory>
         ensures { OnOk result (self.new ≡ written self.old (Whole (PutName below (map printed names.now)) ∷ [])) }
     {

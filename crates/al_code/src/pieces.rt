@@ -12,6 +12,9 @@ use al_instr::{Instr, Plain, Sized};
 use al_view::{Bounds, LinkKind, ObjectPlace};
 
 /// An instruction without operands.
+///
+/// # Errors
+/// `NoMemory` if the allocator refuses memory.
 pub fn emit_plain(out: &mut Output, plain: Plain) -> Result<(), NoMemory>
     ensures { OnOk result (out.new ≡ written out.old (one plain)) }
 {
@@ -19,6 +22,9 @@ pub fn emit_plain(out: &mut Output, plain: Plain) -> Result<(), NoMemory>
 }
 
 /// An instruction with a number of words, an offset or a code.
+///
+/// # Errors
+/// `NoMemory` if the allocator refuses memory.
 pub fn emit_sized(out: &mut Output, sized: Sized, number: u32) -> Result<(), NoMemory>
     ensures { OnOk result (out.new ≡ written out.old (of_size sized number)) }
 {
@@ -26,6 +32,9 @@ pub fn emit_sized(out: &mut Output, sized: Sized, number: u32) -> Result<(), NoM
 }
 
 /// A word.
+///
+/// # Errors
+/// `NoMemory` if the allocator refuses memory.
 pub fn emit_number(out: &mut Output, word: i64) -> Result<(), NoMemory>
     ensures { OnOk result (out.new ≡ written out.old (number word)) }
 {
@@ -33,6 +42,9 @@ pub fn emit_number(out: &mut Output, word: i64) -> Result<(), NoMemory>
 }
 
 /// The address of a word of the frame.
+///
+/// # Errors
+/// `NoMemory` if the allocator refuses memory.
 pub fn emit_slot(out: &mut Output, word: u32) -> Result<(), NoMemory>
     ensures { OnOk result (out.new ≡ written out.old (slot word)) }
 {
@@ -40,6 +52,9 @@ pub fn emit_slot(out: &mut Output, word: u32) -> Result<(), NoMemory>
 }
 
 /// The word on top goes to a word of the frame.
+///
+/// # Errors
+/// `NoMemory` if the allocator refuses memory.
 #[tactic(auto, using(crate::proofs::Writing::written_append), unfolding(crate::specs::ExprPieces::store_slot))]
 pub fn emit_store_slot(out: &mut Output, word: u32) -> Result<(), NoMemory>
     ensures { OnOk result (out.new ≡ written out.old (store_slot word)) }
@@ -49,6 +64,9 @@ pub fn emit_store_slot(out: &mut Output, word: u32) -> Result<(), NoMemory>
 }
 
 /// A word of the frame.
+///
+/// # Errors
+/// `NoMemory` if the allocator refuses memory.
 #[tactic(auto, using(crate::proofs::Writing::written_append), unfolding(crate::specs::ExprPieces::load_slot))]
 pub fn emit_load_slot(out: &mut Output, word: u32) -> Result<(), NoMemory>
     ensures { OnOk result (out.new ≡ written out.old (load_slot word)) }
@@ -58,6 +76,9 @@ pub fn emit_load_slot(out: &mut Output, word: u32) -> Result<(), NoMemory>
 }
 
 /// The check against the bounds of a scalar subtype.
+///
+/// # Errors
+/// `NoMemory` if the allocator refuses memory.
 #[tactic(auto, using(crate::proofs::Writing::written_nothing))]
 pub fn emit_check(out: &mut Output, bounds: &Option<Bounds>) -> Result<(), NoMemory>
     ensures { OnOk result (out.new ≡ written out.old (check_code bounds.now)) }
@@ -72,6 +93,9 @@ pub fn emit_check(out: &mut Output, bounds: &Option<Bounds>) -> Result<(), NoMem
 }
 
 /// The address of an object, in a body of so much nesting.
+///
+/// # Errors
+/// `NoMemory` if the allocator refuses memory.
 pub fn emit_place(out: &mut Output, depth: u32, place: &ObjectPlace) -> Result<(), NoMemory>
     ensures { OnOk result (out.new ≡ written out.old (place_code Data depth place.now)) }
 {
@@ -84,6 +108,9 @@ pub fn emit_place(out: &mut Output, depth: u32, place: &ObjectPlace) -> Result<(
 }
 
 /// The address of a flag, in a body of so much nesting.
+///
+/// # Errors
+/// `NoMemory` if the allocator refuses memory.
 pub fn emit_flag_place(out: &mut Output, depth: u32, place: &ObjectPlace) -> Result<(), NoMemory>
     ensures { OnOk result (out.new ≡ written out.old (place_code Flag depth place.now)) }
 {
@@ -103,6 +130,9 @@ fn emit_outer(out: &mut Output, depth: u32, word: u32) -> Result<(), NoMemory>
 }
 
 /// To the end of the choice that it stands in.
+///
+/// # Errors
+/// `NoMemory` if the allocator refuses memory.
 pub fn emit_join(out: &mut Output) -> Result<(), NoMemory>
     ensures { OnOk result (out.new ≡ written out.old join) }
 {
@@ -110,6 +140,9 @@ pub fn emit_join(out: &mut Output) -> Result<(), NoMemory>
 }
 
 /// Past what follows where the word on top is 0.
+///
+/// # Errors
+/// `NoMemory` if the allocator refuses memory.
 pub fn emit_unless_zero(out: &mut Output) -> Result<(), NoMemory>
     ensures { OnOk result (out.new ≡ written out.old unless_zero) }
 {

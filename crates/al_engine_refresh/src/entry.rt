@@ -65,6 +65,9 @@ impl Logged for Entry {
 
 impl Entry {
     /// The entry of a text that was checked, with what was asked and the result. The text is shared.
+    ///
+    /// # Errors
+    /// `NoMemory` if the allocator refuses memory.
     pub fn new(
         alloc: Global,
         text: Rc<Vec<u8>>,
@@ -78,6 +81,9 @@ impl Entry {
     }
 
     /// The same entry once more.
+    ///
+    /// # Errors
+    /// `NoMemory` if the allocator refuses memory.
     pub fn share(&self) -> Result<Entry, NoMemory>
         ensures { IfOk result (λ entry. entry ≡ self.now) }
     {
@@ -107,6 +113,9 @@ impl Entry {
     }
 
     /// The answer to a question of the unit.
+    ///
+    /// # Errors
+    /// `NoMemory` if the allocator refuses memory.
     pub fn answer(&self, alloc: Global, query: &Query) -> Result<Answer, NoMemory>
         ensures { IfOk result (λ answer. answer ≡ table_entry (outcome_of self.now) query.now) }
     {

@@ -103,6 +103,9 @@ fn add_file(
 
 /// All that is wrong with the files of a library, by file, place and number: what is wrong with their units among one another, and
 /// else what the texts are, or what the outcomes of the units say.
+///
+/// # Errors
+/// `NoMemory` if the allocator refuses memory.
 pub fn findings_of(
     alloc: Global,
     sources: &Sources,

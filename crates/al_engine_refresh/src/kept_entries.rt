@@ -90,6 +90,9 @@ impl KeptEntries {
     }
 
     /// The units of which there is something, in order.
+    ///
+    /// # Errors
+    /// `NoMemory` if the allocator refuses memory.
     pub fn units(&self) -> Result<Vec<UnitKey>, NoMemory>
         ensures { IfOk result (λ units. units.items ≡ keys_of self.now) }
     {

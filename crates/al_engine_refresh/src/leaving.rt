@@ -75,6 +75,9 @@ fn leave_one<P: Answers>(
 
 /// Who isn't in the library leaves; who isn't in the order isn't reached any more. The stored answers to the questions of those who moved
 /// are compared.
+///
+/// # Errors
+/// `NoMemory` if the allocator refuses memory.
 pub fn leave_out<P: Answers>(
     alloc: Global,
     predefined: &P,

@@ -79,6 +79,9 @@ pub fn refresh_rest<C: UnitCheck, P: Answers>(
 /// - `marks`: the marks of now say which stored answers differ from those of now.
 /// - `compared`: so many stored answers were compared: those to questions of units that moved.
 /// - `steady`: an entry was made of each unit that was checked, and of no other; who isn't in the library leaves.
+///
+/// # Errors
+/// `NoMemory` if the allocator refuses memory.
 pub fn refresh<C: UnitCheck, P: Answers>(
     alloc: Global,
     checker: &mut C,

@@ -138,6 +138,9 @@ impl Done {
 }
 
 /// Checks a unit anew, where all on which it depends is sound, and holds the entry that is made of it.
+///
+/// # Errors
+/// `NoMemory` if the allocator refuses memory.
 pub fn check_anew<C: UnitCheck, P: Answers>(
     alloc: Global,
     checker: &mut C,

@@ -100,12 +100,18 @@ impl Library {
     }
 
     /// Serves a session over the library, and tells its replies and how it ended.
+    ///
+    /// # Errors
+    /// `NoMemory` if the allocator refuses memory.
     pub fn serve(&mut self, words: &str) -> Result<String, NoMemory> {
         let replies = serve(self.alloc, &mut self.served, words)?;
         self.text(replies.as_slice())
     }
 
     /// Tells what was done. Nothing is changed, so it may be told again.
+    ///
+    /// # Errors
+    /// `NoMemory` if the allocator refuses memory.
     pub fn tell(&self, done: Done) -> Result<String, NoMemory> {
         match done {
             Done::Edited => self.text(b""),
