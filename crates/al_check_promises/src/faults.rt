@@ -1,4 +1,4 @@
-// What can't be compiled yet.
+// E700: the unit can't be compiled yet.
 ghost use Rattle.std.specs.Prelude.{◌≡◌, IfOk};
 ghost use Rattle.al_query_outcome.specs.Results.{checked_model, Faulty as Wrong};
 ghost use Rattle.al_check_promises.specs.SelfChecks.{not_checked};
@@ -8,7 +8,7 @@ use al_query_outcome::Checked;
 use al_view::Seq;
 use std::alloc::Global;
 
-/// E700 at the first place of the unit's file.
+/// The diagnostic E700 at the first place of the unit's file.
 ///
 /// # Errors
 /// `NoMemory` if the allocator refuses memory.
@@ -26,7 +26,7 @@ pub fn not_yet(alloc: Global, unit: &UnitKey) -> Result<Seq<Diagnostic>, NoMemor
     Ok(faults)
 }
 
-/// E700 as the result of a check: the unit isn't checked yet.
+/// E700 as the result of a check.
 ///
 /// # Errors
 /// `NoMemory` if the allocator refuses memory.
