@@ -1,4 +1,4 @@
-// Choices of case statements where the check of a unit stands (ARM 5.4).
+// Choices of case statements at the place that the check of a unit has reached (ARM 5.4).
 ghost use Rattle.std.specs.Prelude.{◌≡◌, IfOk};
 ghost use Rattle.al_query.specs.Reads.{FromAnswers};
 ghost use Rattle.al_tree.specs.ExpressionViews.{expression_model};
@@ -30,7 +30,7 @@ pub fn whole<A: Answers>(
     whole_at(&site(state), selector, recorder)
 }
 
-/// A choice with its selector.
+/// Judges a choice, with its selector.
 ///
 /// # Errors
 /// `NoMemory` if the allocator refuses memory.
