@@ -1,16 +1,16 @@
-// What is replied to a command.
+// Replies to commands.
 use crate::run::RunReport;
 use crate::subject::ReportKind;
 use al_base::{Name, Refusal, UnitKey};
 
-/// A reply. What the last build gave is written as the library holds it, so that it takes no memory.
+/// A reply. The result of the last build is written as the library holds it, so it takes no memory.
 pub enum Reply {
     /// No bytes.
     Nothing,
     /// The edit was made.
     Done,
     Refused(Refusal),
-    /// What the build that was just made gave.
+    /// The result of the build that was just made.
     LastBuild,
     Report(ReportKind),
     /// The files, each with its sound unit.

@@ -1,6 +1,6 @@
-// What a report speaks of.
+// The subjects of reports.
 
-/// Which part of the last build a report prints.
+/// The part of the last build that a report prints.
 #[derive(Clone, Copy)]
 pub enum ReportKind {
     Diagnostics,
