@@ -143,7 +143,7 @@ pub trait UnitLibrary {
     /// Runs the image of the last build from its start, for at most so many events, with a tick of the clock after each `tick` instructions.
     ///
     /// # Errors
-    /// `NotBuilt` if there is no build with an image; else `NoMemory` if the allocator refuses memory.
+    /// `NotBuilt` if there was no build, `NoImage` if it gave no image; else `NoMemory` if the allocator refuses memory.
     fn run(&self, tick: u32, steps: u64) -> Result<RunReport, Refusal>
         requires some { 1 ≤ tick }
         requires few { tick ≤ 10000 }

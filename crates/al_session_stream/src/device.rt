@@ -32,7 +32,7 @@ pub trait Source {
     /// How many pulls there have been.
     ghost pulls: { Self → ℕ };
 
-    /// Reads some bytes to the beginning of the buffer, at least one unless the input has ended. Gives how many.
+    /// Reads some bytes to the beginning of the buffer, at least one unless the buffer is empty or the input has ended. Gives how many.
     ///
     /// # Errors
     /// [`Fault`] if the call fails; no byte is consumed then.
