@@ -66,8 +66,11 @@ impl Bounds {
 
 /// A source of answers within bounds. A question that may not be asked isn't asked: its answer is that of a unit that doesn't exist.
 pub struct Bounded<'a, A: Answers> {
+    /// The allocator of answers that aren't asked for.
     pub alloc: Global,
+    /// The source of answers.
     pub asked: &'a A,
+    /// The bounds.
     pub bounds: &'a Bounds,
 }
 

@@ -21,8 +21,11 @@ use std::alloc::Global;
 /// A unit over which the walk has ended.
 #[derive(Drop)]
 pub struct WalkedUnit {
+    /// The unit.
     pub unit: UnitKey,
+    /// What it says of itself.
     pub properties: Properties,
+    /// What its parts declare, and its stubs.
     pub parts: Parts,
     /// The line of its first token.
     pub line: usize,
@@ -30,12 +33,17 @@ pub struct WalkedUnit {
     pub frame: u32,
     /// The words of its objects, flags and protected objects.
     pub words: u32,
+    /// The places of its objects.
     pub objects: Seq<DataPlace>,
+    /// The places of its flags.
     pub flags: Seq<DataPlace>,
+    /// The words of its protected objects.
     pub protected_objects: Seq<ProtectedWords>,
     /// What its declarations do at run time, and its statements; a subunit has neither.
     pub declarations: Vec<TypedDeclaration>,
+    /// The statements of its elaboration.
     pub statements: Vec<TypedStatement>,
+    /// Its bodies.
     pub bodies: Vec<TypedBody>,
 }
 

@@ -42,7 +42,9 @@ fn incomplete_here(state: &CheckState, end: Place) -> Option<Fault>
 
 /// Judges the declarations, statements and expressions of a unit at the place that the check has reached, by the answers of a recorder.
 pub struct AdaAnalyzer<A: Answers> {
+    /// The state of the check.
     pub state: CheckState,
+    /// What is asked, and what was asked.
     pub recorder: Recorder<A>,
 }
 

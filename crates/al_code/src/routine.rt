@@ -5,7 +5,9 @@ ghost use Rattle.al_code.specs.Routines.{unlocking, within};
 /// The body that encloses statements: its nesting depth, and whether a return from it leaves a protected object.
 #[derive(Clone, Copy)]
 pub struct Routine {
+    /// Its nesting depth: the number of bodies that enclose a place in it.
     pub depth: u32,
+    /// Whether a return from it leaves a protected object.
     pub unlocks: bool,
 }
 

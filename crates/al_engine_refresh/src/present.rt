@@ -20,8 +20,11 @@ use std::rc::Rc;
 
 /// The answers of the predefined units, and of the units that are reached now.
 pub struct Present<'a, P: Answers> {
+    /// The allocator of answers.
     pub alloc: Global,
+    /// The predefined units.
     pub predefined: &'a P,
+    /// The entries so far.
     pub entries: &'a KeptEntries,
 }
 

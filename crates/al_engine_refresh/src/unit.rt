@@ -114,7 +114,9 @@ fn check_now<C: UnitCheck, P: Answers>(
 
 /// The units that a build has checked so far, in its order, and how many stored answers it has compared.
 pub struct Done {
+    /// The units that were checked.
     pub checked: Seq<UnitKey>,
+    /// The number of stored answers that were compared.
     pub compared: usize,
 }
 

@@ -14,6 +14,7 @@ use std::alloc::Global;
 /// The predefined units: packages that declare nothing.
 #[derive(Drop)]
 pub struct Packages {
+    /// The allocator of answers.
     pub alloc: Global,
 }
 

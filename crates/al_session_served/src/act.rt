@@ -20,7 +20,9 @@ use std::alloc::Global;
 /// The reply to a command, and whether the session ends with it.
 #[derive(Drop)]
 pub struct Acted {
+    /// The reply.
     pub reply: Reply,
+    /// How the session ends, if it ends with the command.
     pub ended: Option<Ended>,
     /// Whether the input ended with the command.
     pub is_last: bool,

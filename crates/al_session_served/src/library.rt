@@ -82,6 +82,7 @@ impl<'a> Outcome<'a> {
 pub struct Built<'a> {
     /// Its main unit, in lower case.
     pub main: &'a [u8],
+    /// Its result.
     pub outcome: Outcome<'a>,
 }
 

@@ -15,11 +15,13 @@ pub enum Line<'a> {
     Put(&'a [u8], usize),
     /// A put whose length is malformed.
     BadPut,
+    /// A command that is one line, or an unknown one.
     Whole(OneLine<'a>),
 }
 
 /// A command that is one line.
 pub enum OneLine<'a> {
+    /// A delete of the file with this name.
     Delete(&'a [u8]),
     /// The old name, and the new one.
     Rename(&'a [u8], &'a [u8]),
@@ -33,7 +35,9 @@ pub enum OneLine<'a> {
     ReportUnits,
     /// A report about the units that are obsolete since the last build.
     ReportObsolete,
+    /// The end of the session.
     Quit,
+    /// No command.
     Bad,
 }
 

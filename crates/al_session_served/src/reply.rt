@@ -9,14 +9,17 @@ pub enum Reply {
     Nothing,
     /// The edit was made.
     Done,
+    /// The command is refused.
     Refused(Refusal),
     /// The result of the build that was just made.
     LastBuild,
+    /// A report about the last build.
     Report(ReportKind),
     /// The files, each with its sound unit.
     Units(Vec<(Name, Option<UnitKey>)>),
     /// The units that are obsolete since the last build.
     Obsolete(Vec<UnitKey>),
+    /// The output of a run, and how it ended.
     RunReport(RunReport),
 }
 

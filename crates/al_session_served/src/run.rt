@@ -4,8 +4,11 @@ use al_base::UnitKey;
 /// An exception that a program can raise (ARM 11.1).
 #[derive(Clone, Copy)]
 pub enum Exception {
+    /// Constraint_Error.
     Constraint,
+    /// Program_Error.
     Program,
+    /// Storage_Error.
     Storage,
 }
 
@@ -31,6 +34,8 @@ pub enum RunEnd {
 /// The output of a run, and how it ended.
 #[derive(Drop)]
 pub struct RunReport {
+    /// The bytes that it put.
     pub output: Vec<u8>,
+    /// How it ended.
     pub ended: RunEnd,
 }

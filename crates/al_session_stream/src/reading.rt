@@ -37,7 +37,9 @@ pub fn read_line<S: Source>(
 /// on.
 #[derive(Drop)]
 pub struct Text {
+    /// The bytes so far, if they are kept.
     pub bytes: Vec<u8>,
+    /// Whether all bytes so far are there.
     pub kept: bool,
 }
 
