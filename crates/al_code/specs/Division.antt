@@ -67,8 +67,8 @@ abbrev pub standing_from : ℕ → List RoutineCode → List Address
 standing_from from [] = []
 standing_from from (r ∷ rs) = symbol_at r.symbol from ++ standing_from (from + length (bytes_in r)) rs
 
--- the code is that of the unit's routines one after the other; each begins at its symbol's place, and no other symbols come before those among the
--- unit's words; each jump leads to an instruction of its own routine
+-- the code is that of the unit's routines one after the other; each begins at its symbol's place, and the only other
+-- symbols are those among the unit's words; each jump leads to an instruction of its own routine
 pub record FallsIntoRoutines (u : UnitTree) (o : CompiledCode) : Type 0 where
   pub routines : List RoutineCode
   pub symbols_are : map (λ (r : RoutineCode). r.symbol) routines ≡ routine_symbols u

@@ -17,7 +17,7 @@ unfoldable pub mark_of : Bool → ℕ → List Piece
 mark_of true line = Line line ∷ []
 mark_of false line = []
 
--- whether there is an expression with code
+-- whether a list has a member
 abbrev pub is_some_of : {A : Type 0} → List A → Bool
 is_some_of [] = false
 is_some_of (x ∷ xs) = true

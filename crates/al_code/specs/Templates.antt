@@ -93,7 +93,7 @@ step_code _ = []
 abbrev pub words_of : TypedTree → ℕ
 words_of (Labelled labels form) = labels.words
 
--- an expression is its value, if that is static and the expression is part of no other static one (ARM 4.9)
+-- the code of an expression whose static value is labelled is that value (ARM 4.9)
 abbrev pub static_or : Option StaticValue → List Piece → List Piece
 static_or (Some v) code = number v.word
 static_or None code = code

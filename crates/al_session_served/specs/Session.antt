@@ -22,7 +22,7 @@ abbrev pub IsRunReply : Meaning → ℕ → Option LastBuild → Option Refusal 
 IsRunReply m steps built None reply = (run : RunResult) × IsRunOf m.library.runs m.tick steps built run × (reply ≡ run_reply run)
 IsRunReply m steps built (Some refusal) reply = reply ≡ refused refusal
 
--- the reply where there is memory enough, and the library after it
+-- the reply if there is enough memory, and the library after it
 abbrev pub IsPlain : Meaning → State → Command → List ℕ → State → Type 0
 IsPlain m state (Put name text) reply after = IsEdited state (put_refusal state.now name (length text)) (with_file state.now name text) reply after
 IsPlain m state (Delete name) reply after = IsEdited state (delete_refusal state.now name) (without_file state.now name) reply after
