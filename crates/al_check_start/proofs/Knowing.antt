@@ -140,7 +140,7 @@ known-own us log = known-own_in [] us (flat_map (λ e. learned e.0 e.1) log)
 pub known-left : (us vs : List UnitKey) (log : Log) → AreKnown (known_after (us ++ vs) log) us
 known-left us vs log = known-first us vs (flat_map (λ e. learned e.0 e.1) log)
 
--- what is known after these is known after any that these are among
+-- what is known if these units are known at first is known if any wider list is
 pub known-among : (first base us : List UnitKey) (log : Log) → ((u : UnitKey) → has_unit first u ≡ true → has_unit base u ≡ true) → AreKnown (known_after first log) us → AreKnown (known_after base log) us
 known-among first base us log w h = known-wider (known_after first log) (known_after base log) us (λ u m. at u (has_unit-cases first answered u m)) h
   where
