@@ -1,8 +1,9 @@
-//! The program `adalib [--tick N] [FILE]`: a session over the commands in a file, or on the standard input, with the replies on the standard output.
+//! The program `adalib [--tick N] [FILE]`: a session over a file's commands, or over those of the standard input, with
+//! the replies on the standard output.
 //!
-//! Exit status: 0 at the end of the session. 1 if a device fails, the file can't be opened or memory is refused outside the session, with nothing
-//! more written. 2 if the session ends by a put whose bytes aren't there as announced, or if the words of the command line have another form or
-//! aren't UTF-8; then the error output has the usage line.
+//! Exit status: 0 at the end of the session; 1 where a device fails, the file can't be opened or memory is refused
+//! outside the session, with nothing more written; 2 where the session ends by a text that isn't there as announced,
+//! and where the words are of another form or aren't UTF-8, which the usage line on the error output says.
 #![tactic(auto)]
 
 ghost use Rattle.std.specs.Prelude.{◌≤◌};
@@ -49,7 +50,7 @@ fn outcome_of<R: Env + Files + Input + Print + AllocGlobal>(rt: &R) -> io::Resul
     }
 }
 
-// The words of the command line, the program's own first; none if one of them isn't UTF-8.
+// The words of the command line, the program's own in front; none where one of them isn't UTF-8.
 fn words_of<R: Env + AllocGlobal>(rt: &R) -> io::Result<Option<Vec<String>>> {
     match std::env::args(rt) {
         Ok(words) => Ok(Some(words.collect(rt.alloc())?)),
@@ -58,7 +59,7 @@ fn words_of<R: Env + AllocGlobal>(rt: &R) -> io::Result<Option<Vec<String>>> {
     }
 }
 
-// One session, from an empty library. Each reply is passed on at its end; if the device fails, what is left of it is dropped.
+// One session, from an empty library. Each reply is passed on at its end; what a device that fails leaves of it is dropped.
 fn session<D: io::Read + Drop, R: Print>(
     alloc: Global,
     rt: &R,
